@@ -1,0 +1,4 @@
+pub mod Square
+pub mod Table
+pub mod Man
+pub mod Attack

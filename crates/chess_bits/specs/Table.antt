@@ -1,0 +1,34 @@
+use Rattle.std.specs.Prelude.{ℕ, Bool, true, false, ◌||◌, ◌&&◌, ◌==◌, nat_le, if◌then◌else◌, List, [], ◌∷◌, Option, None, filter, replicate, slice_index_or, slice_set}
+use Rattle.chess_bits.specs.Square.{Square, on_board, number_of, squares}
+
+-- A finite map from squares is written as the list of its 64 values, by rising number of the square.
+-- What it has at a square; off the board it has `none`.
+unfoldable pub at : {A : Type 0} → A → List A → Square → A
+at none table s = if on_board s then slice_index_or table (number_of s) none else none
+
+-- the same map, but for one square
+unfoldable pub put : {A : Type 0} → List A → Square → A → List A
+put table s x = slice_set table (number_of s) x
+
+-- a set of squares is the map from squares to whether they are in it
+abbrev pub has : List Bool → Square → Bool
+has set s = at false set s
+
+unfoldable pub empty : List Bool
+empty = replicate 64 false
+
+abbrev pub each : (Bool → Bool → Bool) → List Bool → List Bool → List Bool
+each f [] bs = []
+each f (a ∷ as') [] = []
+each f (a ∷ as') (b ∷ bs) = f a b ∷ each f as' bs
+
+-- the squares in either set, and those in both
+unfoldable pub union : List Bool → List Bool → List Bool
+union a b = each (λ x y. x || y) a b
+
+unfoldable pub meet : List Bool → List Bool → List Bool
+meet a b = each (λ x y. x && y) a b
+
+-- the squares of a set, by rising number
+unfoldable pub members : List Bool → List Square
+members set = filter (has set) squares

@@ -1,0 +1,10 @@
+//! A chess board: a valid position, and the position after a move.
+#![tactic(auto)]
+
+mod castling;
+mod moves;
+mod parts;
+
+pub use castling::{CastlingRights, Wing};
+pub use moves::Move;
+pub use parts::{BadBoard, Parts};
