@@ -1,4 +1,4 @@
-use Rattle.std.specs.Prelude.{ℕ, Bool, true, false, ◌||◌, ◌&&◌, ◌==◌, nat_le, if◌then◌else◌, List, [], ◌∷◌, Option, None, filter, replicate, slice_index_or, slice_set}
+use Rattle.std.specs.Prelude.{ℕ, Bool, true, false, ◌||◌, ◌&&◌, ◌==◌, nat_le, if◌then◌else◌, List, [], ◌∷◌, Option, Some, None, filter, replicate, slice_index_or, slice_set}
 use Rattle.chess_bits.specs.Square.{Square, on_board, number_of, squares}
 
 -- A finite map from squares is written as the list of its 64 values, by rising number of the square.
@@ -32,3 +32,8 @@ meet a b = each (λ x y. x && y) a b
 -- the squares of a set, by rising number
 unfoldable pub members : List Bool → List Square
 members set = filter (has set) squares
+
+-- the first of a list
+abbrev pub first_of : {A : Type 0} → List A → Option A
+first_of [] = None
+first_of (x ∷ xs) = Some x

@@ -1,8 +1,10 @@
 //! Squares, colours, kinds of men, and sets of squares.
 #![tactic(auto)]
 
+mod bit_set;
 mod coordinates;
 mod men;
 
+pub use bit_set::{Bits, SquaresOf};
 pub use coordinates::Square;
 pub use men::{Colour, Kind};

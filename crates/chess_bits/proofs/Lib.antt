@@ -1,0 +1,3 @@
+pub mod MemberLemmas
+pub mod TableLemmas
+pub mod WordLemmas

@@ -1,0 +1,12 @@
+use Rattle.std.proofs.Common.{◌≡◌, ℕ, ◌<◌, ◌∙◌, ap, sym, arith, Bool, List, true, false, set}
+use Rattle.std.proofs.lemmas.Nat.{or_lt}
+use Rattle.chess_bits.specs.Table.{put}
+use Rattle.chess_bits.proofs.WordLemmas.{bools_of-remove}
+use Rattle.chess_bits.proofs.bit_set.Bits.remove.Goals as goal
+
+pub returns : goal.returns
+unfolding put
+returns c =
+    bools_of-remove c.self.inside.word c.number.result c.number.ensures.below
+    ∙ ap (λ (x : List Bool). set x c.number.result false) c.self.view_is
+    ∙ ap (λ (n : ℕ). set c.args.self.now n false) c.number.ensures.number
