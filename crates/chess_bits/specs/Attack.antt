@@ -4,15 +4,9 @@ use Rattle.chess_bits.specs.declared.men.Colour.{Colour}
 use Rattle.chess_bits.specs.declared.men.Colour.TheVariants.{White, Black}
 use Rattle.chess_bits.specs.declared.men.Kind.{Kind}
 use Rattle.chess_bits.specs.declared.men.Kind.TheVariants.{Pawn, Knight, Bishop, Rook, Queen, King}
+pub use Rattle.chess_bits.specs.declared.steps.Step.{Step}
 use Rattle.chess_bits.specs.Square.{Square, is_square}
 use Rattle.chess_bits.specs.Table.{has}
-
--- A step over the board, as White sees it: so many files to the right or to the left, and ranks up or down.
-pub record Step : Type 0 where
-  pub right : ℕ
-  pub left : ℕ
-  pub up : ℕ
-  pub down : ℕ
 
 -- The square that lies n times a step from a square. Where the board ends before, it is off the board.
 abbrev pub along : ℕ → Step → Square → Square

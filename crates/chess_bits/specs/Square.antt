@@ -7,6 +7,9 @@ pub record Square : Type 0 where
   pub file : ℕ
   pub rank : ℕ
 
+abbrev pub square : ℕ → ℕ → Square
+square file rank = record { file = file; rank = rank }
+
 -- what makes a pair of numbers a square of the board
 pub record IsOnBoard (s : Square) : Type 0 where
   pub file_from : 1 ≤ s.file

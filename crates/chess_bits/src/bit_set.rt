@@ -1,5 +1,6 @@
 ghost use Rattle.std.specs.Prelude.{◌≡◌, ◌↔◌, IsTrue, true, false, [], length};
 ghost use Rattle.chess_bits.specs.Table.{has, put, union, meet, empty, members, first_of};
+ghost use Rattle.chess_bits.specs.Square.{IsOnBoard};
 ghost use Rattle.chess_bits.specs.SquaresOf.{squares_left};
 
 use crate::coordinates::Square;
@@ -39,23 +40,38 @@ impl Bits {
 
     /// Whether the square is in the set.
     pub fn contains(self, square: Square) -> bool
-        ensures { result ≡ has self square }
+        ensures member { result ≡ has self square }
+        ensures on_board { IsOnBoard square }
     {
         (self.word >> square.number()) & 1 == 1
     }
 
     /// Puts the square into the set.
     pub fn insert(&mut self, square: Square)
-        ensures { self.new ≡ put self.old square true }
+        ensures inserted { self.new ≡ put self.old square true }
+        ensures on_board { IsOnBoard square }
     {
         self.word |= 1 << square.number();
     }
 
     /// Takes the square out of the set.
     pub fn remove(&mut self, square: Square)
-        ensures { self.new ≡ put self.old square false }
+        ensures removed { self.new ≡ put self.old square false }
+        ensures on_board { IsOnBoard square }
     {
         self.word &= !(1 << square.number());
+    }
+
+    /// Puts the square into the set, or takes it out.
+    pub fn assign(&mut self, square: Square, member: bool)
+        ensures assigned { self.new ≡ put self.old square member }
+        ensures on_board { IsOnBoard square }
+    {
+        if member {
+            self.insert(square);
+        } else {
+            self.remove(square);
+        }
     }
 
     /// The squares in either set.

@@ -1,6 +1,8 @@
-ghost use Rattle.std.specs.Prelude.{◌≡◌, ◌≤◌, ◌<◌, ◌+◌, ◌-◌, ◌/◌, ◌%◌, ◌*◌};
-ghost use Rattle.chess_bits.specs.Square.{square_at, number_of, IsOnBoard};
+ghost use Rattle.std.specs.Prelude.{◌≡◌, ◌<◌, IfSome, IfNone};
+ghost use Rattle.chess_bits.specs.Square.{square, square_at, number_of, IsOnBoard};
+ghost use Rattle.chess_bits.specs.Attack.{along};
 
+use crate::steps::Step;
 use std::marker::Model;
 
 /// A square of the board, by its number: a1 is 0, h1 is 7, a2 is 8, h8 is 63.
@@ -60,5 +62,30 @@ impl Square {
         ensures on_board { IsOnBoard self }
     {
         self.number / 8 + 1
+    }
+
+    /// The square on a file and a rank, each 1 to 8.
+    pub fn at(file: u8, rank: u8) -> Square
+        requires on_board { IsOnBoard (square file rank) }
+        ensures { result ≡ square file rank }
+    {
+        Square {
+            number: (rank - 1) * 8 + (file - 1),
+        }
+    }
+
+    /// The square that lies one step from this one, or `None` where the board ends before.
+    pub fn step(self, step: Step) -> Option<Square>
+        ensures some { IfSome result (λ s. (s ≡ along 1 step self) × IsOnBoard s) }
+        ensures none { IfNone result (¬ IsOnBoard (along 1 step self)) }
+    {
+        let file = u16::from(self.file()) + u16::from(step.right);
+        let rank = u16::from(self.rank()) + u16::from(step.up);
+        let (left, down) = (u16::from(step.left), u16::from(step.down));
+        if left < file && file <= left + 8 && down < rank && rank <= down + 8 {
+            Some(Square::at((file - left) as u8, (rank - down) as u8))
+        } else {
+            None
+        }
     }
 }

@@ -4,7 +4,11 @@
 mod bit_set;
 mod coordinates;
 mod men;
+mod steps;
 
 pub use bit_set::{Bits, SquaresOf};
 pub use coordinates::Square;
 pub use men::{Colour, Kind};
+pub use steps::{
+    ADJOINING, BLACK_PAWN_ATTACKS, DIAGONAL, KNIGHT_STEPS, STRAIGHT, Step, WHITE_PAWN_ATTACKS,
+};

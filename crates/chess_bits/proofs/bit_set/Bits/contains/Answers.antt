@@ -6,8 +6,8 @@ use Rattle.chess_bits.proofs.WordLemmas.{get_or-bools_of}
 use Rattle.chess_bits.proofs.TableLemmas.{at-on_board}
 use Rattle.chess_bits.proofs.bit_set.Bits.contains.Goals as goal
 
-pub returns : goal.returns
-returns c =
+pub returns-clause-member : goal.returns-clause-member
+returns-clause-member c =
     ap (λ (x : ℕ). eqb x 1) (shr_and_one c.self.inside.word c.number.result)
     ∙ sym (get_or-bools_of 64 c.self.inside.word c.number.result c.number.ensures.below)
     ∙ ap (λ (x : List Bool). get_or x c.number.result false) c.self.view_is

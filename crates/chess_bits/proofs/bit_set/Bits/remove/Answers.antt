@@ -4,9 +4,9 @@ use Rattle.chess_bits.specs.Table.{put}
 use Rattle.chess_bits.proofs.WordLemmas.{bools_of-remove}
 use Rattle.chess_bits.proofs.bit_set.Bits.remove.Goals as goal
 
-pub returns : goal.returns
+pub returns-clause-removed : goal.returns-clause-removed
 unfolding put
-returns c =
+returns-clause-removed c =
     bools_of-remove c.self.inside.word c.number.result c.number.ensures.below
     ∙ ap (λ (x : List Bool). set x c.number.result false) c.self.view_is
     ∙ ap (λ (n : ℕ). set c.args.self.now n false) c.number.ensures.number

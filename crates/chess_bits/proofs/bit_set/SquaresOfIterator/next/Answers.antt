@@ -7,7 +7,7 @@ use Rattle.chess_bits.proofs.bit_set.SquaresOfIterator.next.Goals as goal
 pub returns-clause-steps : goal.returns-clause-steps
 returns-clause-steps c =
     members-after_first c.args.self.now.rest c.in_ok-square.square c.in_ok-square.ensures
-    ∙ ap (λ (bs : List Bool). c.in_ok-square.square ∷ members bs) (sym c.remove.ensures)
+    ∙ ap (λ (bs : List Bool). c.in_ok-square.square ∷ members bs) (sym c.remove.ensures.removed)
 
 pub returns-clause-goes : goal.returns-clause-goes
 returns-clause-goes c =
