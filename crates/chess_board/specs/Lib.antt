@@ -1,6 +1,8 @@
-pub mod Position
-pub mod Next
+pub mod Initial
 pub mod Legal
 pub mod Line
-pub mod Initial
+pub mod Men
+pub mod Next
+pub mod Occupancy
+pub mod Position
 pub mod RightsOf

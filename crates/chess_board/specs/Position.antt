@@ -7,7 +7,7 @@ use Rattle.chess_bits.specs.declared.men.Kind.TheVariants.{Pawn, Knight, Bishop,
 use Rattle.chess_bits.specs.Square.{Square, IsOnBoard, on_board, squares}
 use Rattle.chess_bits.specs.Man.{Man, other, is_man, is_of, holds}
 use Rattle.chess_bits.specs.Table.{at}
-use Rattle.chess_bits.specs.Attack.{Step, along, forward, Attacks, attacks}
+use Rattle.chess_bits.specs.Attack.{along, forward, Attacks, attacks}
 use Rattle.chess_board.specs.declared.castling.Wing.{Wing}
 use Rattle.chess_board.specs.declared.castling.Wing.TheVariants as wing
 

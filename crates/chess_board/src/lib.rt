@@ -2,9 +2,11 @@
 #![tactic(auto)]
 
 mod castling;
+mod men;
 mod moves;
 mod parts;
 
 pub use castling::{CastlingRights, Wing};
+pub use men::Men;
 pub use moves::Move;
 pub use parts::{BadBoard, Parts};

@@ -1,0 +1,148 @@
+ghost use Rattle.std.specs.Prelude.{◌≡◌, None, Some, replicate};
+ghost use Rattle.chess_bits.specs.Table.{put};
+ghost use Rattle.chess_bits.specs.Man.{holds, is_of as man_is_of};
+ghost use Rattle.chess_board.specs.Position.{man_at, occupied_of};
+ghost use Rattle.chess_board.specs.Occupancy.{squares_with, is_a as man_is_a};
+
+use chess_bits::{Bits, Colour, Kind, Square};
+use std::marker::Model;
+
+/// The men on a board, as sets of squares by colour and by kind.
+#[derive(Clone, Copy, Debug)]
+pub struct Men {
+    white: Bits,
+    black: Bits,
+    pawns: Bits,
+    knights: Bits,
+    bishops: Bits,
+    rooks: Bits,
+    queens: Bits,
+    kings: Bits,
+}
+
+impl Model for Men {
+    ghost use Rattle.std.specs.Prelude.{List, Option};
+    ghost use Rattle.chess_bits.specs.Man.{Man};
+
+    ghost Value = { List (Option Man) };
+
+    ghost use Rattle.chess_board.specs.Men.{placement_of, sets_of, IsConsistent};
+
+    ghost view = { placement_of };
+
+    ghost invariant = { IsConsistent };
+
+    ghost inverse = { sets_of };
+
+    ghost inverse_ok = { λ _ consistent. consistent };
+}
+
+impl Men {
+    /// The empty board.
+    pub fn new() -> Men
+        ensures { result ≡ replicate 64 None }
+    {
+        Men {
+            white: Bits::new(),
+            black: Bits::new(),
+            pawns: Bits::new(),
+            knights: Bits::new(),
+            bishops: Bits::new(),
+            rooks: Bits::new(),
+            queens: Bits::new(),
+            kings: Bits::new(),
+        }
+    }
+
+    /// What stands on a square.
+    pub fn man_at(&self, square: Square) -> Option<(Colour, Kind)>
+        ensures { result ≡ man_at self.now square }
+    {
+        let colour = if self.white.contains(square) {
+            Colour::White
+        } else if self.black.contains(square) {
+            Colour::Black
+        } else {
+            return None;
+        };
+        let kind = if self.pawns.contains(square) {
+            Kind::Pawn
+        } else if self.knights.contains(square) {
+            Kind::Knight
+        } else if self.bishops.contains(square) {
+            Kind::Bishop
+        } else if self.rooks.contains(square) {
+            Kind::Rook
+        } else if self.queens.contains(square) {
+            Kind::Queen
+        } else {
+            Kind::King
+        };
+        Some((colour, kind))
+    }
+
+    /// Puts a man onto a square, in place of what stood there, or empties it.
+    pub fn set(&mut self, square: Square, man: Option<(Colour, Kind)>)
+        ensures { self.new ≡ put self.old square man }
+    {
+        self.white.assign(square, is_of(man, Colour::White));
+        self.black.assign(square, is_of(man, Colour::Black));
+        self.pawns.assign(square, is_a(man, Kind::Pawn));
+        self.knights.assign(square, is_a(man, Kind::Knight));
+        self.bishops.assign(square, is_a(man, Kind::Bishop));
+        self.rooks.assign(square, is_a(man, Kind::Rook));
+        self.queens.assign(square, is_a(man, Kind::Queen));
+        self.kings.assign(square, is_a(man, Kind::King));
+    }
+
+    /// The squares with men of a colour.
+    pub fn of(&self, colour: Colour) -> Bits
+        ensures { result ≡ squares_with (man_is_of colour) self.now }
+    {
+        match colour {
+            Colour::White => self.white,
+            Colour::Black => self.black,
+        }
+    }
+
+    /// The squares with men of a kind.
+    pub fn of_kind(&self, kind: Kind) -> Bits
+        ensures { result ≡ squares_with (man_is_a kind) self.now }
+    {
+        match kind {
+            Kind::Pawn => self.pawns,
+            Kind::Knight => self.knights,
+            Kind::Bishop => self.bishops,
+            Kind::Rook => self.rooks,
+            Kind::Queen => self.queens,
+            Kind::King => self.kings,
+        }
+    }
+
+    /// The squares with men.
+    pub fn occupied(&self) -> Bits
+        ensures { result ≡ occupied_of self.now }
+    {
+        self.white.union(self.black)
+    }
+}
+
+// Whether there is a man of the colour.
+fn is_of(man: Option<(Colour, Kind)>, colour: Colour) -> bool
+    ensures { result ≡ holds (man_is_of colour) man }
+{
+    match man {
+        None => false,
+        Some((own, _)) => own == colour,
+    }
+}
+
+// Whether there is a man of the kind.
+fn is_a(man: Option<(Colour, Kind)>, kind: Kind) -> bool
+    ensures { result ≡ holds (man_is_a kind) man }
+{
+    match man {
+        None => false,
+        Some((_, own)) => own == kind,
+    }
+}
