@@ -1,3 +1,5 @@
+pub mod AlongLemmas
+pub mod ManLemmas
 pub mod MemberLemmas
 pub mod TableLemmas
 pub mod WordLemmas

@@ -3,7 +3,7 @@ use Rattle.std.specs.Bool.{Decides}
 use Rattle.std.proofs.Common.{arith, inl, inr, ap, ◌∙◌, sym, suc, add-zero, [], ◌∷◌, get_or, set, take, drop}
 use Rattle.std.proofs.lemmas.Bool.{and_parts, and_from, eqb-true, eq-eqb, cases_Bool, cases_lt, cases_order, false_from_ne_true, cond-true, cond-false}
 use Rattle.std.proofs.lemmas.Bool.Decides.{nat_tests}
-use Rattle.std.proofs.lemmas.List.{length-set, length-map, get_or-set_same, get_or-set_other, get_or_past, ext_get_or, map-set, get_or-map, get_or-take, get_or-drop, length-take-le, length-drop}
+use Rattle.std.proofs.lemmas.List.{length-set, length-map, get_or-set_same, get_or-set_other, get_or_past, ext_get_or, map-set, set_comm, get_or-map, get_or-take, get_or-drop, length-take-le, length-drop}
 use Rattle.std.proofs.lemmas.List.Sums.{sum_by-set, get_or-le-sum_by, sum_by-take-drop, sum_by-cons}
 use Rattle.chess_bits.specs.Square.{Square, IsOnBoard, on_board, is_square, number_of, square_at, number_of-square_at}
 use Rattle.chess_bits.specs.Table.{at, put}
@@ -59,7 +59,8 @@ pub square_at-number_of : (s : Square) → IsOnBoard s → square_at (number_of 
 square_at-number_of s on = same_square (square_at (number_of s)) s (omega arith) (omega arith)
 
 pub IsOnBoard-square_at : (n : ℕ) → n < 64 → IsOnBoard (square_at n)
-IsOnBoard-square_at n below = record { file_from = omega arith; file_to = omega arith; rank_from = omega arith; rank_to = omega arith }
+IsOnBoard-square_at n below =
+    record { file_from = omega arith; file_to = omega arith; rank_from = omega arith; rank_to = omega arith }
 
 pub number_of-injective : (a b : Square) → IsOnBoard a → IsOnBoard b → number_of a ≡ number_of b → a ≡ b
 number_of-injective a b on_a on_b e = same_square a b (omega arith) (omega arith)
@@ -70,10 +71,12 @@ get_or-map_any : {A B : Type 0} (f : A → B) (t : List A) (i : ℕ) (none_a : A
     f none_a ≡ none_b → get_or (map f t) i none_b ≡ f (get_or t i none_a)
 get_or-map_any f t i none_a none_b e = elim (cases_lt i (length t)) [
   | inl within ↦ get_or-map f t i none_a none_b within
-  | inr past ↦ get_or_past (map f t) i none_b (rw (length-map t f) past) ∙ sym e ∙ ap f (sym (get_or_past t i none_a past))
+  | inr past ↦ get_or_past (map f t) i none_b (rw (length-map t f) past) ∙ sym e ∙
+      ap f (sym (get_or_past t i none_a past))
 ]
 
-pub at-on_board : {A : Type 0} (none : A) (t : List A) (s : Square) → IsOnBoard s → at none t s ≡ get_or t (number_of s) none
+pub at-on_board : {A : Type 0} (none : A) (t : List A) (s : Square) → IsOnBoard s →
+    at none t s ≡ get_or t (number_of s) none
 unfolding at
 at-on_board none t s on = cond-true (on_board s) (get_or t (number_of s) none) none (on_board-true s on)
 
@@ -97,7 +100,8 @@ pub length-put : {A : Type 0} (t : List A) (s : Square) (x : A) → length (put 
 unfolding put
 length-put t s x = length-set t (number_of s) x
 
-pub at-put_same : {A : Type 0} (none : A) (t : List A) (s : Square) (x : A) → length t ≡ 64 → IsOnBoard s → at none (put t s x) s ≡ x
+pub at-put_same : {A : Type 0} (none : A) (t : List A) (s : Square) (x : A) → length t ≡ 64 → IsOnBoard s →
+    at none (put t s x) s ≡ x
 unfolding put
 at-put_same none t s x whole on =
     let below : number_of s < length t = rw whole (number_of-below s on) in
@@ -131,7 +135,8 @@ pub same_table : {A : Type 0} (none : A) (t u : List A) → length t ≡ 64 → 
     ((s : Square) → IsOnBoard s → at none t s ≡ at none u s) → t ≡ u
 same_table none t u whole_t whole_u agree = ext_get_or none t u (whole_t ∙ sym whole_u) (λ i within.
     let below : i < 64 = omega arith in
-    sym (at-square_at none t i below) ∙ agree (square_at i) (IsOnBoard-square_at i below) ∙ at-square_at none u i below)
+    sym (at-square_at none t i below) ∙ agree (square_at i) (IsOnBoard-square_at i below) ∙
+    at-square_at none u i below)
 
 pub map-put : {A B : Type 0} (f : A → B) (t : List A) (s : Square) (x : A) → map f (put t s x) ≡ put (map f t) s (f x)
 unfolding put
@@ -142,7 +147,8 @@ pub at-map : {A B : Type 0} (f : A → B) (none_a : A) (none_b : B) (t : List A)
 at-map f none_a none_b t s e = elim (cases_Bool (on_board s)) [
   | inl on' ↦
       let on = IsOnBoard-from_test s on' in
-      at-on_board none_b (map f t) s on ∙ get_or-map_any f t (number_of s) none_a none_b e ∙ ap f (sym (at-on_board none_a t s on))
+      at-on_board none_b (map f t) s on ∙ get_or-map_any f t (number_of s) none_a none_b e ∙
+      ap f (sym (at-on_board none_a t s on))
   | inr off' ↦
       let off : (IsOnBoard s → ⊥) = λ (on : IsOnBoard s). grind (arith, on_board-true s on) in
       at-off_board none_b (map f t) s off ∙ sym e ∙ ap f (sym (at-off_board none_a t s off))
@@ -151,7 +157,8 @@ at-map f none_a none_b t s e = elim (cases_Bool (on_board s)) [
 -- Counts.
 
 -- the value put in place of another counts for it
-pub count_by-put : {A : Type 0} (p : A → Bool) (none : A) (t : List A) (s : Square) (x : A) → length t ≡ 64 → IsOnBoard s →
+pub count_by-put : {A : Type 0} (p : A → Bool) (none : A) (t : List A) (s : Square) (x : A) → length t ≡ 64 →
+    IsOnBoard s →
     count_by p (put t s x) + cond (p (at none t s)) 1 0 ≡ count_by p t + cond (p x) 1 0
 unfolding put
 count_by-put p none t s x whole on =
@@ -162,7 +169,8 @@ count_by-put p none t s x whole on =
 pub count_by-one : {A : Type 0} (p : A → Bool) (xs : List A) (i : ℕ) (d : A) → i < length xs →
     p (get_or xs i d) ≡ true → 1 ≤ count_by p xs
 count_by-one p xs i d within passes =
-    let counted : cond (p (get_or xs i d)) 1 0 ≤ count_by p xs = get_or-le-sum_by (λ x. cond (p x) 1 0) xs i d within in
+    let counted : cond (p (get_or xs i d)) 1 0 ≤ count_by p xs =
+    get_or-le-sum_by (λ x. cond (p x) 1 0) xs i d within in
     grind (arith, cond-true {A = ℕ} (p (get_or xs i d)) 1 0 passes)
 
 -- two places that pass count twice
@@ -223,3 +231,10 @@ square_from_count_by p none t whole some =
     let (i, within, passes) = found_from_count_by p none t some in
     let below : i < 64 = omega arith in
     (square_at i, IsOnBoard-square_at i below, rw (at-square_at none t i below) passes)
+
+-- puts on two squares in either order
+pub put_comm : {A : Type 0} (t : List A) (a b : Square) (x y : A) → IsOnBoard a → IsOnBoard b → a ≢ b →
+    put (put t a x) b y ≡ put (put t b y) a x
+unfolding put
+put_comm t a b x y on_a on_b apart =
+    set_comm t (number_of a) (number_of b) x y (λ e. apart (number_of-injective a b on_a on_b e))

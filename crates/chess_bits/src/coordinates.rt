@@ -78,6 +78,7 @@ impl Square {
     pub fn step(self, step: Step) -> Option<Square>
         ensures some { IfSome result (λ s. (s ≡ along 1 step self) × IsOnBoard s) }
         ensures none { IfNone result (¬ IsOnBoard (along 1 step self)) }
+        ensures on_board { IsOnBoard self }
     {
         let file = u16::from(self.file()) + u16::from(step.right);
         let rank = u16::from(self.rank()) + u16::from(step.up);

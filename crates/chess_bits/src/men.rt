@@ -1,6 +1,8 @@
 ghost use Rattle.std.specs.Prelude.{◌≡◌};
 ghost use Rattle.chess_bits.specs.Man.{other};
 
+use crate::steps::{NORTH, SOUTH, Step};
+
 /// The two sides (FIDE article 1.1).
 #[derive(Clone, Copy, Debug, PartialEq, Eq)]
 pub enum Colour {
@@ -16,6 +18,20 @@ impl Colour {
         match self {
             Colour::White => Colour::Black,
             Colour::Black => Colour::White,
+        }
+    }
+}
+
+impl Colour {
+    ghost use Rattle.chess_bits.specs.Attack.{forward};
+
+    /// The way the colour's pawns go (FIDE article 3.7.1).
+    pub fn forward(self) -> Step
+        ensures { result ≡ forward self }
+    {
+        match self {
+            Colour::White => NORTH,
+            Colour::Black => SOUTH,
         }
     }
 }

@@ -7,7 +7,8 @@ pub struct Step {
     pub down: u8,
 }
 
-const NORTH: Step = Step {
+/// One rank up.
+pub const NORTH: Step = Step {
     right: 0,
     left: 0,
     up: 1,
@@ -21,7 +22,8 @@ const EAST: Step = Step {
     down: 0,
 };
 
-const SOUTH: Step = Step {
+/// One rank down.
+pub const SOUTH: Step = Step {
     right: 0,
     left: 0,
     up: 0,

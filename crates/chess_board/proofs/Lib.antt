@@ -1,1 +1,13 @@
+pub mod AttackLemmas
+pub mod Candidates
+pub mod ManAfter
 pub mod MenLemmas
+pub mod Moved
+pub mod PlacementAfter
+pub mod SlideLemmas
+pub mod Steps
+pub mod ValidMen
+pub mod ValidNext
+pub mod ValidRights
+pub mod ValidTarget
+pub mod Ways

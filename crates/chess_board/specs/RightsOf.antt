@@ -1,4 +1,4 @@
-use Rattle.std.specs.Prelude.{◌==◌}
+use Rattle.std.specs.Prelude.{ℕ, ◌+◌, ◌*◌, ◌<◌, ◌==◌, Bool, cond}
 use Rattle.std.specs.Int.{bit_at}
 use Rattle.chess_board.specs.declared.castling.CastlingRights.{CastlingRights}
 use Rattle.chess_board.specs.Position.{Rights}
@@ -10,4 +10,14 @@ rights_of flags = record {
   white_queen = bit_at flags.0 1 == 1;
   black_king = bit_at flags.0 2 == 1;
   black_queen = bit_at flags.0 3 == 1
+}
+
+-- no other bit is set
+abbrev pub HasKnownFlags : CastlingRights → Type 0
+HasKnownFlags flags = flags.0 < 16
+
+-- the flags of rights
+abbrev pub flags_of : Rights → CastlingRights
+flags_of rights = record {
+  0 = cond rights.white_king 1 0 + 2 * cond rights.white_queen 1 0 + 4 * cond rights.black_king 1 0 + 8 * cond rights.black_queen 1 0
 }

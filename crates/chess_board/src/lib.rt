@@ -1,12 +1,16 @@
 //! A chess board: a valid position, and the position after a move.
 #![tactic(auto)]
 
+mod attack;
 mod castling;
 mod men;
 mod moves;
 mod parts;
 
-pub use castling::{CastlingRights, Wing};
+pub use attack::{attacks, is_attacked, is_in_check};
+pub use castling::{
+    CastlingRights, Wing, castled_king, castled_rook, home_rank, king_home, rook_home,
+};
 pub use men::Men;
 pub use moves::Move;
 pub use parts::{BadBoard, Parts};
