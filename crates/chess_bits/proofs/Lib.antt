@@ -1,4 +1,5 @@
 pub mod AlongLemmas
+pub mod Deciding
 pub mod ManLemmas
 pub mod MemberLemmas
 pub mod TableLemmas

@@ -1,5 +1,8 @@
 pub mod AttackLemmas
 pub mod Candidates
+pub mod Deciding
+mod Examples
+pub mod LegalMoves
 pub mod ManAfter
 pub mod MenLemmas
 pub mod Moved

@@ -1,3 +1,5 @@
+pub mod Board
+pub mod Computing
 pub mod Initial
 pub mod Legal
 pub mod Line

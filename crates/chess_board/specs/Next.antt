@@ -61,11 +61,12 @@ became p m = became_of p.side m.promotion (man_at p.placement m.from)
 abbrev pub without_taken : Position → Move → List (Option Man) → List (Option Man)
 without_taken p m placement = if is_en_passant p m then put placement (beside m) None else placement
 
+abbrev pub rook_moved : Colour → Wing → List (Option Man) → List (Option Man)
+rook_moved side wing placement = put (put placement (rook_home side wing) None) (castled_rook side wing) (Some (side, Rook))
+
 abbrev pub with_rook : Position → Move → Wing → List (Option Man) → List (Option Man)
 with_rook p m wing placement =
-    if castles_to p m wing
-    then put (put placement (rook_home p.side wing) None) (castled_rook p.side wing) (Some (p.side, Rook))
-    else placement
+    if castles_to p m wing then rook_moved p.side wing placement else placement
 
 unfoldable pub placement_after : Position → Move → List (Option Man)
 placement_after p m =

@@ -138,7 +138,7 @@ fn is_of(man: Option<(Colour, Kind)>, colour: Colour) -> bool
 }
 
 // Whether there is a man of the kind.
-fn is_a(man: Option<(Colour, Kind)>, kind: Kind) -> bool
+pub fn is_a(man: Option<(Colour, Kind)>, kind: Kind) -> bool
     ensures { result ≡ holds (man_is_a kind) man }
 {
     match man {
