@@ -1,5 +1,5 @@
-use Rattle.std.proofs.Common.{ℕ, zero, suc, ◌≡◌, ◌≢◌, ◌+◌, ◌-◌, ◌*◌, ◌<◌, ◌≤◌, ◌⊎◌, Bool, true, false, cond, List, [], ◌∷◌, length, get_or, drop, refl, ap, sym, subst, ◌∙◌, inl, inr, add-one, arith}
-use Rattle.std.specs.List.{filter}
+use Rattle.std.proofs.Common.{ℕ, zero, suc, ◌≡◌, ◌≢◌, ◌+◌, ◌-◌, ◌*◌, ◌<◌, ◌≤◌, ◌⊎◌, Bool, true, false, cond, not, ◌||◌, ◌&&◌, List, [], ◌∷◌, length, get_or, drop, refl, ap, sym, subst, ◌∙◌, inl, inr, add-one, arith}
+use Rattle.std.specs.List.{filter, list_all}
 use Rattle.std.proofs.lemmas.Bool.{cases_lt, cases_order, cases_Bool}
 use Rattle.std.proofs.lemmas.List.FromFn.{get_or-map-range_with_len}
 use Rattle.std.proofs.Math.Nat.{mul-le-mul_left}
@@ -154,3 +154,16 @@ SomeOf-members P bs s on member holds =
 pub PassesEach-members : (bs : List Bool) → PassesEach (has bs) (members bs)
 unfolding members
 PassesEach-members bs = PassesEach-filter (has bs) squares
+
+-- a test of each item that a filter keeps
+pub list_all-filter : {A : Type 0} (q p : A → Bool) (xs : List A) → list_all q (filter p xs) ≡ list_all (λ x. not (p x) || q x) xs
+list_all-filter q p [] = refl
+list_all-filter q p (x ∷ xs) =
+    elim (cases_Bool (p x)) [
+      | inl kept ↦ rw (kept) (ap (λ (b : Bool). q x && b) (list_all-filter q p xs))
+      | inr left ↦ rw (left) (list_all-filter q p xs)
+    ]
+
+pub list_all-same : {A : Type 0} (p q : A → Bool) (xs : List A) → ((x : A) → p x ≡ q x) → list_all p xs ≡ list_all q xs
+list_all-same p q [] same = refl
+list_all-same p q (x ∷ xs) same = ap (λ (b : Bool). b && list_all p xs) (same x) ∙ ap (λ (b : Bool). q x && b) (list_all-same p q xs same)

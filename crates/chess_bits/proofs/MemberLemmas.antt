@@ -7,7 +7,7 @@ use Rattle.std.proofs.lemmas.Nat.Bits.{bit_at-zero, bit_at-trailing_zeros}
 use Rattle.std.proofs.lemmas.Simd.{ones-mask_l}
 use Rattle.std.specs.Int.{w64, trailing_zeros}
 use Rattle.std.specs.Prelude.{count_ones}
-use Rattle.std.specs.List.{range_with_len, filter}
+use Rattle.std.specs.List.{range_with_len, filter, count_by, fold}
 use lib.Lanes.{mask_l}
 use Rattle.chess_bits.specs.Square.{Square, square_at, number_of, number_of-square_at, squares}
 use Rattle.chess_bits.specs.Table.{has, put, members, first_of}
@@ -150,3 +150,20 @@ length-members w fits =
     ap count_ones (sym (word_of-bools_of 64 w fits) ∙ word_of-mask bs ∙ ap mask_l (fill_by_all p bs 64 false (length-bools_of 64 w) (λ k h. refl)))
     ∙ ones-mask_l p (range_with_len 0 64) ∙ sym (length-filter p (range_with_len 0 64))
     ∙ sym (length-map (numbers_in bs) square_at) ∙ ap length (sym (members-numbers bs))
+
+fold-map : {A B C : Type 0} (g : C → B → C) (f : A → B) (start : C) (xs : List A) → fold g start (map f xs) ≡ fold (λ c x. g c (f x)) start xs
+fold-map g f start [] = refl
+fold-map g f start (x ∷ xs) = fold-map g f (g start (f x)) xs
+
+count_by-map : {A B : Type 0} (p : B → Bool) (f : A → B) (xs : List A) → count_by p (map f xs) ≡ count_by (λ x. p (f x)) xs
+count_by-map p f xs = fold-map (λ (n : ℕ) y. n + cond (p y) 1 0) f 0 xs
+
+-- a set made by a test of the values of a whole table has as many squares as values pass
+pub length-members_map : {A : Type 0} (q : A → Bool) (table : List A) → length table ≡ 64 → length (members (map q table)) ≡ count_by q table
+length-members_map q table whole =
+    let bs : List Bool = map q table in
+    let p : ℕ → Bool = λ i. get_or bs i false in
+    ap length (members-numbers bs) ∙ length-map (numbers_in bs) square_at ∙ length-filter p (range_with_len 0 64)
+    ∙ sym (count_by-map (λ b. b) p (range_with_len 0 64))
+    ∙ ap (count_by (λ (b : Bool). b)) (sym (fill_by_all p bs 64 false (length-map table q ∙ whole) (λ k h. refl)))
+    ∙ count_by-map (λ b. b) q table

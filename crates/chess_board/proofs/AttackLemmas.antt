@@ -1,17 +1,19 @@
-use Rattle.std.proofs.Common.{◌≡◌, Bool, true, false, ◌&&◌, List, Option, None, Some, refl, ap, sym, ◌∙◌}
+use Rattle.std.proofs.Common.{◌≡◌, ◌⊎◌, Bool, true, false, ◌&&◌, ◌||◌, not, List, Option, None, Some, refl, ap, sym, ◌∙◌, inl, inr}
+use Rattle.std.specs.List.{list_all}
 use Rattle.chess_bits.specs.declared.men.Colour.{Colour}
 use Rattle.chess_bits.specs.declared.men.Colour.TheVariants.{White, Black}
 use Rattle.chess_bits.specs.declared.men.Kind.{Kind}
 use Rattle.chess_bits.specs.declared.men.Kind.TheVariants.{Pawn, Knight, Bishop, Rook, Queen, King}
-use Rattle.chess_bits.specs.Square.{Square}
-use Rattle.chess_bits.specs.Man.{Man, is_of, is_colour, holds}
+use Rattle.chess_bits.specs.Square.{Square, squares}
+use Rattle.chess_bits.specs.Man.{Man, is_of, is_man, is_colour, holds}
 use Rattle.chess_bits.specs.Table.{at, has, meet, members}
 use Rattle.chess_bits.specs.Attack.{SomeOf}
 use Rattle.chess_bits.proofs.TableLemmas.{at-map, on_board-from_at}
-use Rattle.chess_bits.proofs.AlongLemmas.{SomeOf-members}
+use Rattle.chess_bits.proofs.AlongLemmas.{SomeOf-members, list_all-filter, list_all-same}
 use Rattle.chess_board.specs.Occupancy.{squares_with, is_a}
 use Rattle.chess_board.specs.Position.{man_at, IsAttacker, IsAttacked, IsInCheck}
-use Rattle.chess_board.proofs.MenLemmas.{each-map}
+use Rattle.chess_board.specs.Computing.{is_inside}
+use Rattle.chess_board.proofs.MenLemmas.{each-map, map-same}
 use Rattle.chess_board.proofs.Candidates.{IsOnBoard-from_man}
 
 -- whether a square is in a set tells of the man on it
@@ -72,3 +74,27 @@ has-king placement side k e =
 
 pub king-has : (placement : List (Option Man)) (side : Colour) (k : Square) → has (kings_of placement side) k ≡ true → man_at placement k ≡ Some (side, King)
 king-has placement side k e = king_there side (man_at placement k) (sym (meet-squares_with (is_of side) (is_a King) placement k) ∙ e)
+
+-- the kings of a side as one set
+pub kings_of-squares_with : (placement : List (Option Man)) (side : Colour) → kings_of placement side ≡ squares_with (is_man (side, King)) placement
+unfolding meet
+kings_of-squares_with placement side =
+    each-map (λ x y. x && y) (holds (is_of side)) (holds (is_a King)) placement
+    ∙ map-same (λ here. holds (is_of side) here && holds (is_a King) here) (holds (is_man (side, King))) same placement
+  where
+    same : (here : Option Man) → (holds (is_of side) here && holds (is_a King) here) ≡ holds (is_man (side, King)) here
+    same None = refl
+    same (Some man) = refl
+
+-- the pawns are inside where each square with a pawn is
+pub pawns_inside : (placement : List (Option Man)) → list_all is_inside (members (squares_with (is_a Pawn) placement)) ≡
+    list_all (λ s. not (holds (is_a Pawn) (man_at placement s)) || is_inside s) squares
+unfolding members
+pawns_inside placement =
+    list_all-filter is_inside (has (squares_with (is_a Pawn) placement)) squares
+    ∙ list_all-same (λ s. not (has (squares_with (is_a Pawn) placement) s) || is_inside s) (λ s. not (holds (is_a Pawn) (man_at placement s)) || is_inside s) squares
+        (λ s. ap (λ (b : Bool). not b || is_inside s) (has-squares_with (is_a Pawn) placement s))
+
+pub outside : (s : Square) → (s.rank ≡ 1) ⊎ (s.rank ≡ 8) → is_inside s ≡ false
+outside s (inl e) = rw e refl
+outside s (inr e) = rw e refl

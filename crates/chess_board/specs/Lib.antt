@@ -6,5 +6,6 @@ pub mod Line
 pub mod Men
 pub mod Next
 pub mod Occupancy
+pub mod Parts
 pub mod Position
 pub mod RightsOf

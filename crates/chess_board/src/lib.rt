@@ -4,6 +4,7 @@
 mod attack;
 mod board;
 mod castling;
+mod draft;
 mod men;
 mod moves;
 mod parts;

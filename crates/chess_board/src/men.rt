@@ -1,7 +1,8 @@
 ghost use Rattle.std.specs.Prelude.{◌≡◌, None, Some, replicate};
+ghost use Rattle.chess_bits.specs.declared.men.Kind.TheVariants.{King};
 ghost use Rattle.chess_bits.specs.Table.{put};
-ghost use Rattle.chess_bits.specs.Man.{holds, is_of as man_is_of};
-ghost use Rattle.chess_board.specs.Position.{man_at, occupied_of};
+ghost use Rattle.chess_bits.specs.Man.{holds, is_man as same_man, is_of as man_is_of};
+ghost use Rattle.chess_board.specs.Position.{man_at, occupied_of, count_of};
 ghost use Rattle.chess_board.specs.Occupancy.{squares_with, is_a as man_is_a};
 
 use chess_bits::{Bits, Colour, Kind, Square};
@@ -119,6 +120,26 @@ impl Men {
         }
     }
 
+    /// How many men a colour has.
+    pub fn count_of(&self, colour: Colour) -> u32
+        ensures { result ≡ count_of (man_is_of colour) self.now }
+    {
+        match colour {
+            Colour::White => self.white.count(),
+            Colour::Black => self.black.count(),
+        }
+    }
+
+    /// How many kings a colour has.
+    pub fn kings_of(&self, colour: Colour) -> u32
+        ensures { result ≡ count_of (same_man (colour, King)) self.now }
+    {
+        match colour {
+            Colour::White => self.white.meet(self.kings).count(),
+            Colour::Black => self.black.meet(self.kings).count(),
+        }
+    }
+
     /// The squares with men.
     pub fn occupied(&self) -> Bits
         ensures { result ≡ occupied_of self.now }
@@ -144,5 +165,15 @@ pub fn is_a(man: Option<(Colour, Kind)>, kind: Kind) -> bool
     match man {
         None => false,
         Some((_, own)) => own == kind,
+    }
+}
+
+// Whether there is a man of the colour and the kind.
+pub fn is_man(man: Option<(Colour, Kind)>, colour: Colour, kind: Kind) -> bool
+    ensures { result ≡ holds (same_man (colour, kind)) man }
+{
+    match man {
+        None => false,
+        Some((own_colour, own_kind)) => own_colour == colour && own_kind == kind,
     }
 }
