@@ -1,7 +1,9 @@
-ghost use Rattle.std.specs.Prelude.{◌≡◌, ◌<◌, ◌↔◌, IsTrue};
-ghost use Rattle.chess_board.specs.Position.{Position, IsInCheck, man_at};
+ghost use Rattle.std.specs.Prelude.{◌≡◌, ◌<◌, ◌↔◌, IsTrue, IfOk, IfErr};
+ghost use Rattle.chess_board.specs.Position.{Position, IsValid, IsInCheck, man_at};
 ghost use Rattle.chess_board.specs.RightsOf.{rights_of, HasKnownFlags};
 ghost use Rattle.chess_board.specs.Legal.{IsLegal};
+ghost use Rattle.chess_board.specs.Initial.{initial};
+ghost use Rattle.chess_board.specs.Parts.{described, IsFirstBroken};
 ghost use Rattle.chess_board.specs.Next as after;
 ghost use Rattle.chess_bits.specs.Square.{IsOnBoard, is_square};
 ghost use Rattle.chess_bits.specs.Man.{holds};
@@ -9,8 +11,10 @@ ghost use Rattle.chess_board.specs.Occupancy.{is_a as man_is_a};
 
 use crate::attack::is_in_check;
 use crate::castling::{CastlingRights, Wing, castled_king, castled_rook, king_home, rook_home};
+use crate::draft::Draft;
 use crate::men::{Men, is_a};
 use crate::moves::Move;
+use crate::parts::{BadBoard, INITIAL, Parts};
 use chess_bits::{Colour, Kind, Square};
 use std::marker::Model;
 
@@ -47,6 +51,38 @@ impl Model for Board {
 }
 
 impl Board {
+    /// The position in which a game starts (FIDE article 2.3).
+    pub fn initial() -> Board
+        ensures initial { result ≡ initial }
+        ensures valid { IsValid result }
+    {
+        match Board::try_new(INITIAL) {
+            Ok(board) => board,
+            Err(_) => unreachable!(),
+        }
+    }
+
+    /// The board of parts that are a valid position, with the flags that are no castling right left out; else the
+    /// first condition that they break, in the order of `BadBoard`.
+    pub fn try_new(parts: Parts) -> Result<Board, BadBoard>
+        ensures ok { IfOk result (λ board. board ≡ described parts) }
+        ensures valid { IfOk result IsValid }
+        ensures err { IfErr result (λ fault. IsFirstBroken (described parts) fault) }
+    {
+        let draft = Draft::new(&parts);
+        match draft.fault() {
+            Some(fault) => Err(fault),
+            None => Ok(Board {
+                men: draft.men,
+                side: draft.side,
+                rights: draft.rights.known(),
+                target: draft.target,
+                halfmove: draft.halfmove,
+                fullmove: draft.fullmove,
+            }),
+        }
+    }
+
     /// What stands on a square.
     pub fn piece_at(&self, square: Square) -> Option<(Colour, Kind)>
         ensures { result ≡ man_at self.now.placement square }
@@ -72,6 +108,7 @@ impl Board {
     pub fn rights(&self) -> CastlingRights
         ensures rights { rights_of result ≡ self.now.rights }
         ensures known { HasKnownFlags result }
+        ensures valid { IsValid self.now }
     {
         self.rights
     }
@@ -104,7 +141,8 @@ impl Board {
         is_in_check(&self.men, self.side)
     }
 
-    /// Whether the king of the side to move is attacked after a move (FIDE article 3.9.2), be the move legal or not.
+    /// Whether the king of the side to move stands attacked once the move's men are placed (FIDE article 3.9.2). It is
+    /// meant for moves by the rules of their men, and is answered for any.
     pub fn exposes_king(&self, mv: Move) -> bool
         ensures { IsTrue result ↔ IsInCheck (after.placement_after self.now mv) self.now.side }
     {
@@ -263,7 +301,8 @@ impl Board {
         requires legal { IsLegal self.now mv }
         requires halfmove { self.now.halfmove < 65535 }
         requires fullmove { self.now.fullmove < 65535 }
-        ensures { result ≡ after.next self.now mv }
+        ensures next { result ≡ after.next self.now mv }
+        ensures valid { IsValid result }
     {
         Board {
             men: self.men_after(&mv),

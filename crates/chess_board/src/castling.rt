@@ -50,6 +50,9 @@ impl Flags for CastlingRights {
 }
 
 impl CastlingRights {
+    /// Each side may castle to each wing.
+    pub const ALL: CastlingRights = CastlingRights(15);
+
     /// The set of the rights that are true.
     pub fn of(
         white_king: bool,
@@ -65,6 +68,19 @@ impl CastlingRights {
                 + 2 * u8::from(white_queen)
                 + 4 * u8::from(black_king)
                 + 8 * u8::from(black_queen),
+        )
+    }
+
+    /// The same rights, without flags that stand for none.
+    pub fn known(self) -> CastlingRights
+        ensures rights { rights_of result ≡ rights_of self }
+        ensures known { HasKnownFlags result }
+    {
+        CastlingRights::of(
+            self.allows(Colour::White, Wing::King),
+            self.allows(Colour::White, Wing::Queen),
+            self.allows(Colour::Black, Wing::King),
+            self.allows(Colour::Black, Wing::Queen),
         )
     }
 

@@ -30,3 +30,39 @@ pub enum BadBoard {
     /// The fullmove number is 0.
     Counter,
 }
+
+type Here = Option<(Colour, Kind)>;
+
+const EMPTY: Here = None;
+const WHITE_PAWN: Here = Some((Colour::White, Kind::Pawn));
+const WHITE_KNIGHT: Here = Some((Colour::White, Kind::Knight));
+const WHITE_BISHOP: Here = Some((Colour::White, Kind::Bishop));
+const WHITE_ROOK: Here = Some((Colour::White, Kind::Rook));
+const WHITE_QUEEN: Here = Some((Colour::White, Kind::Queen));
+const WHITE_KING: Here = Some((Colour::White, Kind::King));
+const BLACK_PAWN: Here = Some((Colour::Black, Kind::Pawn));
+const BLACK_KNIGHT: Here = Some((Colour::Black, Kind::Knight));
+const BLACK_BISHOP: Here = Some((Colour::Black, Kind::Bishop));
+const BLACK_ROOK: Here = Some((Colour::Black, Kind::Rook));
+const BLACK_QUEEN: Here = Some((Colour::Black, Kind::Queen));
+const BLACK_KING: Here = Some((Colour::Black, Kind::King));
+
+/// The position in which a game starts (FIDE article 2.3).
+#[rattlefmt::skip]
+pub const INITIAL: Parts = Parts {
+    men: [
+        WHITE_ROOK, WHITE_KNIGHT, WHITE_BISHOP, WHITE_QUEEN, WHITE_KING, WHITE_BISHOP, WHITE_KNIGHT, WHITE_ROOK,
+        WHITE_PAWN, WHITE_PAWN, WHITE_PAWN, WHITE_PAWN, WHITE_PAWN, WHITE_PAWN, WHITE_PAWN, WHITE_PAWN,
+        EMPTY, EMPTY, EMPTY, EMPTY, EMPTY, EMPTY, EMPTY, EMPTY,
+        EMPTY, EMPTY, EMPTY, EMPTY, EMPTY, EMPTY, EMPTY, EMPTY,
+        EMPTY, EMPTY, EMPTY, EMPTY, EMPTY, EMPTY, EMPTY, EMPTY,
+        EMPTY, EMPTY, EMPTY, EMPTY, EMPTY, EMPTY, EMPTY, EMPTY,
+        BLACK_PAWN, BLACK_PAWN, BLACK_PAWN, BLACK_PAWN, BLACK_PAWN, BLACK_PAWN, BLACK_PAWN, BLACK_PAWN,
+        BLACK_ROOK, BLACK_KNIGHT, BLACK_BISHOP, BLACK_QUEEN, BLACK_KING, BLACK_BISHOP, BLACK_KNIGHT, BLACK_ROOK,
+    ],
+    side: Colour::White,
+    rights: CastlingRights::ALL,
+    target: None,
+    halfmove: 0,
+    fullmove: 1,
+};

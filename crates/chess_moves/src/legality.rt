@@ -1,0 +1,43 @@
+ghost use Rattle.std.specs.Prelude.{◌≡◌, ◌↔◌, IsTrue};
+ghost use Rattle.chess_bits.specs.Square.{IsOnBoard};
+ghost use Rattle.chess_board.specs.Legal.{IsMoveOf, IsCandidate, IsLegal};
+
+use crate::castling::castles;
+use crate::pawns::is_pawn_move;
+use crate::pieces::is_piece_move;
+use chess_bits::Kind;
+use chess_board::{Board, Move, Wing};
+
+// Whether a man of the kind may move so.
+fn is_move_of(board: &Board, mv: &Move, kind: Kind) -> bool
+    ensures rule { IsTrue result ↔ IsMoveOf board.now mv.now kind }
+    ensures on_board { IsOnBoard mv.now.to }
+{
+    match kind {
+        Kind::Pawn => is_pawn_move(board, mv),
+        Kind::King => {
+            is_piece_move(board, mv, kind)
+                || castles(board, mv, Wing::King)
+                || castles(board, mv, Wing::Queen)
+        }
+        Kind::Knight | Kind::Bishop | Kind::Rook | Kind::Queen => is_piece_move(board, mv, kind),
+    }
+}
+
+// Whether a man of the side to move may move so, before the safety of its king is asked.
+fn is_candidate(board: &Board, mv: &Move) -> bool
+    ensures { IsTrue result ↔ IsCandidate board.now mv.now }
+{
+    match board.piece_at(mv.from) {
+        None => false,
+        Some((colour, kind)) => colour == board.side() && is_move_of(board, mv, kind),
+    }
+}
+
+/// Whether a move is legal (FIDE articles 3.1 to 3.10): a man of the side to move may move so, and its king is not
+/// attacked after it. Each move of each board has an answer; castling is the king's move by two squares.
+pub fn legal(board: &Board, mv: Move) -> bool
+    ensures { IsTrue result ↔ IsLegal board.now mv }
+{
+    is_candidate(board, &mv) && !board.exposes_king(mv)
+}

@@ -1,0 +1,10 @@
+//! Whether a move is legal.
+#![tactic(auto)]
+
+mod castling;
+mod legality;
+mod pawns;
+mod pieces;
+mod squares;
+
+pub use legality::legal;

@@ -1,0 +1,8 @@
+mod Examples
+pub mod Rows
+pub mod Positions
+pub mod Ranks
+pub mod ReadBack
+pub mod Joined
+pub mod OnePosition
+pub mod Rights

@@ -1,0 +1,13 @@
+use Rattle.std.proofs.Common.{◌≡◌, ◌+◌, ◌*◌, ◌≤◌, ◌++◌}
+use Rattle.arrayvec.specs.ArrayString.{array_string_len}
+use Rattle.chess_text.specs.Fen.{placement_text}
+use Rattle.chess_text.proofs.Ranks.{ranks_below}
+use Rattle.chess_text.proofs.fen.placement.Given as goal
+
+-- What is written, with the ranks that are left, is the whole.
+abbrev pub invariant-loop-rank : goal.invariant-loop-rank
+invariant-loop-rank l = record {
+  text : l.text.bytes ++ ranks_below l.board.placement l.rank ≡ placement_text l.board.placement;
+  room : array_string_len l.text + 9 * l.rank ≤ 80;
+  low : 1 ≤ l.rank;
+}

@@ -1,0 +1,178 @@
+ghost use Rattle.std.specs.Prelude.{◌≡◌, ℕ, ◌+◌, ◌≤◌, ◌<◌, [], ◌∷◌, ◌++◌, length, decimal};
+ghost use Rattle.arrayvec.specs.ArrayString.{array_string_len};
+ghost use Rattle.chess_bits.specs.Square.{IsOnBoard};
+ghost use Rattle.chess_board.specs.RightsOf.{rights_of};
+ghost use Rattle.chess_text.specs.Name.{square_name, letter_of};
+ghost use Rattle.chess_text.specs.Fen.{rank_of, row_text, run_text, placement_text, side_letter, letter_if, rights_text, target_text, fen_of, IsFenOf};
+
+use arrayvec::ArrayString;
+use bitflags::Flags;
+use chess_bits::{Colour, Kind, Square};
+use chess_board::{Board, CastlingRights};
+use itoa::Buffer;
+
+/// Room for a FEN, which has at most 93 bytes: 64 men, 7 strokes, 17 bytes of other fields and 5 spaces.
+type Text = ArrayString<96>;
+
+// The letter of a man.
+fn letter(colour: Colour, kind: Kind) -> char
+    ensures letter { result ≡ letter_of (colour, kind) }
+    ensures ascii { result < 128 }
+{
+    match (colour, kind) {
+        (Colour::White, Kind::Pawn) => 'P',
+        (Colour::White, Kind::Knight) => 'N',
+        (Colour::White, Kind::Bishop) => 'B',
+        (Colour::White, Kind::Rook) => 'R',
+        (Colour::White, Kind::Queen) => 'Q',
+        (Colour::White, Kind::King) => 'K',
+        (Colour::Black, Kind::Pawn) => 'p',
+        (Colour::Black, Kind::Knight) => 'n',
+        (Colour::Black, Kind::Bishop) => 'b',
+        (Colour::Black, Kind::Rook) => 'r',
+        (Colour::Black, Kind::Queen) => 'q',
+        (Colour::Black, Kind::King) => 'k',
+    }
+}
+
+// Appends an ASCII character.
+fn push(text: &mut Text, character: char)
+    requires ascii { character < 128 }
+    requires room { array_string_len text.old < 96 }
+    ensures bytes { text.new.bytes ≡ text.old.bytes ++ character ∷ [] }
+    ensures len { array_string_len text.new ≡ array_string_len text.old + 1 }
+{
+    text.push(character);
+}
+
+// Appends the digit of a run of empty squares, if there is one.
+fn push_run(text: &mut Text, empty: u8)
+    requires run { empty ≤ 8 }
+    requires room { array_string_len text.old < 96 }
+    ensures bytes { text.new.bytes ≡ text.old.bytes ++ run_text empty }
+    ensures len { array_string_len text.new ≤ array_string_len text.old + empty }
+    ensures one { array_string_len text.new ≤ array_string_len text.old + 1 }
+{
+    if empty > 0 {
+        push(text, char::from(b'0' + empty));
+    }
+}
+
+// Appends the text of a rank.
+fn push_rank(text: &mut Text, board: &Board, rank: u8)
+    requires from { 1 ≤ rank }
+    requires to { rank ≤ 8 }
+    requires room { array_string_len text.old + 8 < 96 }
+    ensures bytes { text.new.bytes ≡ text.old.bytes ++ row_text (rank_of board.now.placement rank) }
+    ensures len { array_string_len text.new ≤ array_string_len text.old + 8 }
+{
+    let mut empty = 0;
+    for file in 1..9 {
+        match board.piece_at(Square::at(file, rank)) {
+            Some((colour, kind)) => {
+                push_run(text, empty);
+                push(text, letter(colour, kind));
+                empty = 0;
+            }
+            None => empty += 1,
+        }
+    }
+    push_run(text, empty);
+}
+
+// The text of the ranks from 8 down to 1.
+fn placement(board: &Board) -> Text
+    ensures bytes { result.bytes ≡ placement_text board.now.placement }
+    ensures len { array_string_len result ≤ 71 }
+{
+    let mut text = ArrayString::new();
+    push_rank(&mut text, board, 8);
+    for rank in (1..8).rev() {
+        push(&mut text, '/');
+        push_rank(&mut text, board, rank);
+    }
+    text
+}
+
+// Appends `w` or `b`.
+fn push_side(text: &mut Text, side: Colour)
+    requires room { array_string_len text.old < 96 }
+    ensures bytes { text.new.bytes ≡ text.old.bytes ++ side_letter side ∷ [] }
+    ensures len { array_string_len text.new ≡ array_string_len text.old + 1 }
+{
+    match side {
+        Colour::White => push(text, 'w'),
+        Colour::Black => push(text, 'b'),
+    }
+}
+
+// Appends a right's letter, if there is the right.
+fn push_right(text: &mut Text, right: bool, letter: char)
+    requires ascii { letter < 128 }
+    requires room { array_string_len text.old < 96 }
+    ensures bytes { text.new.bytes ≡ text.old.bytes ++ letter_if right letter }
+    ensures len { array_string_len text.new ≤ array_string_len text.old + 1 }
+{
+    if right {
+        push(text, letter);
+    }
+}
+
+// Appends the letters of the rights that are left, or `-`.
+fn push_rights(text: &mut Text, rights: CastlingRights)
+    requires room { array_string_len text.old + 4 ≤ 96 }
+    ensures bytes { text.new.bytes ≡ text.old.bytes ++ rights_text (rights_of rights) }
+    ensures len { array_string_len text.new ≤ array_string_len text.old + 4 }
+{
+    let start = text.len();
+    push_right(text, rights.contains(CastlingRights::WHITE_KING), 'K');
+    push_right(text, rights.contains(CastlingRights::WHITE_QUEEN), 'Q');
+    push_right(text, rights.contains(CastlingRights::BLACK_KING), 'k');
+    push_right(text, rights.contains(CastlingRights::BLACK_QUEEN), 'q');
+    if text.len() == start {
+        push(text, '-');
+    }
+}
+
+// Appends the target's name, or `-`.
+fn push_target(text: &mut Text, target: Option<Square>)
+    requires room { array_string_len text.old + 2 ≤ 96 }
+    ensures bytes { text.new.bytes ≡ text.old.bytes ++ target_text target }
+    ensures len { array_string_len text.new ≤ array_string_len text.old + 2 }
+{
+    match target {
+        Some(square) => {
+            push(text, char::from(b'`' + square.file()));
+            push(text, char::from(b'0' + square.rank()));
+        }
+        None => push(text, '-'),
+    }
+}
+
+// Appends a space and a number.
+fn push_number(text: &mut Text, number: u16)
+    requires room { array_string_len text.old + 6 ≤ 96 }
+    ensures bytes { text.new.bytes ≡ text.old.bytes ++ 32 ∷ decimal number }
+    ensures len { array_string_len text.new ≤ array_string_len text.old + 6 }
+{
+    push(text, ' ');
+    let mut buffer = Buffer::new();
+    text.push_str(buffer.format(number));
+}
+
+/// The board's position in Forsyth-Edwards notation (PGN Standard, section 16.1), in its one spelling. It never fails.
+pub fn fen_write(board: &Board) -> ArrayString<96>
+    ensures fen { IsFenOf result.bytes board.now }
+    ensures text { result.bytes ≡ fen_of board.now }
+{
+    let mut text = placement(board);
+    push(&mut text, ' ');
+    push_side(&mut text, board.side());
+    push(&mut text, ' ');
+    push_rights(&mut text, board.rights());
+    push(&mut text, ' ');
+    push_target(&mut text, board.target());
+    push_number(&mut text, board.halfmove());
+    push_number(&mut text, board.fullmove());
+    text
+}
