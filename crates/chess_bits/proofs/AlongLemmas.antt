@@ -1,4 +1,4 @@
-use Rattle.std.proofs.Common.{ℕ, zero, suc, ◌≡◌, ◌≢◌, ◌+◌, ◌-◌, ◌*◌, ◌<◌, ◌≤◌, ◌⊎◌, Bool, true, false, cond, not, ◌||◌, ◌&&◌, List, [], ◌∷◌, length, get_or, drop, refl, ap, sym, subst, ◌∙◌, inl, inr, add-one, arith}
+use Rattle.std.proofs.Common.{ℕ, zero, suc, ◌≡◌, ◌+◌, ◌-◌, ◌*◌, ◌<◌, ◌≤◌, Bool, true, cond, not, ◌||◌, ◌&&◌, List, [], ◌∷◌, length, get_or, drop, refl, ap, sym, subst, ◌∙◌, inl, inr, add-one, arith}
 use Rattle.std.specs.List.{filter, list_all}
 use Rattle.std.proofs.lemmas.Bool.{cases_lt, cases_order, cases_Bool}
 use Rattle.std.proofs.lemmas.List.FromFn.{get_or-map-range_with_len}
@@ -148,7 +148,7 @@ SomeOf-members P bs s on member holds =
     let below : number_of s < length squares = omega (arith, length-all_squares, number_of-below s on) in
     SomeOf-filter P (has bs) squares
     (SomeOf-at (λ x. (has bs x ≡ true) × P x) squares (number_of s) s below
-        (let Both : Square → Type 0 = λ x. (has bs x ≡ true) × P x in subst Both (sym (get_or-squares s on s)) (member, holds)))
+    (let Both : Square → Type 0 = λ x. (has bs x ≡ true) × P x in subst Both (sym (get_or-squares s on s)) (member, holds)))
 
 -- the members of a set are in it
 pub PassesEach-members : (bs : List Bool) → PassesEach (has bs) (members bs)

@@ -1,4 +1,4 @@
-use Rattle.std.proofs.Common.{ℕ, zero, suc, ◌≡◌, ◌≢◌, ◌+◌, ◌-◌, ◌*◌, ◌^◌, ◌<◌, ◌≤◌, Bool, true, false, cond, eqb, List, [], ◌∷◌, length, get_or, set, map, refl, ap, sym, ◌∙◌, inl, inr, arith, Some}
+use Rattle.std.proofs.Common.{ℕ, zero, suc, ◌≡◌, ◌≢◌, ◌+◌, ◌*◌, ◌^◌, ◌<◌, ◌≤◌, Bool, true, false, cond, eqb, List, [], ◌∷◌, length, get_or, set, map, refl, ap, sym, ◌∙◌, inl, inr, arith, Some}
 use Rattle.std.proofs.lemmas.Bool.{cases_eq, cases_Bool, cases_lt}
 use Rattle.std.proofs.lemmas.List.{get_or-set_same, get_or-set_other, get_or_past, set_past, length-map}
 use Rattle.std.proofs.lemmas.List.FromFn.{fill_by_all}
@@ -10,7 +10,7 @@ use Rattle.std.specs.Prelude.{count_ones}
 use Rattle.std.specs.List.{range_with_len, filter, count_by, fold}
 use lib.Lanes.{mask_l}
 use Rattle.chess_bits.specs.Square.{Square, square_at, number_of, number_of-square_at, squares}
-use Rattle.chess_bits.specs.Table.{has, put, members, first_of}
+use Rattle.chess_bits.specs.Table.{has, put, members, head_of}
 use Rattle.chess_bits.specs.Word.{bools_of, word_of, word_of-bools_of}
 use Rattle.chess_bits.proofs.TableLemmas.{at-square_at}
 use Rattle.chess_bits.proofs.WordLemmas.{length-bools_of, get_or-bools_of}
@@ -36,8 +36,10 @@ pub filter_range-first : (p : ℕ → Bool) (a n t : ℕ) → a ≤ t → t < a 
 filter_range-first p a zero t h k passes before = absurd (omega arith)
 filter_range-first p a (suc n) t h k passes before =
     elim (cases_eq a t) [
-      | inl e ↦ (filter p (range_with_len (a + 1) n),
-          filter-here p a (range_with_len (a + 1) n) (ap p e ∙ passes) ∙ ap (λ (x : ℕ). x ∷ filter p (range_with_len (a + 1) n)) e)
+      | inl e ↦ (
+        filter p (range_with_len (a + 1) n),
+        filter-here p a (range_with_len (a + 1) n) (ap p e ∙ passes) ∙ ap (λ (x : ℕ). x ∷ filter p (range_with_len (a + 1) n)) e,
+      )
       | inr ne ↦
           let below : a < t = omega arith in
           let more = filter_range-first p (a + 1) n t (omega arith) (omega arith) passes (λ i h' k'. before i (omega arith) k') in
@@ -93,7 +95,7 @@ pub members-zero : members (bools_of 64 0) ≡ []
 members-zero =
     members-numbers (bools_of 64 0)
     ∙ ap (map square_at) (filter_range-none (λ i. get_or (bools_of 64 0) i false) 0 64
-        (λ i h k. get_or-bools_of 64 0 i (omega arith) ∙ ap (λ (x : ℕ). eqb x 1) (bit_at-zero i)))
+    (λ i h k. get_or-bools_of 64 0 i (omega arith) ∙ ap (λ (x : ℕ). eqb x 1) (bit_at-zero i)))
 
 -- the first of a word's set is the square of its lowest 1
 pub members-first : (w : ℕ) → 0 < w → w < 2 ^ 64 → (rest : List Square) × (members (bools_of 64 w) ≡ square_at (trailing_zeros w64 w) ∷ rest)
@@ -101,8 +103,8 @@ members-first w positive fits =
     let t : ℕ = trailing_zeros w64 w in
     let lowest = bit_at-trailing_zeros w64 w positive fits in
     let found = filter_range-first (λ i. get_or (bools_of 64 w) i false) 0 64 t (omega arith) lowest.0
-        (get_or-bools_of 64 w t lowest.0 ∙ ap (λ (x : ℕ). eqb x 1) lowest.1)
-        (λ i h k. get_or-bools_of 64 w i (let below : t < 64 = lowest.0 in omega arith) ∙ ap (λ (x : ℕ). eqb x 1) (lowest.2 i k)) in
+    (get_or-bools_of 64 w t lowest.0 ∙ ap (λ (x : ℕ). eqb x 1) lowest.1)
+    (λ i h k. get_or-bools_of 64 w i (let below : t < 64 = lowest.0 in omega arith) ∙ ap (λ (x : ℕ). eqb x 1) (lowest.2 i k)) in
     (map square_at found.0, members-numbers (bools_of 64 w) ∙ ap (map square_at) found.1)
 
 gone : (bs : List Bool) (t : ℕ) → get_or (set bs t false) t false ≡ false
@@ -121,21 +123,21 @@ without_first bs (t ∷ ns) s rest e f =
     members-numbers (set bs (number_of s) false)
     ∙ ap (λ (n : ℕ). map square_at (numbers_in (set bs n false))) number
     ∙ ap (map square_at) (filter_range-rest (λ i. get_or bs i false) (λ i. get_or (set bs t false) i false) 0 64 t ns e (gone bs t)
-        (λ i ne. get_or-set_other bs t i false false ne))
+    (λ i ne. get_or-set_other bs t i false false ne))
     ∙ others
 
 -- without its first square a set has the others
 pub members-rest : (bs : List Bool) (s : Square) (rest : List Square) → members bs ≡ s ∷ rest → members (put bs s false) ≡ rest
 members-rest bs s rest e = without_first bs (numbers_in bs) s rest refl (sym (members-numbers bs) ∙ e)
 
-after_first : (ms : List Square) (bs : List Bool) (s : Square) → members bs ≡ ms → Some s ≡ first_of ms → members bs ≡ s ∷ members (put bs s false)
+after_first : (ms : List Square) (bs : List Bool) (s : Square) → members bs ≡ ms → Some s ≡ head_of ms → members bs ≡ s ∷ members (put bs s false)
 after_first [] bs s e f = cc
 after_first (m ∷ ms) bs s e f =
     let head : m ≡ s = cc in
     let whole : members bs ≡ s ∷ ms = e ∙ ap (λ (x : Square). x ∷ ms) head in
     whole ∙ ap (λ (xs : List Square). s ∷ xs) (sym (members-rest bs s ms whole))
 
-pub members-after_first : (bs : List Bool) (s : Square) → Some s ≡ first_of (members bs) → members bs ≡ s ∷ members (put bs s false)
+pub members-after_first : (bs : List Bool) (s : Square) → Some s ≡ head_of (members bs) → members bs ≡ s ∷ members (put bs s false)
 members-after_first bs s f = after_first (members bs) bs s refl f
 
 word_of-mask : (bs : List Bool) → word_of bs ≡ mask_l bs

@@ -1,5 +1,5 @@
-use Rattle.std.proofs.Common.{ℕ, zero, suc, ◌≡◌, ◌≢◌, ◌+◌, ◌-◌, ◌*◌, ◌/◌, ◌%◌, ◌^◌, ◌<◌, ◌≤◌, Bool, true, false, cond, eqb, not, ◌||◌, ◌&&◌, List, [], ◌∷◌, length, get_or, set, map, replicate, refl, ap, sym, ◌∙◌, inl, inr, arith, rules, bit_and, bit_or, min, max}
-use Rattle.std.proofs.lemmas.Bool.{eq-eqb, ne_eqb, cases_eq}
+use Rattle.std.proofs.Common.{ℕ, zero, suc, ◌≡◌, ◌*◌, ◌/◌, ◌%◌, ◌^◌, ◌<◌, Bool, true, false, eqb, ◌||◌, ◌&&◌, List, [], ◌∷◌, length, get_or, set, replicate, refl, ap, sym, ◌∙◌, inl, inr, arith, bit_and, bit_or, min, max}
+use Rattle.std.proofs.lemmas.Bool.{cases_eq}
 use Rattle.std.proofs.lemmas.Bool.Decides.{nat_tests}
 use Rattle.std.proofs.lemmas.List.{ext_get_or, length-set, get_or-set_same, get_or-set_other, length-replicate, get_or-replicate}
 use Rattle.std.proofs.lemmas.Nat.Bits.{bit_at_lowest, bit_at-suc, bit_at_and, bit_at_or, bit_at-lt, bit_at-zero, bit_at_set_same, bit_at_set_other, bit_at_clear_same, bit_at_clear_other}
@@ -60,18 +60,18 @@ unfolding union
 bools_of-or n a b =
     same_bools n (bit_or a b) _ (length-each (λ x y. x || y) _ _ (length-bools_of n a ∙ sym (length-bools_of n b)) ∙ length-bools_of n a)
     (λ i h.
-        ap (λ (x : ℕ). eqb x 1) (bit_at_or a b i) ∙ either (bit_at a i) (bit_at b i) (bit_at-lt a i) (bit_at-lt b i)
-        ∙ sym (get_or-each (λ x y. x || y) (bools_of n a) (bools_of n b) i (omega (arith, length-bools_of n a)) (omega (arith, length-bools_of n b))
-        ∙ ap (λ (x : Bool). x || get_or (bools_of n b) i false) (get_or-bools_of n a i h) ∙ ap (λ (x : Bool). bit a i || x) (get_or-bools_of n b i h)))
+    ap (λ (x : ℕ). eqb x 1) (bit_at_or a b i) ∙ either (bit_at a i) (bit_at b i) (bit_at-lt a i) (bit_at-lt b i)
+    ∙ sym (get_or-each (λ x y. x || y) (bools_of n a) (bools_of n b) i (omega (arith, length-bools_of n a)) (omega (arith, length-bools_of n b))
+    ∙ ap (λ (x : Bool). x || get_or (bools_of n b) i false) (get_or-bools_of n a i h) ∙ ap (λ (x : Bool). bit a i || x) (get_or-bools_of n b i h)))
 
 pub bools_of-and : (n a b : ℕ) → bools_of n (bit_and a b) ≡ meet (bools_of n a) (bools_of n b)
 unfolding meet
 bools_of-and n a b =
     same_bools n (bit_and a b) _ (length-each (λ x y. x && y) _ _ (length-bools_of n a ∙ sym (length-bools_of n b)) ∙ length-bools_of n a)
     (λ i h.
-        ap (λ (x : ℕ). eqb x 1) (bit_at_and a b i) ∙ both (bit_at a i) (bit_at b i) (bit_at-lt a i) (bit_at-lt b i)
-        ∙ sym (get_or-each (λ x y. x && y) (bools_of n a) (bools_of n b) i (omega (arith, length-bools_of n a)) (omega (arith, length-bools_of n b))
-        ∙ ap (λ (x : Bool). x && get_or (bools_of n b) i false) (get_or-bools_of n a i h) ∙ ap (λ (x : Bool). bit a i && x) (get_or-bools_of n b i h)))
+    ap (λ (x : ℕ). eqb x 1) (bit_at_and a b i) ∙ both (bit_at a i) (bit_at b i) (bit_at-lt a i) (bit_at-lt b i)
+    ∙ sym (get_or-each (λ x y. x && y) (bools_of n a) (bools_of n b) i (omega (arith, length-bools_of n a)) (omega (arith, length-bools_of n b))
+    ∙ ap (λ (x : Bool). x && get_or (bools_of n b) i false) (get_or-bools_of n a i h) ∙ ap (λ (x : Bool). bit a i && x) (get_or-bools_of n b i h)))
 
 pub bools_of-zero : bools_of 64 0 ≡ empty
 unfolding empty

@@ -1,4 +1,4 @@
-use Rattle.std.specs.Prelude.{ℕ, ◌≡◌, ◌+◌, ◌-◌, ◌*◌, ◌<◌, ◌≤◌, ◌⊎◌, Bool, true, false, ◌&&◌, not, List, [], ◌∷◌, ◌++◌}
+use Rattle.std.specs.Prelude.{ℕ, ◌≡◌, ◌+◌, ◌-◌, ◌*◌, ◌<◌, ◌≤◌, ◌⊎◌, Bool, false, ◌&&◌, not, List, [], ◌∷◌, ◌++◌}
 use Rattle.std.specs.List.{list_any, list_all, range_with_len}
 use Rattle.chess_bits.specs.declared.men.Colour.{Colour}
 use Rattle.chess_bits.specs.declared.men.Colour.TheVariants.{White, Black}
@@ -12,7 +12,7 @@ use Rattle.chess_bits.specs.Table.{has}
 abbrev pub along : ℕ → Step → Square → Square
 along n step s = record {
   file = s.file + n * step.right - n * step.left;
-  rank = s.rank + n * step.up - n * step.down
+  rank = s.rank + n * step.up - n * step.down;
 }
 
 abbrev pub north : Step
@@ -47,7 +47,7 @@ straight = north ∷ east ∷ south ∷ west ∷ []
 abbrev pub diagonal : List Step
 diagonal = north_east ∷ south_east ∷ south_west ∷ north_west ∷ []
 
--- to an adjoining square (FIDE article 3.8.1)
+-- in every direction: the queen's lines, and the king's steps to the adjoining squares (FIDE articles 3.4 and 3.8.1)
 abbrev pub adjoining : List Step
 adjoining = straight ++ diagonal
 
@@ -92,8 +92,8 @@ pub record SlidesAlong (occupied : List Bool) (a b : Square) (direction : Step) 
 abbrev pub Slides : List Bool → List Step → Square → Square → Type 0
 Slides occupied directions a b = SomeOf (SlidesAlong occupied a b) directions
 
--- A man of the colour and kind on a attacks b, where `occupied` are the squares with men (FIDE articles 3.1.2 to 3.8.1).
--- It attacks also where it may not move, since its own king would be exposed.
+-- A man of the colour and kind on a attacks b, where `occupied` are the squares with men (FIDE articles 3.2 to 3.7.3
+-- and 3.8.1). It attacks also where it may not move, since its own king would be exposed (FIDE article 3.1.3).
 abbrev pub Attacks : List Bool → Colour → Kind → Square → Square → Type 0
 Attacks occupied colour Pawn a b = Reaches (pawn_attacks colour) a b
 Attacks occupied colour Knight a b = Reaches knight_steps a b
@@ -102,7 +102,7 @@ Attacks occupied colour Rook a b = Slides occupied straight a b
 Attacks occupied colour Queen a b = Slides occupied adjoining a b
 Attacks occupied colour King a b = Reaches adjoining a b
 
--- The same as tests, which compute: along a direction the board has at most seven squares.
+-- The same between squares of the board as tests, which compute: a direction has at most seven squares there.
 abbrev pub reaches : List Step → Square → Square → Bool
 reaches steps a b = list_any (λ step. is_square b (along 1 step a)) steps
 

@@ -1,8 +1,8 @@
 use Rattle.std.specs.Prelude.{ℕ, ◌≡◌, ◌+◌, ◌-◌, ◌*◌, ◌/◌, ◌%◌, ◌≤◌, Bool, ◌&&◌, ◌==◌, nat_le, List, map}
-use Rattle.std.proofs.Common.{arith, ap}
+use Rattle.std.proofs.Common.{arith}
 use Rattle.std.specs.List.{range_with_len}
 
--- A square is a pair of file and rank: files a to h are 1 to 8, and ranks 1 to 8 (FIDE article 2.4).
+-- A square is a pair of file and rank (FIDE article 2.4): the files a to h are 1 to 8, and the ranks are 1 to 8.
 pub record Square : Type 0 where
   pub file : ℕ
   pub rank : ℕ
@@ -10,7 +10,7 @@ pub record Square : Type 0 where
 abbrev pub square : ℕ → ℕ → Square
 square file rank = record { file = file; rank = rank }
 
--- what makes a pair of numbers a square of the board
+-- a pair of numbers that is a square of the board
 pub record IsOnBoard (s : Square) : Type 0 where
   pub file_from : 1 ≤ s.file
   pub file_to : s.file ≤ 8

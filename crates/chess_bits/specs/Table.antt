@@ -1,4 +1,4 @@
-use Rattle.std.specs.Prelude.{ℕ, Bool, true, false, ◌||◌, ◌&&◌, ◌==◌, nat_le, if◌then◌else◌, List, [], ◌∷◌, Option, Some, None, filter, replicate, slice_index_or, slice_set}
+use Rattle.std.specs.Prelude.{Bool, false, ◌||◌, ◌&&◌, if◌then◌else◌, List, [], ◌∷◌, Option, Some, None, filter, replicate, slice_index_or, slice_set}
 use Rattle.chess_bits.specs.Square.{Square, on_board, number_of, squares}
 
 -- A finite map from squares is written as the list of its 64 values, by rising number of the square.
@@ -6,7 +6,7 @@ use Rattle.chess_bits.specs.Square.{Square, on_board, number_of, squares}
 unfoldable pub at : {A : Type 0} → A → List A → Square → A
 at none table s = if on_board s then slice_index_or table (number_of s) none else none
 
--- the same map, but for one square
+-- the same map, but for one square of the board
 unfoldable pub put : {A : Type 0} → List A → Square → A → List A
 put table s x = slice_set table (number_of s) x
 
@@ -34,6 +34,6 @@ unfoldable pub members : List Bool → List Square
 members set = filter (has set) squares
 
 -- the first of a list
-abbrev pub first_of : {A : Type 0} → List A → Option A
-first_of [] = None
-first_of (x ∷ xs) = Some x
+abbrev pub head_of : {A : Type 0} → List A → Option A
+head_of [] = None
+head_of (x ∷ xs) = Some x

@@ -1,5 +1,5 @@
 ghost use Rattle.std.specs.Prelude.{◌≡◌, ◌↔◌, IsTrue, true, false, [], length};
-ghost use Rattle.chess_bits.specs.Table.{has, put, union, meet, empty, members, first_of};
+ghost use Rattle.chess_bits.specs.Table.{has, put, union, meet, empty, members, head_of};
 ghost use Rattle.chess_bits.specs.Square.{IsOnBoard};
 ghost use Rattle.chess_bits.specs.SquaresOf.{squares_left};
 
@@ -108,7 +108,7 @@ impl Bits {
 
     /// The square of the set with the least number, or `None` of the empty set.
     pub fn first(self) -> Option<Square>
-        ensures { result ≡ first_of (members self) }
+        ensures { result ≡ head_of (members self) }
     {
         if self.word == 0 {
             None

@@ -3,7 +3,7 @@ ghost use Rattle.chess_bits.specs.Man.{other};
 
 use crate::steps::{NORTH, SOUTH, Step};
 
-/// The two sides (FIDE article 1.1).
+/// The two sides (FIDE article 1.2).
 #[derive(Clone, Copy, Debug, PartialEq, Eq)]
 pub enum Colour {
     White,

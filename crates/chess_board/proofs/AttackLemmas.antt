@@ -6,12 +6,12 @@ use Rattle.chess_bits.specs.declared.men.Kind.{Kind}
 use Rattle.chess_bits.specs.declared.men.Kind.TheVariants.{Pawn, Knight, Bishop, Rook, Queen, King}
 use Rattle.chess_bits.specs.Square.{Square, squares}
 use Rattle.chess_bits.specs.Man.{Man, is_of, is_man, is_colour, holds}
-use Rattle.chess_bits.specs.Table.{at, has, meet, members}
+use Rattle.chess_bits.specs.Table.{has, meet, members}
 use Rattle.chess_bits.specs.Attack.{SomeOf}
-use Rattle.chess_bits.proofs.TableLemmas.{at-map, on_board-from_at}
+use Rattle.chess_bits.proofs.TableLemmas.{at-map}
 use Rattle.chess_bits.proofs.AlongLemmas.{SomeOf-members, list_all-filter, list_all-same}
 use Rattle.chess_board.specs.Occupancy.{squares_with, is_a}
-use Rattle.chess_board.specs.Position.{man_at, IsAttacker, IsAttacked, IsInCheck}
+use Rattle.chess_board.specs.Position.{man_at, IsAttacker, IsAttacked}
 use Rattle.chess_board.specs.Computing.{is_inside}
 use Rattle.chess_board.proofs.MenLemmas.{each-map, map-same}
 use Rattle.chess_board.proofs.Candidates.{IsOnBoard-from_man}
@@ -93,7 +93,7 @@ unfolding members
 pawns_inside placement =
     list_all-filter is_inside (has (squares_with (is_a Pawn) placement)) squares
     ∙ list_all-same (λ s. not (has (squares_with (is_a Pawn) placement) s) || is_inside s) (λ s. not (holds (is_a Pawn) (man_at placement s)) || is_inside s) squares
-        (λ s. ap (λ (b : Bool). not b || is_inside s) (has-squares_with (is_a Pawn) placement s))
+    (λ s. ap (λ (b : Bool). not b || is_inside s) (has-squares_with (is_a Pawn) placement s))
 
 pub outside : (s : Square) → (s.rank ≡ 1) ⊎ (s.rank ≡ 8) → is_inside s ≡ false
 outside s (inl e) = rw e refl

@@ -1,4 +1,4 @@
-use Rattle.std.proofs.Common.{ℕ, zero, suc, ◌≡◌, ◌+◌, ◌<◌, Bool, true, false, cond, ◌||◌, ◌&&◌, List, [], ◌∷◌, length, get_or, map, replicate, refl, ap, sym, ◌∙◌, inl, inr, ◌⊎◌, arith, Option, Some, None, is_some}
+use Rattle.std.proofs.Common.{ℕ, zero, suc, ◌≡◌, Bool, true, false, cond, ◌||◌, List, [], ◌∷◌, length, get_or, map, replicate, refl, ap, sym, ◌∙◌, inl, inr, ◌⊎◌, arith, Option, Some, None, is_some}
 use Rattle.std.specs.List.{range_with_len}
 use Rattle.std.proofs.lemmas.Bool.{cases_Bool}
 use Rattle.std.proofs.lemmas.List.{length-map}
@@ -9,8 +9,8 @@ use Rattle.chess_bits.specs.declared.men.Kind.{Kind}
 use Rattle.chess_bits.specs.declared.men.Kind.TheVariants.{Pawn, Knight, Bishop, Rook, Queen, King}
 use Rattle.chess_bits.specs.Square.{Square, IsOnBoard, number_of, square_at, squares, is_square}
 use Rattle.chess_bits.specs.Man.{Man, is_of, holds}
-use Rattle.chess_bits.specs.Table.{at, put, has, each, union, meet, empty}
-use Rattle.chess_bits.proofs.TableLemmas.{at-on_board, number_of-below, square_at-number_of, same_table, length-put, at-put, map-put, is_square-true, Decides-is_square}
+use Rattle.chess_bits.specs.Table.{at, put, has, each, union, empty}
+use Rattle.chess_bits.proofs.TableLemmas.{at-on_board, number_of-below, square_at-number_of, same_table, length-put, at-put, map-put}
 use Rattle.chess_board.specs.Occupancy.{squares_with, is_a}
 use Rattle.chess_board.specs.Position.{man_at, occupied_of}
 use Rattle.chess_board.specs.declared.men.Men.TheInside.{Inside}
@@ -116,7 +116,7 @@ sets_put sets s here = record {
   bishops = put sets.bishops s (holds (is_a Bishop) here);
   rooks = put sets.rooks s (holds (is_a Rook) here);
   queens = put sets.queens s (holds (is_a Queen) here);
-  kings = put sets.kings s (holds (is_a King) here)
+  kings = put sets.kings s (holds (is_a King) here);
 }
 
 -- what two squares' sets tell alike, they tell as one man
@@ -128,7 +128,7 @@ man_on-same a b s q white black pawns knights bishops rooks queens = rw (white, 
 abbrev kind_told : Option Man → Kind
 kind_told x =
     cond (holds (is_a Pawn) x) Pawn (cond (holds (is_a Knight) x) Knight (cond (holds (is_a Bishop) x) Bishop
-        (cond (holds (is_a Rook) x) Rook (cond (holds (is_a Queen) x) Queen King))))
+    (cond (holds (is_a Rook) x) Rook (cond (holds (is_a Queen) x) Queen King))))
 
 -- sets that show a man at a square, or none, tell it
 pub man_on-shown : (a : Inside) (s : Square) (here : Option Man) → has a.white s ≡ holds (is_of White) here → has a.black s ≡ holds (is_of Black) here →
@@ -178,11 +178,11 @@ man_on-sets_put sets s q here h on_s on_q =
     elim (cases_Bool (is_square q s)) [
       | inl same ↦
           man_on-shown (sets_put sets s here) q here (chosen _ _ _ _ same white) (chosen _ _ _ _ same black) (chosen _ _ _ _ same pawns)
-              (chosen _ _ _ _ same knights) (chosen _ _ _ _ same bishops) (chosen _ _ _ _ same rooks) (chosen _ _ _ _ same queens)
+          (chosen _ _ _ _ same knights) (chosen _ _ _ _ same bishops) (chosen _ _ _ _ same rooks) (chosen _ _ _ _ same queens)
           ∙ sym (ap (λ (t : Bool). cond t here (man_on sets q)) same)
       | inr other ↦
           man_on-same (sets_put sets s here) sets q q (kept _ _ _ _ other white) (kept _ _ _ _ other black) (kept _ _ _ _ other pawns)
-              (kept _ _ _ _ other knights) (kept _ _ _ _ other bishops) (kept _ _ _ _ other rooks) (kept _ _ _ _ other queens)
+          (kept _ _ _ _ other knights) (kept _ _ _ _ other bishops) (kept _ _ _ _ other rooks) (kept _ _ _ _ other queens)
           ∙ sym (ap (λ (t : Bool). cond t here (man_on sets q)) other)
     ]
 
@@ -193,9 +193,9 @@ placement_of-sets_put sets s here h on =
     same_table None (placement_of (sets_put sets s here)) (put (placement_of sets) s here)
     (length-placement_of (sets_put sets s here)) (length-put (placement_of sets) s here ∙ length-placement_of sets)
     (λ q on_q.
-        man_at-placement_of (sets_put sets s here) q on_q ∙ man_on-sets_put sets s q here h on on_q
-        ∙ sym (at-put None (placement_of sets) s q here (length-placement_of sets) on
-            ∙ ap (cond (is_square q s) here) (man_at-placement_of sets q on_q)))
+    man_at-placement_of (sets_put sets s here) q on_q ∙ man_on-sets_put sets s q here h on on_q
+    ∙ sym (at-put None (placement_of sets) s q here (length-placement_of sets) on
+    ∙ ap (cond (is_square q s) here) (man_at-placement_of sets q on_q)))
 
 one : (is : Man → Bool) (sets : Inside) (s : Square) (here : Option Man) (bits : List Bool) → squares_with is (placement_of sets) ≡ bits →
     squares_with is (put (placement_of sets) s here) ≡ put bits s (holds is here)
@@ -207,15 +207,15 @@ unfolding sets_of
 IsConsistent-sets_put sets s here h on =
     ap sets_of (placement_of-sets_put sets s here h on)
     ∙ (λ i. record {
-        white = one (is_of White) sets s here _ (squares_with-white sets h) i;
-        black = one (is_of Black) sets s here _ (squares_with-black sets h) i;
-        pawns = one (is_a Pawn) sets s here _ (squares_with-pawns sets h) i;
-        knights = one (is_a Knight) sets s here _ (squares_with-knights sets h) i;
-        bishops = one (is_a Bishop) sets s here _ (squares_with-bishops sets h) i;
-        rooks = one (is_a Rook) sets s here _ (squares_with-rooks sets h) i;
-        queens = one (is_a Queen) sets s here _ (squares_with-queens sets h) i;
-        kings = one (is_a King) sets s here _ (squares_with-kings sets h) i
-      })
+      white = one (is_of White) sets s here _ (squares_with-white sets h) i;
+      black = one (is_of Black) sets s here _ (squares_with-black sets h) i;
+      pawns = one (is_a Pawn) sets s here _ (squares_with-pawns sets h) i;
+      knights = one (is_a Knight) sets s here _ (squares_with-knights sets h) i;
+      bishops = one (is_a Bishop) sets s here _ (squares_with-bishops sets h) i;
+      rooks = one (is_a Rook) sets s here _ (squares_with-rooks sets h) i;
+      queens = one (is_a Queen) sets s here _ (squares_with-queens sets h) i;
+      kings = one (is_a King) sets s here _ (squares_with-kings sets h) i;
+    })
 
 empty_board : (n : ℕ) (is : Man → Bool) → map (holds is) (replicate n None) ≡ replicate n false
 empty_board zero is = refl

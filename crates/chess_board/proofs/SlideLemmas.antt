@@ -1,4 +1,4 @@
-use Rattle.std.proofs.Common.{ℕ, ◌≡◌, ◌≢◌, ◌+◌, ◌-◌, ◌<◌, ◌≤◌, Bool, true, false, List, refl, ap, sym, ◌∙◌, inl, inr, subst, arith}
+use Rattle.std.proofs.Common.{ℕ, ◌≡◌, ◌≢◌, ◌+◌, ◌-◌, ◌<◌, ◌≤◌, Bool, true, false, List, ap, sym, ◌∙◌, inl, inr, subst, arith}
 use Rattle.std.proofs.lemmas.Bool.{cases_lt, cases_eq, both_ways}
 use Rattle.chess_bits.specs.declared.steps.Step.{Step}
 use Rattle.chess_bits.specs.Square.{Square, IsOnBoard}
@@ -77,5 +77,5 @@ tried_more occupied from to direction n tried other empty = record {
   clear = λ j positive below. elim (cases_eq j n) [
     | inl same ↦ ap (λ (k : ℕ). has occupied (along k direction from)) same ∙ empty
     | inr before ↦ tried.clear j positive (omega arith)
-  ]
+  ];
 }

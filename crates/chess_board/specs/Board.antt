@@ -10,7 +10,7 @@ position_of board = record {
   rights = rights_of board.rights;
   target = board.target;
   halfmove = board.halfmove;
-  fullmove = board.fullmove
+  fullmove = board.fullmove;
 }
 
 -- what a board keeps of a position
@@ -21,7 +21,7 @@ inside_of p = record {
   rights = flags_of p.rights;
   target = p.target;
   halfmove = p.halfmove;
-  fullmove = p.fullmove
+  fullmove = p.fullmove;
 }
 
 -- what every board keeps true

@@ -6,7 +6,7 @@ use Rattle.chess_bits.specs.declared.men.Kind.TheVariants.{Pawn, Knight, Bishop,
 use Rattle.chess_bits.specs.Man.{Man}
 use Rattle.chess_board.specs.Position.{Position}
 
--- the pieces of a side from the a-file to the h-file, and its pawns in front of them (FIDE article 2.3)
+-- the pieces of a side from the a-file to the h-file; its pawns stand in front of them (FIDE article 2.3)
 abbrev pub pieces : List Kind
 pieces = Rook ∷ Knight ∷ Bishop ∷ Queen ∷ King ∷ Bishop ∷ Knight ∷ Rook ∷ []
 
@@ -21,5 +21,5 @@ initial = record {
   rights = record { white_king = true; white_queen = true; black_king = true; black_queen = true };
   target = None;
   halfmove = 0;
-  fullmove = 1
+  fullmove = 1;
 }

@@ -1,16 +1,15 @@
-use Rattle.std.specs.Prelude.{ℕ, ◌≡◌, ◌≢◌, ◌⊎◌, Bool, true, false, ◌&&◌, ◌||◌, ◌==◌, not, List, [], ◌∷◌, Option, Some, None, is_some, is_none}
-use Rattle.std.specs.List.{list_any, list_all}
+use Rattle.std.specs.Prelude.{ℕ, ◌≡◌, ◌≢◌, ◌⊎◌, true, List, [], ◌∷◌, Option, Some, None}
 use Rattle.chess_bits.specs.declared.men.Colour.{Colour}
 use Rattle.chess_bits.specs.declared.men.Colour.TheVariants.{White, Black}
 use Rattle.chess_bits.specs.declared.men.Kind.{Kind}
 use Rattle.chess_bits.specs.declared.men.Kind.TheVariants.{Pawn, Knight, Bishop, Rook, Queen, King}
-use Rattle.chess_bits.specs.Square.{Square, IsOnBoard, on_board, is_square}
-use Rattle.chess_bits.specs.Man.{Man, other, is_of, is_kind, holds}
-use Rattle.chess_bits.specs.Attack.{along, forward, pawn_attacks, adjoining, Reaches, reaches, Attacks, attacks}
+use Rattle.chess_bits.specs.Square.{Square, IsOnBoard}
+use Rattle.chess_bits.specs.Man.{other}
+use Rattle.chess_bits.specs.Attack.{along, forward, pawn_attacks, Reaches, Attacks}
 use Rattle.chess_board.specs.declared.castling.Wing.{Wing}
 use Rattle.chess_board.specs.declared.castling.Wing.TheVariants as wing
 use Rattle.chess_board.specs.declared.moves.Move.{Move}
-use Rattle.chess_board.specs.Position.{Position, Rights, has_right, man_at, occupied_of, home_rank, king_home, rook_home, IsAttacked, is_attacked, IsInCheck, is_in_check}
+use Rattle.chess_board.specs.Position.{Position, has_right, man_at, occupied_of, home_rank, king_home, IsAttacked, IsInCheck}
 use Rattle.chess_board.specs.Next.{next, castled_king, castled_rook}
 
 -- the last rank that a side's pawns reach, and the rank from which they may advance two squares
@@ -39,7 +38,7 @@ pub record Advances (p : Position) (m : Move) : Type 0 where
   pub there : m.to ≡ along 1 (forward p.side) m.from
   pub empty : man_at p.placement m.to ≡ None
 
--- two squares forward from the pawn's first rank, both empty (FIDE article 3.7.2)
+-- two squares forward from the pawn's starting rank, both empty (FIDE article 3.7.2)
 pub record AdvancesTwo (p : Position) (m : Move) : Type 0 where
   pub first : m.from.rank ≡ pawn_rank p.side
   pub there : m.to ≡ along 2 (forward p.side) m.from
@@ -51,7 +50,7 @@ pub record PawnTakes (p : Position) (m : Move) : Type 0 where
   pub attacked : Reaches (pawn_attacks p.side) m.from m.to
   pub taken : HoldsColour p m.to (other p.side)
 
--- diagonally forward, to the square that a pawn has just crossed (FIDE article 3.7.3.1)
+-- diagonally forward, to the square that a pawn has just crossed (FIDE articles 3.7.3.1 and 3.7.3.2)
 pub record TakesEnPassant (p : Position) (m : Move) : Type 0 where
   pub attacked : Reaches (pawn_attacks p.side) m.from m.to
   pub crossed : p.target ≡ Some m.to
@@ -60,7 +59,7 @@ pub record IsPawnMove (p : Position) (m : Move) : Type 0 where
   pub way : Advances p m ⊎ AdvancesTwo p m ⊎ PawnTakes p m ⊎ TakesEnPassant p m
   pub promotion : IsPromotion p.side m.to m.promotion
 
--- to a square that the man attacks and that holds no man of its own side (FIDE articles 3.1 to 3.6)
+-- to a square that the man attacks and that holds no man of its own side (FIDE articles 3.1 to 3.6 and 3.8.1)
 pub record IsPieceMove (p : Position) (m : Move) (kind : Kind) : Type 0 where
   pub attacked : Attacks (occupied_of p.placement) p.side kind m.from m.to
   pub free : ¬ HoldsColour p m.to p.side
@@ -78,7 +77,7 @@ EachOf P [] = Unit {0}
 EachOf P (x ∷ xs) = P x × EachOf P xs
 
 -- From its home two squares toward the rook of that wing, with the right, with no man between king and rook, and
--- with no attack on the square that the king leaves, crosses or reaches (FIDE article 3.8.2). An attack on the
+-- with no attack on the square that the king leaves, crosses or reaches (FIDE articles 3.8.2 to 3.8.2.2). An attack on the
 -- rook, or on the square beside a rook of the queen's wing, does not prevent it.
 pub record Castles (p : Position) (m : Move) (wing : Wing) : Type 0 where
   pub right : has_right p.rights p.side wing ≡ true
@@ -86,7 +85,7 @@ pub record Castles (p : Position) (m : Move) (wing : Wing) : Type 0 where
   pub to : m.to ≡ castled_king p.side wing
   pub empty : EachOf (λ s. man_at p.placement s ≡ None) (between p.side wing)
   pub unattacked : EachOf (λ s. ¬ IsAttacked p.placement (other p.side) s)
-    (king_home p.side ∷ castled_rook p.side wing ∷ castled_king p.side wing ∷ [])
+      (king_home p.side ∷ castled_rook p.side wing ∷ castled_king p.side wing ∷ [])
   pub no_promotion : m.promotion ≡ None
 
 -- a move by the rules of the man's kind, before the safety of the own king is asked
@@ -104,7 +103,8 @@ pub record IsCandidate (p : Position) (m : Move) : Type 0 where
   pub on_board : IsOnBoard m.to
   pub rule : IsMoveOf p m kind
 
--- a candidate that leaves the own king unattacked (FIDE articles 3.9.2 and 3.10)
+-- A candidate that leaves the own king unattacked (FIDE articles 3.9.2 and 3.10.1). It is meant for valid positions, in
+-- which a right has its king and rook at home, and a target has its pawn beside.
 pub record IsLegal (p : Position) (m : Move) : Type 0 where
   pub candidate : IsCandidate p m
   pub safe : ¬ IsInCheck (next p m).placement p.side

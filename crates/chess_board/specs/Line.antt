@@ -9,7 +9,7 @@ abbrev pub positions_of : Position → List Move → List Position
 positions_of start [] = start ∷ []
 positions_of start (m ∷ ms) = start ∷ positions_of (next start m) ms
 
--- each move is legal at its place
+-- Each move is legal at its place. A line is one of valid positions where its start is valid and the counters stay in range.
 abbrev pub IsLegalLine : Position → List Move → Type 0
 IsLegalLine start [] = Unit {0}
 IsLegalLine start (m ∷ ms) = IsLegal start m × IsLegalLine (next start m) ms

@@ -1,15 +1,14 @@
-use Rattle.std.specs.Prelude.{◌≡◌, Bool, ◌&&◌, if◌then◌else◌, List, map, Option, Some, None}
-use Rattle.chess_bits.specs.declared.men.Colour.{Colour}
+use Rattle.std.specs.Prelude.{◌≡◌, if◌then◌else◌, List, map, Option, Some, None}
 use Rattle.chess_bits.specs.declared.men.Colour.TheVariants.{White, Black}
 use Rattle.chess_bits.specs.declared.men.Kind.{Kind}
 use Rattle.chess_bits.specs.declared.men.Kind.TheVariants.{Pawn, Knight, Bishop, Rook, Queen, King}
 use Rattle.chess_bits.specs.Square.{Square, squares}
-use Rattle.chess_bits.specs.Man.{Man, is_of, is_kind, holds}
+use Rattle.chess_bits.specs.Man.{Man, is_of}
 use Rattle.chess_bits.specs.Table.{has}
 use Rattle.chess_board.specs.Occupancy.{squares_with, is_a}
 use Rattle.chess_board.specs.declared.men.Men.TheInside.{Inside}
 
--- the kind that the sets tell of a square with a man
+-- the kind that the sets tell of a square with a man, which is in one set of kinds
 abbrev pub kind_on : Inside → Square → Kind
 kind_on sets s =
     if has sets.pawns s then Pawn
@@ -40,9 +39,9 @@ sets_of placement = record {
   bishops = squares_with (is_a Bishop) placement;
   rooks = squares_with (is_a Rook) placement;
   queens = squares_with (is_a Queen) placement;
-  kings = squares_with (is_a King) placement
+  kings = squares_with (is_a King) placement;
 }
 
--- the sets are those of the placement that they tell: no square is in two sets of colours or of kinds, nor in one of these alone
+-- the sets are those of the placement that they tell: each square is in one set of colours and in one of kinds, or in none
 abbrev pub IsConsistent : Inside → Type 0
 IsConsistent sets = sets_of (placement_of sets) ≡ sets

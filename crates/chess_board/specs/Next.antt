@@ -1,10 +1,10 @@
-use Rattle.std.specs.Prelude.{ℕ, ◌≡◌, ◌+◌, ◌-◌, Bool, true, false, ◌&&◌, ◌||◌, ◌==◌, not, if◌then◌else◌, List, Option, Some, None, is_some}
+use Rattle.std.specs.Prelude.{ℕ, ◌+◌, Bool, false, ◌&&◌, ◌||◌, ◌==◌, not, if◌then◌else◌, List, Option, Some, None, is_some}
 use Rattle.chess_bits.specs.declared.men.Colour.{Colour}
 use Rattle.chess_bits.specs.declared.men.Colour.TheVariants.{White, Black}
 use Rattle.chess_bits.specs.declared.men.Kind.{Kind}
 use Rattle.chess_bits.specs.declared.men.Kind.TheVariants.{Pawn, Rook, King}
 use Rattle.chess_bits.specs.Square.{Square, is_square}
-use Rattle.chess_bits.specs.Man.{Man, other, is_colour, is_man, is_kind, holds}
+use Rattle.chess_bits.specs.Man.{Man, other, is_kind, holds}
 use Rattle.chess_bits.specs.Table.{put}
 use Rattle.chess_bits.specs.Attack.{along, forward}
 use Rattle.chess_board.specs.declared.castling.Wing.{Wing}
@@ -71,9 +71,10 @@ with_rook p m wing placement =
 unfoldable pub placement_after : Position → Move → List (Option Man)
 placement_after p m =
     with_rook p m wing.Queen (with_rook p m wing.King
-        (put (without_taken p m (put p.placement m.from None)) m.to (became p m)))
+    (put (without_taken p m (put p.placement m.from None)) m.to (became p m)))
 
--- A right is lost where the move starts or ends on its king's or its rook's home (FIDE article 3.8.2.1).
+-- A right is lost where the move starts or ends on its king's or its rook's home: one of them has moved, or the rook is
+-- taken (FIDE article 3.8.2.1).
 abbrev pub touches : Move → Square → Bool
 touches m s = is_square m.from s || is_square m.to s
 
@@ -85,7 +86,7 @@ rights_after p m = record {
   white_king = keeps_right p m White wing.King;
   white_queen = keeps_right p m White wing.Queen;
   black_king = keeps_right p m Black wing.King;
-  black_queen = keeps_right p m Black wing.Queen
+  black_queen = keeps_right p m Black wing.Queen;
 }
 
 -- the square that a pawn crossed in a two-square advance
@@ -102,7 +103,7 @@ abbrev pub fullmove_after : Colour → ℕ → ℕ
 fullmove_after White n = n
 fullmove_after Black n = n + 1
 
--- the position after a move
+-- The position after a move by the rules of the man's kind. Of other moves it says nothing of chess.
 abbrev pub next : Position → Move → Position
 next p m = record {
   placement = placement_after p m;
@@ -110,5 +111,5 @@ next p m = record {
   rights = rights_after p m;
   target = target_after p m;
   halfmove = halfmove_after p m;
-  fullmove = fullmove_after p.side p.fullmove
+  fullmove = fullmove_after p.side p.fullmove;
 }

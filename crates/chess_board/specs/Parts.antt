@@ -1,4 +1,3 @@
-use Rattle.std.specs.Prelude.{ℕ, ◌≡◌, ◌≤◌, length}
 use Rattle.chess_board.specs.declared.parts.Parts.{Parts}
 use Rattle.chess_board.specs.declared.parts.BadBoard.{BadBoard}
 use Rattle.chess_board.specs.declared.parts.BadBoard.TheVariants as broken
@@ -14,7 +13,7 @@ described parts = record {
   rights = rights_of parts.rights;
   target = parts.target;
   halfmove = parts.halfmove;
-  fullmove = parts.fullmove
+  fullmove = parts.fullmove;
 }
 
 -- the same of a draft
@@ -25,7 +24,7 @@ drafted draft = record {
   rights = rights_of draft.rights;
   target = draft.target;
   halfmove = draft.halfmove;
-  fullmove = draft.fullmove
+  fullmove = draft.fullmove;
 }
 
 -- the first condition of a valid position that a position breaks, in the order of the faults

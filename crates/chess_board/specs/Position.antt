@@ -1,10 +1,10 @@
-use Rattle.std.specs.Prelude.{ℕ, ◌≡◌, ◌≢◌, ◌+◌, ◌≤◌, Bool, true, false, ◌&&◌, ◌||◌, ◌==◌, not, nat_le, List, [], ◌∷◌, map, length, Option, Some, None, is_some, count_by, MatchOption}
-use Rattle.std.specs.List.{list_any, list_all}
+use Rattle.std.specs.Prelude.{ℕ, ◌≡◌, ◌≢◌, ◌≤◌, Bool, true, false, ◌&&◌, List, map, length, Option, Some, None, is_some, count_by}
+use Rattle.std.specs.List.{list_any}
 use Rattle.chess_bits.specs.declared.men.Colour.{Colour}
 use Rattle.chess_bits.specs.declared.men.Colour.TheVariants.{White, Black}
 use Rattle.chess_bits.specs.declared.men.Kind.{Kind}
-use Rattle.chess_bits.specs.declared.men.Kind.TheVariants.{Pawn, Knight, Bishop, Rook, Queen, King}
-use Rattle.chess_bits.specs.Square.{Square, IsOnBoard, on_board, squares}
+use Rattle.chess_bits.specs.declared.men.Kind.TheVariants.{Pawn, Rook, King}
+use Rattle.chess_bits.specs.Square.{Square, IsOnBoard, squares}
 use Rattle.chess_bits.specs.Man.{Man, other, is_man, is_of, holds}
 use Rattle.chess_bits.specs.Table.{at}
 use Rattle.chess_bits.specs.Attack.{along, forward, Attacks, attacks}
@@ -47,7 +47,7 @@ pub record IsAttacker (placement : List (Option Man)) (side : Colour) (b a : Squ
   pub stands : man_at placement a ≡ Some (side, kind)
   pub attacks : Attacks (occupied_of placement) side kind a b
 
--- some man of the side attacks the square (FIDE article 3.1.2)
+-- some man of the side attacks the square (FIDE article 3.1.3)
 abbrev pub IsAttacked : List (Option Man) → Colour → Square → Type 0
 IsAttacked placement side b = (a : Square) × IsAttacker placement side b a
 
@@ -92,12 +92,13 @@ abbrev pub HasTrueRights : Position → Type 0
 HasTrueRights p = (side : Colour) (wing : Wing) → has_right p.rights side wing ≡ true →
     (man_at p.placement (king_home side) ≡ Some (side, King)) × (man_at p.placement (rook_home side wing) ≡ Some (side, Rook))
 
--- The square that a pawn of the opponent has just crossed: with White to move an empty square of rank 6, with a
--- black pawn below it and an empty square above it; with Black to move the same, mirrored.
+-- the rank of a target by the side to move
 abbrev pub target_rank : Colour → ℕ
 target_rank White = 6
 target_rank Black = 3
 
+-- The square that a pawn of the opponent has just crossed: with White to move an empty square of rank 6, with a
+-- black pawn below it and an empty square above it; with Black to move the same, mirrored.
 pub record IsTarget (p : Position) (t : Square) : Type 0 where
   pub on_board : IsOnBoard t
   pub rank : t.rank ≡ target_rank p.side
@@ -123,7 +124,7 @@ pub record IsValid (p : Position) : Type 0 where
   pub target : HasTrueTarget p
   pub counters : HasCounters p
 
--- the same as tests, which compute
+-- attacks on a square of the board and check as tests, which compute
 abbrev pub is_attacker : List (Option Man) → Colour → Square → Option Man → Square → Bool
 is_attacker placement side b None a = false
 is_attacker placement side b (Some man) a = is_of side man && attacks (occupied_of placement) side man.1 a b

@@ -1,4 +1,4 @@
-use Rattle.std.specs.Prelude.{ℕ, ◌≡◌, ◌+◌, ◌*◌, ◌<◌, ◌==◌, Bool, cond}
+use Rattle.std.specs.Prelude.{ℕ, ◌≡◌, ◌+◌, ◌*◌, ◌<◌, ◌==◌, cond}
 use Rattle.std.specs.Int.{bit_at}
 use Rattle.std.proofs.Common.{arith, ap}
 use Rattle.std.proofs.lemmas.Bool.Decides.{nat_tests}
@@ -11,7 +11,7 @@ rights_of flags = record {
   white_king = bit_at flags.0 0 == 1;
   white_queen = bit_at flags.0 1 == 1;
   black_king = bit_at flags.0 2 == 1;
-  black_queen = bit_at flags.0 3 == 1
+  black_queen = bit_at flags.0 3 == 1;
 }
 
 -- no other bit is set
@@ -21,7 +21,7 @@ HasKnownFlags flags = flags.0 < 16
 -- the flags of rights
 abbrev pub flags_of : Rights → CastlingRights
 flags_of rights = record {
-  0 = cond rights.white_king 1 0 + 2 * cond rights.white_queen 1 0 + 4 * cond rights.black_king 1 0 + 8 * cond rights.black_queen 1 0
+  0 = cond rights.white_king 1 0 + 2 * cond rights.white_queen 1 0 + 4 * cond rights.black_king 1 0 + 8 * cond rights.black_queen 1 0;
 }
 
 bit_back : (n i : ℕ) → cond (bit_at n i == 1) 1 0 ≡ bit_at n i
@@ -31,5 +31,5 @@ bit_back n i = grind (arith, nat_tests)
 pub flags_of-rights_of : (flags : CastlingRights) → HasKnownFlags flags → flags_of (rights_of flags) ≡ flags
 flags_of-rights_of flags known =
     let bits : cond (bit_at flags.0 0 == 1) 1 0 + 2 * cond (bit_at flags.0 1 == 1) 1 0 + 4 * cond (bit_at flags.0 2 == 1) 1 0 + 8 * cond (bit_at flags.0 3 == 1) 1 0 ≡ flags.0 =
-        rw (bit_back flags.0 0, bit_back flags.0 1, bit_back flags.0 2, bit_back flags.0 3) (omega arith) in
+    rw (bit_back flags.0 0, bit_back flags.0 1, bit_back flags.0 2, bit_back flags.0 3) (omega arith) in
     ap (λ (n : ℕ). let made : CastlingRights = record { 0 = n } in made) bits

@@ -57,7 +57,7 @@ fn slides(occupied: Bits, directions: &[Step], from: Square, to: Square) -> bool
 }
 
 /// Whether a man of the colour and kind on `from` attacks `to`, where `occupied` are the squares with men
-/// (FIDE articles 3.1.2 to 3.8.1).
+/// (FIDE articles 3.2 to 3.7.3 and 3.8.1).
 pub fn attacks(occupied: Bits, colour: Colour, kind: Kind, from: Square, to: Square) -> bool
     ensures { IsTrue result ↔ Attacks occupied colour kind from to }
 {
@@ -74,7 +74,7 @@ pub fn attacks(occupied: Bits, colour: Colour, kind: Kind, from: Square, to: Squ
     }
 }
 
-/// Whether a man of the side attacks the square (FIDE article 3.1.2).
+/// Whether a man of the side attacks the square (FIDE article 3.1.3).
 pub fn is_attacked(men: &Men, side: Colour, square: Square) -> bool
     ensures { IsTrue result ↔ IsAttacked men.now side square }
 {

@@ -162,9 +162,7 @@ impl Board {
     {
         let from = mv.from;
         let to = mv.to;
-        self.holds_kind(from, Kind::Pawn)
-            && from.file() != to.file()
-            && is_target(self.target, to)
+        self.holds_kind(from, Kind::Pawn) && from.file() != to.file() && is_target(self.target, to)
     }
 
     // Whether the move castles to the wing.

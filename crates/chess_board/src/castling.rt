@@ -3,7 +3,6 @@ ghost use Rattle.chess_board.specs.Position.{has_right, home_rank as spec_home_r
 ghost use Rattle.chess_board.specs.Next.{castled_king as spec_castled_king, castled_rook as spec_castled_rook};
 ghost use Rattle.chess_board.specs.RightsOf.{rights_of, HasKnownFlags};
 
-
 use bitflags::{Flag, Flags, bitflag_items};
 use chess_bits::{Colour, Square};
 

@@ -34,17 +34,29 @@ pub enum BadBoard {
 type Here = Option<(Colour, Kind)>;
 
 const EMPTY: Here = None;
+
 const WHITE_PAWN: Here = Some((Colour::White, Kind::Pawn));
+
 const WHITE_KNIGHT: Here = Some((Colour::White, Kind::Knight));
+
 const WHITE_BISHOP: Here = Some((Colour::White, Kind::Bishop));
+
 const WHITE_ROOK: Here = Some((Colour::White, Kind::Rook));
+
 const WHITE_QUEEN: Here = Some((Colour::White, Kind::Queen));
+
 const WHITE_KING: Here = Some((Colour::White, Kind::King));
+
 const BLACK_PAWN: Here = Some((Colour::Black, Kind::Pawn));
+
 const BLACK_KNIGHT: Here = Some((Colour::Black, Kind::Knight));
+
 const BLACK_BISHOP: Here = Some((Colour::Black, Kind::Bishop));
+
 const BLACK_ROOK: Here = Some((Colour::Black, Kind::Rook));
+
 const BLACK_QUEEN: Here = Some((Colour::Black, Kind::Queen));
+
 const BLACK_KING: Here = Some((Colour::Black, Kind::King));
 
 /// The position in which a game starts (FIDE article 2.3).

@@ -1,4 +1,4 @@
-use Rattle.std.proofs.Common.{List, Bool, ◌∙◌, ap, subst, sym}
+use Rattle.std.proofs.Common.{List, ◌∙◌, ap, subst, sym}
 use Rattle.chess_bits.specs.Square.{Square}
 use Rattle.chess_bits.specs.Attack.{SomeOf}
 use Rattle.chess_bits.specs.Table.{members}

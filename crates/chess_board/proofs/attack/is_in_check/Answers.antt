@@ -7,7 +7,7 @@ use Rattle.chess_bits.specs.Attack.{SomeOf}
 use Rattle.chess_bits.specs.Table.{members, has, meet}
 use Rattle.chess_bits.specs.SquaresOf.{squares_left}
 use Rattle.chess_bits.proofs.AlongLemmas.{PassesEach, PassesEach-members, SomeOf-members}
-use Rattle.chess_board.specs.Occupancy.{squares_with, is_a}
+use Rattle.chess_board.specs.Occupancy.{squares_with}
 use Rattle.chess_board.specs.Position.{IsAttacked}
 use Rattle.chess_board.proofs.AttackLemmas.{kings_of, has-king, king-has}
 use Rattle.chess_board.proofs.Candidates.{IsOnBoard-from_man}
@@ -17,15 +17,15 @@ pub loop-square-init : goal.loop-square-init
 loop-square-init c =
     let kings = kings_of c.args.men.now c.args.side in
     let start : squares_left c.into_iter-square-iterator.result ≡ members kings =
-        ap squares_left c.into_iter-square-iterator.ensures.into_iter_gives ∙ c.iter-square-items.ensures
-        ∙ ap members (c.meet.ensures ∙ ap (λ (x : List Bool). meet x c.of_kind.result) c.of.ensures ∙ ap (meet (squares_with (is_of c.args.side) c.args.men.now)) c.of_kind.ensures) in
+    ap squares_left c.into_iter-square-iterator.ensures.into_iter_gives ∙ c.iter-square-items.ensures
+    ∙ ap members (c.meet.ensures ∙ ap (λ (x : List Bool). meet x c.of_kind.result) c.of.ensures ∙ ap (meet (squares_with (is_of c.args.side) c.args.men.now)) c.of_kind.ensures) in
     let Some' : List Square → Type 0 = SomeOf (IsAttacked c.args.men.now (other c.args.side)) in
     let Passes' : List Square → Type 0 = PassesEach (has kings) in
     record {
       some = λ check. subst Some' (sym start)
-        (SomeOf-members (IsAttacked c.args.men.now (other c.args.side)) kings check.0 (IsOnBoard-from_man c.args.men.now check.0 (c.args.side, King) check.1)
-            (has-king c.args.men.now c.args.side check.0 check.1) check.2);
-      kings = subst Passes' (sym start) (PassesEach-members kings)
+          (SomeOf-members (IsAttacked c.args.men.now (other c.args.side)) kings check.0 (IsOnBoard-from_man c.args.men.now check.0 (c.args.side, King) check.1)
+          (has-king c.args.men.now c.args.side check.0 check.1) check.2);
+      kings = subst Passes' (sym start) (PassesEach-members kings);
     }
 
 pub returns-then-is_attacked : goal.returns-then-is_attacked

@@ -1,4 +1,4 @@
-use Rattle.std.proofs.Common.{ℕ, ◌≡◌, ◌-◌, ◌≤◌}
+use Rattle.std.proofs.Common.{◌≡◌, ◌-◌, ◌≤◌}
 use Rattle.chess_bits.specs.Square.{IsOnBoard}
 use Rattle.chess_bits.specs.Attack.{along}
 use Rattle.chess_board.proofs.SlideLemmas.{Tried}

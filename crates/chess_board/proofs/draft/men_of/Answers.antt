@@ -1,4 +1,4 @@
-use Rattle.std.proofs.Common.{ℕ, ◌≡◌, ◌∙◌, ◌+◌, ◌<◌, ap, sym, arith, length, get_or, set, inl, inr, List, Option, None}
+use Rattle.std.proofs.Common.{ℕ, ◌≡◌, ◌∙◌, ap, sym, arith, length, get_or, set, inl, inr, List, Option, None}
 use Rattle.std.proofs.lemmas.Bool.{cases_eq}
 use Rattle.std.proofs.lemmas.List.{length-set, get_or-set_same, get_or-set_other, ext_get_or}
 use Rattle.chess_bits.specs.Man.{Man}
@@ -21,7 +21,7 @@ loop-number-preserved c =
         | inl same ↦ ap (λ (i : ℕ). get_or (set board n man) i None) same ∙ get_or-set_same board n man None (omega arith)
             ∙ ap (λ (i : ℕ). get_or c.args.men.now i None) (sym same)
         | inr other ↦ get_or-set_other board n k man None other ∙ loop.placed k (omega arith)
-      ]
+      ];
     }
 
 pub returns-clause-men : goal.returns-clause-men

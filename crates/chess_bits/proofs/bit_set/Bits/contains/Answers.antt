@@ -1,7 +1,5 @@
-use Rattle.std.proofs.Common.{◌≡◌, ℕ, ◌<◌, ◌∙◌, ap, sym, eqb, arith, Bool, List, false, get_or}
+use Rattle.std.proofs.Common.{ℕ, ◌∙◌, ap, sym, eqb, Bool, List, false, get_or}
 use Rattle.std.proofs.lemmas.Nat.Bits.{shr_and_one}
-use Rattle.chess_bits.specs.Table.{at, has}
-use Rattle.chess_bits.specs.Square.{number_of}
 use Rattle.chess_bits.proofs.WordLemmas.{get_or-bools_of}
 use Rattle.chess_bits.proofs.TableLemmas.{at-on_board}
 use Rattle.chess_bits.proofs.bit_set.Bits.contains.Goals as goal

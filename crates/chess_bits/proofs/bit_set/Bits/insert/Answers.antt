@@ -1,4 +1,4 @@
-use Rattle.std.proofs.Common.{◌≡◌, ℕ, ◌<◌, ◌∙◌, ap, sym, arith, Bool, List, true, false, set}
+use Rattle.std.proofs.Common.{ℕ, ◌∙◌, ap, arith, Bool, List, true, set}
 use Rattle.std.proofs.lemmas.Nat.{or_lt}
 use Rattle.chess_bits.specs.Table.{put}
 use Rattle.chess_bits.proofs.WordLemmas.{bools_of-insert}

@@ -1,5 +1,4 @@
 use Rattle.std.proofs.Common.{◌∙◌, ap, List, Bool}
-use Rattle.std.proofs.lemmas.Nat.{or_lt}
 use Rattle.chess_bits.specs.Table.{meet}
 use Rattle.chess_bits.specs.Word.{bools_of}
 use Rattle.chess_bits.proofs.WordLemmas.{bools_of-and}

@@ -1,5 +1,4 @@
-use Rattle.std.proofs.Common.{◌≡◌, ℕ, ◌<◌, ◌∙◌, ap, sym, arith, Bool, List, true, false, set}
-use Rattle.std.proofs.lemmas.Nat.{or_lt}
+use Rattle.std.proofs.Common.{ℕ, ◌∙◌, ap, Bool, List, false, set}
 use Rattle.chess_bits.specs.Table.{put}
 use Rattle.chess_bits.proofs.WordLemmas.{bools_of-remove}
 use Rattle.chess_bits.proofs.bit_set.Bits.remove.Goals as goal

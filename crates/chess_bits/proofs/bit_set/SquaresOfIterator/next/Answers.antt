@@ -1,5 +1,4 @@
 use Rattle.std.proofs.Common.{◌≡◌, ◌∙◌, ◌∷◌, ap, sym, arith, length, List, Bool}
-use Rattle.chess_bits.specs.Square.{Square}
 use Rattle.chess_bits.specs.Table.{members}
 use Rattle.chess_bits.proofs.MemberLemmas.{members-after_first}
 use Rattle.chess_bits.proofs.bit_set.SquaresOfIterator.next.Goals as goal

@@ -10,22 +10,28 @@ use Rattle.chess_board.proofs.board.Board.apply.Goals.{After-fullmove_after}
 
 abbrev made_of : After-fullmove_after → Inside
 made_of c = record {
-    men = c.men_after.result; side = c.other.result; rights = c.rights_after.result; target = c.target_after.result;
-    halfmove = c.halfmove_after.result; fullmove = c.fullmove_after.result }
+  men = c.men_after.result;
+  side = c.other.result;
+  rights = c.rights_after.result;
+  target = c.target_after.result;
+  halfmove = c.halfmove_after.result;
+  fullmove = c.fullmove_after.result;
+}
 
 is_next : (c : After-fullmove_after) → position_of (made_of c) ≡ next c.args.self.now c.args.mv
 is_next c = λ i. record {
-    placement = c.men_after.ensures i;
-    side = (c.other.ensures ∙ ap (λ (p : Position). other p.side) c.self.view_is) i;
-    rights = c.rights_after.ensures.rights i;
-    target = c.target_after.ensures i;
-    halfmove = c.halfmove_after.ensures i;
-    fullmove = c.fullmove_after.ensures i }
+  placement = c.men_after.ensures i;
+  side = (c.other.ensures ∙ ap (λ (p : Position). other p.side) c.self.view_is) i;
+  rights = c.rights_after.ensures.rights i;
+  target = c.target_after.ensures i;
+  halfmove = c.halfmove_after.ensures i;
+  fullmove = c.fullmove_after.ensures i;
+}
 
 is_valid_next : (c : After-fullmove_after) → IsValid (position_of (made_of c))
 is_valid_next c =
     subst IsValid (sym (is_next c)) (IsValid-next c.args.self.now c.args.mv (subst IsValid c.self.view_is c.self.invariant.valid)
-        c.requires.legal c.requires.halfmove c.requires.fullmove)
+    c.requires.legal c.requires.halfmove c.requires.fullmove)
 
 pub invariant_of-result : goal.invariant_of-result
 invariant_of-result c = record { valid = is_valid_next c; known = c.rights_after.ensures.known }

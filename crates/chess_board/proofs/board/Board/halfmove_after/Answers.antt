@@ -1,4 +1,4 @@
-use Rattle.std.proofs.Common.{◌≡◌, ◌+◌, ℕ, sym, ap, ◌∙◌, Bool, true, false, cond, ◌||◌, is_some}
+use Rattle.std.proofs.Common.{◌≡◌, ◌+◌, sym, ap, ◌∙◌, Bool, true, false, cond, ◌||◌, is_some}
 use Rattle.chess_board.specs.Position.{Position, man_at}
 use Rattle.chess_board.specs.Next.{halfmove_after}
 use Rattle.chess_board.proofs.board.Board.halfmove_after.Goals as goal
@@ -10,17 +10,17 @@ pub returns-then-pawn_moves-man_taken : goal.returns-then-pawn_moves-man_taken
 unfolding halfmove_after
 returns-then-pawn_moves-man_taken c =
     let taken : c.is_some-man_taken.result ≡ is_some (man_at c.args.self.now.placement c.args.mv.now.to) =
-        c.is_some-man_taken.ensures ∙ ap is_some c.man_at.ensures
-        ∙ ap (λ (p : Position). is_some (man_at p.placement c.args.mv.now.to)) c.self.view_is in
+    c.is_some-man_taken.ensures ∙ ap is_some c.man_at.ensures
+    ∙ ap (λ (p : Position). is_some (man_at p.placement c.args.mv.now.to)) c.self.view_is in
     sym (ap (λ (t : Bool). cond t 0 (c.args.self.now.halfmove + 1))
-        (either _ _ _ _ true c.holds_kind-pawn_moves.ensures taken c.if-pawn_moves-man_taken.true))
+    (either _ _ _ _ true c.holds_kind-pawn_moves.ensures taken c.if-pawn_moves-man_taken.true))
 
 pub returns-else-pawn_moves-man_taken : goal.returns-else-pawn_moves-man_taken
 unfolding halfmove_after
 returns-else-pawn_moves-man_taken c =
     let taken : c.is_some-man_taken.result ≡ is_some (man_at c.args.self.now.placement c.args.mv.now.to) =
-        c.is_some-man_taken.ensures ∙ ap is_some c.man_at.ensures
-        ∙ ap (λ (p : Position). is_some (man_at p.placement c.args.mv.now.to)) c.self.view_is in
+    c.is_some-man_taken.ensures ∙ ap is_some c.man_at.ensures
+    ∙ ap (λ (p : Position). is_some (man_at p.placement c.args.mv.now.to)) c.self.view_is in
     ap (λ (p : Position). p.halfmove + 1) c.self.view_is
     ∙ sym (ap (λ (t : Bool). cond t 0 (c.args.self.now.halfmove + 1))
-        (either _ _ _ _ false c.holds_kind-pawn_moves.ensures taken c.if-pawn_moves-man_taken.false))
+    (either _ _ _ _ false c.holds_kind-pawn_moves.ensures taken c.if-pawn_moves-man_taken.false))

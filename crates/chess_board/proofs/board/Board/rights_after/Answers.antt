@@ -1,4 +1,3 @@
-use Rattle.std.proofs.Common.{◌∙◌}
 use Rattle.chess_board.specs.Next.{rights_after}
 use Rattle.chess_board.proofs.board.Board.rights_after.Goals as goal
 

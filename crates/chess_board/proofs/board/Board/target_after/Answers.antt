@@ -1,6 +1,5 @@
-use Rattle.std.proofs.Common.{◌≡◌, ◌∙◌, refl, sym, ap, subst, true, Option, None, Some, IfSome, IfNone, arith}
+use Rattle.std.proofs.Common.{◌≡◌, ◌∙◌, refl, sym, ap, subst, Option, None, Some, IfSome, IfNone, arith}
 use Rattle.std.proofs.lemmas.Bool.{and_parts}
-use Rattle.chess_bits.specs.declared.men.Colour.{Colour}
 use Rattle.chess_bits.specs.declared.steps.Step.{Step}
 use Rattle.chess_bits.specs.Square.{Square, IsOnBoard}
 use Rattle.chess_bits.specs.Attack.{along, forward}
@@ -22,7 +21,7 @@ returns-then-is_double_advance c =
     let there = is_square-true c.args.mv.now.to (along 2 (forward c.args.self.now.side) c.args.mv.now.from) (and_parts _ _ (sym facts.advance)).1 in
     let two : IsOnBoard (along 2 (forward c.args.self.now.side) c.args.mv.now.from) = subst IsOnBoard there facts.on_board in
     let one : IsOnBoard (along 1 (forward c.args.self.now.side) c.args.mv.now.from) =
-        along-between 1 2 (forward c.args.self.now.side) c.args.mv.now.from c.step.ensures.on_board (omega arith) two in
+    along-between 1 2 (forward c.args.self.now.side) c.args.mv.now.from c.step.ensures.on_board (omega arith) two in
     let way : c.forward.result ≡ forward c.args.self.now.side = c.forward.ensures ∙ ap (λ (p : Position). forward p.side) c.self.view_is in
     let There' : Step → Type 0 = λ step. IsOnBoard (along 1 step c.args.mv.now.from) in
     rw (← facts.advance)

@@ -1,7 +1,7 @@
-use Rattle.std.proofs.Common.{◌∙◌, ap, sym, List, Option, Bool, length}
+use Rattle.std.proofs.Common.{◌∙◌, ap, sym, List, Bool, length}
 use Rattle.chess_bits.specs.declared.men.Colour.{Colour}
 use Rattle.chess_bits.specs.declared.men.Colour.TheVariants.{White, Black}
-use Rattle.chess_bits.specs.Man.{Man, is_of, holds}
+use Rattle.chess_bits.specs.Man.{is_of, holds}
 use Rattle.chess_bits.specs.Table.{members}
 use Rattle.chess_bits.proofs.MemberLemmas.{length-members_map}
 use Rattle.chess_board.specs.Position.{count_of}
