@@ -12,3 +12,6 @@ pub use men::{Colour, Kind};
 pub use steps::{
     ADJOINING, BLACK_PAWN_ATTACKS, DIAGONAL, KNIGHT_STEPS, STRAIGHT, Step, WHITE_PAWN_ATTACKS,
 };
+
+#[cfg(test)]
+mod tests;

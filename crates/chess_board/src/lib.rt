@@ -16,4 +16,7 @@ pub use castling::{
 };
 pub use men::Men;
 pub use moves::Move;
-pub use parts::{BadBoard, Parts};
+pub use parts::{BadBoard, INITIAL, Parts};
+
+#[cfg(test)]
+mod tests;

@@ -35,10 +35,12 @@ empty-test placement s e = ap not (at-map is_some None false placement s refl �
 colour_there : (colour : Colour) (here : Option Man) → holds (is_of colour) here ≡ true →
     (kind : Kind) × (here ≡ Some (colour, kind))
 colour_there colour None e = absurd (false≢true e)
-colour_there colour (Some (own, kind)) e = (kind, ap (λ (c : Colour). Some (c, kind)) (sym (is_colour-true colour own e)))
+colour_there colour (Some (own, kind)) e =
+    (kind, ap (λ (c : Colour). Some (c, kind)) (sym (is_colour-true colour own e)))
 
 -- the set of a colour's squares has those that hold the colour
 pub colour-from_test : (placement : List (Option Man)) (colour : Colour) (s : Square) →
-    has (squares_with (is_of colour) placement) s ≡ true → (kind : Kind) × (man_at placement s ≡ Some (colour, kind))
+    has (squares_with (is_of colour) placement) s ≡ true →
+    (kind : Kind) × (man_at placement s ≡ Some (colour, kind))
 colour-from_test placement colour s e =
     colour_there colour (man_at placement s) (sym (has-squares_with (is_of colour) placement s) ∙ e)
