@@ -4,7 +4,6 @@ use super::{coordinate, fen_write};
 use chess_bits::{Kind, Square};
 use chess_board::{Board, Move};
 
-// Needs the real `Board` to have `Board::initial()`.
 #[test]
 fn writes_the_initial_position(rt: HostRuntime) {
     let text = fen_write(&Board::initial());
