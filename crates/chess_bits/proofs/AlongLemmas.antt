@@ -13,11 +13,13 @@ use Rattle.chess_bits.proofs.TableLemmas.{same_square, number_of-below, square_a
 abbrev coordinate : ℕ → ℕ → ℕ → ℕ → ℕ
 coordinate n start more less = start + n * more - n * less
 
-coordinate-next : (n start more less : ℕ) → 1 ≤ coordinate n start more less → coordinate (n + 1) start more less ≡ coordinate 1 (coordinate n start more less) more less
+coordinate-next : (n start more less : ℕ) → 1 ≤ coordinate n start more less →
+    coordinate (n + 1) start more less ≡ coordinate 1 (coordinate n start more less) more less
 coordinate-next n start more less h = omega arith
 
 -- what is off the board stays off the board
-coordinate-off : (k n start more less : ℕ) → 1 ≤ start → start ≤ 8 → k ≤ n → 1 ≤ coordinate n start more less → coordinate n start more less ≤ 8 →
+coordinate-off : (k n start more less : ℕ) → 1 ≤ start → start ≤ 8 → k ≤ n → 1 ≤ coordinate n start more less →
+    coordinate n start more less ≤ 8 →
     (1 ≤ coordinate k start more less) × (coordinate k start more less ≤ 8)
 coordinate-off k n start more less low high le on_low on_high =
     elim (cases_lt more less) [
@@ -44,7 +46,8 @@ coordinate-off k n start more less low high le on_low on_high =
         distributed a b m = grind arith
 
 -- eight steps that change a coordinate leave the board
-coordinate-far : (n start more less : ℕ) → 1 ≤ start → start ≤ 8 → 8 ≤ n → 1 ≤ coordinate n start more less → coordinate n start more less ≤ 8 → more ≡ less
+coordinate-far : (n start more less : ℕ) → 1 ≤ start → start ≤ 8 → 8 ≤ n → 1 ≤ coordinate n start more less →
+    coordinate n start more less ≤ 8 → more ≡ less
 coordinate-far n start more less low high far on_low on_high =
     elim (cases_order more less) [
       | inl same ↦ same
@@ -64,20 +67,25 @@ coordinate-still n start more less e = rw e (omega arith)
 pub along-zero : (step : Step) (a : Square) → along 0 step a ≡ a
 along-zero step a = same_square (along 0 step a) a (omega arith) (omega arith)
 
-pub along-next : (n : ℕ) (step : Step) (a : Square) → IsOnBoard (along n step a) → along (n + 1) step a ≡ along 1 step (along n step a)
+pub along-next : (n : ℕ) (step : Step) (a : Square) → IsOnBoard (along n step a) →
+    along (n + 1) step a ≡ along 1 step (along n step a)
 along-next n step a on =
     same_square (along (n + 1) step a) (along 1 step (along n step a))
-    (coordinate-next n a.file step.right step.left on.file_from) (coordinate-next n a.rank step.up step.down on.rank_from)
+    (coordinate-next n a.file step.right step.left on.file_from)
+    (coordinate-next n a.rank step.up step.down on.rank_from)
 
 -- a square between two of the board is on the board
-pub along-between : (k n : ℕ) (step : Step) (a : Square) → IsOnBoard a → k ≤ n → IsOnBoard (along n step a) → IsOnBoard (along k step a)
+pub along-between : (k n : ℕ) (step : Step) (a : Square) → IsOnBoard a → k ≤ n → IsOnBoard (along n step a) →
+    IsOnBoard (along k step a)
 along-between k n step a on le there =
-    let file = coordinate-off k n a.file step.right step.left on.file_from on.file_to le there.file_from there.file_to in
+    let file = coordinate-off k n a.file step.right step.left on.file_from on.file_to le there.file_from
+    there.file_to in
     let rank = coordinate-off k n a.rank step.up step.down on.rank_from on.rank_to le there.rank_from there.rank_to in
     record { file_from = file.0; file_to = file.1; rank_from = rank.0; rank_to = rank.1 }
 
 -- a step that stays on the board eight times or more does not move
-pub along-far : (n : ℕ) (step : Step) (a : Square) → IsOnBoard a → 8 ≤ n → IsOnBoard (along n step a) → along n step a ≡ along 1 step a
+pub along-far : (n : ℕ) (step : Step) (a : Square) → IsOnBoard a → 8 ≤ n → IsOnBoard (along n step a) →
+    along n step a ≡ along 1 step a
 along-far n step a on far there =
     let file = coordinate-far n a.file step.right step.left on.file_from on.file_to far there.file_from there.file_to in
     let rank = coordinate-far n a.rank step.up step.down on.rank_from on.rank_to far there.rank_from there.rank_to in
@@ -87,19 +95,22 @@ along-far n step a on far there =
 
 -- ---- some item of a list
 
-pub SomeOf-at : {A : Type 0} (P : A → Type 0) (xs : List A) (i : ℕ) (d : A) → i < length xs → P (get_or xs i d) → SomeOf P xs
+pub SomeOf-at : {A : Type 0} (P : A → Type 0) (xs : List A) (i : ℕ) (d : A) → i < length xs →
+    P (get_or xs i d) → SomeOf P xs
 SomeOf-at P [] i d h p = absurd (omega arith)
 SomeOf-at P (x ∷ xs) zero d h p = inl p
 SomeOf-at P (x ∷ xs) (suc i) d h p = inr (SomeOf-at P xs i d (omega arith) p)
 
-after : {A : Type 0} (P : A → Type 0) (xs : List A) (i : ℕ) (d : A) → i < length xs → ¬ P (get_or xs i d) → SomeOf P (drop i xs) → SomeOf P (drop (suc i) xs)
+after : {A : Type 0} (P : A → Type 0) (xs : List A) (i : ℕ) (d : A) → i < length xs → ¬ P (get_or xs i d) →
+    SomeOf P (drop i xs) → SomeOf P (drop (suc i) xs)
 after P [] i d h not_here some = absurd (omega arith)
 after P (x ∷ xs) zero d h not_here (inl here) = absurd (not_here here)
 after P (x ∷ xs) zero d h not_here (inr later) = later
 after P (x ∷ xs) (suc i) d h not_here some = after P xs i d (omega arith) not_here some
 
 -- where the item at a place is not so, a later one is
-pub SomeOf-after : {A : Type 0} (P : A → Type 0) (xs : List A) (i : ℕ) (d : A) → i < length xs → ¬ P (get_or xs i d) → SomeOf P (drop i xs) → SomeOf P (drop (i + 1) xs)
+pub SomeOf-after : {A : Type 0} (P : A → Type 0) (xs : List A) (i : ℕ) (d : A) → i < length xs →
+    ¬ P (get_or xs i d) → SomeOf P (drop i xs) → SomeOf P (drop (i + 1) xs)
 SomeOf-after P xs i d h not_here some = rw add-one (after P xs i d h not_here some)
 
 pub SomeOf-end : {A : Type 0} (P : A → Type 0) (xs : List A) (i : ℕ) → length xs ≤ i → ¬ SomeOf P (drop i xs)
@@ -108,14 +119,18 @@ SomeOf-end P [] (suc i) h some = some
 SomeOf-end P (x ∷ xs) zero h some = absurd (omega arith)
 SomeOf-end P (x ∷ xs) (suc i) h some = SomeOf-end P xs i (omega arith) some
 
-pub SomeOf-filter : {A : Type 0} (P : A → Type 0) (p : A → Bool) (xs : List A) → SomeOf (λ x. (p x ≡ true) × P x) xs → SomeOf P (filter p xs)
+pub SomeOf-filter : {A : Type 0} (P : A → Type 0) (p : A → Bool) (xs : List A) →
+    SomeOf (λ x. (p x ≡ true) × P x) xs → SomeOf P (filter p xs)
 SomeOf-filter P p [] some = some
-SomeOf-filter {A = A} P p (x ∷ xs) (inl here) = let Some' : List A → Type 0 = SomeOf P in subst Some' (sym (ap (λ (b : Bool). cond b (x ∷ filter p xs) (filter p xs)) here.0)) (inl here.1)
+SomeOf-filter {A = A} P p (x ∷ xs) (inl here) = let Some' : List A → Type 0 = SomeOf P in
+    subst Some' (sym (ap (λ (b : Bool). cond b (x ∷ filter p xs) (filter p xs)) here.0)) (inl here.1)
 SomeOf-filter {A = A} P p (x ∷ xs) (inr later) =
     let Some' : List A → Type 0 = SomeOf P in
     elim (cases_Bool (p x)) [
-      | inl kept ↦ subst Some' (sym (ap (λ (b : Bool). cond b (x ∷ filter p xs) (filter p xs)) kept)) (inr (SomeOf-filter P p xs later))
-      | inr left ↦ subst Some' (sym (ap (λ (b : Bool). cond b (x ∷ filter p xs) (filter p xs)) left)) (SomeOf-filter P p xs later)
+      | inl kept ↦ subst Some' (sym (ap (λ (b : Bool). cond b (x ∷ filter p xs) (filter p xs)) kept))
+          (inr (SomeOf-filter P p xs later))
+      | inr left ↦ subst Some' (sym (ap (λ (b : Bool). cond b (x ∷ filter p xs) (filter p xs)) left))
+          (SomeOf-filter P p xs later)
     ]
 
 -- each item of a list passes a test
@@ -128,27 +143,32 @@ PassesEach-filter p [] = tt
 PassesEach-filter {A = A} p (x ∷ xs) =
     let Passes' : List A → Type 0 = PassesEach p in
     elim (cases_Bool (p x)) [
-      | inl kept ↦ subst Passes' (sym (ap (λ (b : Bool). cond b (x ∷ filter p xs) (filter p xs)) kept)) (kept, PassesEach-filter p xs)
-      | inr left ↦ subst Passes' (sym (ap (λ (b : Bool). cond b (x ∷ filter p xs) (filter p xs)) left)) (PassesEach-filter p xs)
+      | inl kept ↦ subst Passes' (sym (ap (λ (b : Bool). cond b (x ∷ filter p xs) (filter p xs)) kept))
+          (kept, PassesEach-filter p xs)
+      | inr left ↦ subst Passes' (sym (ap (λ (b : Bool). cond b (x ∷ filter p xs) (filter p xs)) left))
+          (PassesEach-filter p xs)
     ]
 
 pub get_or-squares : (s : Square) → IsOnBoard s → (d : Square) → get_or squares (number_of s) d ≡ s
 unfolding squares
 get_or-squares s on d =
-    get_or-map-range_with_len square_at 0 64 (number_of s) (number_of s) d (number_of-below s on) (omega arith) ∙ square_at-number_of s on
+    get_or-map-range_with_len square_at 0 64 (number_of s) (number_of s) d (number_of-below s on)
+    (omega arith) ∙ square_at-number_of s on
 
 pub length-all_squares : length squares ≡ 64
 unfolding squares
 length-all_squares = refl
 
 -- a square of a set is among its members
-pub SomeOf-members : (P : Square → Type 0) (bs : List Bool) (s : Square) → IsOnBoard s → has bs s ≡ true → P s → SomeOf P (members bs)
+pub SomeOf-members : (P : Square → Type 0) (bs : List Bool) (s : Square) → IsOnBoard s → has bs s ≡ true →
+    P s → SomeOf P (members bs)
 unfolding members
 SomeOf-members P bs s on member holds =
     let below : number_of s < length squares = omega (arith, length-all_squares, number_of-below s on) in
     SomeOf-filter P (has bs) squares
     (SomeOf-at (λ x. (has bs x ≡ true) × P x) squares (number_of s) s below
-    (let Both : Square → Type 0 = λ x. (has bs x ≡ true) × P x in subst Both (sym (get_or-squares s on s)) (member, holds)))
+    (let Both : Square → Type 0 = λ x. (has bs x ≡ true) × P x in subst Both (sym (get_or-squares s on s))
+    (member, holds)))
 
 -- the members of a set are in it
 pub PassesEach-members : (bs : List Bool) → PassesEach (has bs) (members bs)
@@ -156,7 +176,8 @@ unfolding members
 PassesEach-members bs = PassesEach-filter (has bs) squares
 
 -- a test of each item that a filter keeps
-pub list_all-filter : {A : Type 0} (q p : A → Bool) (xs : List A) → list_all q (filter p xs) ≡ list_all (λ x. not (p x) || q x) xs
+pub list_all-filter : {A : Type 0} (q p : A → Bool) (xs : List A) →
+    list_all q (filter p xs) ≡ list_all (λ x. not (p x) || q x) xs
 list_all-filter q p [] = refl
 list_all-filter q p (x ∷ xs) =
     elim (cases_Bool (p x)) [
@@ -166,4 +187,5 @@ list_all-filter q p (x ∷ xs) =
 
 pub list_all-same : {A : Type 0} (p q : A → Bool) (xs : List A) → ((x : A) → p x ≡ q x) → list_all p xs ≡ list_all q xs
 list_all-same p q [] same = refl
-list_all-same p q (x ∷ xs) same = ap (λ (b : Bool). b && list_all p xs) (same x) ∙ ap (λ (b : Bool). q x && b) (list_all-same p q xs same)
+list_all-same p q (x ∷ xs) same = ap (λ (b : Bool). b && list_all p xs) (same x) ∙ ap (λ (b : Bool). q x && b)
+    (list_all-same p q xs same)

@@ -25,17 +25,21 @@ get_or-bools_of (suc n) w (suc i) h =
     get_or-bools_of n (w / 2) i below ∙ ap (λ (x : ℕ). eqb x 1) (sym (bit_at-suc w i))
 
 -- a list of n tests is that of the bits of a number where each is
-pub same_bools : (n w : ℕ) (bs : List Bool) → length bs ≡ n → ((i : ℕ) → i < n → bit w i ≡ get_or bs i false) → bools_of n w ≡ bs
+pub same_bools : (n w : ℕ) (bs : List Bool) → length bs ≡ n → ((i : ℕ) → i < n → bit w i ≡ get_or bs i false) →
+    bools_of n w ≡ bs
 same_bools n w bs len same =
     ext_get_or false (bools_of n w) bs (length-bools_of n w ∙ sym len)
     (λ i h. let below : i < n = omega (arith, length-bools_of n w) in get_or-bools_of n w i below ∙ same i below)
 
-pub length-each : (f : Bool → Bool → Bool) (xs ys : List Bool) → length xs ≡ length ys → length (each f xs ys) ≡ length xs
+pub length-each : (f : Bool → Bool → Bool) (xs ys : List Bool) → length xs ≡ length ys →
+    length (each f xs ys) ≡ length xs
 length-each f [] ys e = refl
 length-each f (x ∷ xs) [] e = sym e
-length-each f (x ∷ xs) (y ∷ ys) e = let tails : length xs ≡ length ys = omega arith in ap suc (length-each f xs ys tails)
+length-each f (x ∷ xs) (y ∷ ys) e = let tails : length xs ≡ length ys = omega arith in
+    ap suc (length-each f xs ys tails)
 
-pub get_or-each : (f : Bool → Bool → Bool) (xs ys : List Bool) (i : ℕ) → i < length xs → i < length ys → get_or (each f xs ys) i false ≡ f (get_or xs i false) (get_or ys i false)
+pub get_or-each : (f : Bool → Bool → Bool) (xs ys : List Bool) (i : ℕ) → i < length xs → i < length ys →
+    get_or (each f xs ys) i false ≡ f (get_or xs i false) (get_or ys i false)
 get_or-each f [] ys i h k = absurd (omega arith)
 get_or-each f (x ∷ xs) [] i h k = absurd (omega arith)
 get_or-each f (x ∷ xs) (y ∷ ys) zero h k = refl
@@ -58,20 +62,26 @@ both (suc (suc a)) b h k = absurd (omega arith)
 pub bools_of-or : (n a b : ℕ) → bools_of n (bit_or a b) ≡ union (bools_of n a) (bools_of n b)
 unfolding union
 bools_of-or n a b =
-    same_bools n (bit_or a b) _ (length-each (λ x y. x || y) _ _ (length-bools_of n a ∙ sym (length-bools_of n b)) ∙ length-bools_of n a)
+    same_bools n (bit_or a b) _ (length-each (λ x y. x || y) _ _ (length-bools_of n a
+    ∙ sym (length-bools_of n b)) ∙ length-bools_of n a)
     (λ i h.
     ap (λ (x : ℕ). eqb x 1) (bit_at_or a b i) ∙ either (bit_at a i) (bit_at b i) (bit_at-lt a i) (bit_at-lt b i)
-    ∙ sym (get_or-each (λ x y. x || y) (bools_of n a) (bools_of n b) i (omega (arith, length-bools_of n a)) (omega (arith, length-bools_of n b))
-    ∙ ap (λ (x : Bool). x || get_or (bools_of n b) i false) (get_or-bools_of n a i h) ∙ ap (λ (x : Bool). bit a i || x) (get_or-bools_of n b i h)))
+    ∙ sym (get_or-each (λ x y. x || y) (bools_of n a) (bools_of n b) i (omega (arith, length-bools_of n a))
+    (omega (arith, length-bools_of n b))
+    ∙ ap (λ (x : Bool). x || get_or (bools_of n b) i false) (get_or-bools_of n a i h)
+    ∙ ap (λ (x : Bool). bit a i || x) (get_or-bools_of n b i h)))
 
 pub bools_of-and : (n a b : ℕ) → bools_of n (bit_and a b) ≡ meet (bools_of n a) (bools_of n b)
 unfolding meet
 bools_of-and n a b =
-    same_bools n (bit_and a b) _ (length-each (λ x y. x && y) _ _ (length-bools_of n a ∙ sym (length-bools_of n b)) ∙ length-bools_of n a)
+    same_bools n (bit_and a b) _ (length-each (λ x y. x && y) _ _ (length-bools_of n a
+    ∙ sym (length-bools_of n b)) ∙ length-bools_of n a)
     (λ i h.
     ap (λ (x : ℕ). eqb x 1) (bit_at_and a b i) ∙ both (bit_at a i) (bit_at b i) (bit_at-lt a i) (bit_at-lt b i)
-    ∙ sym (get_or-each (λ x y. x && y) (bools_of n a) (bools_of n b) i (omega (arith, length-bools_of n a)) (omega (arith, length-bools_of n b))
-    ∙ ap (λ (x : Bool). x && get_or (bools_of n b) i false) (get_or-bools_of n a i h) ∙ ap (λ (x : Bool). bit a i && x) (get_or-bools_of n b i h)))
+    ∙ sym (get_or-each (λ x y. x && y) (bools_of n a) (bools_of n b) i (omega (arith, length-bools_of n a))
+    (omega (arith, length-bools_of n b))
+    ∙ ap (λ (x : Bool). x && get_or (bools_of n b) i false) (get_or-bools_of n a i h)
+    ∙ ap (λ (x : Bool). bit a i && x) (get_or-bools_of n b i h)))
 
 pub bools_of-zero : bools_of 64 0 ≡ empty
 unfolding empty
@@ -84,14 +94,19 @@ pub bools_of-insert : (w k : ℕ) → k < 64 → bools_of 64 (bit_or w (1 * 2 ^ 
 bools_of-insert w k h =
     same_bools 64 _ (set (bools_of 64 w) k true) (length-set (bools_of 64 w) k true ∙ length-bools_of 64 w)
     (λ i below. elim (cases_eq i k) [
-      | inl e ↦ rw e (ap (λ (x : ℕ). eqb x 1) (bit_at_set_same w64 w k h) ∙ sym (get_or-set_same (bools_of 64 w) k true false (omega (arith, length-bools_of 64 w))))
-      | inr ne ↦ ap (λ (x : ℕ). eqb x 1) (bit_at_set_other w64 w k h i ne) ∙ sym (get_or-set_other (bools_of 64 w) k i true false ne ∙ get_or-bools_of 64 w i below)
+      | inl e ↦ rw e (ap (λ (x : ℕ). eqb x 1) (bit_at_set_same w64 w k h)
+          ∙ sym (get_or-set_same (bools_of 64 w) k true false (omega (arith, length-bools_of 64 w))))
+      | inr ne ↦ ap (λ (x : ℕ). eqb x 1) (bit_at_set_other w64 w k h i ne)
+          ∙ sym (get_or-set_other (bools_of 64 w) k i true false ne ∙ get_or-bools_of 64 w i below)
     ])
 
-pub bools_of-remove : (w k : ℕ) → k < 64 → bools_of 64 (bit_and w (bit_not w64 (1 * 2 ^ k % 2 ^ 64))) ≡ set (bools_of 64 w) k false
+pub bools_of-remove : (w k : ℕ) → k < 64 →
+    bools_of 64 (bit_and w (bit_not w64 (1 * 2 ^ k % 2 ^ 64))) ≡ set (bools_of 64 w) k false
 bools_of-remove w k h =
     same_bools 64 _ (set (bools_of 64 w) k false) (length-set (bools_of 64 w) k false ∙ length-bools_of 64 w)
     (λ i below. elim (cases_eq i k) [
-      | inl e ↦ rw e (ap (λ (x : ℕ). eqb x 1) (bit_at_clear_same w64 w k h) ∙ sym (get_or-set_same (bools_of 64 w) k false false (omega (arith, length-bools_of 64 w))))
-      | inr ne ↦ ap (λ (x : ℕ). eqb x 1) (bit_at_clear_other w64 w k h i below ne) ∙ sym (get_or-set_other (bools_of 64 w) k i false false ne ∙ get_or-bools_of 64 w i below)
+      | inl e ↦ rw e (ap (λ (x : ℕ). eqb x 1) (bit_at_clear_same w64 w k h)
+          ∙ sym (get_or-set_same (bools_of 64 w) k false false (omega (arith, length-bools_of 64 w))))
+      | inr ne ↦ ap (λ (x : ℕ). eqb x 1) (bit_at_clear_other w64 w k h i below ne)
+          ∙ sym (get_or-set_other (bools_of 64 w) k i false false ne ∙ get_or-bools_of 64 w i below)
     ])

@@ -17,15 +17,18 @@ use Rattle.chess_board.proofs.MenLemmas.{each-map, map-same}
 use Rattle.chess_board.proofs.Candidates.{IsOnBoard-from_man}
 
 -- whether a square is in a set tells of the man on it
-pub has-squares_with : (is : Man → Bool) (placement : List (Option Man)) (s : Square) → has (squares_with is placement) s ≡ holds is (man_at placement s)
+pub has-squares_with : (is : Man → Bool) (placement : List (Option Man)) (s : Square) →
+    has (squares_with is placement) s ≡ holds is (man_at placement s)
 has-squares_with is placement s = at-map (holds is) None false placement s refl
 
 own_colour : (side : Colour) → is_colour side side ≡ true
 own_colour White = refl
 own_colour Black = refl
 
-pub has-own : (placement : List (Option Man)) (side : Colour) (kind : Kind) (s : Square) → man_at placement s ≡ Some (side, kind) → has (squares_with (is_of side) placement) s ≡ true
-has-own placement side kind s e = has-squares_with (is_of side) placement s ∙ ap (holds (is_of side)) e ∙ own_colour side
+pub has-own : (placement : List (Option Man)) (side : Colour) (kind : Kind) (s : Square) →
+    man_at placement s ≡ Some (side, kind) → has (squares_with (is_of side) placement) s ≡ true
+has-own placement side k s e = has-squares_with (is_of side) placement s ∙ ap (holds (is_of side)) e
+    ∙ own_colour side
 
 -- the attackers of a square are among the squares of their side
 pub SomeOf-attackers : (placement : List (Option Man)) (side : Colour) (b : Square) → IsAttacked placement side b →
@@ -37,13 +40,15 @@ SomeOf-attackers placement side b (a, attacker) =
 
 -- the squares with a man of a side and a kind
 pub meet-squares_with : (f g : Man → Bool) (placement : List (Option Man)) (s : Square) →
-    has (meet (squares_with f placement) (squares_with g placement)) s ≡ (holds f (man_at placement s) && holds g (man_at placement s))
+    has (meet (squares_with f placement)
+    (squares_with g placement)) s ≡ (holds f (man_at placement s) && holds g (man_at placement s))
 unfolding meet
 meet-squares_with f g placement s =
     ap (λ (bs : List Bool). has bs s) (each-map (λ x y. x && y) (holds f) (holds g) placement)
     ∙ at-map (λ here. holds f here && holds g here) None false placement s refl
 
-pub king_there : (side : Colour) (here : Option Man) → (holds (is_of side) here && holds (is_a King) here) ≡ true → here ≡ Some (side, King)
+pub king_there : (side : Colour) (here : Option Man) →
+    (holds (is_of side) here && holds (is_a King) here) ≡ true → here ≡ Some (side, King)
 king_there side None e = cc
 king_there White (Some (White, King)) e = refl
 king_there Black (Some (Black, King)) e = refl
@@ -67,16 +72,20 @@ king_shown Black = refl
 abbrev pub kings_of : List (Option Man) → Colour → List Bool
 kings_of placement side = meet (squares_with (is_of side) placement) (squares_with (is_a King) placement)
 
-pub has-king : (placement : List (Option Man)) (side : Colour) (k : Square) → man_at placement k ≡ Some (side, King) → has (kings_of placement side) k ≡ true
+pub has-king : (placement : List (Option Man)) (side : Colour) (k : Square) →
+    man_at placement k ≡ Some (side, King) → has (kings_of placement side) k ≡ true
 has-king placement side k e =
     meet-squares_with (is_of side) (is_a King) placement k
     ∙ ap (λ (here : Option Man). holds (is_of side) here && holds (is_a King) here) e ∙ king_shown side
 
-pub king-has : (placement : List (Option Man)) (side : Colour) (k : Square) → has (kings_of placement side) k ≡ true → man_at placement k ≡ Some (side, King)
-king-has placement side k e = king_there side (man_at placement k) (sym (meet-squares_with (is_of side) (is_a King) placement k) ∙ e)
+pub king-has : (placement : List (Option Man)) (side : Colour) (k : Square) →
+    has (kings_of placement side) k ≡ true → man_at placement k ≡ Some (side, King)
+king-has placement side k e = king_there side (man_at placement k) (sym (meet-squares_with (is_of side)
+    (is_a King) placement k) ∙ e)
 
 -- the kings of a side as one set
-pub kings_of-squares_with : (placement : List (Option Man)) (side : Colour) → kings_of placement side ≡ squares_with (is_man (side, King)) placement
+pub kings_of-squares_with : (placement : List (Option Man)) (side : Colour) →
+    kings_of placement side ≡ squares_with (is_man (side, King)) placement
 unfolding meet
 kings_of-squares_with placement side =
     each-map (λ x y. x && y) (holds (is_of side)) (holds (is_a King)) placement
@@ -92,7 +101,8 @@ pub pawns_inside : (placement : List (Option Man)) → list_all is_inside (membe
 unfolding members
 pawns_inside placement =
     list_all-filter is_inside (has (squares_with (is_a Pawn) placement)) squares
-    ∙ list_all-same (λ s. not (has (squares_with (is_a Pawn) placement) s) || is_inside s) (λ s. not (holds (is_a Pawn) (man_at placement s)) || is_inside s) squares
+    ∙ list_all-same (λ s. not (has (squares_with (is_a Pawn) placement) s) || is_inside s)
+    (λ s. not (holds (is_a Pawn) (man_at placement s)) || is_inside s) squares
     (λ s. ap (λ (b : Bool). not b || is_inside s) (has-squares_with (is_a Pawn) placement s))
 
 pub outside : (s : Square) → (s.rank ≡ 1) ⊎ (s.rank ≡ 8) → is_inside s ≡ false

@@ -22,9 +22,11 @@ map-map {C = C} f g (x ∷ xs) = ap (λ (ys : List C). f (g x) ∷ ys) (map-map 
 
 pub map-same : {A B : Type 0} (f g : A → B) → ((x : A) → f x ≡ g x) → (xs : List A) → map f xs ≡ map g xs
 map-same f g same [] = refl
-map-same {B = B} f g same (x ∷ xs) = ap (λ (y : B). y ∷ map f xs) (same x) ∙ ap (λ (ys : List B). g x ∷ ys) (map-same f g same xs)
+map-same {B = B} f g same (x ∷ xs) = ap (λ (y : B). y ∷ map f xs) (same x) ∙ ap (λ (ys : List B). g x ∷ ys)
+    (map-same f g same xs)
 
-pub each-map : {A : Type 0} (op : Bool → Bool → Bool) (f g : A → Bool) (xs : List A) → each op (map f xs) (map g xs) ≡ map (λ x. op (f x) (g x)) xs
+pub each-map : {A : Type 0} (op : Bool → Bool → Bool) (f g : A → Bool) (xs : List A) → each op (map f xs)
+    (map g xs) ≡ map (λ x. op (f x) (g x)) xs
 each-map op f g [] = refl
 each-map op f g (x ∷ xs) = ap (λ (ys : List Bool). op (f x) (g x) ∷ ys) (each-map op f g xs)
 
@@ -34,12 +36,14 @@ unfolding squares
 at-squares none f s on =
     at-on_board none (map f (map square_at (range_with_len 0 64))) s on
     ∙ ap (λ (xs : List _). get_or xs (number_of s) none) (map-map f square_at (range_with_len 0 64))
-    ∙ get_or-map-range_with_len (λ n. f (square_at n)) 0 64 (number_of s) (number_of s) none (number_of-below s on) (omega arith)
+    ∙ get_or-map-range_with_len (λ n. f (square_at n)) 0 64 (number_of s)
+    (number_of s) none (number_of-below s on) (omega arith)
     ∙ ap f (square_at-number_of s on)
 
 pub length-squares : {A : Type 0} (f : Square → A) → length (map f squares) ≡ 64
 unfolding squares
-length-squares f = length-map (map square_at (range_with_len 0 64)) f ∙ length-map (range_with_len 0 64) square_at ∙ length-range_with_len 0 64
+length-squares f = length-map (map square_at (range_with_len 0 64)) f
+    ∙ length-map (range_with_len 0 64) square_at ∙ length-range_with_len 0 64
 
 pub length-placement_of : (sets : Inside) → length (placement_of sets) ≡ 64
 unfolding placement_of
@@ -51,22 +55,26 @@ man_at-placement_of sets s on = at-squares None (man_on sets) s on
 
 -- the man of a colour and a kind that the sets tell
 pub man_on-told : (sets : Inside) (s : Square) (colour : Colour) (kind : Kind) →
-    ((true ≡ has sets.white s) × (colour ≡ White)) ⊎ ((false ≡ has sets.white s) × (true ≡ has sets.black s) × (colour ≡ Black)) →
+    ((true ≡ has sets.white s) × (colour ≡ White)) ⊎ ((false ≡ has sets.white s) × (true ≡ has sets.black s) ×
+    (colour ≡ Black)) →
     kind ≡ kind_on sets s → Some (colour, kind) ≡ man_on sets s
 unfolding man_on
 man_on-told sets s colour k (inl w) e = rw (w.1, e, ← w.0) refl
 man_on-told sets s colour k (inr w) e = rw (w.2, e, ← w.0, ← w.1) refl
 
-pub man_on-none : (sets : Inside) (s : Square) → false ≡ has sets.white s → false ≡ has sets.black s → None ≡ man_on sets s
+pub man_on-none : (sets : Inside) (s : Square) → false ≡ has sets.white s → false ≡ has sets.black s →
+    None ≡ man_on sets s
 unfolding man_on
 man_on-none sets s white black = rw (← white, ← black) refl
 
 -- each set is that of the placement
-pub squares_with-white : (sets : Inside) → IsConsistent sets → squares_with (is_of White) (placement_of sets) ≡ sets.white
+pub squares_with-white : (sets : Inside) → IsConsistent sets → squares_with (is_of White)
+    (placement_of sets) ≡ sets.white
 unfolding sets_of
 squares_with-white sets h = ap (λ (x : Inside). x.white) h
 
-pub squares_with-black : (sets : Inside) → IsConsistent sets → squares_with (is_of Black) (placement_of sets) ≡ sets.black
+pub squares_with-black : (sets : Inside) → IsConsistent sets → squares_with (is_of Black)
+    (placement_of sets) ≡ sets.black
 unfolding sets_of
 squares_with-black sets h = ap (λ (x : Inside). x.black) h
 
@@ -74,11 +82,13 @@ pub squares_with-pawns : (sets : Inside) → IsConsistent sets → squares_with 
 unfolding sets_of
 squares_with-pawns sets h = ap (λ (x : Inside). x.pawns) h
 
-pub squares_with-knights : (sets : Inside) → IsConsistent sets → squares_with (is_a Knight) (placement_of sets) ≡ sets.knights
+pub squares_with-knights : (sets : Inside) → IsConsistent sets → squares_with (is_a Knight)
+    (placement_of sets) ≡ sets.knights
 unfolding sets_of
 squares_with-knights sets h = ap (λ (x : Inside). x.knights) h
 
-pub squares_with-bishops : (sets : Inside) → IsConsistent sets → squares_with (is_a Bishop) (placement_of sets) ≡ sets.bishops
+pub squares_with-bishops : (sets : Inside) → IsConsistent sets → squares_with (is_a Bishop)
+    (placement_of sets) ≡ sets.bishops
 unfolding sets_of
 squares_with-bishops sets h = ap (λ (x : Inside). x.bishops) h
 
@@ -86,7 +96,8 @@ pub squares_with-rooks : (sets : Inside) → IsConsistent sets → squares_with 
 unfolding sets_of
 squares_with-rooks sets h = ap (λ (x : Inside). x.rooks) h
 
-pub squares_with-queens : (sets : Inside) → IsConsistent sets → squares_with (is_a Queen) (placement_of sets) ≡ sets.queens
+pub squares_with-queens : (sets : Inside) → IsConsistent sets → squares_with (is_a Queen)
+    (placement_of sets) ≡ sets.queens
 unfolding sets_of
 squares_with-queens sets h = ap (λ (x : Inside). x.queens) h
 
@@ -100,7 +111,8 @@ either_colour (Some (White, _)) = refl
 either_colour (Some (Black, _)) = refl
 
 -- a man is white or black
-pub union-colours : (placement : List (Option Man)) → union (squares_with (is_of White) placement) (squares_with (is_of Black) placement) ≡ occupied_of placement
+pub union-colours : (placement : List (Option Man)) → union (squares_with (is_of White) placement)
+    (squares_with (is_of Black) placement) ≡ occupied_of placement
 unfolding union
 union-colours placement =
     each-map (λ x y. x || y) (holds (is_of White)) (holds (is_of Black)) placement
@@ -120,10 +132,20 @@ sets_put sets s here = record {
 }
 
 -- what two squares' sets tell alike, they tell as one man
-pub man_on-same : (a b : Inside) (s q : Square) → has a.white s ≡ has b.white q → has a.black s ≡ has b.black q → has a.pawns s ≡ has b.pawns q →
-    has a.knights s ≡ has b.knights q → has a.bishops s ≡ has b.bishops q → has a.rooks s ≡ has b.rooks q → has a.queens s ≡ has b.queens q → man_on a s ≡ man_on b q
+pub man_on-same : (a b : Inside) (s q : Square) → has a.white s ≡ has b.white q →
+    has a.black s ≡ has b.black q → has a.pawns s ≡ has b.pawns q →
+    has a.knights s ≡ has b.knights q → has a.bishops s ≡ has b.bishops q → has a.rooks s ≡ has b.rooks q →
+    has a.queens s ≡ has b.queens q → man_on a s ≡ man_on b q
 unfolding man_on
-man_on-same a b s q white black pawns knights bishops rooks queens = rw (white, black, pawns, knights, bishops, rooks, queens) refl
+man_on-same a b s q white black pawns knights bishops rooks queens = rw (
+  white,
+  black,
+  pawns,
+  knights,
+  bishops,
+  rooks,
+  queens,
+) refl
 
 abbrev kind_told : Option Man → Kind
 kind_told x =
@@ -131,14 +153,25 @@ kind_told x =
     (cond (holds (is_a Rook) x) Rook (cond (holds (is_a Queen) x) Queen King))))
 
 -- sets that show a man at a square, or none, tell it
-pub man_on-shown : (a : Inside) (s : Square) (here : Option Man) → has a.white s ≡ holds (is_of White) here → has a.black s ≡ holds (is_of Black) here →
-    has a.pawns s ≡ holds (is_a Pawn) here → has a.knights s ≡ holds (is_a Knight) here → has a.bishops s ≡ holds (is_a Bishop) here →
+pub man_on-shown : (a : Inside) (s : Square) (here : Option Man) → has a.white s ≡ holds (is_of White) here →
+    has a.black s ≡ holds (is_of Black) here →
+    has a.pawns s ≡ holds (is_a Pawn) here → has a.knights s ≡ holds (is_a Knight) here →
+    has a.bishops s ≡ holds (is_a Bishop) here →
     has a.rooks s ≡ holds (is_a Rook) here → has a.queens s ≡ holds (is_a Queen) here → man_on a s ≡ here
 unfolding man_on
-man_on-shown a s here white black pawns knights bishops rooks queens = rw (white, black, pawns, knights, bishops, rooks, queens) (told here)
+man_on-shown a s here white black pawns knights bishops rooks queens = rw (
+  white,
+  black,
+  pawns,
+  knights,
+  bishops,
+  rooks,
+  queens,
+) (told here)
   where
     told : (x : Option Man) →
-        cond (holds (is_of White) x) (Some (White, kind_told x)) (cond (holds (is_of Black) x) (Some (Black, kind_told x)) None) ≡ x
+        cond (holds (is_of White) x) (Some (White, kind_told x)) (cond (holds (is_of Black) x)
+        (Some (Black, kind_told x)) None) ≡ x
     told None = refl
     told (Some (White, Pawn)) = refl
     told (Some (White, Knight)) = refl
@@ -153,11 +186,14 @@ man_on-shown a s here white black pawns knights bishops rooks queens = rw (white
     told (Some (Black, Queen)) = refl
     told (Some (Black, King)) = refl
 
-set_at : (bits : List Bool) (s q : Square) (b : Bool) → length bits ≡ 64 → IsOnBoard s → has (put bits s b) q ≡ cond (is_square q s) b (has bits q)
+set_at : (bits : List Bool) (s q : Square) (b : Bool) → length bits ≡ 64 → IsOnBoard s →
+    has (put bits s b) q ≡ cond (is_square q s) b (has bits q)
 set_at bits s q b len on_s = at-put false bits s q b len on_s
 
-length-squares_with : (is : Man → Bool) (sets : Inside) (bits : List Bool) → squares_with is (placement_of sets) ≡ bits → length bits ≡ 64
-length-squares_with is sets bits e = ap length (sym e) ∙ length-map (placement_of sets) (holds is) ∙ length-placement_of sets
+length-squares_with : (is : Man → Bool) (sets : Inside) (bits : List Bool) →
+    squares_with is (placement_of sets) ≡ bits → length bits ≡ 64
+length-squares_with is sets bits e = ap length (sym e) ∙ length-map (placement_of sets) (holds is)
+    ∙ length-placement_of sets
 
 chosen : (t : Bool) (b x y : Bool) → t ≡ true → y ≡ cond t b x → y ≡ b
 chosen t b x y h e = e ∙ ap (λ (u : Bool). cond u b x) h
@@ -168,21 +204,32 @@ kept t b x y h e = e ∙ ap (λ (u : Bool). cond u b x) h
 man_on-sets_put : (sets : Inside) (s q : Square) (here : Option Man) → IsConsistent sets → IsOnBoard s → IsOnBoard q →
     man_on (sets_put sets s here) q ≡ cond (is_square q s) here (man_on sets q)
 man_on-sets_put sets s q here h on_s on_q =
-    let white = set_at sets.white s q (holds (is_of White) here) (length-squares_with _ sets _ (squares_with-white sets h)) on_s in
-    let black = set_at sets.black s q (holds (is_of Black) here) (length-squares_with _ sets _ (squares_with-black sets h)) on_s in
-    let pawns = set_at sets.pawns s q (holds (is_a Pawn) here) (length-squares_with _ sets _ (squares_with-pawns sets h)) on_s in
-    let knights = set_at sets.knights s q (holds (is_a Knight) here) (length-squares_with _ sets _ (squares_with-knights sets h)) on_s in
-    let bishops = set_at sets.bishops s q (holds (is_a Bishop) here) (length-squares_with _ sets _ (squares_with-bishops sets h)) on_s in
-    let rooks = set_at sets.rooks s q (holds (is_a Rook) here) (length-squares_with _ sets _ (squares_with-rooks sets h)) on_s in
-    let queens = set_at sets.queens s q (holds (is_a Queen) here) (length-squares_with _ sets _ (squares_with-queens sets h)) on_s in
+    let white = set_at sets.white s q (holds (is_of White) here)
+    (length-squares_with _ sets _ (squares_with-white sets h)) on_s in
+    let black = set_at sets.black s q (holds (is_of Black) here)
+    (length-squares_with _ sets _ (squares_with-black sets h)) on_s in
+    let pawns = set_at sets.pawns s q (holds (is_a Pawn) here)
+    (length-squares_with _ sets _ (squares_with-pawns sets h)) on_s in
+    let knights = set_at sets.knights s q (holds (is_a Knight) here)
+    (length-squares_with _ sets _ (squares_with-knights sets h)) on_s in
+    let bishops = set_at sets.bishops s q (holds (is_a Bishop) here)
+    (length-squares_with _ sets _ (squares_with-bishops sets h)) on_s in
+    let rooks = set_at sets.rooks s q (holds (is_a Rook) here)
+    (length-squares_with _ sets _ (squares_with-rooks sets h)) on_s in
+    let queens = set_at sets.queens s q (holds (is_a Queen) here)
+    (length-squares_with _ sets _ (squares_with-queens sets h)) on_s in
     elim (cases_Bool (is_square q s)) [
       | inl same ↦
-          man_on-shown (sets_put sets s here) q here (chosen _ _ _ _ same white) (chosen _ _ _ _ same black) (chosen _ _ _ _ same pawns)
-          (chosen _ _ _ _ same knights) (chosen _ _ _ _ same bishops) (chosen _ _ _ _ same rooks) (chosen _ _ _ _ same queens)
+          man_on-shown (sets_put sets s here) q here (chosen _ _ _ _ same white) (chosen _ _ _ _ same black)
+          (chosen _ _ _ _ same pawns)
+          (chosen _ _ _ _ same knights) (chosen _ _ _ _ same bishops) (chosen _ _ _ _ same rooks)
+          (chosen _ _ _ _ same queens)
           ∙ sym (ap (λ (t : Bool). cond t here (man_on sets q)) same)
       | inr other ↦
-          man_on-same (sets_put sets s here) sets q q (kept _ _ _ _ other white) (kept _ _ _ _ other black) (kept _ _ _ _ other pawns)
-          (kept _ _ _ _ other knights) (kept _ _ _ _ other bishops) (kept _ _ _ _ other rooks) (kept _ _ _ _ other queens)
+          man_on-same (sets_put sets s here) sets q q (kept _ _ _ _ other white) (kept _ _ _ _ other black)
+          (kept _ _ _ _ other pawns)
+          (kept _ _ _ _ other knights) (kept _ _ _ _ other bishops) (kept _ _ _ _ other rooks)
+          (kept _ _ _ _ other queens)
           ∙ sym (ap (λ (t : Bool). cond t here (man_on sets q)) other)
     ]
 
@@ -197,12 +244,15 @@ placement_of-sets_put sets s here h on =
     ∙ sym (at-put None (placement_of sets) s q here (length-placement_of sets) on
     ∙ ap (cond (is_square q s) here) (man_at-placement_of sets q on_q)))
 
-one : (is : Man → Bool) (sets : Inside) (s : Square) (here : Option Man) (bits : List Bool) → squares_with is (placement_of sets) ≡ bits →
+one : (is : Man → Bool) (sets : Inside) (s : Square) (here : Option Man) (bits : List Bool) →
+    squares_with is (placement_of sets) ≡ bits →
     squares_with is (put (placement_of sets) s here) ≡ put bits s (holds is here)
-one is sets s here bits e = map-put (holds is) (placement_of sets) s here ∙ ap (λ (x : List Bool). put x s (holds is here)) e
+one is sets s here bits e = map-put (holds is) (placement_of sets) s here
+    ∙ ap (λ (x : List Bool). put x s (holds is here)) e
 
 -- and its sets are those
-pub IsConsistent-sets_put : (sets : Inside) (s : Square) (here : Option Man) → IsConsistent sets → IsOnBoard s → IsConsistent (sets_put sets s here)
+pub IsConsistent-sets_put : (sets : Inside) (s : Square) (here : Option Man) → IsConsistent sets →
+    IsOnBoard s → IsConsistent (sets_put sets s here)
 unfolding sets_of
 IsConsistent-sets_put sets s here h on =
     ap sets_of (placement_of-sets_put sets s here h on)
@@ -223,7 +273,16 @@ empty_board (suc n) is = ap (λ (bs : List Bool). false ∷ bs) (empty_board n i
 
 -- the sets of the empty board
 abbrev pub no_sets : Inside
-no_sets = record { white = empty; black = empty; pawns = empty; knights = empty; bishops = empty; rooks = empty; queens = empty; kings = empty }
+no_sets = record {
+  white = empty;
+  black = empty;
+  pawns = empty;
+  knights = empty;
+  bishops = empty;
+  rooks = empty;
+  queens = empty;
+  kings = empty;
+}
 
 pub placement_of-no_sets : placement_of no_sets ≡ replicate 64 None
 unfolding placement_of man_on squares at empty

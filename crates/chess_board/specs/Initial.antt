@@ -16,7 +16,8 @@ row side kinds = map (λ kind. Some (side, kind)) kinds
 -- the position in which a game starts: White to move, with every castling right
 abbrev pub initial : Position
 initial = record {
-  placement = row White pieces ++ row White (replicate 8 Pawn) ++ replicate 32 None ++ row Black (replicate 8 Pawn) ++ row Black pieces;
+  placement = row White pieces ++ row White (replicate 8 Pawn) ++ replicate 32 None ++ row Black (replicate 8
+      Pawn) ++ row Black pieces;
   side = White;
   rights = record { white_king = true; white_queen = true; black_king = true; black_queen = true };
   target = None;

@@ -69,7 +69,10 @@ pub record IsPieceMove (p : Position) (m : Move) (kind : Kind) : Type 0 where
 abbrev pub between : Colour → Wing → List Square
 between side wing.King = record { file = 6; rank = home_rank side } ∷ record { file = 7; rank = home_rank side } ∷ []
 between side wing.Queen =
-    record { file = 2; rank = home_rank side } ∷ record { file = 3; rank = home_rank side } ∷ record { file = 4; rank = home_rank side } ∷ []
+    record { file = 2; rank = home_rank side } ∷ record {
+      file = 3;
+      rank = home_rank side;
+    } ∷ record { file = 4; rank = home_rank side } ∷ []
 
 -- each item of a list is so
 abbrev pub EachOf : {A : Type 0} → (A → Type 0) → List A → Type 0

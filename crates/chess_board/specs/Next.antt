@@ -36,7 +36,8 @@ castled_king side wing.Queen = record { file = 3; rank = home_rank side }
 
 -- A king that goes from its home by two files castles, to the wing on whose side it goes (FIDE article 3.8.2).
 abbrev pub castles_to : Position → Move → Wing → Bool
-castles_to p m wing = moves_kind p m King && is_square m.from (king_home p.side) && is_square m.to (castled_king p.side wing)
+castles_to p m wing = moves_kind p m King && is_square m.from (king_home p.side) && is_square m.to
+    (castled_king p.side wing)
 
 abbrev pub castled_rook : Colour → Wing → Square
 castled_rook side wing.King = record { file = 6; rank = home_rank side }
@@ -62,7 +63,8 @@ abbrev pub without_taken : Position → Move → List (Option Man) → List (Opt
 without_taken p m placement = if is_en_passant p m then put placement (beside m) None else placement
 
 abbrev pub rook_moved : Colour → Wing → List (Option Man) → List (Option Man)
-rook_moved side wing placement = put (put placement (rook_home side wing) None) (castled_rook side wing) (Some (side, Rook))
+rook_moved side wing placement = put (put placement (rook_home side wing) None) (castled_rook side wing)
+    (Some (side, Rook))
 
 abbrev pub with_rook : Position → Move → Wing → List (Option Man) → List (Option Man)
 with_rook p m wing placement =
@@ -79,7 +81,8 @@ abbrev pub touches : Move → Square → Bool
 touches m s = is_square m.from s || is_square m.to s
 
 abbrev pub keeps_right : Position → Move → Colour → Wing → Bool
-keeps_right p m side wing = has_right p.rights side wing && not (touches m (king_home side)) && not (touches m (rook_home side wing))
+keeps_right p m side wing = has_right p.rights side wing && not (touches m (king_home side)) && not (touches m
+    (rook_home side wing))
 
 unfoldable pub rights_after : Position → Move → Rights
 rights_after p m = record {

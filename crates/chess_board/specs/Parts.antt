@@ -34,5 +34,7 @@ IsFirstBroken p broken.Pieces = HasKings p × ¬ HasFewMen p
 IsFirstBroken p broken.Pawns = HasKings p × HasFewMen p × ¬ HasPawnsInside p
 IsFirstBroken p broken.Check = HasKings p × HasFewMen p × HasPawnsInside p × ¬ HasNoCheck p
 IsFirstBroken p broken.Rights = HasKings p × HasFewMen p × HasPawnsInside p × HasNoCheck p × ¬ HasTrueRights p
-IsFirstBroken p broken.Target = HasKings p × HasFewMen p × HasPawnsInside p × HasNoCheck p × HasTrueRights p × ¬ HasTrueTarget p
-IsFirstBroken p broken.Counter = HasKings p × HasFewMen p × HasPawnsInside p × HasNoCheck p × HasTrueRights p × HasTrueTarget p × ¬ HasCounters p
+IsFirstBroken p broken.Target = HasKings p × HasFewMen p × HasPawnsInside p × HasNoCheck p × HasTrueRights p ×
+    ¬ HasTrueTarget p
+IsFirstBroken p broken.Counter = HasKings p × HasFewMen p × HasPawnsInside p × HasNoCheck p × HasTrueRights p ×
+    HasTrueTarget p × ¬ HasCounters p

@@ -90,7 +90,8 @@ HasNoCheck p = ¬ IsInCheck p.placement (other p.side)
 -- a castling right has its king and rook at home
 abbrev pub HasTrueRights : Position → Type 0
 HasTrueRights p = (side : Colour) (wing : Wing) → has_right p.rights side wing ≡ true →
-    (man_at p.placement (king_home side) ≡ Some (side, King)) × (man_at p.placement (rook_home side wing) ≡ Some (side, Rook))
+    (man_at p.placement (king_home side) ≡ Some (side, King)) × (man_at p.placement (rook_home side wing) ≡
+    Some (side, Rook))
 
 -- the rank of a target by the side to move
 abbrev pub target_rank : Colour → ℕ
@@ -133,4 +134,5 @@ abbrev pub is_attacked : List (Option Man) → Colour → Square → Bool
 is_attacked placement side b = list_any (λ a. is_attacker placement side b (man_at placement a) a) squares
 
 abbrev pub is_in_check : List (Option Man) → Colour → Bool
-is_in_check placement side = list_any (λ k. holds (is_man (side, King)) (man_at placement k) && is_attacked placement (other side) k) squares
+is_in_check placement side = list_any (λ k. holds (is_man (side, King))
+    (man_at placement k) && is_attacked placement (other side) k) squares

@@ -10,5 +10,6 @@ use Rattle.chess_board.proofs.attack.is_attacked.Goals as goal
 pub loop-from-init : goal.loop-from-init
 loop-from-init c attacked =
     let Some' : List Square → Type 0 = SomeOf (IsAttacker c.args.men.now c.args.side c.args.square) in
-    subst Some' (sym (ap squares_left c.into_iter-from-iterator.ensures.into_iter_gives ∙ c.iter-from-items.ensures ∙ ap members c.of.ensures))
+    subst Some' (sym (ap squares_left c.into_iter-from-iterator.ensures.into_iter_gives
+    ∙ c.iter-from-items.ensures ∙ ap members c.of.ensures))
     (SomeOf-attackers c.args.men.now c.args.side c.args.square attacked)

@@ -5,4 +5,5 @@ use Rattle.chess_board.proofs.attack.is_attacked.Given as goal
 
 -- if a man attacks, one of those that are left does
 abbrev pub invariant-loop-from : goal.invariant-loop-from
-invariant-loop-from l = IsAttacked l.men l.side l.square → SomeOf (IsAttacker l.men l.side l.square) (squares_left l.from-iterator)
+invariant-loop-from l = IsAttacked l.men l.side l.square → SomeOf (IsAttacker l.men l.side l.square)
+    (squares_left l.from-iterator)

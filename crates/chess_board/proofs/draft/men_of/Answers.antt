@@ -18,7 +18,8 @@ loop-number-preserved c =
     record {
       whole = ap length written ∙ length-set board n man ∙ loop.whole;
       placed = λ k below. ap (λ (xs : List (Option Man)). get_or xs k None) written ∙ elim (cases_eq k n) [
-        | inl same ↦ ap (λ (i : ℕ). get_or (set board n man) i None) same ∙ get_or-set_same board n man None (omega arith)
+        | inl same ↦ ap (λ (i : ℕ). get_or (set board n man) i None) same
+            ∙ get_or-set_same board n man None (omega arith)
             ∙ ap (λ (i : ℕ). get_or c.args.men.now i None) (sym same)
         | inr other ↦ get_or-set_other board n k man None other ∙ loop.placed k (omega arith)
       ];

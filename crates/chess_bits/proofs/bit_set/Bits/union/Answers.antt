@@ -11,4 +11,5 @@ invariant_of-result c = or_lt 64 _ _ c.self.invariant c.other.invariant
 pub returns : goal.returns
 returns c =
     bools_of-or 64 c.self.inside.word c.other.inside.word
-    ∙ ap (λ (x : List Bool). union x (bools_of 64 c.other.inside.word)) c.self.view_is ∙ ap (union c.args.self) c.other.view_is
+    ∙ ap (λ (x : List Bool). union x (bools_of 64 c.other.inside.word)) c.self.view_is
+    ∙ ap (union c.args.self) c.other.view_is

@@ -10,5 +10,6 @@ returns-clause-steps c =
 
 pub returns-clause-goes : goal.returns-clause-goes
 returns-clause-goes c =
-    let steps : members c.args.self.now.rest ≡ c.in_ok-square.square ∷ members c.remove.new.self = returns-clause-steps c in
+    let steps : members c.args.self.now.rest ≡ c.in_ok-square.square ∷ members c.remove.new.self =
+    returns-clause-steps c in
     record { on = λ _. (tt, tt, omega (arith, ap length steps)); keeps = tt; rests = λ _. tt }

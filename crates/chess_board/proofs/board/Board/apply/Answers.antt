@@ -30,7 +30,8 @@ is_next c = λ i. record {
 
 is_valid_next : (c : After-fullmove_after) → IsValid (position_of (made_of c))
 is_valid_next c =
-    subst IsValid (sym (is_next c)) (IsValid-next c.args.self.now c.args.mv (subst IsValid c.self.view_is c.self.invariant.valid)
+    subst IsValid (sym (is_next c))
+    (IsValid-next c.args.self.now c.args.mv (subst IsValid c.self.view_is c.self.invariant.valid)
     c.requires.legal c.requires.halfmove c.requires.fullmove)
 
 pub invariant_of-result : goal.invariant_of-result

@@ -6,6 +6,7 @@ use Rattle.chess_board.proofs.draft.Draft.has_no_check.Goals as goal
 
 pub returns : goal.returns
 returns c =
-    ap not (same_from_decides c.is_in_check.result (is_in_check c.args.self.now.men c.other.result) c.is_in_check.ensures
+    ap not (same_from_decides c.is_in_check.result (is_in_check c.args.self.now.men c.other.result)
+    c.is_in_check.ensures
     (Decides-is_in_check c.args.self.now.men c.other.result)
     ∙ ap (is_in_check c.args.self.now.men) c.other.ensures)

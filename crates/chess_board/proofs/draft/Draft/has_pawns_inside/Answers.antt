@@ -12,8 +12,10 @@ returns-then-rank-eq1 c =
       | then-rank-eq1-via-then-rank-eq1 w ↦ inl (sym c.rank-rank.ensures.rank ∙ w.if-rank-eq1.true)
       | then-rank-eq1-via-else-rank-eq1+then-rank-eq8 w ↦ inr (sym c.rank-rank.ensures.rank ∙ w.if-rank-eq8.true)
     ]) in
-    sym (sym (pawns_inside c.args.self.now.men) ∙ c.loop-square.invariant ∙ ap (list_all is_inside) c.in-Some.ensures.steps
+    sym (sym (pawns_inside c.args.self.now.men) ∙ c.loop-square.invariant
+    ∙ ap (list_all is_inside) c.in-Some.ensures.steps
     ∙ ap (λ (b : Bool). b && list_all is_inside (squares_left c.next.new.self)) edge)
 
 pub returns : goal.returns
-returns c = sym (sym (pawns_inside c.args.self.now.men) ∙ c.loop-square.invariant ∙ ap (list_all is_inside) c.in-None.ensures.steps.0)
+returns c = sym (sym (pawns_inside c.args.self.now.men) ∙ c.loop-square.invariant
+    ∙ ap (list_all is_inside) c.in-None.ensures.steps.0)

@@ -10,4 +10,5 @@ use Rattle.chess_board.proofs.draft.Draft.has_pawns_inside.Given as goal
 -- the pawns so far are inside
 abbrev pub invariant-loop-square : goal.invariant-loop-square
 invariant-loop-square l =
-    list_all is_inside (members (squares_with (is_a Pawn) l.self.men)) ≡ list_all is_inside (squares_left l.square-iterator)
+    list_all is_inside (members (squares_with (is_a Pawn) l.self.men)) ≡ list_all is_inside (squares_left
+    l.square-iterator)

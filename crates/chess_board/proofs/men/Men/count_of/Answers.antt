@@ -11,12 +11,16 @@ use Rattle.chess_board.proofs.men.Men.count_of.Goals as goal
 
 pub returns-in-White : goal.returns-in-White
 returns-in-White c =
-    c.count.ensures ∙ ap (λ (bs : List Bool). length (members bs)) (sym (squares_with-white c.self.inside c.self.invariant))
+    c.count.ensures ∙ ap (λ (bs : List Bool). length (members bs))
+    (sym (squares_with-white c.self.inside c.self.invariant))
     ∙ length-members_map (holds (is_of White)) (placement_of c.self.inside) (length-placement_of c.self.inside)
-    ∙ ap (count_of (is_of White)) c.self.view_is ∙ ap (λ (k : Colour). count_of (is_of k) c.args.self.now) (sym c.in-White.is)
+    ∙ ap (count_of (is_of White)) c.self.view_is ∙ ap (λ (k : Colour). count_of (is_of k) c.args.self.now)
+    (sym c.in-White.is)
 
 pub returns-in-Black : goal.returns-in-Black
 returns-in-Black c =
-    c.count-in-Black.ensures ∙ ap (λ (bs : List Bool). length (members bs)) (sym (squares_with-black c.self.inside c.self.invariant))
+    c.count-in-Black.ensures ∙ ap (λ (bs : List Bool). length (members bs))
+    (sym (squares_with-black c.self.inside c.self.invariant))
     ∙ length-members_map (holds (is_of Black)) (placement_of c.self.inside) (length-placement_of c.self.inside)
-    ∙ ap (count_of (is_of Black)) c.self.view_is ∙ ap (λ (k : Colour). count_of (is_of k) c.args.self.now) (sym c.in-Black.is)
+    ∙ ap (count_of (is_of Black)) c.self.view_is ∙ ap (λ (k : Colour). count_of (is_of k) c.args.self.now)
+    (sym c.in-Black.is)

@@ -17,17 +17,21 @@ returns-in-White c =
     c.count.ensures
     ∙ ap (λ (bs : List Bool). length (members bs)) (c.meet.ensures
     ∙ ap (λ (bs : List Bool). meet bs c.self.inside.kings) (sym (squares_with-white c.self.inside c.self.invariant))
-    ∙ ap (meet (squares_with (is_of White) (placement_of c.self.inside))) (sym (squares_with-kings c.self.inside c.self.invariant))
+    ∙ ap (meet (squares_with (is_of White) (placement_of c.self.inside)))
+    (sym (squares_with-kings c.self.inside c.self.invariant))
     ∙ kings_of-squares_with (placement_of c.self.inside) White)
     ∙ length-members_map (holds (is_man (White, King))) (placement_of c.self.inside) (length-placement_of c.self.inside)
-    ∙ ap (count_of (is_man (White, King))) c.self.view_is ∙ ap (λ (k : Colour). count_of (is_man (k, King)) c.args.self.now) (sym c.in-White.is)
+    ∙ ap (count_of (is_man (White, King))) c.self.view_is
+    ∙ ap (λ (k : Colour). count_of (is_man (k, King)) c.args.self.now) (sym c.in-White.is)
 
 pub returns-in-Black : goal.returns-in-Black
 returns-in-Black c =
     c.count-in-Black.ensures
     ∙ ap (λ (bs : List Bool). length (members bs)) (c.meet-in-Black.ensures
     ∙ ap (λ (bs : List Bool). meet bs c.self.inside.kings) (sym (squares_with-black c.self.inside c.self.invariant))
-    ∙ ap (meet (squares_with (is_of Black) (placement_of c.self.inside))) (sym (squares_with-kings c.self.inside c.self.invariant))
+    ∙ ap (meet (squares_with (is_of Black) (placement_of c.self.inside)))
+    (sym (squares_with-kings c.self.inside c.self.invariant))
     ∙ kings_of-squares_with (placement_of c.self.inside) Black)
     ∙ length-members_map (holds (is_man (Black, King))) (placement_of c.self.inside) (length-placement_of c.self.inside)
-    ∙ ap (count_of (is_man (Black, King))) c.self.view_is ∙ ap (λ (k : Colour). count_of (is_man (k, King)) c.args.self.now) (sym c.in-Black.is)
+    ∙ ap (count_of (is_man (Black, King))) c.self.view_is
+    ∙ ap (λ (k : Colour). count_of (is_man (k, King)) c.args.self.now) (sym c.in-Black.is)

@@ -13,68 +13,121 @@ use Rattle.chess_board.proofs.MenLemmas.{man_at-placement_of, man_on-told, man_o
 use Rattle.chess_board.proofs.men.Men.man_at.Goals as goal
 use Rattle.chess_board.proofs.men.Men.man_at.Goals.{then-contains, else-contains+then-contains-2}
 
-shown : (sets : Inside) (s : Square) (here : Option Man) (placement : List (Option Man)) → IsOnBoard s → placement_of sets ≡ placement → here ≡ man_on sets s → here ≡ man_at placement s
-shown sets s here placement on view e = e ∙ sym (man_at-placement_of sets s on) ∙ ap (λ (x : List (Option Man)). man_at x s) view
+shown : (sets : Inside) (s : Square) (here : Option Man) (placement : List (Option Man)) → IsOnBoard s →
+    placement_of sets ≡ placement → here ≡ man_on sets s → here ≡ man_at placement s
+shown sets s here placement on view e = e ∙ sym (man_at-placement_of sets s on)
+    ∙ ap (λ (x : List (Option Man)). man_at x s) view
 
-told : (sets : Inside) (s : Square) (colour : Colour) (k : Kind) (placement : List (Option Man)) → IsOnBoard s → placement_of sets ≡ placement →
-    ((true ≡ has sets.white s) × (colour ≡ White)) ⊎ ((false ≡ has sets.white s) × (true ≡ has sets.black s) × (colour ≡ Black)) →
+told : (sets : Inside) (s : Square) (colour : Colour) (k : Kind) (placement : List (Option Man)) →
+    IsOnBoard s → placement_of sets ≡ placement →
+    ((true ≡ has sets.white s) × (colour ≡ White)) ⊎ ((false ≡ has sets.white s) × (true ≡ has sets.black s) ×
+    (colour ≡ Black)) →
     k ≡ kind_on sets s → Some (colour, k) ≡ man_at placement s
-told sets s colour k placement on view side e = shown sets s (Some (colour, k)) placement on view (man_on-told sets s colour k side e)
+told sets s colour k placement on view side e = shown sets s (Some (colour, k)) placement on view (man_on-told
+    sets s colour k side e)
 
 pub returns-else-contains-2 : goal.returns-else-contains-2
-returns-else-contains-2 c = shown c.self.inside c.args.square _ c.args.self.now c.contains.ensures.on_board c.self.view_is
+returns-else-contains-2 c = shown c.self.inside c.args.square _ c.args.self.now c.contains.ensures.on_board
+    c.self.view_is
     (man_on-none c.self.inside c.args.square c.if-contains.ensures.member c.if-contains-2.ensures.member)
 
 pub returns-then-contains-3 : goal.returns-then-contains-3
 returns-then-contains-3 c =
-    told c.self.inside c.args.square c.if-contains.colour Pawn c.args.self.now c.contains.ensures.on_board c.self.view_is
+    told c.self.inside c.args.square c.if-contains.colour Pawn c.args.self.now c.contains.ensures.on_board
+    c.self.view_is
     (elim c.if-contains.branch [
       | then-contains w ↦ inl (w.if-contains.ensures.member, w.colour-is)
-      | else-contains+then-contains-2 w ↦ inr (w.if-contains.ensures.member, w.if-contains-2.ensures.member, w.colour-is)
+      | else-contains+then-contains-2 w ↦ inr (
+        w.if-contains.ensures.member,
+        w.if-contains-2.ensures.member,
+        w.colour-is,
+      )
     ])
     (rw (← c.if-contains-3.ensures.member) refl)
 
 pub returns-then-contains-4 : goal.returns-then-contains-4
 returns-then-contains-4 c =
-    told c.self.inside c.args.square c.if-contains.colour Knight c.args.self.now c.contains.ensures.on_board c.self.view_is
+    told c.self.inside c.args.square c.if-contains.colour Knight c.args.self.now c.contains.ensures.on_board
+    c.self.view_is
     (elim c.if-contains.branch [
       | then-contains w ↦ inl (w.if-contains.ensures.member, w.colour-is)
-      | else-contains+then-contains-2 w ↦ inr (w.if-contains.ensures.member, w.if-contains-2.ensures.member, w.colour-is)
+      | else-contains+then-contains-2 w ↦ inr (
+        w.if-contains.ensures.member,
+        w.if-contains-2.ensures.member,
+        w.colour-is,
+      )
     ])
     (rw (← c.if-contains-3.ensures.member, ← c.if-contains-4.ensures.member) refl)
 
 pub returns-then-contains-5 : goal.returns-then-contains-5
 returns-then-contains-5 c =
-    told c.self.inside c.args.square c.if-contains.colour Bishop c.args.self.now c.contains.ensures.on_board c.self.view_is
+    told c.self.inside c.args.square c.if-contains.colour Bishop c.args.self.now c.contains.ensures.on_board
+    c.self.view_is
     (elim c.if-contains.branch [
       | then-contains w ↦ inl (w.if-contains.ensures.member, w.colour-is)
-      | else-contains+then-contains-2 w ↦ inr (w.if-contains.ensures.member, w.if-contains-2.ensures.member, w.colour-is)
+      | else-contains+then-contains-2 w ↦ inr (
+        w.if-contains.ensures.member,
+        w.if-contains-2.ensures.member,
+        w.colour-is,
+      )
     ])
     (rw (← c.if-contains-3.ensures.member, ← c.if-contains-4.ensures.member, ← c.if-contains-5.ensures.member) refl)
 
 pub returns-then-contains-6 : goal.returns-then-contains-6
 returns-then-contains-6 c =
-    told c.self.inside c.args.square c.if-contains.colour Rook c.args.self.now c.contains.ensures.on_board c.self.view_is
+    told c.self.inside c.args.square c.if-contains.colour Rook c.args.self.now c.contains.ensures.on_board
+    c.self.view_is
     (elim c.if-contains.branch [
       | then-contains w ↦ inl (w.if-contains.ensures.member, w.colour-is)
-      | else-contains+then-contains-2 w ↦ inr (w.if-contains.ensures.member, w.if-contains-2.ensures.member, w.colour-is)
+      | else-contains+then-contains-2 w ↦ inr (
+        w.if-contains.ensures.member,
+        w.if-contains-2.ensures.member,
+        w.colour-is,
+      )
     ])
-    (rw (← c.if-contains-3.ensures.member, ← c.if-contains-4.ensures.member, ← c.if-contains-5.ensures.member, ← c.if-contains-6.ensures.member) refl)
+    (rw (
+      ← c.if-contains-3.ensures.member,
+      ← c.if-contains-4.ensures.member,
+      ← c.if-contains-5.ensures.member,
+      ← c.if-contains-6.ensures.member,
+    ) refl)
 
 pub returns-then-contains-7 : goal.returns-then-contains-7
 returns-then-contains-7 c =
-    told c.self.inside c.args.square c.if-contains.colour Queen c.args.self.now c.contains.ensures.on_board c.self.view_is
+    told c.self.inside c.args.square c.if-contains.colour Queen c.args.self.now c.contains.ensures.on_board
+    c.self.view_is
     (elim c.if-contains.branch [
       | then-contains w ↦ inl (w.if-contains.ensures.member, w.colour-is)
-      | else-contains+then-contains-2 w ↦ inr (w.if-contains.ensures.member, w.if-contains-2.ensures.member, w.colour-is)
+      | else-contains+then-contains-2 w ↦ inr (
+        w.if-contains.ensures.member,
+        w.if-contains-2.ensures.member,
+        w.colour-is,
+      )
     ])
-    (rw (← c.if-contains-3.ensures.member, ← c.if-contains-4.ensures.member, ← c.if-contains-5.ensures.member, ← c.if-contains-6.ensures.member, ← c.if-contains-7.ensures.member) refl)
+    (rw (
+      ← c.if-contains-3.ensures.member,
+      ← c.if-contains-4.ensures.member,
+      ← c.if-contains-5.ensures.member,
+      ← c.if-contains-6.ensures.member,
+      ← c.if-contains-7.ensures.member,
+    ) refl)
 
 pub returns-else-contains-7 : goal.returns-else-contains-7
 returns-else-contains-7 c =
-    told c.self.inside c.args.square c.if-contains.colour King c.args.self.now c.contains.ensures.on_board c.self.view_is
+    told c.self.inside c.args.square c.if-contains.colour King c.args.self.now c.contains.ensures.on_board
+    c.self.view_is
     (elim c.if-contains.branch [
       | then-contains w ↦ inl (w.if-contains.ensures.member, w.colour-is)
-      | else-contains+then-contains-2 w ↦ inr (w.if-contains.ensures.member, w.if-contains-2.ensures.member, w.colour-is)
+      | else-contains+then-contains-2 w ↦ inr (
+        w.if-contains.ensures.member,
+        w.if-contains-2.ensures.member,
+        w.colour-is,
+      )
     ])
-    (rw (← c.if-contains-3.ensures.member, ← c.if-contains-4.ensures.member, ← c.if-contains-5.ensures.member, ← c.if-contains-6.ensures.member, ← c.if-contains-7.ensures.member) refl)
+    (rw (
+      ← c.if-contains-3.ensures.member,
+      ← c.if-contains-4.ensures.member,
+      ← c.if-contains-5.ensures.member,
+      ← c.if-contains-6.ensures.member,
+      ← c.if-contains-7.ensures.member,
+    ) refl)
