@@ -1,6 +1,7 @@
 //! The loop over readers and writers that give and take little, or fail.
 use crate::board_loop::{BoardFault, board};
-use std::alloc::Global;
+use crate::words::{Word, read_words};
+use std::alloc::{AllocError, Global};
 use std::io;
 use std::io::{ErrorKind, Read, Write};
 use std::process::Abort;
@@ -194,4 +195,32 @@ fn breaks_off_where_a_write_fails(rt: HostRuntime) {
         assert_eq!(rt; board(&mut input, &mut writer), result);
         assert_eq!(rt; writer.taken.as_slice(), text.as_bytes(), "at {kind:?}");
     }
+}
+
+// The words of a command line as the program gets them.
+fn words_of(alloc: Global, word: &str) -> Result<Vec<String>, AllocError> {
+    let mut words = Vec::new(alloc);
+    words.push(String::from_str(alloc, "chess_server")?)?;
+    words.push(String::from_str(alloc, word)?)?;
+    Ok(words)
+}
+
+#[test]
+fn reads_the_command_line(rt: HostRuntime) -> Result<(), Fail> {
+    let alloc = rt.alloc();
+    assert_eq!(rt;
+        read_words(alloc, words_of(alloc, "board")?.as_slice()).ok(),
+        Some(Word::Board)
+    );
+    for unknown in ["serve", "--journal", ""] {
+        match read_words(alloc, words_of(alloc, unknown)?.as_slice()) {
+            Ok(_) => assert!(rt; false, "{unknown}"),
+            Err(error) => assert!(rt; error.use_stderr(), "{unknown}"),
+        }
+    }
+    match read_words(alloc, words_of(alloc, "--help")?.as_slice()) {
+        Ok(_) => assert!(rt; false, "help"),
+        Err(error) => assert!(rt; !error.use_stderr(), "help"),
+    }
+    Ok(())
 }

@@ -1,0 +1,74 @@
+use Rattle.std.proofs.Common.{inl, ◌∙◌, ap, ℕ, List}
+use Rattle.std.specs.Prelude.{slice_set}
+use Rattle.sector_dev.specs.Callers.{OldOrEither}
+use Rattle.sector_dev.proofs.Runs.{started, goes_on, one_changed, two_changed}
+use Rattle.sector_dev.proofs.callers.write_two.Goals as goal
+
+pub returns-in_err-write-clause-any_moment : goal.returns-in_err-write-clause-any_moment
+returns-in_err-write-clause-any_moment g c =
+    let d = c.args.device.now in
+    let model = c.requires.model in
+    let reads = g.D.Device.reads d in
+    let P = OldOrEither reads c.args.at c.args.from.now c.args.also_at c.args.also.now in
+    let one = one_changed reads (g.D.Device.image d) c.args.at c.args.from.now c.requires.settled in
+    let at_start = started g.D.Device.moment g.D.Device.image_since d P (λ f left. inl (inl (c.requires.settled f (g.met.D.Device.only_now d f model left)))) in
+    let wrote = goes_on g.D.Device.moment g.D.Device.image_since d d c.write.new.self P _ at_start (c.write.ensures.time model) (λ f h. inl (one f h)) in
+    wrote
+
+pub returns-in_err-write-2-clause-any_moment : goal.returns-in_err-write-2-clause-any_moment
+returns-in_err-write-2-clause-any_moment g c =
+    let d = c.args.device.now in
+    let model = c.requires.model in
+    let reads = g.D.Device.reads d in
+    let P = OldOrEither reads c.args.at c.args.from.now c.args.also_at c.args.also.now in
+    let one = one_changed reads (g.D.Device.image d) c.args.at c.args.from.now c.requires.settled in
+    let at_start = started g.D.Device.moment g.D.Device.image_since d P (λ f left. inl (inl (c.requires.settled f (g.met.D.Device.only_now d f model left)))) in
+    let wrote = goes_on g.D.Device.moment g.D.Device.image_since d d c.write.new.self P _ at_start (c.write.ensures.time model) (λ f h. inl (one f h)) in
+    let model_1 = c.write.ensures.model.1 model in
+    let pending = c.in_ok-write.ensures.ok model in
+    let two = two_changed reads (g.D.Device.image c.write.new.self) c.args.at c.args.from.now c.args.also_at c.args.also.now (λ f now. one f ((pending.images f).0 now)) in
+    let both = goes_on g.D.Device.moment g.D.Device.image_since d c.write.new.self c.write-2.new.self P _ wrote (c.write-2.ensures.time model_1) two in
+    both
+
+pub returns-in_err-sync-clause-any_moment : goal.returns-in_err-sync-clause-any_moment
+returns-in_err-sync-clause-any_moment g c =
+    let d = c.args.device.now in
+    let model = c.requires.model in
+    let reads = g.D.Device.reads d in
+    let P = OldOrEither reads c.args.at c.args.from.now c.args.also_at c.args.also.now in
+    let one = one_changed reads (g.D.Device.image d) c.args.at c.args.from.now c.requires.settled in
+    let at_start = started g.D.Device.moment g.D.Device.image_since d P (λ f left. inl (inl (c.requires.settled f (g.met.D.Device.only_now d f model left)))) in
+    let wrote = goes_on g.D.Device.moment g.D.Device.image_since d d c.write.new.self P _ at_start (c.write.ensures.time model) (λ f h. inl (one f h)) in
+    let model_1 = c.write.ensures.model.1 model in
+    let pending = c.in_ok-write.ensures.ok model in
+    let two = two_changed reads (g.D.Device.image c.write.new.self) c.args.at c.args.from.now c.args.also_at c.args.also.now (λ f now. one f ((pending.images f).0 now)) in
+    let both = goes_on g.D.Device.moment g.D.Device.image_since d c.write.new.self c.write-2.new.self P _ wrote (c.write-2.ensures.time model_1) two in
+    let pending_2 = c.in_ok-write-2.ensures.ok model_1 in
+    let synced = goes_on g.D.Device.moment g.D.Device.image_since d c.write-2.new.self c.sync.new.self P _ both (c.sync.ensures.time (c.write-2.ensures.model.1 model_1)) (λ f now. two f ((pending_2.images f).0 now)) in
+    synced
+
+pub returns-clause-any_moment : goal.returns-clause-any_moment
+returns-clause-any_moment g c =
+    let d = c.args.device.now in
+    let model = c.requires.model in
+    let reads = g.D.Device.reads d in
+    let P = OldOrEither reads c.args.at c.args.from.now c.args.also_at c.args.also.now in
+    let one = one_changed reads (g.D.Device.image d) c.args.at c.args.from.now c.requires.settled in
+    let at_start = started g.D.Device.moment g.D.Device.image_since d P (λ f left. inl (inl (c.requires.settled f (g.met.D.Device.only_now d f model left)))) in
+    let wrote = goes_on g.D.Device.moment g.D.Device.image_since d d c.write.new.self P _ at_start (c.write.ensures.time model) (λ f h. inl (one f h)) in
+    let model_1 = c.write.ensures.model.1 model in
+    let pending = c.in_ok-write.ensures.ok model in
+    let two = two_changed reads (g.D.Device.image c.write.new.self) c.args.at c.args.from.now c.args.also_at c.args.also.now (λ f now. one f ((pending.images f).0 now)) in
+    let both = goes_on g.D.Device.moment g.D.Device.image_since d c.write.new.self c.write-2.new.self P _ wrote (c.write-2.ensures.time model_1) two in
+    let pending_2 = c.in_ok-write-2.ensures.ok model_1 in
+    let synced = goes_on g.D.Device.moment g.D.Device.image_since d c.write-2.new.self c.sync.new.self P _ both (c.sync.ensures.time (c.write-2.ensures.model.1 model_1)) (λ f now. two f ((pending_2.images f).0 now)) in
+    synced
+
+pub returns-clause-changed : goal.returns-clause-changed
+returns-clause-changed g c =
+    let model = c.requires.model in
+    let model_1 = c.write.ensures.model.1 model in
+    let pending = c.in_ok-write.ensures.ok model in
+    let pending_2 = c.in_ok-write-2.ensures.ok model_1 in
+    let stable = c.in_ok-sync.ensures.ok (c.write-2.ensures.model.1 model_1) in
+    λ f now. (stable.images f).0 now ∙ (pending_2.reads ∙ ap (λ (s : List (List ℕ)). slice_set s c.args.also_at c.args.also.now) pending.reads)

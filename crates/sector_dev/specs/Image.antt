@@ -1,0 +1,55 @@
+-- What a crash may leave of a device's sectors.
+use Rattle.std.specs.Prelude.{◌≡◌, ◌⊎◌, ◌<◌, ◌+◌, ◌==◌, ℕ, List, [], ◌∷◌, ◌++◌, length, map, slice_index_or, slice_set, if◌then◌else◌, refl}
+
+-- a write that may still be lost: the number of its sector, and the bytes for it
+pub record Write : Type 0 where
+  pub at : ℕ
+  pub value : List ℕ
+
+-- some of these writes puts this value into the sector with that number
+abbrev pub IsWritten : List Write → ℕ → List ℕ → Type 0
+IsWritten [] at value = ⊥
+IsWritten (w ∷ ws) at value = ((w.at ≡ at) × (w.value ≡ value)) ⊎ IsWritten ws at value
+
+-- each sector has its stable value or the value of some pending write to it, whatever the others have
+pub record Image (stable : List (List ℕ)) (pending : List Write) (image : List (List ℕ)) : Type 0 where
+  pub size : length image ≡ length stable
+  pub each : (at : ℕ) → at < length stable → (slice_index_or image at [] ≡ slice_index_or stable at []) ⊎ IsWritten pending at (slice_index_or image at [])
+
+-- the sectors after these writes, each over the one before it
+abbrev pub applied : List (List ℕ) → List Write → List (List ℕ)
+applied stable [] = stable
+applied stable (w ∷ ws) = applied (slice_set stable w.at w.value) ws
+
+-- what a crash may leave in the sector with this number: its stable value, then those of the writes to it
+abbrev pub values : ℕ → List ℕ → List Write → List (List ℕ)
+values at stable [] = stable ∷ []
+values at stable (w ∷ ws) = if w.at == at then w.value ∷ values at stable ws else values at stable ws
+
+-- each value before each rest
+abbrev pub each_before : List (List ℕ) → List (List (List ℕ)) → List (List (List ℕ))
+each_before [] rests = []
+each_before (value ∷ rest_of_values) rests = map (λ rest. value ∷ rest) rests ++ each_before rest_of_values rests
+
+-- every image of these sectors, of which the first has the number `at`, one after the other
+abbrev pub images : ℕ → List (List ℕ) → List Write → List (List (List ℕ))
+images at [] pending = [] ∷ []
+images at (stable ∷ rest) pending = each_before (values at stable pending) (images (at + 1) rest pending)
+
+-- two pending writes to the first sector and one to the second: six images
+two_and_one :
+    images 0 ((10 ∷ []) ∷ (20 ∷ []) ∷ []) (record { at = 0; value = 11 ∷ [] } ∷ record { at = 1; value = 21 ∷ [] } ∷ record { at = 0; value = 12 ∷ [] } ∷ [])
+    ≡ ((11 ∷ []) ∷ (21 ∷ []) ∷ []) ∷ ((11 ∷ []) ∷ (20 ∷ []) ∷ [])
+    ∷ ((12 ∷ []) ∷ (21 ∷ []) ∷ []) ∷ ((12 ∷ []) ∷ (20 ∷ []) ∷ [])
+    ∷ ((10 ∷ []) ∷ (21 ∷ []) ∷ []) ∷ ((10 ∷ []) ∷ (20 ∷ []) ∷ []) ∷ []
+two_and_one = refl
+
+-- nothing pending: the stable values alone
+nothing_pending : images 0 ((10 ∷ []) ∷ (20 ∷ []) ∷ []) [] ≡ ((10 ∷ []) ∷ (20 ∷ []) ∷ []) ∷ []
+nothing_pending = refl
+
+-- what reads give is the last write to each sector
+last_write_read :
+    applied ((10 ∷ []) ∷ (20 ∷ []) ∷ []) (record { at = 0; value = 11 ∷ [] } ∷ record { at = 1; value = 21 ∷ [] } ∷ record { at = 0; value = 12 ∷ [] } ∷ [])
+    ≡ (12 ∷ []) ∷ (21 ∷ []) ∷ []
+last_write_read = refl

@@ -1,0 +1,6 @@
+pub mod Image
+pub mod Device
+pub mod Memory
+pub mod Replay
+pub mod Made
+pub mod Callers

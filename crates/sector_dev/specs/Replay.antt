@@ -1,0 +1,60 @@
+-- What a record of calls says of the device now and earlier, and the laws of it.
+use Rattle.std.specs.Prelude.{◌≡◌, ◌⊎◌, ◌<◌, ◌≤◌, ℕ, List, [], ◌∷◌, length, take, slice_index_or, slice_set, refl}
+use Rattle.std.proofs.Common.{inl, inr, sym, ◌∙◌, subst, arith}
+use Rattle.std.proofs.lemmas.Bool.{cases_eq}
+use Rattle.std.proofs.lemmas.List.{take_all, length-set, get_or-set_other}
+use Rattle.std.proofs.lemmas.Grind.{get_or-set_at}
+use Rattle.sector_dev.specs.declared.memory.Call.{Call}
+use Rattle.sector_dev.specs.declared.memory.Call.TheVariants.{Written, Synced}
+use Rattle.sector_dev.specs.Image.{Write, IsWritten, Image, applied}
+use Rattle.sector_dev.specs.Memory.{Disk, shown, step, after, at_rest}
+
+-- a crash of this disk may leave that
+abbrev pub MayLeave : Disk → List (List ℕ) → Type 0
+MayLeave d c = Image d.stable d.pending c
+
+-- a crash at some moment from t on might have left that; a moment is a number of calls
+pub record MightLeaveSince (stable : List (List ℕ)) (calls : List Call) (t : ℕ) (c : List (List ℕ)) : Type 0 where
+  pub moment : ℕ
+  pub from : t ≤ moment
+  pub to : moment ≤ length calls
+  pub image : MayLeave (after (at_rest stable) (take moment calls)) c
+
+pub this_moment_counts : (stable : List (List ℕ)) (calls : List Call) (t : ℕ) (c : List (List ℕ)) → t ≤ length calls → MayLeave (after (at_rest stable) calls) c → MightLeaveSince stable calls t c
+this_moment_counts stable calls t c le now = record {
+  moment = length calls;
+  from = le;
+  to = omega arith;
+  image = subst (λ (cs : List Call). MayLeave (after (at_rest stable) cs) c) (sym (take_all (length calls) calls (omega arith))) now;
+}
+
+pub no_other_moment : (stable : List (List ℕ)) (calls : List Call) (c : List (List ℕ)) → MightLeaveSince stable calls (length calls) c → MayLeave (after (at_rest stable) calls) c
+no_other_moment stable calls c m = subst (λ (cs : List Call). MayLeave (after (at_rest stable) cs) c) (take_all m.moment calls m.from) m.image
+
+pub length-applied : (stable : List (List ℕ)) (ws : List Write) → length (applied stable ws) ≡ length stable
+length-applied stable [] = refl
+length-applied stable (w ∷ ws) = length-applied (slice_set stable w.at w.value) ws ∙ length-set stable w.at w.value
+
+pub length-after : (d : Disk) (cs : List Call) → length (after d cs).stable ≡ length d.stable
+length-after d [] = refl
+length-after d (Written at v ∷ cs) = length-after (step d (Written at v)) cs
+length-after d (Synced ∷ cs) = length-after (step d Synced) cs ∙ length-applied d.stable d.pending
+
+each_applied : (stable : List (List ℕ)) (ws : List Write) (at : ℕ) → at < length stable
+    → (slice_index_or (applied stable ws) at [] ≡ slice_index_or stable at []) ⊎ IsWritten ws at (slice_index_or (applied stable ws) at [])
+each_applied stable [] at lt = inl refl
+each_applied stable (w ∷ ws) at lt =
+    elim (each_applied (slice_set stable w.at w.value) ws at (omega (arith, lt, length-set stable w.at w.value))) [
+      | inr later ↦ inr (inr later)
+      | inl same ↦ elim (cases_eq at w.at) [
+        | inl eq ↦ inr (inl (sym eq, sym (same ∙ get_or-set_at stable w.at at w.value [] eq (omega arith))))
+        | inr ne ↦ inl (same ∙ get_or-set_other stable w.at at w.value [] ne)
+      ]
+    ]
+
+-- what reads give is one of the images
+pub shown_is_image : (d : Disk) → MayLeave d (shown d)
+shown_is_image d = record { size = length-applied d.stable d.pending; each = λ at lt. each_applied d.stable d.pending at lt }
+
+pub image_has_size : (stable : List (List ℕ)) (calls : List Call) (c : List (List ℕ)) → MayLeave (after (at_rest stable) calls) c → length c ≡ length stable
+image_has_size stable calls c i = i.size ∙ length-after (at_rest stable) calls

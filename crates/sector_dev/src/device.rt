@@ -1,0 +1,81 @@
+// A device as its callers see it: what a read gives, and what a crash may leave.
+ghost use Rattle.std.specs.Prelude.{◌≡◌, ◌⊎◌, ◌<◌, ◌≤◌, ◌↔◌, List, ℕ, [], length, slice_index_or, Option, OnOk, OnErr};
+ghost use Rattle.sector_dev.specs.Device.{WithOrWithout, IsUnchanged, IsPending, IsStable, MayBeStable, Elapses, CountsFailure, TakesOne};
+
+/// The device failed, or had no memory for a call.
+#[derive(Clone, Copy, Debug, PartialEq, Eq)]
+pub struct DeviceFault;
+
+pub trait Device {
+    /// Whether the device keeps the model. Without it only its size and the counts are promised.
+    ghost keeps_model: { Self → Type 0 };
+
+    /// The number of sectors.
+    ghost size: { Self → ℕ };
+
+    /// What reads give, sector by sector.
+    ghost reads: { Self → List (List ℕ) };
+
+    /// What a crash at this moment may leave.
+    ghost image: { Self → List (List ℕ) → Type 0 };
+
+    /// The moment, as a number that doesn't fall.
+    ghost moment: { Self → ℕ };
+
+    /// What a crash at some moment from that one on might have left, before, within or after a call.
+    ghost image_since: { Self → ℕ → List (List ℕ) → Type 0 };
+
+    /// How often the device has failed.
+    ghost failures: { Self → ℕ };
+
+    /// How many more calls are served, where that is limited.
+    ghost served: { Self → Option ℕ };
+
+    fn sectors(&self) -> u32
+        ensures { result ≡ size self.now };
+
+    /// Changes nothing.
+    fn read(&mut self, at: u32, into: &mut [u8; 512]) -> Result<(), DeviceFault>
+        requires { at < size self.old }
+        ensures size { size self.new ≡ size self.old }
+        ensures model { keeps_model self.new ↔ keeps_model self.old }
+        ensures value { keeps_model self.old → OnOk result (into.new ≡ slice_index_or (reads self.old) at []) }
+        ensures unchanged { keeps_model self.old → IsUnchanged (reads self.old) (reads self.new) (image self.old) (image self.new) }
+        ensures time { keeps_model self.old → Elapses (moment self.old) (moment self.new) (image_since self.old) (image_since self.new) (image self.old) }
+        ensures cause { CountsFailure result (failures self.old) (failures self.new) }
+        ensures served { TakesOne result (served self.old) (served self.new) };
+
+    /// At `Ok` the write is pending; at `Err` it may be, and the other sectors are as before.
+    fn write(&mut self, at: u32, from: &[u8; 512]) -> Result<(), DeviceFault>
+        requires { at < size self.old }
+        ensures size { size self.new ≡ size self.old }
+        ensures model { keeps_model self.new ↔ keeps_model self.old }
+        ensures ok { keeps_model self.old → OnOk result (IsPending at from.now (reads self.old) (reads self.new) (image self.old) (image self.new)) }
+        ensures err { keeps_model self.old → OnErr result (IsUnchanged (reads self.old) (reads self.new) (image self.old) (image self.new)
+            ⊎ IsPending at from.now (reads self.old) (reads self.new) (image self.old) (image self.new)) }
+        ensures time { keeps_model self.old → Elapses (moment self.old) (moment self.new) (image_since self.old) (image_since self.new) (WithOrWithout at from.now (image self.old)) }
+        ensures cause { CountsFailure result (failures self.old) (failures self.new) }
+        ensures served { TakesOne result (served self.old) (served self.new) };
+
+    /// At `Ok` what reads give is stable, with nothing pending; at `Err` some of the pending writes may be stable.
+    fn sync(&mut self) -> Result<(), DeviceFault>
+        ensures size { size self.new ≡ size self.old }
+        ensures model { keeps_model self.new ↔ keeps_model self.old }
+        ensures ok { keeps_model self.old → OnOk result (IsStable (reads self.old) (reads self.new) (image self.new)) }
+        ensures err { keeps_model self.old → OnErr result (MayBeStable (reads self.old) (reads self.new) (image self.old) (image self.new)) }
+        ensures time { keeps_model self.old → Elapses (moment self.old) (moment self.new) (image_since self.old) (image_since self.new) (image self.old) }
+        ensures cause { CountsFailure result (failures self.old) (failures self.new) }
+        ensures served { TakesOne result (served self.old) (served self.new) };
+
+    /// This moment is one of those since an earlier one.
+    ghost counts_now: { (device : Self) (t : ℕ) (c : List (List ℕ)) → keeps_model device → t ≤ moment device → image device c → image_since device t c };
+
+    /// Since this moment there is no other.
+    ghost only_now: { (device : Self) (c : List (List ℕ)) → keeps_model device → image_since device (moment device) c → image device c };
+
+    /// What reads give is one of the images.
+    ghost reads_are_image: { (device : Self) → keeps_model device → image device (reads device) };
+
+    /// No image has more sectors, or fewer.
+    ghost image_size: { (device : Self) (c : List (List ℕ)) → keeps_model device → image device c → length c ≡ size device };
+}
