@@ -1,4 +1,5 @@
 pub mod Image
+pub mod Crash
 pub mod Device
 pub mod Memory
 pub mod Replay

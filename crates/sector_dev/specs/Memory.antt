@@ -1,5 +1,5 @@
 -- A device in memory: the values that were stable when its record began, and the calls since.
-use Rattle.std.specs.Prelude.{ℕ, List, [], ◌∷◌, ◌++◌, Bool, true, false}
+use Rattle.std.specs.Prelude.{◌≡◌, ◌≤◌, ℕ, List, [], ◌∷◌, ◌++◌, length, take, drop, ⊤}
 use Rattle.sector_dev.specs.declared.memory.Call.{Call}
 use Rattle.sector_dev.specs.declared.memory.Call.TheVariants.{Written, Synced}
 use Rattle.sector_dev.specs.Image.{Write, applied}
@@ -26,9 +26,20 @@ after d (c ∷ cs) = after (step d c) cs
 abbrev pub at_rest : List (List ℕ) → Disk
 at_rest stable = record { stable = stable; pending = [] }
 
--- those of the writes whose place is true; a missing place is false
-abbrev pub kept : List Write → List Bool → List Write
-kept [] keep = []
-kept (w ∷ ws) [] = []
-kept (w ∷ ws) (true ∷ keep) = w ∷ kept ws keep
-kept (w ∷ ws) (false ∷ keep) = kept ws keep
+-- the writes among these calls
+abbrev pub writes_of : List Call → List Write
+writes_of [] = []
+writes_of (Written at value ∷ cs) = record { at = at; value = value } ∷ writes_of cs
+writes_of (Synced ∷ cs) = writes_of cs
+
+-- no sync is among these calls
+abbrev pub IsUnsynced : List Call → Type 0
+IsUnsynced [] = ⊤
+IsUnsynced (Written at value ∷ cs) = IsUnsynced cs
+IsUnsynced (Synced ∷ cs) = ⊥
+
+-- The calls before this place are settled by a sync, and those from it on are pending.
+pub record IsSettledAt (calls : List Call) (place : ℕ) : Type 0 where
+  pub within : place ≤ length calls
+  pub unsynced : IsUnsynced (drop place calls)
+  pub disk : (stable : List (List ℕ)) → after (at_rest stable) calls ≡ record { stable = applied stable (writes_of (take place calls)); pending = writes_of (drop place calls) }

@@ -1,5 +1,6 @@
 // Writes over any device, by its contract alone.
 ghost use Rattle.std.specs.Prelude.{◌<◌, slice_set, OnOk};
+ghost use Rattle.sector_dev.specs.Device.{CountsFailure};
 ghost use Rattle.sector_dev.specs.Callers.{Only, OldOrChanged, OldOrEither, LeavesOnly};
 
 use crate::{Device, DeviceFault};
@@ -12,6 +13,7 @@ pub fn write_one<D: Device>(device: &mut D, at: u32, from: &[u8; 512]) -> Result
     requires settled { Only (D.reads device.old) (D.image device.old) }
     ensures any_moment { LeavesOnly D.moment D.image_since device.old device.new (OldOrChanged (D.reads device.old) at from.now) }
     ensures changed { OnOk result (Only (slice_set (D.reads device.old) at from.now) (D.image device.new)) }
+    ensures cause { CountsFailure result (D.failures device.old) (D.failures device.new) }
 {
     device.write(at, from)?;
     device.sync()?;
@@ -33,6 +35,7 @@ pub fn write_two<D: Device>(
     requires settled { Only (D.reads device.old) (D.image device.old) }
     ensures any_moment { LeavesOnly D.moment D.image_since device.old device.new (OldOrEither (D.reads device.old) at from.now also_at also.now) }
     ensures changed { OnOk result (Only (slice_set (slice_set (D.reads device.old) at from.now) also_at also.now) (D.image device.new)) }
+    ensures cause { CountsFailure result (D.failures device.old) (D.failures device.new) }
 {
     device.write(at, from)?;
     device.write(also_at, also)?;

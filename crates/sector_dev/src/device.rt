@@ -1,5 +1,7 @@
 // A device as its callers see it: what a read gives, and what a crash may leave.
-ghost use Rattle.std.specs.Prelude.{◌≡◌, ◌⊎◌, ◌<◌, ◌≤◌, ◌↔◌, List, ℕ, [], length, slice_index_or, Option, OnOk, OnErr};
+ghost use Rattle.std.specs.Prelude.{◌≡◌, ◌⊎◌, ◌<◌, ◌≤◌, ◌↔◌, List, ℕ, [], length, slice_index_or, Option, Some, None, OnOk, OnErr};
+ghost use Rattle.sector_dev.specs.Image.{Write, Image, applied};
+ghost use Rattle.sector_dev.specs.Crash.{left_by};
 ghost use Rattle.sector_dev.specs.Device.{WithOrWithout, IsUnchanged, IsPending, IsStable, MayBeStable, Elapses, CountsFailure, TakesOne};
 
 /// The device failed, or had no memory for a call.
@@ -78,4 +80,43 @@ pub trait Device {
 
     /// No image has more sectors, or fewer.
     ghost image_size: { (device : Self) (c : List (List ℕ)) → keeps_model device → image device c → length c ≡ size device };
+}
+
+/// A device on which crashes can be played.
+pub trait CrashDevice: Device {
+    /// The stable values, sector by sector.
+    ghost stable: { Self → List (List ℕ) };
+
+    /// The pending writes, in the order in which they were made.
+    ghost pending: { Self → List Write };
+
+    /// The next `calls` calls of `read`, `write` and `sync` are served, and every later one fails until a crash.
+    /// Nothing else changes.
+    fn arm(&mut self, calls: u64)
+        ensures size { Self.size self.new ≡ Self.size self.old }
+        ensures model { Self.keeps_model self.new ↔ Self.keeps_model self.old }
+        ensures served { Self.served self.new ≡ Some calls }
+        ensures failures { Self.failures self.new ≡ Self.failures self.old }
+        ensures stable { stable self.new ≡ stable self.old }
+        ensures pending { pending self.new ≡ pending self.old }
+        ensures time { Self.keeps_model self.old → Elapses (Self.moment self.old) (Self.moment self.new) (Self.image_since self.old) (Self.image_since self.new) (Self.image self.old) };
+
+    /// A crash that keeps those of the pending writes whose place in `keep` is true, and loses the others; a missing
+    /// place is false. Of the kept writes to one sector the last stands. Then nothing is pending, and calls are served
+    /// without a limit. Nothing is said of earlier moments any more.
+    fn crash(&mut self, keep: &[bool])
+        ensures size { Self.size self.new ≡ Self.size self.old }
+        ensures model { Self.keeps_model self.new ↔ Self.keeps_model self.old }
+        ensures served { Self.served self.new ≡ None }
+        ensures failures { Self.failures self.new ≡ Self.failures self.old }
+        ensures left { Self.keeps_model self.old → IsStable (left_by (stable self.old) (pending self.old) keep.now) (Self.reads self.new) (Self.image self.new) }
+        ensures image { Self.keeps_model self.old → Self.image self.old (Self.reads self.new) }
+        ensures stable { Self.keeps_model self.old → stable self.new ≡ left_by (stable self.old) (pending self.old) keep.now }
+        ensures pending { Self.keeps_model self.old → pending self.new ≡ [] };
+
+    /// The images are those of the stable values and the pending writes.
+    ghost images_are: { (device : Self) (c : List (List ℕ)) → Self.keeps_model device → Self.image device c ↔ Image (stable device) (pending device) c };
+
+    /// Reads give the last write to each sector.
+    ghost reads_are: { (device : Self) → Self.keeps_model device → Self.reads device ≡ applied (stable device) (pending device) };
 }

@@ -6,5 +6,5 @@ mod device;
 mod memory;
 
 pub use callers::{write_one, write_two};
-pub use device::{Device, DeviceFault};
+pub use device::{CrashDevice, Device, DeviceFault};
 pub use memory::MemoryDevice;

@@ -1,10 +1,12 @@
 // A device in memory: the values that were stable when its record began, and the record of the calls since.
 ghost use Rattle.std.specs.Prelude.{◌≡◌, ◌<◌, ◌≤◌, ◌^◌, ◌++◌, ◌∷◌, ◌↔◌, [], true, length, slice_set, replicate, Some, None, ⊤, is_ok, IsErr, IfOk, OnOk, OnErr};
 ghost use Rattle.sector_dev.specs.Device.{CountsFailure, TakesOne, one_less};
-ghost use Rattle.sector_dev.specs.Memory.{shown, after, at_rest};
+ghost use Rattle.sector_dev.specs.Image.{applied};
+ghost use Rattle.sector_dev.specs.Crash.{left_by};
+ghost use Rattle.sector_dev.specs.Memory.{shown, after, at_rest, writes_of, IsUnsynced, IsSettledAt};
 ghost use Rattle.sector_dev.specs.Replay.{MayLeave, MightLeaveSince, this_moment_counts, no_other_moment, shown_is_image, image_has_size};
 
-use crate::{Device, DeviceFault};
+use crate::{CrashDevice, Device, DeviceFault};
 use std::alloc::{AllocError, Global};
 
 #[derive(Clone, Copy)]
@@ -170,5 +172,83 @@ impl Device for MemoryDevice {
         take_one(&mut self.served, &mut self.failures)?;
         note(&mut self.calls, Call::Synced, &mut self.failures)?;
         Ok(())
+    }
+}
+
+// How many of the calls stand up to the last sync, it included.
+fn settled(calls: &[Call]) -> usize
+    ensures { IsSettledAt calls.now result }
+{
+    let mut settled = 0;
+    for (at, call) in calls.iter().enumerate() {
+        if let Call::Synced = call {
+            settled = at + 1;
+        }
+    }
+    settled
+}
+
+// Makes the writes among these calls.
+fn redo(sectors: &mut [[u8; 512]], calls: &[Call])
+    ensures { sectors.new ≡ applied sectors.old (writes_of calls.now) }
+{
+    for call in calls {
+        redo_one(sectors, call);
+    }
+}
+
+fn redo_one(sectors: &mut [[u8; 512]], call: &Call)
+    ensures { sectors.new ≡ applied sectors.old (writes_of (call.now ∷ [])) }
+{
+    if let Call::Written(at, value) = call {
+        if (*at as usize) < sectors.len() {
+            sectors[*at as usize] = *value;
+        }
+    }
+}
+
+// Makes those of these writes whose place is true.
+fn redo_kept(sectors: &mut [[u8; 512]], calls: &[Call], keep: &[bool])
+    requires { IsUnsynced calls.now }
+    ensures { sectors.new ≡ left_by sectors.old (writes_of calls.now) keep.now }
+{
+    for (place, call) in calls.iter().enumerate() {
+        if place < keep.len() && keep[place] {
+            redo_one(sectors, call);
+        }
+    }
+}
+
+// Makes the writes that a sync has settled, and of the later ones those whose place is true.
+fn play(sectors: &mut [[u8; 512]], calls: &[Call], keep: &[bool])
+    ensures { sectors.new ≡ left_by (after (at_rest sectors.old) calls.now).stable (after (at_rest sectors.old) calls.now).pending keep.now }
+{
+    let settled = settled(calls);
+    redo(sectors, &calls[..settled]);
+    redo_kept(sectors, &calls[settled..], keep);
+}
+
+impl CrashDevice for MemoryDevice {
+    ghost use Rattle.std.specs.Prelude.{refl};
+
+    ghost stable = { λ m. (after (at_rest m.base.items) m.calls.items).stable };
+
+    ghost pending = { λ m. (after (at_rest m.base.items) m.calls.items).pending };
+
+    ghost images_are = { λ m c model. (λ i. i, λ i. i) };
+
+    ghost reads_are = { λ m model. refl };
+
+    fn arm(&mut self, calls: u64) {
+        self.served = Some(calls);
+        self.torn = false;
+    }
+
+    fn crash(&mut self, keep: &[bool]) {
+        play(&mut self.base, &self.calls, keep);
+        self.seen.copy_from_slice(&self.base);
+        self.calls.clear();
+        self.served = None;
+        self.torn = false;
     }
 }

@@ -1,0 +1,33 @@
+-- What a crash leaves that keeps some of the pending writes and loses the others.
+use Rattle.std.specs.Prelude.{◌≡◌, ℕ, List, [], ◌∷◌, Bool, true, false, refl}
+use Rattle.sector_dev.specs.Image.{Write, applied}
+
+-- those of the writes whose place is true; a missing place is false
+abbrev pub kept : List Write → List Bool → List Write
+kept [] keep = []
+kept (w ∷ ws) [] = []
+kept (w ∷ ws) (true ∷ keep) = w ∷ kept ws keep
+kept (w ∷ ws) (false ∷ keep) = kept ws keep
+
+-- the stable values, each under the last of the kept writes to its sector
+abbrev pub left_by : List (List ℕ) → List Write → List Bool → List (List ℕ)
+left_by stable pending keep = applied stable (kept pending keep)
+
+-- two pending writes to the first sector and one to the second
+abbrev three_writes : List Write
+three_writes = record { at = 0; value = 11 ∷ [] } ∷ record { at = 1; value = 21 ∷ [] } ∷ record { at = 0; value = 12 ∷ [] } ∷ []
+
+-- of two kept writes to one sector the last one stands
+last_stands : left_by ((10 ∷ []) ∷ (20 ∷ []) ∷ []) three_writes (true ∷ false ∷ true ∷ []) ≡ (12 ∷ []) ∷ (20 ∷ []) ∷ []
+last_stands = refl
+
+-- the first of them alone
+first_kept : left_by ((10 ∷ []) ∷ (20 ∷ []) ∷ []) three_writes (true ∷ true ∷ false ∷ []) ≡ (11 ∷ []) ∷ (21 ∷ []) ∷ []
+first_kept = refl
+
+-- a missing place is false, and a place too many says nothing
+missing_is_false : left_by ((10 ∷ []) ∷ (20 ∷ []) ∷ []) three_writes (false ∷ true ∷ []) ≡ (10 ∷ []) ∷ (21 ∷ []) ∷ []
+missing_is_false = refl
+
+too_many : left_by ((10 ∷ []) ∷ (20 ∷ []) ∷ []) three_writes (false ∷ false ∷ true ∷ true ∷ true ∷ []) ≡ (12 ∷ []) ∷ (20 ∷ []) ∷ []
+too_many = refl
