@@ -1,32 +1,14 @@
--- What a crash leaves, and that it is one of the images.
-use Rattle.std.proofs.Common.{◌≡◌, ◌⊎◌, ℕ, List, [], ◌∷◌, inl, inr, refl, sym, ◌∙◌, ap, subst}
-use Rattle.std.specs.Prelude.{Bool, true, false, slice_index_or}
+-- What a crash leaves of the device in memory.
+use Rattle.std.proofs.Common.{◌≡◌, ℕ, List, [], refl, sym, ◌∙◌, ap, subst}
+use Rattle.std.specs.Prelude.{Bool}
 use Rattle.sector_dev.specs.declared.memory.Call.{Call}
-use Rattle.sector_dev.specs.Image.{Write, IsWritten, Image, applied}
-use Rattle.sector_dev.specs.Crash.{kept, left_by}
+use Rattle.sector_dev.specs.Image.{Image}
+use Rattle.sector_dev.specs.Crash.{left_by}
 use Rattle.sector_dev.specs.Device.{IsStable}
 use Rattle.sector_dev.specs.Memory.{Disk, shown, after, at_rest}
-use Rattle.sector_dev.specs.Replay.{MayLeave, shown_is_image}
+use Rattle.sector_dev.specs.Replay.{MayLeave}
 use Rattle.sector_dev.proofs.Images.{stable_images}
-
--- what is kept was pending
-kept_is_written : (ws : List Write) (keep : List Bool) (at : ℕ) (value : List ℕ) → IsWritten (kept ws keep) at value → IsWritten ws at value
-kept_is_written [] keep at value h = absurd h
-kept_is_written (w ∷ ws) [] at value h = absurd h
-kept_is_written (w ∷ ws) (true ∷ keep) at value (inl here) = inl here
-kept_is_written (w ∷ ws) (true ∷ keep) at value (inr later) = inr (kept_is_written ws keep at value later)
-kept_is_written (w ∷ ws) (false ∷ keep) at value h = inr (kept_is_written ws keep at value h)
-
-pub left_is_image : (stable : List (List ℕ)) (pending : List Write) (keep : List Bool) → Image stable pending (left_by stable pending keep)
-left_is_image stable pending keep =
-    let i = shown_is_image (record { stable = stable; pending = kept pending keep }) in
-    record {
-      size = i.size;
-      each = λ at lt. elim (i.each at lt) [
-        | inl same ↦ inl same
-        | inr written ↦ inr (kept_is_written pending keep at (slice_index_or (left_by stable pending keep) at []) written)
-      ];
-    }
+use Rattle.sector_dev.proofs.Played.{left_is_image}
 
 -- with nothing recorded since, what is left is stable
 pub crash_is_stable : (left next : List (List ℕ)) (calls : List Call) → calls ≡ [] → next ≡ left

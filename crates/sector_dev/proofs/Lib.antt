@@ -1,5 +1,7 @@
 pub mod Images
+pub mod ImageList
+pub mod Played
 pub mod Moments
-pub mod Runs
 pub mod Settled
 pub mod Crashes
+pub mod Runs

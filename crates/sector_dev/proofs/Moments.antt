@@ -14,6 +14,10 @@ pub after-append : (d : Disk) (cs : List Call) (x : Call) → after d (cs ++ x �
 after-append d [] x = refl
 after-append d (c ∷ cs) x = after-append (step d c) cs x
 
+-- a recorded call is the last step
+pub recorded : (stable : List (List ℕ)) (calls next : List Call) (x : Call) → next ≡ calls ++ x ∷ [] → after (at_rest stable) next ≡ step (after (at_rest stable) calls) x
+recorded stable calls next x is = ap (λ (cs : List Call). after (at_rest stable) cs) is ∙ after-append (at_rest stable) calls x
+
 -- a call that changes nothing
 pub elapses_same : (n : ℕ) (since : ℕ → List (List ℕ) → Type 0) (during : List (List ℕ) → Type 0) → Elapses n n since since during
 elapses_same n since during = record { later = omega arith; nothing_else = λ t c le s. inl s; keeps = λ t c le s. s }

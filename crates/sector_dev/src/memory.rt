@@ -1,6 +1,6 @@
 // A device in memory: the values that were stable when its record began, and the record of the calls since.
-ghost use Rattle.std.specs.Prelude.{◌≡◌, ◌<◌, ◌≤◌, ◌^◌, ◌++◌, ◌∷◌, ◌↔◌, [], true, length, slice_set, replicate, Some, None, ⊤, is_ok, IsErr, IfOk, OnOk, OnErr};
-ghost use Rattle.sector_dev.specs.Device.{CountsFailure, TakesOne, one_less};
+ghost use Rattle.std.specs.Prelude.{◌≡◌, ◌⊎◌, ◌<◌, ◌≤◌, ◌^◌, ◌++◌, ◌∷◌, ◌↔◌, [], true, false, length, slice_index_or, slice_set, replicate, Some, None, ⊤, is_ok, IsErr, IfOk, OnOk, OnErr};
+ghost use Rattle.sector_dev.specs.Device.{WithOrWithout, IsUnchanged, IsPending, IsStable, MayBeStable, CountsFailure, TakesOne, one_less};
 ghost use Rattle.sector_dev.specs.Image.{applied};
 ghost use Rattle.sector_dev.specs.Crash.{left_by};
 ghost use Rattle.sector_dev.specs.Memory.{shown, after, at_rest, writes_of, IsUnsynced, IsSettledAt};
@@ -105,17 +105,21 @@ fn put(
 }
 
 impl Device for MemoryDevice {
-    ghost keeps_model = { λ _. ⊤ };
+    ghost use Rattle.sector_dev.specs.Made.{KeepsModel, disk_of, size_of, reads_of, image_of, moment_of, since, TimePasses, KeepsDisk, Pends, IsFirstFailed};
+    ghost use Rattle.sector_dev.specs.Memory.{step};
+    ghost use Rattle.sector_dev.specs.declared.memory.Call.TheVariants.{Synced};
 
-    ghost size = { λ m. length m.base.items };
+    ghost keeps_model = { KeepsModel };
 
-    ghost reads = { λ m. shown (after (at_rest m.base.items) m.calls.items) };
+    ghost size = { size_of };
 
-    ghost image = { λ m. MayLeave (after (at_rest m.base.items) m.calls.items) };
+    ghost reads = { reads_of };
 
-    ghost moment = { λ m. length m.calls.items };
+    ghost image = { image_of };
 
-    ghost image_since = { λ m. MightLeaveSince m.base.items m.calls.items };
+    ghost moment = { moment_of };
+
+    ghost image_since = { since };
 
     ghost failures = { λ m. m.failures };
 
@@ -125,7 +129,7 @@ impl Device for MemoryDevice {
 
     ghost only_now = { λ m c model since. no_other_moment m.base.items m.calls.items c since };
 
-    ghost reads_are_image = { λ m model. shown_is_image (after (at_rest m.base.items) m.calls.items) };
+    ghost reads_are_image = { λ m model. shown_is_image (disk_of m) };
 
     ghost image_size = { λ m c model i. image_has_size m.base.items m.calls.items c i };
 
@@ -133,13 +137,38 @@ impl Device for MemoryDevice {
         self.base.len() as u32
     }
 
-    fn read(&mut self, at: u32, into: &mut [u8; 512]) -> Result<(), DeviceFault> {
+    fn read(&mut self, at: u32, into: &mut [u8; 512]) -> Result<(), DeviceFault>
+        requires { at < size_of self.old }
+        ensures size { size_of self.new ≡ size_of self.old }
+        ensures model { KeepsModel self.new ↔ KeepsModel self.old }
+        ensures value { KeepsModel self.old → OnOk result (into.new ≡ slice_index_or (reads_of self.old) at []) }
+        ensures unchanged { KeepsModel self.old → IsUnchanged (reads_of self.old) (reads_of self.new) (image_of self.old) (image_of self.new) }
+        ensures time { KeepsModel self.old → TimePasses self.old self.new (image_of self.old) }
+        ensures cause { CountsFailure result self.old.failures self.new.failures }
+        ensures served { TakesOne result self.old.served self.new.served }
+        ensures disk { KeepsDisk self.old self.new }
+    {
         take_one(&mut self.served, &mut self.failures)?;
         *into = self.seen[at as usize];
         Ok(())
     }
 
-    fn write(&mut self, at: u32, from: &[u8; 512]) -> Result<(), DeviceFault> {
+    /// A write that fails because the device is armed is pending if it is the first such, else not. One that fails
+    /// for want of memory is not pending.
+    fn write(&mut self, at: u32, from: &[u8; 512]) -> Result<(), DeviceFault>
+        requires { at < size_of self.old }
+        ensures size { size_of self.new ≡ size_of self.old }
+        ensures model { KeepsModel self.new ↔ KeepsModel self.old }
+        ensures ok { KeepsModel self.old → OnOk result (IsPending at from.now (reads_of self.old) (reads_of self.new) (image_of self.old) (image_of self.new)) }
+        ensures err { KeepsModel self.old → OnErr result (IsUnchanged (reads_of self.old) (reads_of self.new) (image_of self.old) (image_of self.new)
+            ⊎ IsPending at from.now (reads_of self.old) (reads_of self.new) (image_of self.old) (image_of self.new)) }
+        ensures time { KeepsModel self.old → TimePasses self.old self.new (WithOrWithout at from.now (image_of self.old)) }
+        ensures cause { CountsFailure result self.old.failures self.new.failures }
+        ensures served { TakesOne result self.old.served self.new.served }
+        ensures pending { OnOk result (Pends at from.now self.old self.new) }
+        ensures torn { OnOk result (self.new.torn ≡ self.old.torn) }
+        ensures failed { OnErr result (KeepsDisk self.old self.new ⊎ IsFirstFailed at from.now self.old self.new) }
+    {
         match take_one(&mut self.served, &mut self.failures) {
             Ok(()) => {
                 put(
@@ -168,7 +197,19 @@ impl Device for MemoryDevice {
         }
     }
 
-    fn sync(&mut self) -> Result<(), DeviceFault> {
+    /// One that fails leaves the pending writes as they are.
+    fn sync(&mut self) -> Result<(), DeviceFault>
+        ensures size { size_of self.new ≡ size_of self.old }
+        ensures model { KeepsModel self.new ↔ KeepsModel self.old }
+        ensures ok { KeepsModel self.old → OnOk result (IsStable (reads_of self.old) (reads_of self.new) (image_of self.new)) }
+        ensures err { KeepsModel self.old → OnErr result (MayBeStable (reads_of self.old) (reads_of self.new) (image_of self.old) (image_of self.new)) }
+        ensures time { KeepsModel self.old → TimePasses self.old self.new (image_of self.old) }
+        ensures cause { CountsFailure result self.old.failures self.new.failures }
+        ensures served { TakesOne result self.old.served self.new.served }
+        ensures settled { OnOk result (disk_of self.new ≡ step (disk_of self.old) Synced) }
+        ensures torn { OnOk result (self.new.torn ≡ self.old.torn) }
+        ensures failed { OnErr result (KeepsDisk self.old self.new) }
+    {
         take_one(&mut self.served, &mut self.failures)?;
         note(&mut self.calls, Call::Synced, &mut self.failures)?;
         Ok(())
@@ -212,9 +253,9 @@ fn redo_kept(sectors: &mut [[u8; 512]], calls: &[Call], keep: &[bool])
     requires { IsUnsynced calls.now }
     ensures { sectors.new ≡ left_by sectors.old (writes_of calls.now) keep.now }
 {
-    for (place, call) in calls.iter().enumerate() {
+    for (place, write) in calls.iter().enumerate() {
         if place < keep.len() && keep[place] {
-            redo_one(sectors, call);
+            redo_one(sectors, write);
         }
     }
 }
@@ -230,21 +271,41 @@ fn play(sectors: &mut [[u8; 512]], calls: &[Call], keep: &[bool])
 
 impl CrashDevice for MemoryDevice {
     ghost use Rattle.std.specs.Prelude.{refl};
+    ghost use Rattle.sector_dev.specs.Made.{KeepsModel, disk_of, size_of, reads_of, image_of, TimePasses};
 
-    ghost stable = { λ m. (after (at_rest m.base.items) m.calls.items).stable };
+    ghost stable = { λ m. (disk_of m).stable };
 
-    ghost pending = { λ m. (after (at_rest m.base.items) m.calls.items).pending };
+    ghost pending = { λ m. (disk_of m).pending };
 
     ghost images_are = { λ m c model. (λ i. i, λ i. i) };
 
     ghost reads_are = { λ m model. refl };
 
-    fn arm(&mut self, calls: u64) {
+    fn arm(&mut self, calls: u64)
+        ensures size { size_of self.new ≡ size_of self.old }
+        ensures model { KeepsModel self.new ↔ KeepsModel self.old }
+        ensures served { self.new.served ≡ Some calls }
+        ensures failures { self.new.failures ≡ self.old.failures }
+        ensures stable { (disk_of self.new).stable ≡ (disk_of self.old).stable }
+        ensures pending { (disk_of self.new).pending ≡ (disk_of self.old).pending }
+        ensures time { KeepsModel self.old → TimePasses self.old self.new (image_of self.old) }
+        ensures torn { self.new.torn ≡ false }
+    {
         self.served = Some(calls);
         self.torn = false;
     }
 
-    fn crash(&mut self, keep: &[bool]) {
+    fn crash(&mut self, keep: &[bool])
+        ensures size { size_of self.new ≡ size_of self.old }
+        ensures model { KeepsModel self.new ↔ KeepsModel self.old }
+        ensures served { self.new.served ≡ None }
+        ensures failures { self.new.failures ≡ self.old.failures }
+        ensures left { KeepsModel self.old → IsStable (left_by (disk_of self.old).stable (disk_of self.old).pending keep.now) (reads_of self.new) (image_of self.new) }
+        ensures image { KeepsModel self.old → image_of self.old (reads_of self.new) }
+        ensures stable { KeepsModel self.old → (disk_of self.new).stable ≡ left_by (disk_of self.old).stable (disk_of self.old).pending keep.now }
+        ensures pending { KeepsModel self.old → (disk_of self.new).pending ≡ [] }
+        ensures torn { self.new.torn ≡ false }
+    {
         play(&mut self.base, &self.calls, keep);
         self.seen.copy_from_slice(&self.base);
         self.calls.clear();

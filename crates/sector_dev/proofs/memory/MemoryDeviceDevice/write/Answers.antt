@@ -1,5 +1,6 @@
-use Rattle.std.proofs.Common.{length, inr, ap, arith}
-use Rattle.sector_dev.proofs.Moments.{written_shown, written_is_pending, written_elapses, length-shown}
+use Rattle.std.proofs.Common.{length, inr, refl, ap, arith, rules}
+use Rattle.sector_dev.specs.declared.memory.Call.TheVariants.{Written}
+use Rattle.sector_dev.proofs.Moments.{recorded, written_shown, written_is_pending, written_elapses, length-shown}
 use Rattle.sector_dev.proofs.memory.MemoryDeviceDevice.write.Goals as goal
 
 pub put-requires : goal.put-requires
@@ -39,3 +40,18 @@ pub returns-in_ok-put-in-Err-clause-time : goal.returns-in_ok-put-in-Err-clause-
 returns-in_ok-put-in-Err-clause-time c =
     let m = c.args.self.now in
     λ model. written_elapses m.base.items m.calls.items c.put-in-Err.new.calls.items c.args.at c.args.from.now c.requires c.in_ok-put-in-Err.ensures.calls
+
+pub returns-in_ok-put-in-Ok-clause-pending : goal.returns-in_ok-put-in-Ok-clause-pending
+returns-in_ok-put-in-Ok-clause-pending c =
+    let m = c.args.self.now in
+    recorded m.base.items m.calls.items c.put.new.calls.items (Written c.args.at c.args.from.now) c.in_ok-put-in-Ok.ensures.calls
+
+pub returns-in_ok-put-in-Err-clause-failed : goal.returns-in_ok-put-in-Err-clause-failed
+returns-in_ok-put-in-Err-clause-failed c =
+    let m = c.args.self.now in
+    inr (record {
+      stopped = search rules;
+      first = c.if-self.false;
+      noted = refl;
+      pending = recorded m.base.items m.calls.items c.put-in-Err.new.calls.items (Written c.args.at c.args.from.now) c.in_ok-put-in-Err.ensures.calls;
+    })
