@@ -11,9 +11,9 @@ use Rattle.sector_dev.proofs.Images.{stable_images}
 use Rattle.sector_dev.proofs.Played.{left_is_image}
 
 -- with nothing recorded since, what is left is stable
-pub crash_is_stable : (left next : List (List ℕ)) (calls : List Call) → calls ≡ [] → next ≡ left
+pub rest_is_stable : (left next : List (List ℕ)) (calls : List Call) → calls ≡ [] → next ≡ left
     → IsStable left (shown (after (at_rest next) calls)) (MayLeave (after (at_rest next) calls))
-crash_is_stable left next calls cleared is =
+rest_is_stable left next calls cleared is =
     subst (λ (cs : List Call). IsStable left (shown (after (at_rest next) cs)) (MayLeave (after (at_rest next) cs))) (sym cleared)
     (record { reads = is; images = λ c. (λ i. (stable_images next c).0 i ∙ is, λ e. (stable_images next c).1 (e ∙ sym is)) })
 

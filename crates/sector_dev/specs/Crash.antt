@@ -31,3 +31,7 @@ missing_is_false = refl
 
 too_many : left_by ((10 ∷ []) ∷ (20 ∷ []) ∷ []) three_writes (false ∷ false ∷ true ∷ true ∷ true ∷ []) ≡ (12 ∷ []) ∷ (20 ∷ []) ∷ []
 too_many = refl
+
+-- with nothing kept the stable values are left
+none_kept : left_by ((10 ∷ []) ∷ (20 ∷ []) ∷ []) three_writes [] ≡ (10 ∷ []) ∷ (20 ∷ []) ∷ []
+none_kept = refl

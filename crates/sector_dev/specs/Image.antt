@@ -53,3 +53,11 @@ last_write_read :
     applied ((10 ∷ []) ∷ (20 ∷ []) ∷ []) (record { at = 0; value = 11 ∷ [] } ∷ record { at = 1; value = 21 ∷ [] } ∷ record { at = 0; value = 12 ∷ [] } ∷ [])
     ≡ (12 ∷ []) ∷ (21 ∷ []) ∷ []
 last_write_read = refl
+
+-- three sectors, four pending writes: three values, two and two
+twelve_images : length (images 0 ((10 ∷ []) ∷ (20 ∷ []) ∷ (30 ∷ []) ∷ []) (record { at = 0; value = 11 ∷ [] } ∷ record { at = 2; value = 31 ∷ [] } ∷ record { at = 0; value = 12 ∷ [] } ∷ record { at = 1; value = 21 ∷ [] } ∷ [])) ≡ 12
+twelve_images = refl
+
+-- the value of a write to the other sector is none that a crash leaves in this one
+other_sector : values 1 (20 ∷ []) (record { at = 0; value = 11 ∷ [] } ∷ []) ≡ (20 ∷ []) ∷ []
+other_sector = refl

@@ -4,4 +4,5 @@ pub mod Device
 pub mod Memory
 pub mod Replay
 pub mod Made
-pub mod Callers
+pub mod File
+pub mod Runs

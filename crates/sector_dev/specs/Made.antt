@@ -1,6 +1,6 @@
 -- What a new device in memory is.
 use Rattle.std.specs.Prelude.{◌≡◌, ℕ, List, Some, None, false, true, length, replicate, ⊤}
-use Rattle.sector_dev.specs.Device.{Elapses}
+use Rattle.sector_dev.specs.Device.{Elapses, IsStable}
 use Rattle.sector_dev.specs.Replay.{MayLeave, MightLeaveSince}
 use Rattle.sector_dev.specs.declared.memory.MemoryDevice.{MemoryDevice}
 use Rattle.sector_dev.specs.Memory.{Disk, shown, step, after, at_rest}
@@ -11,8 +11,8 @@ abbrev pub disk_of : MemoryDevice → Disk
 disk_of m = after (at_rest m.base.items) m.calls.items
 
 -- how many sectors it has
-abbrev pub size_of : MemoryDevice → ℕ
-size_of m = length m.base.items
+abbrev pub sector_count_of : MemoryDevice → ℕ
+sector_count_of m = length m.base.items
 
 -- it keeps the model always
 abbrev pub KeepsModel : MemoryDevice → Type 0
@@ -38,25 +38,31 @@ moment_of m = length m.calls.items
 abbrev pub TimePasses : MemoryDevice → MemoryDevice → (List (List ℕ) → Type 0) → Type 0
 TimePasses old new during = Elapses (moment_of old) (moment_of new) (since old) (since new) during
 
--- sectors of zeros, stable, nothing pending, and all calls served
+-- sectors of zeros
+abbrev pub zeros : ℕ → List (List ℕ)
+zeros sectors = replicate sectors (replicate 512 0)
+
+-- zeros, stable, nothing pending, calls not limited, and no failure so far
 pub record IsZeroed (sectors : ℕ) (device : MemoryDevice) : Type 0 where
-  pub disk : disk_of device ≡ at_rest (replicate sectors (replicate 512 0))
-  pub served : device.served ≡ None
-  pub torn : device.torn ≡ false
+  pub sector_count : sector_count_of device ≡ sectors
+  pub stable : IsStable (zeros sectors) (reads_of device) (image_of device)
+  pub disk : disk_of device ≡ at_rest (zeros sectors)
+  pub calls_left : device.calls_left ≡ None
+  pub failed_pending : device.failed_pending ≡ false
   pub failures : device.failures ≡ 0
 
--- stable values and pending writes stay, and so does whether a failed write is pending
+-- stable values and pending writes stay, and whether a failed write is one of them
 pub record KeepsDisk (old new : MemoryDevice) : Type 0 where
   pub disk : disk_of new ≡ disk_of old
-  pub torn : new.torn ≡ old.torn
+  pub failed_pending : new.failed_pending ≡ old.failed_pending
 
 -- the write is the last pending one
 abbrev pub Pends : ℕ → List ℕ → MemoryDevice → MemoryDevice → Type 0
 Pends at value old new = disk_of new ≡ step (disk_of old) (Written at value)
 
--- A write that fails is pending only if it is the first to fail for want of calls since the device was armed.
+-- Of the writes that fail because the device is armed, this is the first since it was, and it is pending.
 pub record IsFirstFailed (at : ℕ) (value : List ℕ) (old new : MemoryDevice) : Type 0 where
-  pub stopped : old.served ≡ Some 0
-  pub first : old.torn ≡ false
-  pub noted : new.torn ≡ true
+  pub stopped : old.calls_left ≡ Some 0
+  pub first : old.failed_pending ≡ false
+  pub noted : new.failed_pending ≡ true
   pub pending : Pends at value old new

@@ -1,5 +1,5 @@
 -- A device in memory: the values that were stable when its record began, and the calls since.
-use Rattle.std.specs.Prelude.{◌≡◌, ◌≤◌, ℕ, List, [], ◌∷◌, ◌++◌, length, take, drop, ⊤}
+use Rattle.std.specs.Prelude.{◌≡◌, ◌≤◌, ℕ, List, [], ◌∷◌, ◌++◌, length, take, drop, ⊤, refl}
 use Rattle.sector_dev.specs.declared.memory.Call.{Call}
 use Rattle.sector_dev.specs.declared.memory.Call.TheVariants.{Written, Synced}
 use Rattle.sector_dev.specs.Image.{Write, applied}
@@ -25,6 +25,11 @@ after d (c ∷ cs) = after (step d c) cs
 -- nothing pending
 abbrev pub at_rest : List (List ℕ) → Disk
 at_rest stable = record { stable = stable; pending = [] }
+
+-- two writes, a sync and a write: the two are stable and the last one pending
+after_four_calls : after (at_rest ((10 ∷ []) ∷ (20 ∷ []) ∷ [])) (Written 0 (11 ∷ []) ∷ Written 1 (21 ∷ []) ∷ Synced ∷ Written 0 (12 ∷ []) ∷ [])
+    ≡ record { stable = (11 ∷ []) ∷ (21 ∷ []) ∷ []; pending = record { at = 0; value = 12 ∷ [] } ∷ [] }
+after_four_calls = refl
 
 -- the writes among these calls
 abbrev pub writes_of : List Call → List Write

@@ -1,10 +1,10 @@
 //! A device of sectors of 512 bytes, and what a crash may leave of it.
 #![tactic(auto)]
 
-mod callers;
 mod device;
+mod file;
 mod memory;
 
-pub use callers::{write_one, write_two};
 pub use device::{CrashDevice, Device, DeviceFault};
+pub use file::FileDevice;
 pub use memory::MemoryDevice;

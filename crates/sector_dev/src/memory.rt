@@ -1,6 +1,6 @@
 // A device in memory: the values that were stable when its record began, and the record of the calls since.
 ghost use Rattle.std.specs.Prelude.{◌≡◌, ◌⊎◌, ◌<◌, ◌≤◌, ◌^◌, ◌++◌, ◌∷◌, ◌↔◌, [], true, false, length, slice_index_or, slice_set, replicate, Some, None, ⊤, is_ok, IsErr, IfOk, OnOk, OnErr};
-ghost use Rattle.sector_dev.specs.Device.{WithOrWithout, IsUnchanged, IsPending, IsStable, MayBeStable, CountsFailure, TakesOne, one_less};
+ghost use Rattle.sector_dev.specs.Device.{WithOrWithout, IsUnchanged, IsPending, MayBePending, IsStable, MayBeStable, CountsFailure, TakesOne, one_less};
 ghost use Rattle.sector_dev.specs.Image.{applied};
 ghost use Rattle.sector_dev.specs.Crash.{left_by};
 ghost use Rattle.sector_dev.specs.Memory.{shown, after, at_rest, writes_of, IsUnsynced, IsSettledAt};
@@ -8,6 +8,9 @@ ghost use Rattle.sector_dev.specs.Replay.{MayLeave, MightLeaveSince, this_moment
 
 use crate::{CrashDevice, Device, DeviceFault};
 use std::alloc::{AllocError, Global};
+
+#[cfg(test)]
+mod tests;
 
 #[derive(Clone, Copy)]
 pub enum Call {
@@ -22,9 +25,9 @@ pub struct MemoryDevice {
     /// What reads give.
     seen: Vec<[u8; 512]>,
     calls: Vec<Call>,
-    served: Option<u64>,
-    /// Whether a write that failed for want of calls is pending.
-    torn: bool,
+    calls_left: Option<u64>,
+    /// Whether, since it was armed, a write that failed became pending.
+    failed_pending: bool,
     failures: u64,
     ghost fits: { length base.items < 2 ^ 32 },
     ghost is_shown: { seen.items ≡ shown (after (at_rest base.items) calls.items) },
@@ -45,26 +48,26 @@ impl MemoryDevice {
             base,
             seen,
             calls: Vec::new(alloc),
-            served: None,
-            torn: false,
+            calls_left: None,
+            failed_pending: false,
             failures: 0,
         })
     }
 }
 
-// Takes one of the calls that are still served.
-fn take_one(served: &mut Option<u64>, failures: &mut u64) -> Result<(), DeviceFault>
-    ensures taken { TakesOne result served.old served.new }
-    ensures variant { IsErr result ↔ (served.old ≡ Some 0) }
+// Takes one of the calls that are left.
+fn take_one(calls_left: &mut Option<u64>, failures: &mut u64) -> Result<(), DeviceFault>
+    ensures taken { TakesOne result calls_left.old calls_left.new }
+    ensures variant { IsErr result ↔ (calls_left.old ≡ Some 0) }
     ensures cause { CountsFailure result failures.old failures.new }
 {
-    match *served {
+    match *calls_left {
         Some(0) => {
             *failures = failures.saturating_add(1);
             Err(DeviceFault)
         }
         Some(left) => {
-            *served = Some(left - 1);
+            *calls_left = Some(left - 1);
             Ok(())
         }
         None => Ok(()),
@@ -105,13 +108,13 @@ fn put(
 }
 
 impl Device for MemoryDevice {
-    ghost use Rattle.sector_dev.specs.Made.{KeepsModel, disk_of, size_of, reads_of, image_of, moment_of, since, TimePasses, KeepsDisk, Pends, IsFirstFailed};
+    ghost use Rattle.sector_dev.specs.Made.{KeepsModel, disk_of, sector_count_of, reads_of, image_of, moment_of, since, TimePasses, KeepsDisk, Pends, IsFirstFailed};
     ghost use Rattle.sector_dev.specs.Memory.{step};
     ghost use Rattle.sector_dev.specs.declared.memory.Call.TheVariants.{Synced};
 
     ghost keeps_model = { KeepsModel };
 
-    ghost size = { size_of };
+    ghost sector_count = { sector_count_of };
 
     ghost reads = { reads_of };
 
@@ -123,11 +126,13 @@ impl Device for MemoryDevice {
 
     ghost failures = { λ m. m.failures };
 
-    ghost served = { λ m. m.served };
+    ghost calls_left = { λ m. m.calls_left };
 
     ghost counts_now = { λ m t c model le now. this_moment_counts m.base.items m.calls.items t c le now };
 
     ghost only_now = { λ m c model since. no_other_moment m.base.items m.calls.items c since };
+
+    ghost images_of_some_disk = { λ m model. ((disk_of m).stable, (disk_of m).pending, λ c. (λ i. i, λ i. i)) };
 
     ghost reads_are_image = { λ m model. shown_is_image (disk_of m) };
 
@@ -137,18 +142,20 @@ impl Device for MemoryDevice {
         self.base.len() as u32
     }
 
+    /// It takes no memory, so it fails only where the device is armed and no call is left.
     fn read(&mut self, at: u32, into: &mut [u8; 512]) -> Result<(), DeviceFault>
-        requires { at < size_of self.old }
-        ensures size { size_of self.new ≡ size_of self.old }
+        requires { at < sector_count_of self.old }
+        ensures sectors { sector_count_of self.new ≡ sector_count_of self.old }
         ensures model { KeepsModel self.new ↔ KeepsModel self.old }
         ensures value { KeepsModel self.old → OnOk result (into.new ≡ slice_index_or (reads_of self.old) at []) }
         ensures unchanged { KeepsModel self.old → IsUnchanged (reads_of self.old) (reads_of self.new) (image_of self.old) (image_of self.new) }
         ensures time { KeepsModel self.old → TimePasses self.old self.new (image_of self.old) }
         ensures cause { CountsFailure result self.old.failures self.new.failures }
-        ensures served { TakesOne result self.old.served self.new.served }
+        ensures calls_left { TakesOne result self.old.calls_left self.new.calls_left }
         ensures disk { KeepsDisk self.old self.new }
+        ensures fails { IsErr result ↔ (self.old.calls_left ≡ Some 0) }
     {
-        take_one(&mut self.served, &mut self.failures)?;
+        take_one(&mut self.calls_left, &mut self.failures)?;
         *into = self.seen[at as usize];
         Ok(())
     }
@@ -156,20 +163,19 @@ impl Device for MemoryDevice {
     /// A write that fails because the device is armed is pending if it is the first such, else not. One that fails
     /// for want of memory is not pending.
     fn write(&mut self, at: u32, from: &[u8; 512]) -> Result<(), DeviceFault>
-        requires { at < size_of self.old }
-        ensures size { size_of self.new ≡ size_of self.old }
+        requires { at < sector_count_of self.old }
+        ensures sectors { sector_count_of self.new ≡ sector_count_of self.old }
         ensures model { KeepsModel self.new ↔ KeepsModel self.old }
         ensures ok { KeepsModel self.old → OnOk result (IsPending at from.now (reads_of self.old) (reads_of self.new) (image_of self.old) (image_of self.new)) }
-        ensures err { KeepsModel self.old → OnErr result (IsUnchanged (reads_of self.old) (reads_of self.new) (image_of self.old) (image_of self.new)
-            ⊎ IsPending at from.now (reads_of self.old) (reads_of self.new) (image_of self.old) (image_of self.new)) }
+        ensures err { KeepsModel self.old → OnErr result (MayBePending at from.now (reads_of self.old) (reads_of self.new) (image_of self.old) (image_of self.new)) }
         ensures time { KeepsModel self.old → TimePasses self.old self.new (WithOrWithout at from.now (image_of self.old)) }
         ensures cause { CountsFailure result self.old.failures self.new.failures }
-        ensures served { TakesOne result self.old.served self.new.served }
+        ensures calls_left { TakesOne result self.old.calls_left self.new.calls_left }
         ensures pending { OnOk result (Pends at from.now self.old self.new) }
-        ensures torn { OnOk result (self.new.torn ≡ self.old.torn) }
+        ensures failed_pending { OnOk result (self.new.failed_pending ≡ self.old.failed_pending) }
         ensures failed { OnErr result (KeepsDisk self.old self.new ⊎ IsFirstFailed at from.now self.old self.new) }
     {
-        match take_one(&mut self.served, &mut self.failures) {
+        match take_one(&mut self.calls_left, &mut self.failures) {
             Ok(()) => {
                 put(
                     &mut self.seen,
@@ -181,7 +187,7 @@ impl Device for MemoryDevice {
                 Ok(())
             }
             Err(fault) => {
-                if self.torn {
+                if self.failed_pending {
                     return Err(fault);
                 }
                 put(
@@ -191,7 +197,7 @@ impl Device for MemoryDevice {
                     from,
                     &mut self.failures,
                 )?;
-                self.torn = true;
+                self.failed_pending = true;
                 Err(fault)
             }
         }
@@ -199,18 +205,18 @@ impl Device for MemoryDevice {
 
     /// One that fails leaves the pending writes as they are.
     fn sync(&mut self) -> Result<(), DeviceFault>
-        ensures size { size_of self.new ≡ size_of self.old }
+        ensures sectors { sector_count_of self.new ≡ sector_count_of self.old }
         ensures model { KeepsModel self.new ↔ KeepsModel self.old }
         ensures ok { KeepsModel self.old → OnOk result (IsStable (reads_of self.old) (reads_of self.new) (image_of self.new)) }
         ensures err { KeepsModel self.old → OnErr result (MayBeStable (reads_of self.old) (reads_of self.new) (image_of self.old) (image_of self.new)) }
         ensures time { KeepsModel self.old → TimePasses self.old self.new (image_of self.old) }
         ensures cause { CountsFailure result self.old.failures self.new.failures }
-        ensures served { TakesOne result self.old.served self.new.served }
+        ensures calls_left { TakesOne result self.old.calls_left self.new.calls_left }
         ensures settled { OnOk result (disk_of self.new ≡ step (disk_of self.old) Synced) }
-        ensures torn { OnOk result (self.new.torn ≡ self.old.torn) }
+        ensures failed_pending { OnOk result (self.new.failed_pending ≡ self.old.failed_pending) }
         ensures failed { OnErr result (KeepsDisk self.old self.new) }
     {
-        take_one(&mut self.served, &mut self.failures)?;
+        take_one(&mut self.calls_left, &mut self.failures)?;
         note(&mut self.calls, Call::Synced, &mut self.failures)?;
         Ok(())
     }
@@ -271,7 +277,7 @@ fn play(sectors: &mut [[u8; 512]], calls: &[Call], keep: &[bool])
 
 impl CrashDevice for MemoryDevice {
     ghost use Rattle.std.specs.Prelude.{refl};
-    ghost use Rattle.sector_dev.specs.Made.{KeepsModel, disk_of, size_of, reads_of, image_of, TimePasses};
+    ghost use Rattle.sector_dev.specs.Made.{KeepsModel, disk_of, sector_count_of, reads_of, image_of, TimePasses};
 
     ghost stable = { λ m. (disk_of m).stable };
 
@@ -282,34 +288,35 @@ impl CrashDevice for MemoryDevice {
     ghost reads_are = { λ m model. refl };
 
     fn arm(&mut self, calls: u64)
-        ensures size { size_of self.new ≡ size_of self.old }
+        ensures sectors { sector_count_of self.new ≡ sector_count_of self.old }
         ensures model { KeepsModel self.new ↔ KeepsModel self.old }
-        ensures served { self.new.served ≡ Some calls }
+        ensures calls_left { self.new.calls_left ≡ Some calls }
         ensures failures { self.new.failures ≡ self.old.failures }
-        ensures stable { (disk_of self.new).stable ≡ (disk_of self.old).stable }
-        ensures pending { (disk_of self.new).pending ≡ (disk_of self.old).pending }
+        ensures unchanged { KeepsModel self.old → IsUnchanged (reads_of self.old) (reads_of self.new) (image_of self.old) (image_of self.new) }
         ensures time { KeepsModel self.old → TimePasses self.old self.new (image_of self.old) }
-        ensures torn { self.new.torn ≡ false }
+        ensures stable { KeepsModel self.old → (disk_of self.new).stable ≡ (disk_of self.old).stable }
+        ensures pending { KeepsModel self.old → (disk_of self.new).pending ≡ (disk_of self.old).pending }
+        ensures failed_pending { self.new.failed_pending ≡ false }
     {
-        self.served = Some(calls);
-        self.torn = false;
+        self.calls_left = Some(calls);
+        self.failed_pending = false;
     }
 
     fn crash(&mut self, keep: &[bool])
-        ensures size { size_of self.new ≡ size_of self.old }
+        ensures sectors { sector_count_of self.new ≡ sector_count_of self.old }
         ensures model { KeepsModel self.new ↔ KeepsModel self.old }
-        ensures served { self.new.served ≡ None }
+        ensures calls_left { self.new.calls_left ≡ None }
         ensures failures { self.new.failures ≡ self.old.failures }
         ensures left { KeepsModel self.old → IsStable (left_by (disk_of self.old).stable (disk_of self.old).pending keep.now) (reads_of self.new) (image_of self.new) }
         ensures image { KeepsModel self.old → image_of self.old (reads_of self.new) }
         ensures stable { KeepsModel self.old → (disk_of self.new).stable ≡ left_by (disk_of self.old).stable (disk_of self.old).pending keep.now }
         ensures pending { KeepsModel self.old → (disk_of self.new).pending ≡ [] }
-        ensures torn { self.new.torn ≡ false }
+        ensures failed_pending { self.new.failed_pending ≡ false }
     {
         play(&mut self.base, &self.calls, keep);
         self.seen.copy_from_slice(&self.base);
         self.calls.clear();
-        self.served = None;
-        self.torn = false;
+        self.calls_left = None;
+        self.failed_pending = false;
     }
 }

@@ -1,7 +1,7 @@
 use Rattle.std.proofs.Common.{◌≡◌, ◌++◌, ◌∙◌, length, take, drop, ap, arith}
 use Rattle.sector_dev.specs.Crash.{left_by}
 use Rattle.sector_dev.specs.Memory.{after, at_rest}
-use Rattle.sector_dev.proofs.Crashes.{crash_is_stable, crash_is_image, played_of}
+use Rattle.sector_dev.proofs.Crashes.{rest_is_stable, crash_is_image, played_of}
 use Rattle.sector_dev.proofs.Moments.{length-shown}
 use Rattle.sector_dev.proofs.Settled.{written_back}
 use Rattle.sector_dev.proofs.memory.MemoryDeviceCrashDevice.crash.Goals as goal
@@ -21,7 +21,7 @@ returns-clause-left c =
     let is : next ≡ left_by d.stable d.pending c.args.keep.now =
     written_back base.len c.play.new.sectors base.items length_kept (omega arith)
     ∙ played_of c.deref_mut.result.now base.items c.deref.result.now c.args.self.now.calls.items c.args.keep.now c.play.new.sectors c.deref_mut.ensures.value c.deref.ensures.value c.play.ensures in
-    λ model. crash_is_stable (left_by d.stable d.pending c.args.keep.now) next c.clear.new.self.items c.clear.ensures.items is
+    λ model. rest_is_stable (left_by d.stable d.pending c.args.keep.now) next c.clear.new.self.items c.clear.ensures.items is
 
 pub returns-clause-image : goal.returns-clause-image
 returns-clause-image c =

@@ -34,7 +34,8 @@ returns-in_ok-put-in-Ok-clause-time c =
 pub returns-in_ok-put-in-Err-clause-err : goal.returns-in_ok-put-in-Err-clause-err
 returns-in_ok-put-in-Err-clause-err c =
     let m = c.args.self.now in
-    λ model. inr (written_is_pending m.base.items m.calls.items c.put-in-Err.new.calls.items c.args.at c.args.from.now c.requires c.in_ok-put-in-Err.ensures.calls)
+    let pending = written_is_pending m.base.items m.calls.items c.put-in-Err.new.calls.items c.args.at c.args.from.now c.requires c.in_ok-put-in-Err.ensures.calls in
+    λ model. record { reads = inr pending.reads; images = inr pending.images }
 
 pub returns-in_ok-put-in-Err-clause-time : goal.returns-in_ok-put-in-Err-clause-time
 returns-in_ok-put-in-Err-clause-time c =

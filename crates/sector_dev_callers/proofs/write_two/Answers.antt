@@ -1,28 +1,32 @@
-use Rattle.std.proofs.Common.{inl, ◌∙◌, ap, ℕ, List}
+use Rattle.std.proofs.Common.{inl, ◌∙◌, ap, ℕ, List, subst}
+use Rattle.sector_dev.specs.Device.{IsStable}
 use Rattle.std.specs.Prelude.{slice_set}
-use Rattle.sector_dev.specs.Callers.{OldOrEither}
-use Rattle.sector_dev.proofs.Runs.{started, goes_on, one_changed, two_changed}
-use Rattle.sector_dev.proofs.callers.write_two.Goals as goal
+use Rattle.sector_dev_callers.specs.Changes.{OldOrEither}
+use Rattle.sector_dev.proofs.Runs.{started, goes_on}
+use Rattle.sector_dev_callers.proofs.ChangeLemmas.{one_changed, two_changed}
+use Rattle.sector_dev_callers.proofs.write_two.Goals as goal
 
 pub returns-in_err-write-clause-any_moment : goal.returns-in_err-write-clause-any_moment
 returns-in_err-write-clause-any_moment g c =
+    λ at_rest.
     let d = c.args.device.now in
-    let model = c.requires.model in
+    let model = at_rest.0 in
     let reads = g.D.Device.reads d in
     let P = OldOrEither reads c.args.at c.args.from.now c.args.also_at c.args.also.now in
-    let one = one_changed reads (g.D.Device.image d) c.args.at c.args.from.now c.requires.settled in
-    let at_start = started g.D.Device.moment g.D.Device.image_since d P (λ f left. inl (inl (c.requires.settled f (g.met.D.Device.only_now d f model left)))) in
+    let one = one_changed reads (g.D.Device.image d) c.args.at c.args.from.now at_rest.1 in
+    let at_start = started g.D.Device.moment g.D.Device.image_since d P (λ f left. inl (inl (at_rest.1 f (g.met.D.Device.only_now d f model left)))) in
     let wrote = goes_on g.D.Device.moment g.D.Device.image_since d d c.write.new.self P _ at_start (c.write.ensures.time model) (λ f h. inl (one f h)) in
     wrote
 
 pub returns-in_err-write-2-clause-any_moment : goal.returns-in_err-write-2-clause-any_moment
 returns-in_err-write-2-clause-any_moment g c =
+    λ at_rest.
     let d = c.args.device.now in
-    let model = c.requires.model in
+    let model = at_rest.0 in
     let reads = g.D.Device.reads d in
     let P = OldOrEither reads c.args.at c.args.from.now c.args.also_at c.args.also.now in
-    let one = one_changed reads (g.D.Device.image d) c.args.at c.args.from.now c.requires.settled in
-    let at_start = started g.D.Device.moment g.D.Device.image_since d P (λ f left. inl (inl (c.requires.settled f (g.met.D.Device.only_now d f model left)))) in
+    let one = one_changed reads (g.D.Device.image d) c.args.at c.args.from.now at_rest.1 in
+    let at_start = started g.D.Device.moment g.D.Device.image_since d P (λ f left. inl (inl (at_rest.1 f (g.met.D.Device.only_now d f model left)))) in
     let wrote = goes_on g.D.Device.moment g.D.Device.image_since d d c.write.new.self P _ at_start (c.write.ensures.time model) (λ f h. inl (one f h)) in
     let model_1 = c.write.ensures.model.1 model in
     let pending = c.in_ok-write.ensures.ok model in
@@ -32,12 +36,13 @@ returns-in_err-write-2-clause-any_moment g c =
 
 pub returns-in_err-sync-clause-any_moment : goal.returns-in_err-sync-clause-any_moment
 returns-in_err-sync-clause-any_moment g c =
+    λ at_rest.
     let d = c.args.device.now in
-    let model = c.requires.model in
+    let model = at_rest.0 in
     let reads = g.D.Device.reads d in
     let P = OldOrEither reads c.args.at c.args.from.now c.args.also_at c.args.also.now in
-    let one = one_changed reads (g.D.Device.image d) c.args.at c.args.from.now c.requires.settled in
-    let at_start = started g.D.Device.moment g.D.Device.image_since d P (λ f left. inl (inl (c.requires.settled f (g.met.D.Device.only_now d f model left)))) in
+    let one = one_changed reads (g.D.Device.image d) c.args.at c.args.from.now at_rest.1 in
+    let at_start = started g.D.Device.moment g.D.Device.image_since d P (λ f left. inl (inl (at_rest.1 f (g.met.D.Device.only_now d f model left)))) in
     let wrote = goes_on g.D.Device.moment g.D.Device.image_since d d c.write.new.self P _ at_start (c.write.ensures.time model) (λ f h. inl (one f h)) in
     let model_1 = c.write.ensures.model.1 model in
     let pending = c.in_ok-write.ensures.ok model in
@@ -49,12 +54,13 @@ returns-in_err-sync-clause-any_moment g c =
 
 pub returns-clause-any_moment : goal.returns-clause-any_moment
 returns-clause-any_moment g c =
+    λ at_rest.
     let d = c.args.device.now in
-    let model = c.requires.model in
+    let model = at_rest.0 in
     let reads = g.D.Device.reads d in
     let P = OldOrEither reads c.args.at c.args.from.now c.args.also_at c.args.also.now in
-    let one = one_changed reads (g.D.Device.image d) c.args.at c.args.from.now c.requires.settled in
-    let at_start = started g.D.Device.moment g.D.Device.image_since d P (λ f left. inl (inl (c.requires.settled f (g.met.D.Device.only_now d f model left)))) in
+    let one = one_changed reads (g.D.Device.image d) c.args.at c.args.from.now at_rest.1 in
+    let at_start = started g.D.Device.moment g.D.Device.image_since d P (λ f left. inl (inl (at_rest.1 f (g.met.D.Device.only_now d f model left)))) in
     let wrote = goes_on g.D.Device.moment g.D.Device.image_since d d c.write.new.self P _ at_start (c.write.ensures.time model) (λ f h. inl (one f h)) in
     let model_1 = c.write.ensures.model.1 model in
     let pending = c.in_ok-write.ensures.ok model in
@@ -66,9 +72,11 @@ returns-clause-any_moment g c =
 
 pub returns-clause-changed : goal.returns-clause-changed
 returns-clause-changed g c =
-    let model = c.requires.model in
+    λ at_rest.
+    let model = at_rest.0 in
     let model_1 = c.write.ensures.model.1 model in
     let pending = c.in_ok-write.ensures.ok model in
     let pending_2 = c.in_ok-write-2.ensures.ok model_1 in
     let stable = c.in_ok-sync.ensures.ok (c.write-2.ensures.model.1 model_1) in
-    λ f now. (stable.images f).0 now ∙ (pending_2.reads ∙ ap (λ (s : List (List ℕ)). slice_set s c.args.also_at c.args.also.now) pending.reads)
+    subst (λ (s : List (List ℕ)). IsStable s (g.D.Device.reads c.sync.new.self) (g.D.Device.image c.sync.new.self))
+    (pending_2.reads ∙ ap (λ (s : List (List ℕ)). slice_set s c.args.also_at c.args.also.now) pending.reads) stable

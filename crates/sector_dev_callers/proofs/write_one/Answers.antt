@@ -1,27 +1,31 @@
-use Rattle.std.proofs.Common.{inl, ◌∙◌}
-use Rattle.sector_dev.specs.Callers.{OldOrChanged}
-use Rattle.sector_dev.proofs.Runs.{started, goes_on, one_changed}
-use Rattle.sector_dev.proofs.callers.write_one.Goals as goal
+use Rattle.std.proofs.Common.{inl, ℕ, List, subst}
+use Rattle.sector_dev.specs.Device.{IsStable}
+use Rattle.sector_dev_callers.specs.Changes.{OldOrChanged}
+use Rattle.sector_dev.proofs.Runs.{started, goes_on}
+use Rattle.sector_dev_callers.proofs.ChangeLemmas.{one_changed}
+use Rattle.sector_dev_callers.proofs.write_one.Goals as goal
 
 pub returns-in_err-write-clause-any_moment : goal.returns-in_err-write-clause-any_moment
 returns-in_err-write-clause-any_moment g c =
+    λ at_rest.
     let d = c.args.device.now in
-    let model = c.requires.model in
+    let model = at_rest.0 in
     let reads = g.D.Device.reads d in
     let P = OldOrChanged reads c.args.at c.args.value.now in
-    let one = one_changed reads (g.D.Device.image d) c.args.at c.args.value.now c.requires.settled in
-    let at_start = started g.D.Device.moment g.D.Device.image_since d P (λ f left. inl (c.requires.settled f (g.met.D.Device.only_now d f model left))) in
+    let one = one_changed reads (g.D.Device.image d) c.args.at c.args.value.now at_rest.1 in
+    let at_start = started g.D.Device.moment g.D.Device.image_since d P (λ f left. inl (at_rest.1 f (g.met.D.Device.only_now d f model left))) in
     let wrote = goes_on g.D.Device.moment g.D.Device.image_since d d c.write.new.self P _ at_start (c.write.ensures.time model) one in
     wrote
 
 pub returns-in_err-sync-clause-any_moment : goal.returns-in_err-sync-clause-any_moment
 returns-in_err-sync-clause-any_moment g c =
+    λ at_rest.
     let d = c.args.device.now in
-    let model = c.requires.model in
+    let model = at_rest.0 in
     let reads = g.D.Device.reads d in
     let P = OldOrChanged reads c.args.at c.args.value.now in
-    let one = one_changed reads (g.D.Device.image d) c.args.at c.args.value.now c.requires.settled in
-    let at_start = started g.D.Device.moment g.D.Device.image_since d P (λ f left. inl (c.requires.settled f (g.met.D.Device.only_now d f model left))) in
+    let one = one_changed reads (g.D.Device.image d) c.args.at c.args.value.now at_rest.1 in
+    let at_start = started g.D.Device.moment g.D.Device.image_since d P (λ f left. inl (at_rest.1 f (g.met.D.Device.only_now d f model left))) in
     let wrote = goes_on g.D.Device.moment g.D.Device.image_since d d c.write.new.self P _ at_start (c.write.ensures.time model) one in
     let pending = c.in_ok-write.ensures.ok model in
     let synced = goes_on g.D.Device.moment g.D.Device.image_since d c.write.new.self c.sync.new.self P _ wrote (c.sync.ensures.time (c.write.ensures.model.1 model)) (λ f now. one f ((pending.images f).0 now)) in
@@ -29,12 +33,13 @@ returns-in_err-sync-clause-any_moment g c =
 
 pub returns-clause-any_moment : goal.returns-clause-any_moment
 returns-clause-any_moment g c =
+    λ at_rest.
     let d = c.args.device.now in
-    let model = c.requires.model in
+    let model = at_rest.0 in
     let reads = g.D.Device.reads d in
     let P = OldOrChanged reads c.args.at c.args.value.now in
-    let one = one_changed reads (g.D.Device.image d) c.args.at c.args.value.now c.requires.settled in
-    let at_start = started g.D.Device.moment g.D.Device.image_since d P (λ f left. inl (c.requires.settled f (g.met.D.Device.only_now d f model left))) in
+    let one = one_changed reads (g.D.Device.image d) c.args.at c.args.value.now at_rest.1 in
+    let at_start = started g.D.Device.moment g.D.Device.image_since d P (λ f left. inl (at_rest.1 f (g.met.D.Device.only_now d f model left))) in
     let wrote = goes_on g.D.Device.moment g.D.Device.image_since d d c.write.new.self P _ at_start (c.write.ensures.time model) one in
     let pending = c.in_ok-write.ensures.ok model in
     let synced = goes_on g.D.Device.moment g.D.Device.image_since d c.write.new.self c.sync.new.self P _ wrote (c.sync.ensures.time (c.write.ensures.model.1 model)) (λ f now. one f ((pending.images f).0 now)) in
@@ -42,7 +47,8 @@ returns-clause-any_moment g c =
 
 pub returns-clause-changed : goal.returns-clause-changed
 returns-clause-changed g c =
-    let model = c.requires.model in
+    λ at_rest.
+    let model = at_rest.0 in
     let pending = c.in_ok-write.ensures.ok model in
     let stable = c.in_ok-sync.ensures.ok (c.write.ensures.model.1 model) in
-    λ f now. (stable.images f).0 now ∙ pending.reads
+    subst (λ (s : List (List ℕ)). IsStable s (g.D.Device.reads c.sync.new.self) (g.D.Device.image c.sync.new.self)) pending.reads stable

@@ -1,0 +1,20 @@
+use Rattle.std.proofs.Common.{◌≡◌, refl, rules, length, ap, ◌∙◌}
+use Rattle.std.specs.Prelude.{replicate}
+use Rattle.std.proofs.lemmas.List.{length-replicate}
+use Rattle.sector_dev.specs.Made.{zeros}
+use Rattle.sector_dev.proofs.Crashes.{rest_is_stable}
+use Rattle.sector_dev.proofs.memory.MemoryDevice.new.Goals as goal
+
+pub returns : goal.returns
+returns c =
+    let sectors = c.args.sectors in
+    let base = c.resize.new.self.items in
+    let is : base ≡ zeros sectors = search rules in
+    record {
+      sector_count = ap length is ∙ length-replicate sectors (replicate 512 0);
+      stable = rest_is_stable (zeros sectors) base c.new.result.items c.new.ensures.items is;
+      disk = search rules;
+      calls_left = refl;
+      failed_pending = refl;
+      failures = refl;
+    }

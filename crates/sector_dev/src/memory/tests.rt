@@ -1,0 +1,385 @@
+//! Crashes, limited calls and want of memory, as a caller of the traits sees them.
+
+use crate::{CrashDevice, Device, DeviceFault, MemoryDevice};
+use std::alloc::{AllocError, Global};
+use std::process::Abort;
+use std::test::Fail;
+
+/// What each of three sectors is filled with.
+type Bytes = [u8; 3];
+
+/// Distinct, and no byte that a test writes over them.
+const STABLE: Bytes = [101, 102, 103];
+
+// Fills a sector with a byte.
+fn fill<D: Device>(device: &mut D, at: u32, byte: u8) -> Result<(), DeviceFault> {
+    if at >= device.sectors() {
+        return Err(DeviceFault);
+    }
+    device.write(at, &[byte; 512])
+}
+
+// The byte that a sector is filled with.
+fn byte_at<D: Device>(rt: &impl Abort, device: &mut D, at: u32) -> Result<u8, DeviceFault> {
+    if at >= device.sectors() {
+        return Err(DeviceFault);
+    }
+    let mut sector = [255; 512];
+    device.read(at, &mut sector)?;
+    let byte = sector[0];
+    assert!(rt;
+        sector == [byte; 512],
+        "sector {at} is not filled with one byte"
+    );
+    Ok(byte)
+}
+
+// What the first three sectors are filled with.
+fn bytes<D: Device>(rt: &impl Abort, device: &mut D) -> Result<Bytes, DeviceFault> {
+    Ok([
+        byte_at(rt, device, 0)?,
+        byte_at(rt, device, 1)?,
+        byte_at(rt, device, 2)?,
+    ])
+}
+
+// Fills the first three sectors, stably.
+fn settle<D: Device>(device: &mut D, stable: Bytes) -> Result<(), DeviceFault> {
+    for (at, byte) in [0, 1, 2].into_iter().zip(stable) {
+        fill(device, at, byte)?;
+    }
+    device.sync()
+}
+
+/// A sector, and what it is filled with.
+type Filling = (u32, u8);
+
+// The stable bytes after those writes whose place in `keep` is true.
+fn left(writes: &[Filling], keep: &[bool]) -> Bytes {
+    let mut left = STABLE;
+    for (place, (at, byte)) in writes.iter().enumerate() {
+        if keep.get(place) == Some(&true)
+            && let Some(sector) = left.get_mut(*at as usize)
+        {
+            *sector = *byte;
+        }
+    }
+    left
+}
+
+// The bytes that a crash may leave in a sector: the stable one, and that of each write to it.
+fn choices(alloc: Global, writes: &[Filling], at: u32, stable: u8) -> Result<Vec<u8>, AllocError> {
+    let mut choices = vec![in alloc; stable]?;
+    for (sector, byte) in writes {
+        if *sector == at {
+            choices.push(*byte)?;
+        }
+    }
+    Ok(choices)
+}
+
+// Each choice for a sector with each for the others.
+fn images(alloc: Global, writes: &[Filling]) -> Result<Vec<Bytes>, AllocError> {
+    let mut images = Vec::new(alloc);
+    for first in choices(alloc, writes, 0, STABLE[0])? {
+        for second in choices(alloc, writes, 1, STABLE[1])? {
+            for third in choices(alloc, writes, 2, STABLE[2])? {
+                images.push([first, second, third])?;
+            }
+        }
+    }
+    Ok(images)
+}
+
+// What a crash after these writes leaves, which later crashes don't change.
+fn crashed<D: CrashDevice>(
+    rt: &impl Abort,
+    device: &mut D,
+    writes: &[Filling],
+    keep: &[bool],
+) -> Result<Bytes, DeviceFault> {
+    settle(device, STABLE)?;
+    for (at, byte) in writes {
+        fill(device, *at, *byte)?;
+    }
+    assert_eq!(rt;
+        bytes(rt, device)?,
+        left(writes, &[true; 4]),
+        "before the crash, {writes:?}"
+    );
+    device.crash(keep);
+    let outcome = bytes(rt, device)?;
+    device.crash(&[true; 8]);
+    assert_eq!(rt;
+        bytes(rt, device)?,
+        outcome,
+        "nothing is pending, {writes:?} {keep:?}"
+    );
+    device.crash(&[]);
+    assert_eq!(rt;
+        bytes(rt, device)?,
+        outcome,
+        "the kept is stable, {writes:?} {keep:?}"
+    );
+    Ok(outcome)
+}
+
+// Plays a crash after these writes for each list of up to five places, so too short and too long ones are among them.
+fn check_crashes<D: CrashDevice>(
+    rt: &impl Abort,
+    alloc: Global,
+    device: &mut D,
+    writes: &[Filling],
+) -> Result<(), Fail> {
+    let images = images(alloc, writes)?;
+    let mut outcomes = Vec::new(alloc);
+    for (length, lists) in [1u8, 2, 4, 8, 16, 32].into_iter().enumerate() {
+        for number in 0..lists {
+            let places = [1u8, 2, 4, 8, 16].map(|bit| number & bit != 0);
+            let keep = places.get(..length).ok_or("a length of at most five")?;
+            let outcome = crashed(rt, device, writes, keep)?;
+            assert_eq!(rt; outcome, left(writes, keep), "{writes:?} {keep:?}");
+            assert!(rt; images.contains(&outcome), "{writes:?} {keep:?}");
+            outcomes.push(outcome)?;
+        }
+    }
+    for image in &images {
+        assert!(rt; outcomes.contains(image), "{writes:?} never left {image:?}");
+    }
+    Ok(())
+}
+
+#[test]
+fn crashes_leave_the_images(rt: HostRuntime) -> Result<(), Fail> {
+    for (length, lists) in [1u32, 3, 9, 27, 81].into_iter().enumerate() {
+        for number in 0..lists {
+            let writes = [
+                (number % 3, 1),
+                (number / 3 % 3, 2),
+                (number / 9 % 3, 3),
+                (number / 27 % 3, 4),
+            ];
+            let writes = writes.get(..length).ok_or("a length of at most four")?;
+            let mut device = MemoryDevice::new(rt.alloc(), 3)?;
+            check_crashes(&rt, rt.alloc(), &mut device, writes)?;
+        }
+    }
+    Ok(())
+}
+
+#[derive(Clone, Copy, Debug)]
+enum Step {
+    Fill(u32, u8),
+    Read(u32),
+    Sync,
+}
+
+// Makes a call.
+fn make<D: Device>(rt: &impl Abort, device: &mut D, step: Step) -> Result<(), DeviceFault> {
+    match step {
+        Step::Fill(at, byte) => fill(device, at, byte),
+        Step::Read(at) => byte_at(rt, device, at).map(|_| ()),
+        Step::Sync => device.sync(),
+    }
+}
+
+const SCRIPT: [Step; 8] = [
+    Step::Fill(0, 1),
+    Step::Fill(1, 2),
+    Step::Sync,
+    Step::Read(0),
+    Step::Fill(0, 3),
+    Step::Fill(1, 4),
+    Step::Sync,
+    Step::Fill(2, 5),
+];
+
+// What a crash leaves after the script with so many calls served. Before it reads give `seen`, where they are served.
+fn crashed_script<D: CrashDevice>(
+    rt: &impl Abort,
+    device: &mut D,
+    calls: u64,
+    seen: Bytes,
+    keep: &[bool],
+) -> Result<Bytes, DeviceFault> {
+    settle(device, STABLE)?;
+    device.arm(calls);
+    for (place, step) in SCRIPT.into_iter().enumerate() {
+        let served = (place as u64) < calls;
+        assert_eq!(rt;
+            make(rt, device, step).is_ok(),
+            served,
+            "{step:?} at {place} of {calls}"
+        );
+    }
+    for step in [Step::Read(0), Step::Sync, Step::Read(0)] {
+        assert_eq!(rt;
+            make(rt, device, step),
+            Err(DeviceFault),
+            "{step:?} after {calls}"
+        );
+    }
+    device.arm(3);
+    assert_eq!(rt; bytes(rt, device)?, seen, "what is pending after {calls}");
+    assert_eq!(rt;
+        byte_at(rt, device, 0),
+        Err(DeviceFault),
+        "the fourth after {calls}"
+    );
+    device.crash(keep);
+    bytes(rt, device)
+}
+
+#[test]
+fn armed_calls(rt: HostRuntime) -> Result<(), Fail> {
+    let mut device = MemoryDevice::new(rt.alloc(), 3)?;
+    for (calls, stable, seen) in [
+        (0, STABLE, [1, 102, 103]),
+        (1, STABLE, [1, 2, 103]),
+        (2, STABLE, [3, 2, 103]),
+        (3, [1, 2, 103], [3, 2, 103]),
+        (4, [1, 2, 103], [3, 2, 103]),
+        (5, [1, 2, 103], [3, 4, 103]),
+        (6, [1, 2, 103], [3, 4, 5]),
+        (7, [3, 4, 103], [3, 4, 5]),
+        (8, [3, 4, 103], [3, 4, 5]),
+    ] {
+        let without = crashed_script(&rt, &mut device, calls, seen, &[]);
+        assert_eq!(rt; without, Ok(stable), "none kept after {calls} calls");
+        let with = crashed_script(&rt, &mut device, calls, seen, &[true; 8]);
+        assert_eq!(rt; with, Ok(seen), "all kept after {calls} calls");
+    }
+    Ok(())
+}
+
+/// What the calls that were answered `Ok` come to.
+#[derive(Clone, Copy)]
+struct Expected {
+    seen: Bytes,
+    /// What a crash leaves.
+    left: Bytes,
+    pending: usize,
+}
+
+impl Expected {
+    // Where nothing is pending.
+    fn settled(bytes: Bytes) -> Self {
+        Expected {
+            seen: bytes,
+            left: bytes,
+            pending: 0,
+        }
+    }
+
+    // After one more call, for a crash that keeps these places.
+    fn after(self, step: Step, keep: &[bool]) -> Self {
+        match step {
+            Step::Fill(at, byte) => {
+                let kept = keep.get(self.pending) == Some(&true);
+                Expected {
+                    seen: changed(self.seen, at, byte),
+                    left: if kept {
+                        changed(self.left, at, byte)
+                    } else {
+                        self.left
+                    },
+                    pending: self.pending.saturating_add(1),
+                }
+            }
+            Step::Read(_) => self,
+            Step::Sync => Expected::settled(self.seen),
+        }
+    }
+}
+
+fn changed(bytes: Bytes, at: u32, byte: u8) -> Bytes {
+    let mut changed = bytes;
+    if let Some(sector) = changed.get_mut(at as usize) {
+        *sector = byte;
+    }
+    changed
+}
+
+// Makes twelve calls, begun at `start` in a cycle of five, and plays a crash at the end, and if `at_once` also after each
+// refused call. All is as if the refused calls had not been made.
+fn make_or_refuse<D: CrashDevice>(
+    rt: &impl Abort,
+    device: &mut D,
+    start: u8,
+    keep: &[bool],
+    at_once: bool,
+) {
+    let mut expected = Expected::settled([0; 3]);
+    for number in start..start.saturating_add(12) {
+        let step = match number % 5 {
+            0 => Step::Fill(0, number),
+            1 => Step::Fill(1, number),
+            2 => Step::Sync,
+            3 => Step::Fill(2, number),
+            _ => Step::Fill(0, number),
+        };
+        let answer = make(rt, device, step);
+        if answer.is_ok() {
+            expected = expected.after(step, keep);
+        }
+        assert_eq!(rt;
+            bytes(rt, device),
+            Ok(expected.seen),
+            "after {step:?}: {answer:?}"
+        );
+        if at_once && answer.is_err() {
+            device.crash(keep);
+            assert_eq!(rt;
+                bytes(rt, device),
+                Ok(expected.left),
+                "left after {step:?} was refused"
+            );
+            expected = Expected::settled(expected.left);
+        }
+    }
+    device.crash(keep);
+    assert_eq!(rt; bytes(rt, device), Ok(expected.left), "left at the end");
+}
+
+// Passes whichever allocation is refused.
+#[test]
+fn refused_memory(rt: HostRuntime) {
+    let mixed = [false, true, false, true, false, true, false, true];
+    for (keep, at_once) in [([false; 8], true), ([true; 8], true), (mixed, false)] {
+        for start in 1..6u8 {
+            match MemoryDevice::new(rt.alloc(), 3) {
+                Ok(mut device) => make_or_refuse(&rt, &mut device, start, &keep, at_once),
+                Err(AllocError) => {}
+            }
+        }
+    }
+}
+
+// Writes and syncs 20,000 times, and then loses a write to each sector.
+fn run_long<D: CrashDevice>(rt: &impl Abort, device: &mut D) -> Result<(), DeviceFault> {
+    for number in 0..20_000u32 {
+        fill(device, number % 212, (number % 251) as u8)?;
+        device.sync()?;
+    }
+    for at in 0..212u32 {
+        fill(device, at, 255)?;
+    }
+    device.crash(&[]);
+    for number in 19_788..20_000u32 {
+        let byte = byte_at(rt, device, number % 212)?;
+        assert_eq!(rt;
+            byte,
+            (number % 251) as u8,
+            "write {number} is the last to its sector"
+        );
+    }
+    Ok(())
+}
+
+// Each call takes a time that doesn't grow with the device or the calls before it.
+#[test]
+fn a_long_run(rt: HostRuntime) -> Result<(), Fail> {
+    let mut device = MemoryDevice::new(rt.alloc(), 212)?;
+    run_long(&rt, &mut device)?;
+    Ok(())
+}
