@@ -31,7 +31,8 @@ abbrev pub each_before : List (List ℕ) → List (List (List ℕ)) → List (Li
 each_before [] rests = []
 each_before (value ∷ rest_of_values) rests = map (λ rest. value ∷ rest) rests ++ each_before rest_of_values rests
 
--- every image of these sectors, of which the first has the number `at`, one after the other
+-- every image of these sectors, of which the first has the number `at`, one after the other; that these are just the
+-- images is `images_exact` in proofs/ImageList.antt
 abbrev pub images : ℕ → List (List ℕ) → List Write → List (List (List ℕ))
 images at [] pending = [] ∷ []
 images at (stable ∷ rest) pending = each_before (values at stable pending) (images (at + 1) rest pending)

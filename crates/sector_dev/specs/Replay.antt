@@ -13,7 +13,8 @@ use Rattle.sector_dev.specs.Memory.{Disk, shown, step, after, at_rest}
 abbrev pub MayLeave : Disk → List (List ℕ) → Type 0
 MayLeave d c = Image d.stable d.pending c
 
--- a crash at some moment from t on might have left that; a moment is a number of calls
+-- a crash at some moment from t on might have left that; a moment is a number of recorded calls, which reads and
+-- refused calls are not
 pub record MightLeaveSince (stable : List (List ℕ)) (calls : List Call) (t : ℕ) (c : List (List ℕ)) : Type 0 where
   pub moment : ℕ
   pub from : t ≤ moment

@@ -18,6 +18,8 @@ pub enum Call {
     Synced,
 }
 
+/// A device in memory, on which every crash can be played. It always keeps the model. It records its writes and syncs,
+/// and a write or sync for which memory is refused counts as a failure and changes nothing that reads or crashes show.
 #[derive(Drop)]
 pub struct MemoryDevice {
     /// The values that were stable when the record began.
@@ -36,7 +38,8 @@ pub struct MemoryDevice {
 impl MemoryDevice {
     ghost use Rattle.sector_dev.specs.Made.{IsZeroed};
 
-    /// A device of zeros, all of them stable.
+    /// A device of zeros, all of them stable, whose calls are not limited. `AllocError` where memory for twice its sectors
+    /// of 512 bytes is refused.
     pub fn new(alloc: Global, sectors: u32) -> Result<MemoryDevice, AllocError>
         ensures { IfOk result (λ device. IsZeroed sectors device) }
     {
