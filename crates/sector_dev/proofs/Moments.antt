@@ -15,11 +15,14 @@ after-append d [] x = refl
 after-append d (c ∷ cs) x = after-append (step d c) cs x
 
 -- a recorded call is the last step
-pub recorded : (stable : List (List ℕ)) (calls next : List Call) (x : Call) → next ≡ calls ++ x ∷ [] → after (at_rest stable) next ≡ step (after (at_rest stable) calls) x
-recorded stable calls next x is = ap (λ (cs : List Call). after (at_rest stable) cs) is ∙ after-append (at_rest stable) calls x
+pub recorded : (stable : List (List ℕ)) (calls next : List Call) (x : Call) → next ≡ calls ++ x ∷ []
+    → after (at_rest stable) next ≡ step (after (at_rest stable) calls) x
+recorded stable calls next x is = ap (λ (cs : List Call). after (at_rest stable) cs) is
+    ∙ after-append (at_rest stable) calls x
 
 -- a call that changes nothing
-pub elapses_same : (n : ℕ) (since : ℕ → List (List ℕ) → Type 0) (during : List (List ℕ) → Type 0) → Elapses n n since since during
+pub elapses_same : (n : ℕ) (since : ℕ → List (List ℕ) → Type 0) (during : List (List ℕ) → Type 0)
+    → Elapses n n since since during
 elapses_same n since during = record { later = omega arith; nothing_else = λ t c le s. inl s; keeps = λ t c le s. s }
 
 pub same_is_unchanged : (reads : List (List ℕ)) (image : List (List ℕ) → Type 0) → IsUnchanged reads reads image image
@@ -41,18 +44,27 @@ module _ (stable : List (List ℕ)) (calls : List Call) (x : Call) where
   }
 
   nothing_else : (during : List (List ℕ) → Type 0) → ((c : List (List ℕ)) → MayLeave (step disk x) c → during c)
-      → (t : ℕ) (c : List (List ℕ)) → MightLeaveSince stable (calls ++ x ∷ []) t c → MightLeaveSince stable calls t c ⊎ during c
+      → (t : ℕ) (c : List (List ℕ)) → MightLeaveSince stable (calls ++ x ∷ []) t c → MightLeaveSince stable calls t c
+      ⊎ during c
   nothing_else during f t c s = elim (cases_eq s.moment (length calls + 1)) [
     | inl last ↦
         let whole = take_all s.moment (calls ++ x ∷ []) (omega (arith, last, length-append calls (x ∷ []))) in
-        inr (f c (subst (λ (d : Disk). MayLeave d c) (after-append (at_rest stable) calls x) (subst (AtCalls c) whole s.image)))
+        inr (f c (subst (λ (d : Disk). MayLeave d c) (after-append (at_rest stable) calls x)
+        (subst (AtCalls c) whole s.image)))
     | inr earlier ↦
         let le : s.moment ≤ length calls = omega (arith, earlier, s.to, length-append calls (x ∷ [])) in
-        inl (record { moment = s.moment; from = s.from; to = le; image = subst (AtCalls c) (take-append-le s.moment calls (x ∷ []) le) s.image })
+        inl (record {
+          moment = s.moment;
+          from = s.from;
+          to = le;
+          image =
+              subst (AtCalls c) (take-append-le s.moment calls (x ∷ []) le) s.image;
+        })
   ]
 
   elapses_one : (during : List (List ℕ) → Type 0) → ((c : List (List ℕ)) → MayLeave (step disk x) c → during c)
-      → Elapses (length calls) (length (calls ++ x ∷ [])) (MightLeaveSince stable calls) (MightLeaveSince stable (calls ++ x ∷ [])) during
+      → Elapses (length calls) (length (calls ++ x ∷ [])) (MightLeaveSince stable calls)
+      (MightLeaveSince stable (calls ++ x ∷ [])) during
   elapses_one during f = record {
     later = omega (arith, length-append calls (x ∷ []));
     nothing_else = λ t c le s. nothing_else during f t c s;
@@ -60,67 +72,98 @@ module _ (stable : List (List ℕ)) (calls : List Call) (x : Call) where
   }
 
 -- what a write does to the record's disk
-pub write_images : (stable : List (List ℕ)) (calls : List Call) (at : ℕ) (value : List ℕ) → at < length stable → (c : List (List ℕ))
-    → MayLeave (step (after (at_rest stable) calls) (Written at value)) c ↔ WithOrWithout at value (MayLeave (after (at_rest stable) calls)) c
+pub write_images : (stable : List (List ℕ)) (calls : List Call) (at : ℕ) (value : List ℕ) → at < length stable
+    → (c : List (List ℕ))
+    → MayLeave (step (after (at_rest stable) calls) (Written at value)) c ↔ WithOrWithout at value
+    (MayLeave (after (at_rest stable) calls)) c
 write_images stable calls at value lt c =
     let d = after (at_rest stable) calls in
-    pending_images d.stable d.pending (record { at = at; value = value }) (omega (arith, lt, length-after (at_rest stable) calls)) c
+    pending_images d.stable d.pending (record { at = at; value = value })
+    (omega (arith, lt, length-after (at_rest stable) calls)) c
 
-pub written_is_pending : (stable : List (List ℕ)) (calls next : List Call) (at : ℕ) (value : List ℕ) → at < length stable → next ≡ calls ++ Written at value ∷ []
-    → IsPending at value (shown (after (at_rest stable) calls)) (shown (after (at_rest stable) next)) (MayLeave (after (at_rest stable) calls)) (MayLeave (after (at_rest stable) next))
+pub written_is_pending : (stable : List (List ℕ)) (calls next : List Call) (at : ℕ) (value : List ℕ)
+    → at < length stable → next ≡ calls ++ Written at value ∷ []
+    → IsPending at value (shown (after (at_rest stable) calls)) (shown (after (at_rest stable) next))
+    (MayLeave (after (at_rest stable) calls)) (MayLeave (after (at_rest stable) next))
 written_is_pending stable calls next at value lt is =
     let d = after (at_rest stable) calls in
-    subst (λ (e : Disk). IsPending at value (shown d) (shown e) (MayLeave d) (MayLeave e)) (sym (ap (λ (cs : List Call). after (at_rest stable) cs) is ∙ after-append (at_rest stable) calls (Written at value)))
-    (record { reads = applied-append d.stable d.pending (record { at = at; value = value }); images = write_images stable calls at value lt })
+    subst (λ (e : Disk). IsPending at value (shown d) (shown e) (MayLeave d) (MayLeave e))
+    (sym (ap (λ (cs : List Call). after (at_rest stable) cs) is
+    ∙ after-append (at_rest stable) calls (Written at value)))
+    (record {
+      reads = applied-append d.stable d.pending (record { at = at; value = value });
+      images =
+          write_images stable calls at value lt;
+    })
 
-pub written_elapses : (stable : List (List ℕ)) (calls next : List Call) (at : ℕ) (value : List ℕ) → at < length stable → next ≡ calls ++ Written at value ∷ []
-    → Elapses (length calls) (length next) (MightLeaveSince stable calls) (MightLeaveSince stable next) (WithOrWithout at value (MayLeave (after (at_rest stable) calls)))
+pub written_elapses : (stable : List (List ℕ)) (calls next : List Call) (at : ℕ) (value : List ℕ) → at < length stable
+    → next ≡ calls ++ Written at value ∷ []
+    → Elapses (length calls) (length next) (MightLeaveSince stable calls) (MightLeaveSince stable next)
+    (WithOrWithout at value (MayLeave (after (at_rest stable) calls)))
 written_elapses stable calls next at value lt is =
-    subst (λ (cs : List Call). Elapses (length calls) (length cs) (MightLeaveSince stable calls) (MightLeaveSince stable cs) (WithOrWithout at value (MayLeave (after (at_rest stable) calls)))) (sym is)
+    subst (λ (cs : List Call). Elapses (length calls) (length cs) (MightLeaveSince stable calls)
+    (MightLeaveSince stable cs) (WithOrWithout at value (MayLeave (after (at_rest stable) calls)))) (sym is)
     (elapses_one stable calls (Written at value) _ (λ c i. (write_images stable calls at value lt c).0 i))
 
 pub synced_is_stable : (stable : List (List ℕ)) (calls next : List Call) → next ≡ calls ++ Synced ∷ []
-    → IsStable (shown (after (at_rest stable) calls)) (shown (after (at_rest stable) next)) (MayLeave (after (at_rest stable) next))
+    → IsStable (shown (after (at_rest stable) calls)) (shown (after (at_rest stable) next))
+    (MayLeave (after (at_rest stable) next))
 synced_is_stable stable calls next is =
     let d = after (at_rest stable) calls in
-    subst (λ (e : Disk). IsStable (shown d) (shown e) (MayLeave e)) (sym (ap (λ (cs : List Call). after (at_rest stable) cs) is ∙ after-append (at_rest stable) calls Synced))
+    subst (λ (e : Disk). IsStable (shown d) (shown e) (MayLeave e))
+    (sym (ap (λ (cs : List Call). after (at_rest stable) cs) is ∙ after-append (at_rest stable) calls Synced))
     (record { reads = refl; images = stable_images (shown d) })
 
 pub synced_elapses : (stable : List (List ℕ)) (calls next : List Call) → next ≡ calls ++ Synced ∷ []
-    → Elapses (length calls) (length next) (MightLeaveSince stable calls) (MightLeaveSince stable next) (MayLeave (after (at_rest stable) calls))
+    → Elapses (length calls) (length next) (MightLeaveSince stable calls) (MightLeaveSince stable next)
+    (MayLeave (after (at_rest stable) calls))
 synced_elapses stable calls next is =
     let d = after (at_rest stable) calls in
-    subst (λ (cs : List Call). Elapses (length calls) (length cs) (MightLeaveSince stable calls) (MightLeaveSince stable cs) (MayLeave (after (at_rest stable) calls))) (sym is)
-    (elapses_one stable calls Synced _ (λ c i. subst (λ (x : List (List ℕ)). MayLeave d x) (sym ((stable_images (shown d) c).0 i)) (shown_is_image d)))
+    subst (λ (cs : List Call). Elapses (length calls) (length cs) (MightLeaveSince stable calls)
+    (MightLeaveSince stable cs) (MayLeave (after (at_rest stable) calls))) (sym is)
+    (elapses_one stable calls Synced _
+    (λ c i. subst (λ (x : List (List ℕ)). MayLeave d x) (sym ((stable_images (shown d) c).0 i))
+    (shown_is_image d)))
 
 -- what reads give after one more write
 pub shown-written : (stable : List (List ℕ)) (calls : List Call) (at : ℕ) (value : List ℕ)
-    → shown (after (at_rest stable) (calls ++ Written at value ∷ [])) ≡ slice_set (shown (after (at_rest stable) calls)) at value
+    → shown (after (at_rest stable) (calls ++ Written at value ∷ [])) ≡ slice_set
+    (shown (after (at_rest stable) calls)) at value
 shown-written stable calls at value =
     let d = after (at_rest stable) calls in
-    ap shown (after-append (at_rest stable) calls (Written at value)) ∙ applied-append d.stable d.pending (record { at = at; value = value })
+    ap shown (after-append (at_rest stable) calls (Written at value))
+    ∙ applied-append d.stable d.pending (record { at = at; value = value })
 
 pub shown-synced : (stable : List (List ℕ)) (calls : List Call)
     → shown (after (at_rest stable) (calls ++ Synced ∷ [])) ≡ shown (after (at_rest stable) calls)
 shown-synced stable calls = ap shown (after-append (at_rest stable) calls Synced)
 
-pub length-shown : (stable : List (List ℕ)) (calls : List Call) → length (shown (after (at_rest stable) calls)) ≡ length stable
+pub length-shown : (stable : List (List ℕ)) (calls : List Call)
+    → length (shown (after (at_rest stable) calls)) ≡ length stable
 length-shown stable calls =
     let d = after (at_rest stable) calls in
     length-applied d.stable d.pending ∙ length-after (at_rest stable) calls
 
 -- after a call that is recorded or fails, what is seen is what reads give
-pub synced_shown : {T E : Type 0} (r : Result T E) (stable : List (List ℕ)) (calls next : List Call) (seen : List (List ℕ))
-    → OnOk r (next ≡ calls ++ Synced ∷ []) → OnErr r (next ≡ calls) → seen ≡ shown (after (at_rest stable) calls) → seen ≡ shown (after (at_rest stable) next)
-synced_shown (Ok x) stable calls next seen ok err is = is ∙ sym (ap (λ (cs : List Call). shown (after (at_rest stable) cs)) ok ∙ shown-synced stable calls)
-synced_shown (Err e) stable calls next seen ok err is = is ∙ ap (λ (cs : List Call). shown (after (at_rest stable) cs)) (sym err)
+pub synced_shown : {T E : Type 0} (r : Result T E) (stable : List (List ℕ)) (calls next : List Call)
+    (seen : List (List ℕ))
+    → OnOk r (next ≡ calls ++ Synced ∷ []) → OnErr r (next ≡ calls) → seen ≡ shown (after (at_rest stable) calls)
+    → seen ≡ shown (after (at_rest stable) next)
+synced_shown (Ok x) stable calls next seen ok err is = is
+    ∙ sym (ap (λ (cs : List Call). shown (after (at_rest stable) cs)) ok ∙ shown-synced stable calls)
+synced_shown (Err e) stable calls next seen ok err is = is
+    ∙ ap (λ (cs : List Call). shown (after (at_rest stable) cs)) (sym err)
 
-pub written_shown : {T E : Type 0} (r : Result T E) (stable : List (List ℕ)) (calls next : List Call) (seen later : List (List ℕ)) (at : ℕ) (value : List ℕ)
-    → OnOk r (next ≡ calls ++ Written at value ∷ []) → OnErr r (next ≡ calls) → OnOk r (later ≡ slice_set seen at value) → OnErr r (later ≡ seen)
+pub written_shown : {T E : Type 0} (r : Result T E) (stable : List (List ℕ)) (calls next : List Call)
+    (seen later : List (List ℕ)) (at : ℕ) (value : List ℕ)
+    → OnOk r (next ≡ calls ++ Written at value ∷ []) → OnErr r (next ≡ calls)
+    → OnOk r (later ≡ slice_set seen at value) → OnErr r (later ≡ seen)
     → seen ≡ shown (after (at_rest stable) calls) → later ≡ shown (after (at_rest stable) next)
 written_shown (Ok x) stable calls next seen later at value ok err set same is =
-    set ∙ (ap (λ (s : List (List ℕ)). slice_set s at value) is ∙ sym (ap (λ (cs : List Call). shown (after (at_rest stable) cs)) ok ∙ shown-written stable calls at value))
-written_shown (Err e) stable calls next seen later at value ok err set same is = same ∙ (is ∙ ap (λ (cs : List Call). shown (after (at_rest stable) cs)) (sym err))
+    set ∙ (ap (λ (s : List (List ℕ)). slice_set s at value) is
+    ∙ sym (ap (λ (cs : List Call). shown (after (at_rest stable) cs)) ok ∙ shown-written stable calls at value))
+written_shown (Err e) stable calls next seen later at value ok err set same is = same
+    ∙ (is ∙ ap (λ (cs : List Call). shown (after (at_rest stable) cs)) (sym err))
 
 -- the place of a read doesn't fall past the end
 pub any_default : {X : Type 0} (xs : List X) (k : ℕ) (d e : X) → k < length xs → get_or xs k d ≡ get_or xs k e

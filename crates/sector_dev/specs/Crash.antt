@@ -15,7 +15,11 @@ left_by stable pending keep = applied stable (kept pending keep)
 
 -- two pending writes to the first sector and one to the second
 abbrev three_writes : List Write
-three_writes = record { at = 0; value = 11 ∷ [] } ∷ record { at = 1; value = 21 ∷ [] } ∷ record { at = 0; value = 12 ∷ [] } ∷ []
+three_writes = record { at = 0; value = 11 ∷ [] } ∷ record { at = 1; value = 21 ∷ [] } ∷ record {
+  at = 0;
+  value =
+      12 ∷ [];
+} ∷ []
 
 -- of two kept writes to one sector the last one stands
 last_stands : left_by ((10 ∷ []) ∷ (20 ∷ []) ∷ []) three_writes (true ∷ false ∷ true ∷ []) ≡ (12 ∷ []) ∷ (20 ∷ []) ∷ []
@@ -29,7 +33,8 @@ first_kept = refl
 missing_is_false : left_by ((10 ∷ []) ∷ (20 ∷ []) ∷ []) three_writes (false ∷ true ∷ []) ≡ (10 ∷ []) ∷ (21 ∷ []) ∷ []
 missing_is_false = refl
 
-too_many : left_by ((10 ∷ []) ∷ (20 ∷ []) ∷ []) three_writes (false ∷ false ∷ true ∷ true ∷ true ∷ []) ≡ (12 ∷ []) ∷ (20 ∷ []) ∷ []
+too_many : left_by ((10 ∷ []) ∷ (20 ∷ []) ∷ []) three_writes (false ∷ false ∷ true ∷ true ∷ true ∷ []) ≡ (12 ∷ []) ∷
+    (20 ∷ []) ∷ []
 too_many = refl
 
 -- with nothing kept the stable values are left

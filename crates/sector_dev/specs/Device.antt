@@ -11,12 +11,14 @@ pub record IsUnchanged (reads_old reads_new : List (List ℕ)) (old new : List (
   pub images : (c : List (List ℕ)) → new c ↔ old c
 
 -- the write is read back, and a crash may keep it or lose it
-pub record IsPending (at : ℕ) (value : List ℕ) (reads_old reads_new : List (List ℕ)) (old new : List (List ℕ) → Type 0) : Type 0 where
+pub record IsPending (at : ℕ) (value : List ℕ) (reads_old reads_new : List (List ℕ)) (old new : List (List ℕ)
+    → Type 0) : Type 0 where
   pub reads : reads_new ≡ slice_set reads_old at value
   pub images : (c : List (List ℕ)) → new c ↔ WithOrWithout at value old c
 
 -- The write failed: it may be read back or not, and it may be pending or not. The other sectors are as before.
-pub record MayBePending (at : ℕ) (value : List ℕ) (reads_old reads_new : List (List ℕ)) (old new : List (List ℕ) → Type 0) : Type 0 where
+pub record MayBePending (at : ℕ) (value : List ℕ) (reads_old reads_new : List (List ℕ)) (old new : List (List ℕ)
+    → Type 0) : Type 0 where
   pub reads : (reads_new ≡ reads_old) ⊎ (reads_new ≡ slice_set reads_old at value)
   pub images : ((c : List (List ℕ)) → new c ↔ old c) ⊎ ((c : List (List ℕ)) → new c ↔ WithOrWithout at value old c)
 
@@ -32,7 +34,8 @@ pub record MayBeStable (reads_old reads_new : List (List ℕ)) (old new : List (
   pub images : (c : List (List ℕ)) → new c → old c
 
 -- Time goes on: a crash since t might have left what it might have left before, or what it might leave during the call.
-pub record Elapses (before now : ℕ) (past since : ℕ → List (List ℕ) → Type 0) (during : List (List ℕ) → Type 0) : Type 0 where
+pub record Elapses (before now : ℕ) (past since : ℕ → List (List ℕ) → Type 0) (during : List (List ℕ)
+    → Type 0) : Type 0 where
   pub later : before ≤ now
   pub nothing_else : (t : ℕ) (c : List (List ℕ)) → t ≤ before → since t c → past t c ⊎ during c
   pub keeps : (t : ℕ) (c : List (List ℕ)) → t ≤ before → past t c → since t c

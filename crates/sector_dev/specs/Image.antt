@@ -14,7 +14,8 @@ IsWritten (w ∷ ws) at value = ((w.at ≡ at) × (w.value ≡ value)) ⊎ IsWri
 -- each sector has its stable value or the value of some pending write to it, whatever the others have
 pub record Image (stable : List (List ℕ)) (pending : List Write) (image : List (List ℕ)) : Type 0 where
   pub size : length image ≡ length stable
-  pub each : (at : ℕ) → at < length stable → (slice_index_or image at [] ≡ slice_index_or stable at []) ⊎ IsWritten pending at (slice_index_or image at [])
+  pub each : (at : ℕ) → at < length stable → (slice_index_or image at [] ≡ slice_index_or stable at [])
+      ⊎ IsWritten pending at (slice_index_or image at [])
 
 -- the sectors after these writes, each over the one before it
 abbrev pub applied : List (List ℕ) → List Write → List (List ℕ)
@@ -39,7 +40,9 @@ images at (stable ∷ rest) pending = each_before (values at stable pending) (im
 
 -- two pending writes to the first sector and one to the second: six images
 two_and_one :
-    images 0 ((10 ∷ []) ∷ (20 ∷ []) ∷ []) (record { at = 0; value = 11 ∷ [] } ∷ record { at = 1; value = 21 ∷ [] } ∷ record { at = 0; value = 12 ∷ [] } ∷ [])
+    images 0 ((10 ∷ []) ∷ (20 ∷ []) ∷ [])
+    (record { at = 0; value = 11 ∷ [] } ∷ record { at = 1; value = 21 ∷ [] } ∷ record { at = 0; value = 12 ∷ [] }
+    ∷ [])
     ≡ ((11 ∷ []) ∷ (21 ∷ []) ∷ []) ∷ ((11 ∷ []) ∷ (20 ∷ []) ∷ [])
     ∷ ((12 ∷ []) ∷ (21 ∷ []) ∷ []) ∷ ((12 ∷ []) ∷ (20 ∷ []) ∷ [])
     ∷ ((10 ∷ []) ∷ (21 ∷ []) ∷ []) ∷ ((10 ∷ []) ∷ (20 ∷ []) ∷ []) ∷ []
@@ -51,12 +54,16 @@ nothing_pending = refl
 
 -- what reads give is the last write to each sector
 last_write_read :
-    applied ((10 ∷ []) ∷ (20 ∷ []) ∷ []) (record { at = 0; value = 11 ∷ [] } ∷ record { at = 1; value = 21 ∷ [] } ∷ record { at = 0; value = 12 ∷ [] } ∷ [])
+    applied ((10 ∷ []) ∷ (20 ∷ []) ∷ [])
+    (record { at = 0; value = 11 ∷ [] } ∷ record { at = 1; value = 21 ∷ [] } ∷ record { at = 0; value = 12 ∷ [] }
+    ∷ [])
     ≡ (12 ∷ []) ∷ (21 ∷ []) ∷ []
 last_write_read = refl
 
 -- three sectors, four pending writes: three values, two and two
-twelve_images : length (images 0 ((10 ∷ []) ∷ (20 ∷ []) ∷ (30 ∷ []) ∷ []) (record { at = 0; value = 11 ∷ [] } ∷ record { at = 2; value = 31 ∷ [] } ∷ record { at = 0; value = 12 ∷ [] } ∷ record { at = 1; value = 21 ∷ [] } ∷ [])) ≡ 12
+twelve_images : length (images 0 ((10 ∷ []) ∷ (20 ∷ []) ∷ (30 ∷ []) ∷ [])
+    (record { at = 0; value = 11 ∷ [] } ∷ record { at = 2; value = 31 ∷ [] } ∷ record { at = 0; value = 12 ∷ [] }
+    ∷ record { at = 1; value = 21 ∷ [] } ∷ [])) ≡ 12
 twelve_images = refl
 
 -- the value of a write to the other sector is none that a crash leaves in this one

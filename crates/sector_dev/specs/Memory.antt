@@ -27,7 +27,8 @@ abbrev pub at_rest : List (List ℕ) → Disk
 at_rest stable = record { stable = stable; pending = [] }
 
 -- two writes, a sync and a write: the two are stable and the last one pending
-after_four_calls : after (at_rest ((10 ∷ []) ∷ (20 ∷ []) ∷ [])) (Written 0 (11 ∷ []) ∷ Written 1 (21 ∷ []) ∷ Synced ∷ Written 0 (12 ∷ []) ∷ [])
+after_four_calls : after (at_rest ((10 ∷ []) ∷ (20 ∷ []) ∷ []))
+    (Written 0 (11 ∷ []) ∷ Written 1 (21 ∷ []) ∷ Synced ∷ Written 0 (12 ∷ []) ∷ [])
     ≡ record { stable = (11 ∷ []) ∷ (21 ∷ []) ∷ []; pending = record { at = 0; value = 12 ∷ [] } ∷ [] }
 after_four_calls = refl
 
@@ -47,4 +48,9 @@ IsUnsynced (Synced ∷ cs) = ⊥
 pub record IsSettledAt (calls : List Call) (place : ℕ) : Type 0 where
   pub within : place ≤ length calls
   pub unsynced : IsUnsynced (drop place calls)
-  pub disk : (stable : List (List ℕ)) → after (at_rest stable) calls ≡ record { stable = applied stable (writes_of (take place calls)); pending = writes_of (drop place calls) }
+  pub disk : (stable : List (List ℕ))
+      → after (at_rest stable) calls ≡ record {
+        stable = applied stable (writes_of (take place calls));
+        pending =
+            writes_of (drop place calls);
+      }

@@ -21,16 +21,20 @@ pub record MightLeaveSince (stable : List (List ℕ)) (calls : List Call) (t : �
   pub to : moment ≤ length calls
   pub image : MayLeave (after (at_rest stable) (take moment calls)) c
 
-pub this_moment_counts : (stable : List (List ℕ)) (calls : List Call) (t : ℕ) (c : List (List ℕ)) → t ≤ length calls → MayLeave (after (at_rest stable) calls) c → MightLeaveSince stable calls t c
+pub this_moment_counts : (stable : List (List ℕ)) (calls : List Call) (t : ℕ) (c : List (List ℕ)) → t ≤ length calls
+    → MayLeave (after (at_rest stable) calls) c → MightLeaveSince stable calls t c
 this_moment_counts stable calls t c le now = record {
   moment = length calls;
   from = le;
   to = omega arith;
-  image = subst (λ (cs : List Call). MayLeave (after (at_rest stable) cs) c) (sym (take_all (length calls) calls (omega arith))) now;
+  image = subst (λ (cs : List Call). MayLeave (after (at_rest stable) cs) c)
+      (sym (take_all (length calls) calls (omega arith))) now;
 }
 
-pub no_other_moment : (stable : List (List ℕ)) (calls : List Call) (c : List (List ℕ)) → MightLeaveSince stable calls (length calls) c → MayLeave (after (at_rest stable) calls) c
-no_other_moment stable calls c m = subst (λ (cs : List Call). MayLeave (after (at_rest stable) cs) c) (take_all m.moment calls m.from) m.image
+pub no_other_moment : (stable : List (List ℕ)) (calls : List Call) (c : List (List ℕ))
+    → MightLeaveSince stable calls (length calls) c → MayLeave (after (at_rest stable) calls) c
+no_other_moment stable calls c m =
+    subst (λ (cs : List Call). MayLeave (after (at_rest stable) cs) c) (take_all m.moment calls m.from) m.image
 
 pub length-applied : (stable : List (List ℕ)) (ws : List Write) → length (applied stable ws) ≡ length stable
 length-applied stable [] = refl
@@ -42,7 +46,8 @@ length-after d (Written at v ∷ cs) = length-after (step d (Written at v)) cs
 length-after d (Synced ∷ cs) = length-after (step d Synced) cs ∙ length-applied d.stable d.pending
 
 each_applied : (stable : List (List ℕ)) (ws : List Write) (at : ℕ) → at < length stable
-    → (slice_index_or (applied stable ws) at [] ≡ slice_index_or stable at []) ⊎ IsWritten ws at (slice_index_or (applied stable ws) at [])
+    → (slice_index_or (applied stable ws) at [] ≡ slice_index_or stable at [])
+    ⊎ IsWritten ws at (slice_index_or (applied stable ws) at [])
 each_applied stable [] at lt = inl refl
 each_applied stable (w ∷ ws) at lt =
     elim (each_applied (slice_set stable w.at w.value) ws at (omega (arith, lt, length-set stable w.at w.value))) [
@@ -55,7 +60,12 @@ each_applied stable (w ∷ ws) at lt =
 
 -- what reads give is one of the images
 pub shown_is_image : (d : Disk) → MayLeave d (shown d)
-shown_is_image d = record { size = length-applied d.stable d.pending; each = λ at lt. each_applied d.stable d.pending at lt }
+shown_is_image d = record {
+  size = length-applied d.stable d.pending;
+  each =
+      λ at lt. each_applied d.stable d.pending at lt;
+}
 
-pub image_has_size : (stable : List (List ℕ)) (calls : List Call) (c : List (List ℕ)) → MayLeave (after (at_rest stable) calls) c → length c ≡ length stable
+pub image_has_size : (stable : List (List ℕ)) (calls : List Call) (c : List (List ℕ))
+    → MayLeave (after (at_rest stable) calls) c → length c ≡ length stable
 image_has_size stable calls c i = i.size ∙ length-after (at_rest stable) calls

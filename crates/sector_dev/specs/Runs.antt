@@ -10,7 +10,8 @@ abbrev pub IsAtRest : Type 0 → List (List ℕ) → (List (List ℕ) → Type 0
 IsAtRest keeps_model reads image = keeps_model × Only reads image
 
 -- A crash at any moment since old leaves sectors that have P.
-pub record LeavesOnly {D : Type 0} (moment : D → ℕ) (image_since : D → ℕ → List (List ℕ) → Type 0) (old new : D) (P : List (List ℕ) → Type 0) : Type 0 where
+pub record LeavesOnly {D : Type 0} (moment : D → ℕ) (image_since : D → ℕ → List (List ℕ) → Type 0) (old new : D)
+    (P : List (List ℕ) → Type 0) : Type 0 where
   pub later : moment old ≤ moment new
   pub each : (c : List (List ℕ)) → image_since new (moment old) c → P c
   -- for a run that began earlier

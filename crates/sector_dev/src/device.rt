@@ -45,8 +45,11 @@ pub trait Device {
         ensures sectors { sector_count self.new ≡ sector_count self.old }
         ensures model { keeps_model self.new ↔ keeps_model self.old }
         ensures value { keeps_model self.old → OnOk result (into.new ≡ slice_index_or (reads self.old) at []) }
-        ensures unchanged { keeps_model self.old → IsUnchanged (reads self.old) (reads self.new) (image self.old) (image self.new) }
-        ensures time { keeps_model self.old → Elapses (moment self.old) (moment self.new) (image_since self.old) (image_since self.new) (image self.old) }
+        ensures unchanged { keeps_model self.old
+            → IsUnchanged (reads self.old) (reads self.new) (image self.old) (image self.new) }
+        ensures time { keeps_model self.old
+            → Elapses (moment self.old) (moment self.new) (image_since self.old) (image_since self.new)
+            (image self.old) }
         ensures cause { CountsFailure result (failures self.old) (failures self.new) }
         ensures calls_left { TakesOne result (calls_left self.old) (calls_left self.new) };
 
@@ -56,9 +59,15 @@ pub trait Device {
         requires { at < sector_count self.old }
         ensures sectors { sector_count self.new ≡ sector_count self.old }
         ensures model { keeps_model self.new ↔ keeps_model self.old }
-        ensures ok { keeps_model self.old → OnOk result (IsPending at from.now (reads self.old) (reads self.new) (image self.old) (image self.new)) }
-        ensures err { keeps_model self.old → OnErr result (MayBePending at from.now (reads self.old) (reads self.new) (image self.old) (image self.new)) }
-        ensures time { keeps_model self.old → Elapses (moment self.old) (moment self.new) (image_since self.old) (image_since self.new) (WithOrWithout at from.now (image self.old)) }
+        ensures ok { keeps_model self.old
+            → OnOk result (IsPending at from.now (reads self.old) (reads self.new) (image self.old)
+            (image self.new)) }
+        ensures err { keeps_model self.old
+            → OnErr result (MayBePending at from.now (reads self.old) (reads self.new) (image self.old)
+            (image self.new)) }
+        ensures time { keeps_model self.old
+            → Elapses (moment self.old) (moment self.new) (image_since self.old) (image_since self.new)
+            (WithOrWithout at from.now (image self.old)) }
         ensures cause { CountsFailure result (failures self.old) (failures self.new) }
         ensures calls_left { TakesOne result (calls_left self.old) (calls_left self.new) };
 
@@ -68,25 +77,32 @@ pub trait Device {
         ensures sectors { sector_count self.new ≡ sector_count self.old }
         ensures model { keeps_model self.new ↔ keeps_model self.old }
         ensures ok { keeps_model self.old → OnOk result (IsStable (reads self.old) (reads self.new) (image self.new)) }
-        ensures err { keeps_model self.old → OnErr result (MayBeStable (reads self.old) (reads self.new) (image self.old) (image self.new)) }
-        ensures time { keeps_model self.old → Elapses (moment self.old) (moment self.new) (image_since self.old) (image_since self.new) (image self.old) }
+        ensures err { keeps_model self.old
+            → OnErr result (MayBeStable (reads self.old) (reads self.new) (image self.old) (image self.new)) }
+        ensures time { keeps_model self.old
+            → Elapses (moment self.old) (moment self.new) (image_since self.old) (image_since self.new)
+            (image self.old) }
         ensures cause { CountsFailure result (failures self.old) (failures self.new) }
         ensures calls_left { TakesOne result (calls_left self.old) (calls_left self.new) };
 
     /// This moment is one of those since an earlier one.
-    ghost counts_now: { (device : Self) (t : ℕ) (c : List (List ℕ)) → keeps_model device → t ≤ moment device → image device c → image_since device t c };
+    ghost counts_now: { (device : Self) (t : ℕ) (c : List (List ℕ)) → keeps_model device → t ≤ moment device
+        → image device c → image_since device t c };
 
     /// Since this moment there is no other.
-    ghost only_now: { (device : Self) (c : List (List ℕ)) → keeps_model device → image_since device (moment device) c → image device c };
+    ghost only_now: { (device : Self) (c : List (List ℕ)) → keeps_model device → image_since device (moment device) c
+        → image device c };
 
     /// The images are those of some stable values and some pending writes.
-    ghost images_of_some_disk: { (device : Self) → keeps_model device → (stable : List (List ℕ)) × (pending : List Write) × ((c : List (List ℕ)) → image device c ↔ Image stable pending c) };
+    ghost images_of_some_disk: { (device : Self) → keeps_model device → (stable : List (List ℕ))
+        × (pending : List Write) × ((c : List (List ℕ)) → image device c ↔ Image stable pending c) };
 
     /// What reads give is one of the images.
     ghost reads_are_image: { (device : Self) → keeps_model device → image device (reads device) };
 
     /// No image has more sectors, or fewer.
-    ghost image_size: { (device : Self) (c : List (List ℕ)) → keeps_model device → image device c → length c ≡ sector_count device };
+    ghost image_size: { (device : Self) (c : List (List ℕ)) → keeps_model device → image device c
+        → length c ≡ sector_count device };
 }
 
 /// A device on which crashes can be played.
@@ -105,8 +121,11 @@ pub trait CrashDevice: Device {
         ensures model { Self.keeps_model self.new ↔ Self.keeps_model self.old }
         ensures calls_left { Self.calls_left self.new ≡ Some calls }
         ensures failures { Self.failures self.new ≡ Self.failures self.old }
-        ensures unchanged { Self.keeps_model self.old → IsUnchanged (Self.reads self.old) (Self.reads self.new) (Self.image self.old) (Self.image self.new) }
-        ensures time { Self.keeps_model self.old → Elapses (Self.moment self.old) (Self.moment self.new) (Self.image_since self.old) (Self.image_since self.new) (Self.image self.old) }
+        ensures unchanged { Self.keeps_model self.old
+            → IsUnchanged (Self.reads self.old) (Self.reads self.new) (Self.image self.old) (Self.image self.new) }
+        ensures time { Self.keeps_model self.old
+            → Elapses (Self.moment self.old) (Self.moment self.new) (Self.image_since self.old)
+            (Self.image_since self.new) (Self.image self.old) }
         ensures stable { Self.keeps_model self.old → stable self.new ≡ stable self.old }
         ensures pending { Self.keeps_model self.old → pending self.new ≡ pending self.old };
 
@@ -118,14 +137,19 @@ pub trait CrashDevice: Device {
         ensures model { Self.keeps_model self.new ↔ Self.keeps_model self.old }
         ensures calls_left { Self.calls_left self.new ≡ None }
         ensures failures { Self.failures self.new ≡ Self.failures self.old }
-        ensures left { Self.keeps_model self.old → IsStable (left_by (stable self.old) (pending self.old) keep.now) (Self.reads self.new) (Self.image self.new) }
+        ensures left { Self.keeps_model self.old
+            → IsStable (left_by (stable self.old) (pending self.old) keep.now) (Self.reads self.new)
+            (Self.image self.new) }
         ensures image { Self.keeps_model self.old → Self.image self.old (Self.reads self.new) }
-        ensures stable { Self.keeps_model self.old → stable self.new ≡ left_by (stable self.old) (pending self.old) keep.now }
+        ensures stable { Self.keeps_model self.old
+            → stable self.new ≡ left_by (stable self.old) (pending self.old) keep.now }
         ensures pending { Self.keeps_model self.old → pending self.new ≡ [] };
 
     /// The images are those of the stable values and the pending writes.
-    ghost images_are: { (device : Self) (c : List (List ℕ)) → Self.keeps_model device → Self.image device c ↔ Image (stable device) (pending device) c };
+    ghost images_are: { (device : Self) (c : List (List ℕ)) → Self.keeps_model device
+        → Self.image device c ↔ Image (stable device) (pending device) c };
 
     /// Reads give the last write to each sector, or its stable value where none is pending.
-    ghost reads_are: { (device : Self) → Self.keeps_model device → Self.reads device ≡ applied (stable device) (pending device) };
+    ghost reads_are: { (device : Self) → Self.keeps_model device
+        → Self.reads device ≡ applied (stable device) (pending device) };
 }

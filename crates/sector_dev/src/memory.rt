@@ -151,7 +151,8 @@ impl Device for MemoryDevice {
         ensures sectors { sector_count_of self.new ≡ sector_count_of self.old }
         ensures model { KeepsModel self.new ↔ KeepsModel self.old }
         ensures value { KeepsModel self.old → OnOk result (into.new ≡ slice_index_or (reads_of self.old) at []) }
-        ensures unchanged { KeepsModel self.old → IsUnchanged (reads_of self.old) (reads_of self.new) (image_of self.old) (image_of self.new) }
+        ensures unchanged { KeepsModel self.old
+            → IsUnchanged (reads_of self.old) (reads_of self.new) (image_of self.old) (image_of self.new) }
         ensures time { KeepsModel self.old → TimePasses self.old self.new (image_of self.old) }
         ensures cause { CountsFailure result self.old.failures self.new.failures }
         ensures calls_left { TakesOne result self.old.calls_left self.new.calls_left }
@@ -169,9 +170,14 @@ impl Device for MemoryDevice {
         requires { at < sector_count_of self.old }
         ensures sectors { sector_count_of self.new ≡ sector_count_of self.old }
         ensures model { KeepsModel self.new ↔ KeepsModel self.old }
-        ensures ok { KeepsModel self.old → OnOk result (IsPending at from.now (reads_of self.old) (reads_of self.new) (image_of self.old) (image_of self.new)) }
-        ensures err { KeepsModel self.old → OnErr result (MayBePending at from.now (reads_of self.old) (reads_of self.new) (image_of self.old) (image_of self.new)) }
-        ensures time { KeepsModel self.old → TimePasses self.old self.new (WithOrWithout at from.now (image_of self.old)) }
+        ensures ok { KeepsModel self.old
+            → OnOk result (IsPending at from.now (reads_of self.old) (reads_of self.new) (image_of self.old)
+            (image_of self.new)) }
+        ensures err { KeepsModel self.old
+            → OnErr result (MayBePending at from.now (reads_of self.old) (reads_of self.new) (image_of self.old)
+            (image_of self.new)) }
+        ensures time { KeepsModel self.old
+            → TimePasses self.old self.new (WithOrWithout at from.now (image_of self.old)) }
         ensures cause { CountsFailure result self.old.failures self.new.failures }
         ensures calls_left { TakesOne result self.old.calls_left self.new.calls_left }
         ensures pending { OnOk result (Pends at from.now self.old self.new) }
@@ -210,8 +216,11 @@ impl Device for MemoryDevice {
     fn sync(&mut self) -> Result<(), DeviceFault>
         ensures sectors { sector_count_of self.new ≡ sector_count_of self.old }
         ensures model { KeepsModel self.new ↔ KeepsModel self.old }
-        ensures ok { KeepsModel self.old → OnOk result (IsStable (reads_of self.old) (reads_of self.new) (image_of self.new)) }
-        ensures err { KeepsModel self.old → OnErr result (MayBeStable (reads_of self.old) (reads_of self.new) (image_of self.old) (image_of self.new)) }
+        ensures ok { KeepsModel self.old
+            → OnOk result (IsStable (reads_of self.old) (reads_of self.new) (image_of self.new)) }
+        ensures err { KeepsModel self.old
+            → OnErr result (MayBeStable (reads_of self.old) (reads_of self.new) (image_of self.old)
+            (image_of self.new)) }
         ensures time { KeepsModel self.old → TimePasses self.old self.new (image_of self.old) }
         ensures cause { CountsFailure result self.old.failures self.new.failures }
         ensures calls_left { TakesOne result self.old.calls_left self.new.calls_left }
@@ -271,7 +280,8 @@ fn redo_kept(sectors: &mut [[u8; 512]], calls: &[Call], keep: &[bool])
 
 // Makes the writes that a sync has settled, and of the later ones those whose place is true.
 fn play(sectors: &mut [[u8; 512]], calls: &[Call], keep: &[bool])
-    ensures { sectors.new ≡ left_by (after (at_rest sectors.old) calls.now).stable (after (at_rest sectors.old) calls.now).pending keep.now }
+    ensures { sectors.new ≡ left_by (after (at_rest sectors.old) calls.now).stable
+        (after (at_rest sectors.old) calls.now).pending keep.now }
 {
     let settled = settled(calls);
     redo(sectors, &calls[..settled]);
@@ -295,7 +305,8 @@ impl CrashDevice for MemoryDevice {
         ensures model { KeepsModel self.new ↔ KeepsModel self.old }
         ensures calls_left { self.new.calls_left ≡ Some calls }
         ensures failures { self.new.failures ≡ self.old.failures }
-        ensures unchanged { KeepsModel self.old → IsUnchanged (reads_of self.old) (reads_of self.new) (image_of self.old) (image_of self.new) }
+        ensures unchanged { KeepsModel self.old
+            → IsUnchanged (reads_of self.old) (reads_of self.new) (image_of self.old) (image_of self.new) }
         ensures time { KeepsModel self.old → TimePasses self.old self.new (image_of self.old) }
         ensures stable { KeepsModel self.old → (disk_of self.new).stable ≡ (disk_of self.old).stable }
         ensures pending { KeepsModel self.old → (disk_of self.new).pending ≡ (disk_of self.old).pending }
@@ -310,9 +321,12 @@ impl CrashDevice for MemoryDevice {
         ensures model { KeepsModel self.new ↔ KeepsModel self.old }
         ensures calls_left { self.new.calls_left ≡ None }
         ensures failures { self.new.failures ≡ self.old.failures }
-        ensures left { KeepsModel self.old → IsStable (left_by (disk_of self.old).stable (disk_of self.old).pending keep.now) (reads_of self.new) (image_of self.new) }
+        ensures left { KeepsModel self.old
+            → IsStable (left_by (disk_of self.old).stable (disk_of self.old).pending keep.now) (reads_of self.new)
+            (image_of self.new) }
         ensures image { KeepsModel self.old → image_of self.old (reads_of self.new) }
-        ensures stable { KeepsModel self.old → (disk_of self.new).stable ≡ left_by (disk_of self.old).stable (disk_of self.old).pending keep.now }
+        ensures stable { KeepsModel self.old
+            → (disk_of self.new).stable ≡ left_by (disk_of self.old).stable (disk_of self.old).pending keep.now }
         ensures pending { KeepsModel self.old → (disk_of self.new).pending ≡ [] }
         ensures failed_pending { self.new.failed_pending ≡ false }
     {

@@ -12,7 +12,8 @@ one_changed old images at value only c h = elim h.2 [
   | inr set ↦ inr (set ∙ ap (λ (d : List (List ℕ)). slice_set d at value) (only h.0 h.1))
 ]
 
-pub two_changed : (old : List (List ℕ)) (images : List (List ℕ) → Type 0) (at : ℕ) (value : List ℕ) (also_at : ℕ) (also : List ℕ)
+pub two_changed : (old : List (List ℕ)) (images : List (List ℕ) → Type 0) (at : ℕ) (value : List ℕ) (also_at : ℕ)
+    (also : List ℕ)
     → ((d : List (List ℕ)) → images d → OldOrChanged old at value d)
     → (c : List (List ℕ)) → WithOrWithout also_at also images c → OldOrEither old at value also_at also c
 two_changed old images at value also_at also one c h = elim h.2 [

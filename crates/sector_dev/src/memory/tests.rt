@@ -124,7 +124,7 @@ fn crashed<D: CrashDevice>(
     Ok(outcome)
 }
 
-// Plays a crash after these writes for each list of up to five places, so too short and too long ones are among them.
+// Plays a crash after these writes for each subset of them.
 fn check_crashes<D: CrashDevice>(
     rt: &impl Abort,
     alloc: Global,
@@ -132,16 +132,15 @@ fn check_crashes<D: CrashDevice>(
     writes: &[Filling],
 ) -> Result<(), Fail> {
     let images = images(alloc, writes)?;
+    let subsets = [1u8, 2, 4, 8, 16].get(writes.len()).copied();
     let mut outcomes = Vec::new(alloc);
-    for (length, lists) in [1u8, 2, 4, 8, 16, 32].into_iter().enumerate() {
-        for number in 0..lists {
-            let places = [1u8, 2, 4, 8, 16].map(|bit| number & bit != 0);
-            let keep = places.get(..length).ok_or("a length of at most five")?;
-            let outcome = crashed(rt, device, writes, keep)?;
-            assert_eq!(rt; outcome, left(writes, keep), "{writes:?} {keep:?}");
-            assert!(rt; images.contains(&outcome), "{writes:?} {keep:?}");
-            outcomes.push(outcome)?;
-        }
+    for number in 0..subsets.ok_or("more than four writes")? {
+        let places = [1u8, 2, 4, 8].map(|bit| number & bit != 0);
+        let keep = places.get(..writes.len()).ok_or("more than four writes")?;
+        let outcome = crashed(rt, device, writes, keep)?;
+        assert_eq!(rt; outcome, left(writes, keep), "{writes:?} {keep:?}");
+        assert!(rt; images.contains(&outcome), "{writes:?} {keep:?}");
+        outcomes.push(outcome)?;
     }
     for image in &images {
         assert!(rt; outcomes.contains(image), "{writes:?} never left {image:?}");
@@ -159,9 +158,25 @@ fn crashes_leave_the_images(rt: HostRuntime) -> Result<(), Fail> {
                 (number / 9 % 3, 3),
                 (number / 27 % 3, 4),
             ];
-            let writes = writes.get(..length).ok_or("a length of at most four")?;
+            let writes = writes.get(..length).ok_or("more than four writes")?;
             let mut device = MemoryDevice::new(rt.alloc(), 3)?;
             check_crashes(&rt, rt.alloc(), &mut device, writes)?;
+        }
+    }
+    Ok(())
+}
+
+// A missing place is false, and one too many changes nothing.
+#[test]
+fn places_are_missing_or_too_many(rt: HostRuntime) -> Result<(), Fail> {
+    let mut device = MemoryDevice::new(rt.alloc(), 3)?;
+    let writes = [(0, 1), (1, 2), (0, 3), (2, 4)];
+    for (length, lists) in [1u8, 2, 4, 8, 16, 32, 64].into_iter().enumerate() {
+        for number in 0..lists {
+            let places = [1u8, 2, 4, 8, 16, 32].map(|bit| number & bit != 0);
+            let keep = places.get(..length).ok_or("more than six places")?;
+            let outcome = crashed(&rt, &mut device, &writes, keep)?;
+            assert_eq!(rt; outcome, left(&writes, keep), "{keep:?}");
         }
     }
     Ok(())
@@ -300,8 +315,8 @@ fn changed(bytes: Bytes, at: u32, byte: u8) -> Bytes {
     changed
 }
 
-// Makes twelve calls, begun at `start` in a cycle of five, and plays a crash at the end, and if `at_once` also after each
-// refused call. All is as if the refused calls had not been made.
+// Makes twelve calls, begun at `start` in a cycle of five, and plays a crash at the end, and if `at_once` also after
+// each refused call. All is as if the refused calls had not been made.
 fn make_or_refuse<D: CrashDevice>(
     rt: &impl Abort,
     device: &mut D,
@@ -376,10 +391,10 @@ fn run_long<D: CrashDevice>(rt: &impl Abort, device: &mut D) -> Result<(), Devic
     Ok(())
 }
 
-// Each call takes a time that doesn't grow with the device or the calls before it.
+// No call copies the device: 40,000 copies of its 15 megabytes would outlast the time that a test has.
 #[test]
 fn a_long_run(rt: HostRuntime) -> Result<(), Fail> {
-    let mut device = MemoryDevice::new(rt.alloc(), 212)?;
+    let mut device = MemoryDevice::new(rt.alloc(), 30_000)?;
     run_long(&rt, &mut device)?;
     Ok(())
 }

@@ -14,8 +14,10 @@ returns-in_err-write-clause-any_moment g c =
     let reads = g.D.Device.reads d in
     let P = OldOrEither reads c.args.at c.args.from.now c.args.also_at c.args.also.now in
     let one = one_changed reads (g.D.Device.image d) c.args.at c.args.from.now at_rest.1 in
-    let at_start = started g.D.Device.moment g.D.Device.image_since d P (λ f left. inl (inl (at_rest.1 f (g.met.D.Device.only_now d f model left)))) in
-    let wrote = goes_on g.D.Device.moment g.D.Device.image_since d d c.write.new.self P _ at_start (c.write.ensures.time model) (λ f h. inl (one f h)) in
+    let at_start = started g.D.Device.moment g.D.Device.image_since d P
+    (λ f left. inl (inl (at_rest.1 f (g.met.D.Device.only_now d f model left)))) in
+    let wrote = goes_on g.D.Device.moment g.D.Device.image_since d d c.write.new.self P _ at_start
+    (c.write.ensures.time model) (λ f h. inl (one f h)) in
     wrote
 
 pub returns-in_err-write-2-clause-any_moment : goal.returns-in_err-write-2-clause-any_moment
@@ -26,12 +28,16 @@ returns-in_err-write-2-clause-any_moment g c =
     let reads = g.D.Device.reads d in
     let P = OldOrEither reads c.args.at c.args.from.now c.args.also_at c.args.also.now in
     let one = one_changed reads (g.D.Device.image d) c.args.at c.args.from.now at_rest.1 in
-    let at_start = started g.D.Device.moment g.D.Device.image_since d P (λ f left. inl (inl (at_rest.1 f (g.met.D.Device.only_now d f model left)))) in
-    let wrote = goes_on g.D.Device.moment g.D.Device.image_since d d c.write.new.self P _ at_start (c.write.ensures.time model) (λ f h. inl (one f h)) in
+    let at_start = started g.D.Device.moment g.D.Device.image_since d P
+    (λ f left. inl (inl (at_rest.1 f (g.met.D.Device.only_now d f model left)))) in
+    let wrote = goes_on g.D.Device.moment g.D.Device.image_since d d c.write.new.self P _ at_start
+    (c.write.ensures.time model) (λ f h. inl (one f h)) in
     let model_1 = c.write.ensures.model.1 model in
     let pending = c.in_ok-write.ensures.ok model in
-    let two = two_changed reads (g.D.Device.image c.write.new.self) c.args.at c.args.from.now c.args.also_at c.args.also.now (λ f now. one f ((pending.images f).0 now)) in
-    let both = goes_on g.D.Device.moment g.D.Device.image_since d c.write.new.self c.write-2.new.self P _ wrote (c.write-2.ensures.time model_1) two in
+    let two = two_changed reads (g.D.Device.image c.write.new.self) c.args.at c.args.from.now c.args.also_at
+    c.args.also.now (λ f now. one f ((pending.images f).0 now)) in
+    let both = goes_on g.D.Device.moment g.D.Device.image_since d c.write.new.self c.write-2.new.self P _ wrote
+    (c.write-2.ensures.time model_1) two in
     both
 
 pub returns-in_err-sync-clause-any_moment : goal.returns-in_err-sync-clause-any_moment
@@ -42,14 +48,19 @@ returns-in_err-sync-clause-any_moment g c =
     let reads = g.D.Device.reads d in
     let P = OldOrEither reads c.args.at c.args.from.now c.args.also_at c.args.also.now in
     let one = one_changed reads (g.D.Device.image d) c.args.at c.args.from.now at_rest.1 in
-    let at_start = started g.D.Device.moment g.D.Device.image_since d P (λ f left. inl (inl (at_rest.1 f (g.met.D.Device.only_now d f model left)))) in
-    let wrote = goes_on g.D.Device.moment g.D.Device.image_since d d c.write.new.self P _ at_start (c.write.ensures.time model) (λ f h. inl (one f h)) in
+    let at_start = started g.D.Device.moment g.D.Device.image_since d P
+    (λ f left. inl (inl (at_rest.1 f (g.met.D.Device.only_now d f model left)))) in
+    let wrote = goes_on g.D.Device.moment g.D.Device.image_since d d c.write.new.self P _ at_start
+    (c.write.ensures.time model) (λ f h. inl (one f h)) in
     let model_1 = c.write.ensures.model.1 model in
     let pending = c.in_ok-write.ensures.ok model in
-    let two = two_changed reads (g.D.Device.image c.write.new.self) c.args.at c.args.from.now c.args.also_at c.args.also.now (λ f now. one f ((pending.images f).0 now)) in
-    let both = goes_on g.D.Device.moment g.D.Device.image_since d c.write.new.self c.write-2.new.self P _ wrote (c.write-2.ensures.time model_1) two in
+    let two = two_changed reads (g.D.Device.image c.write.new.self) c.args.at c.args.from.now c.args.also_at
+    c.args.also.now (λ f now. one f ((pending.images f).0 now)) in
+    let both = goes_on g.D.Device.moment g.D.Device.image_since d c.write.new.self c.write-2.new.self P _ wrote
+    (c.write-2.ensures.time model_1) two in
     let pending_2 = c.in_ok-write-2.ensures.ok model_1 in
-    let synced = goes_on g.D.Device.moment g.D.Device.image_since d c.write-2.new.self c.sync.new.self P _ both (c.sync.ensures.time (c.write-2.ensures.model.1 model_1)) (λ f now. two f ((pending_2.images f).0 now)) in
+    let synced = goes_on g.D.Device.moment g.D.Device.image_since d c.write-2.new.self c.sync.new.self P _ both
+    (c.sync.ensures.time (c.write-2.ensures.model.1 model_1)) (λ f now. two f ((pending_2.images f).0 now)) in
     synced
 
 pub returns-clause-any_moment : goal.returns-clause-any_moment
@@ -60,14 +71,19 @@ returns-clause-any_moment g c =
     let reads = g.D.Device.reads d in
     let P = OldOrEither reads c.args.at c.args.from.now c.args.also_at c.args.also.now in
     let one = one_changed reads (g.D.Device.image d) c.args.at c.args.from.now at_rest.1 in
-    let at_start = started g.D.Device.moment g.D.Device.image_since d P (λ f left. inl (inl (at_rest.1 f (g.met.D.Device.only_now d f model left)))) in
-    let wrote = goes_on g.D.Device.moment g.D.Device.image_since d d c.write.new.self P _ at_start (c.write.ensures.time model) (λ f h. inl (one f h)) in
+    let at_start = started g.D.Device.moment g.D.Device.image_since d P
+    (λ f left. inl (inl (at_rest.1 f (g.met.D.Device.only_now d f model left)))) in
+    let wrote = goes_on g.D.Device.moment g.D.Device.image_since d d c.write.new.self P _ at_start
+    (c.write.ensures.time model) (λ f h. inl (one f h)) in
     let model_1 = c.write.ensures.model.1 model in
     let pending = c.in_ok-write.ensures.ok model in
-    let two = two_changed reads (g.D.Device.image c.write.new.self) c.args.at c.args.from.now c.args.also_at c.args.also.now (λ f now. one f ((pending.images f).0 now)) in
-    let both = goes_on g.D.Device.moment g.D.Device.image_since d c.write.new.self c.write-2.new.self P _ wrote (c.write-2.ensures.time model_1) two in
+    let two = two_changed reads (g.D.Device.image c.write.new.self) c.args.at c.args.from.now c.args.also_at
+    c.args.also.now (λ f now. one f ((pending.images f).0 now)) in
+    let both = goes_on g.D.Device.moment g.D.Device.image_since d c.write.new.self c.write-2.new.self P _ wrote
+    (c.write-2.ensures.time model_1) two in
     let pending_2 = c.in_ok-write-2.ensures.ok model_1 in
-    let synced = goes_on g.D.Device.moment g.D.Device.image_since d c.write-2.new.self c.sync.new.self P _ both (c.sync.ensures.time (c.write-2.ensures.model.1 model_1)) (λ f now. two f ((pending_2.images f).0 now)) in
+    let synced = goes_on g.D.Device.moment g.D.Device.image_since d c.write-2.new.self c.sync.new.self P _ both
+    (c.sync.ensures.time (c.write-2.ensures.model.1 model_1)) (λ f now. two f ((pending_2.images f).0 now)) in
     synced
 
 pub returns-clause-changed : goal.returns-clause-changed

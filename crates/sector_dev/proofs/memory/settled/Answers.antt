@@ -10,7 +10,9 @@ loop-at-preserved c =
     let calls = c.args.calls.now in
     let i = c.loop-at.at in
     elim c.match-call.branch [
-      | in-Synced w ↦ subst (λ (n : ℕ). IsSettledAt (take (i + 1) calls) n) (sym w.settled-is) (more_settled_synced calls i (Written 0 []) c.loop-at-test.true w.in-Synced.is)
+      | in-Synced w ↦ subst (λ (n : ℕ). IsSettledAt (take (i + 1) calls) n) (sym w.settled-is)
+          (more_settled_synced calls i (Written 0 []) c.loop-at-test.true w.in-Synced.is)
       | in_default w ↦ subst (λ (n : ℕ). IsSettledAt (take (i + 1) calls) n) (sym w.settled-is)
-          (more_settled_written calls i c.loop-at.settled w.in_default.field-0 w.in_default.field-1 (Written 0 []) c.loop-at-test.true w.in_default.is c.loop-at.invariant)
+          (more_settled_written calls i c.loop-at.settled w.in_default.field-0 w.in_default.field-1
+          (Written 0 []) c.loop-at-test.true w.in_default.is c.loop-at.invariant)
     ]
