@@ -6,23 +6,18 @@ use Rattle.sector_dev.specs.Image.{Image}
 use Rattle.sector_dev.specs.Crash.{left_by}
 use Rattle.sector_dev.specs.Device.{IsStable}
 use Rattle.sector_dev.specs.Memory.{Disk, shown, after, at_rest}
-use Rattle.sector_dev.specs.Replay.{MayLeave}
+use Rattle.sector_dev.specs.Replay.{recorded_state}
 use Rattle.sector_dev.proofs.Images.{stable_images}
 use Rattle.sector_dev.proofs.Played.{left_is_image}
 
 -- with nothing recorded since, what is left is stable
 pub rest_is_stable : (left next : List (List ℕ)) (calls : List Call) → calls ≡ [] → next ≡ left
-    → IsStable left (shown (after (at_rest next) calls)) (MayLeave (after (at_rest next) calls))
+    → IsStable left (recorded_state next calls)
 rest_is_stable left next calls cleared is =
-    subst (λ (cs : List Call). IsStable left (shown (after (at_rest next) cs)) (MayLeave (after (at_rest next) cs)))
-    (sym cleared)
+    subst (λ (cs : List Call). IsStable left (recorded_state next cs)) (sym cleared)
     (record {
       reads = is;
-      images = λ c. (
-        λ i. (stable_images next c).0 i
-            ∙ is,
-        λ e. (stable_images next c).1 (e ∙ sym is),
-      );
+      images = λ c. (λ i. (stable_images next c).0 i ∙ is, λ e. (stable_images next c).1 (e ∙ sym is));
     })
 
 pub crash_is_image : (d : Disk) (keep : List Bool) (next : List (List ℕ)) (calls : List Call) → calls ≡ []

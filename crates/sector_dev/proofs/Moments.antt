@@ -5,9 +5,9 @@ use Rattle.std.proofs.lemmas.Bool.{cases_eq}
 use Rattle.std.proofs.lemmas.List.{take_all, take-append-le}
 use Rattle.sector_dev.specs.declared.memory.Call.{Call}
 use Rattle.sector_dev.specs.declared.memory.Call.TheVariants.{Written, Synced}
-use Rattle.sector_dev.specs.Device.{Elapses, WithOrWithout, IsUnchanged, IsPending, IsStable}
+use Rattle.sector_dev.specs.Device.{State, Elapses, WithOrWithout, IsUnchanged, IsPending, IsStable}
 use Rattle.sector_dev.specs.Memory.{Disk, shown, step, after, at_rest}
-use Rattle.sector_dev.specs.Replay.{MayLeave, MightLeaveSince, length-after, length-applied, shown_is_image}
+use Rattle.sector_dev.specs.Replay.{MayLeave, MightLeaveSince, length-after, length-applied, shown_is_image, recorded_state}
 use Rattle.sector_dev.proofs.Images.{pending_images, applied-append, stable_images}
 
 pub after-append : (d : Disk) (cs : List Call) (x : Call) → after d (cs ++ x ∷ []) ≡ step (after d cs) x
@@ -21,12 +21,11 @@ recorded stable calls next x is = ap (λ (cs : List Call). after (at_rest stable
     ∙ after-append (at_rest stable) calls x
 
 -- a call that changes nothing
-pub elapses_same : (n : ℕ) (since : ℕ → List (List ℕ) → Type 0) (during : List (List ℕ) → Type 0)
-    → Elapses n n since since during
-elapses_same n since during = record { later = omega arith; nothing_else = λ t c le s. inl s; keeps = λ t c le s. s }
+pub elapses_same : (now : State) (during : List (List ℕ) → Type 0) → Elapses now now during
+elapses_same now during = record { later = omega arith; nothing_else = λ t c le s. inl s; keeps = λ t c le s. s }
 
-pub same_is_unchanged : (reads : List (List ℕ)) (image : List (List ℕ) → Type 0) → IsUnchanged reads reads image image
-same_is_unchanged reads image = record { reads = refl; images = λ c. (λ i. i, λ i. i) }
+pub same_is_unchanged : (now : State) → IsUnchanged now now
+same_is_unchanged now = record { reads = refl; images = λ c. (λ i. i, λ i. i) }
 
 module _ (stable : List (List ℕ)) (calls : List Call) (x : Call) where
   abbrev disk : Disk
@@ -63,8 +62,7 @@ module _ (stable : List (List ℕ)) (calls : List Call) (x : Call) where
   ]
 
   elapses_one : (during : List (List ℕ) → Type 0) → ((c : List (List ℕ)) → MayLeave (step disk x) c → during c)
-      → Elapses (length calls) (length (calls ++ x ∷ [])) (MightLeaveSince stable calls)
-      (MightLeaveSince stable (calls ++ x ∷ [])) during
+      → Elapses (recorded_state stable calls) (recorded_state stable (calls ++ x ∷ [])) during
   elapses_one during f = record {
     later = omega (arith, length-append calls (x ∷ []));
     nothing_else = λ t c le s. nothing_else during f t c s;
@@ -83,47 +81,42 @@ write_images stable calls at value lt c =
 
 pub written_is_pending : (stable : List (List ℕ)) (calls next : List Call) (at : ℕ) (value : List ℕ)
     → at < length stable → next ≡ calls ++ Written at value ∷ []
-    → IsPending at value (shown (after (at_rest stable) calls)) (shown (after (at_rest stable) next))
-    (MayLeave (after (at_rest stable) calls)) (MayLeave (after (at_rest stable) next))
+    → IsPending at value (recorded_state stable calls) (recorded_state stable next)
 written_is_pending stable calls next at value lt is =
     let d = after (at_rest stable) calls in
-    subst (λ (e : Disk). IsPending at value (shown d) (shown e) (MayLeave d) (MayLeave e))
-    (sym (ap (λ (cs : List Call). after (at_rest stable) cs) is
-    ∙ after-append (at_rest stable) calls (Written at value)))
-    (record {
-      reads = applied-append d.stable d.pending (record { at = at; value = value });
-      images =
-          write_images stable calls at value lt;
-    })
+    let leaves = recorded stable calls next (Written at value) is in
+    record {
+      reads = ap shown leaves ∙ applied-append d.stable d.pending (record { at = at; value = value });
+      images = λ c. subst (λ (e : Disk). MayLeave e c ↔ WithOrWithout at value (MayLeave d) c) (sym leaves)
+          (write_images stable calls at value lt c);
+    }
 
-pub written_elapses : (stable : List (List ℕ)) (calls next : List Call) (at : ℕ) (value : List ℕ) → at < length stable
-    → next ≡ calls ++ Written at value ∷ []
-    → Elapses (length calls) (length next) (MightLeaveSince stable calls) (MightLeaveSince stable next)
+pub written_elapses : (stable : List (List ℕ)) (calls next : List Call) (at : ℕ) (value : List ℕ)
+    → at < length stable → next ≡ calls ++ Written at value ∷ []
+    → Elapses (recorded_state stable calls) (recorded_state stable next)
     (WithOrWithout at value (MayLeave (after (at_rest stable) calls)))
 written_elapses stable calls next at value lt is =
-    subst (λ (cs : List Call). Elapses (length calls) (length cs) (MightLeaveSince stable calls)
-    (MightLeaveSince stable cs) (WithOrWithout at value (MayLeave (after (at_rest stable) calls)))) (sym is)
-    (elapses_one stable calls (Written at value) _ (λ c i. (write_images stable calls at value lt c).0 i))
+    let during = WithOrWithout at value (MayLeave (after (at_rest stable) calls)) in
+    subst (λ (cs : List Call). Elapses (recorded_state stable calls) (recorded_state stable cs) during) (sym is)
+    (elapses_one stable calls (Written at value) during (λ c i. (write_images stable calls at value lt c).0 i))
 
 pub synced_is_stable : (stable : List (List ℕ)) (calls next : List Call) → next ≡ calls ++ Synced ∷ []
-    → IsStable (shown (after (at_rest stable) calls)) (shown (after (at_rest stable) next))
-    (MayLeave (after (at_rest stable) next))
+    → IsStable (shown (after (at_rest stable) calls)) (recorded_state stable next)
 synced_is_stable stable calls next is =
-    let d = after (at_rest stable) calls in
-    subst (λ (e : Disk). IsStable (shown d) (shown e) (MayLeave e))
-    (sym (ap (λ (cs : List Call). after (at_rest stable) cs) is ∙ after-append (at_rest stable) calls Synced))
-    (record { reads = refl; images = stable_images (shown d) })
+    let now = shown (after (at_rest stable) calls) in
+    let leaves = recorded stable calls next Synced is in
+    record {
+      reads = ap shown leaves;
+      images = λ c. subst (λ (e : Disk). MayLeave e c ↔ (c ≡ now)) (sym leaves) (stable_images now c);
+    }
 
 pub synced_elapses : (stable : List (List ℕ)) (calls next : List Call) → next ≡ calls ++ Synced ∷ []
-    → Elapses (length calls) (length next) (MightLeaveSince stable calls) (MightLeaveSince stable next)
-    (MayLeave (after (at_rest stable) calls))
+    → Elapses (recorded_state stable calls) (recorded_state stable next) (MayLeave (after (at_rest stable) calls))
 synced_elapses stable calls next is =
     let d = after (at_rest stable) calls in
-    subst (λ (cs : List Call). Elapses (length calls) (length cs) (MightLeaveSince stable calls)
-    (MightLeaveSince stable cs) (MayLeave (after (at_rest stable) calls))) (sym is)
-    (elapses_one stable calls Synced _
-    (λ c i. subst (λ (x : List (List ℕ)). MayLeave d x) (sym ((stable_images (shown d) c).0 i))
-    (shown_is_image d)))
+    subst (λ (cs : List Call). Elapses (recorded_state stable calls) (recorded_state stable cs) (MayLeave d)) (sym is)
+    (elapses_one stable calls Synced (MayLeave d)
+    (λ c i. subst (λ (x : List (List ℕ)). MayLeave d x) (sym ((stable_images (shown d) c).0 i)) (shown_is_image d)))
 
 -- what reads give after one more write
 pub shown-written : (stable : List (List ℕ)) (calls : List Call) (at : ℕ) (value : List ℕ)

@@ -1,6 +1,13 @@
 -- What a crash leaves that keeps some of the pending writes and loses the others.
-use Rattle.std.specs.Prelude.{◌≡◌, ℕ, List, [], ◌∷◌, Bool, true, false, refl}
-use Rattle.sector_dev.specs.Image.{Write, applied}
+use Rattle.std.specs.Prelude.{◌≡◌, ◌↔◌, ℕ, List, [], ◌∷◌, Bool, true, false, refl}
+use Rattle.sector_dev.specs.Image.{Write, Image, applied}
+use Rattle.sector_dev.specs.Device.{State}
+
+-- The images are those of these stable values and pending writes, and reads give the last write to each sector, or its
+-- stable value where none is pending.
+pub record IsOfDisk (stable : List (List ℕ)) (pending : List Write) (now : State) : Type 0 where
+  pub images : (c : List (List ℕ)) → now.image c ↔ Image stable pending c
+  pub reads : now.reads ≡ applied stable pending
 
 -- those of the writes whose place is true; a missing place is false
 abbrev pub kept : List Write → List Bool → List Write

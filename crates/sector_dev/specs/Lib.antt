@@ -1,8 +1,9 @@
 pub mod Image
-pub mod Crash
 pub mod Device
+pub mod Crash
+pub mod Runs
 pub mod Memory
 pub mod Replay
 pub mod Made
+pub mod Unknown
 pub mod File
-pub mod Runs

@@ -1,9 +1,9 @@
 -- What a new device in memory is.
-use Rattle.std.specs.Prelude.{◌≡◌, ℕ, List, Some, None, false, true, length, replicate, ⊤}
-use Rattle.sector_dev.specs.Device.{Elapses, IsStable}
-use Rattle.sector_dev.specs.Replay.{MayLeave, MightLeaveSince}
+use Rattle.std.specs.Prelude.{◌≡◌, ℕ, List, Some, None, false, true, length, replicate}
+use Rattle.sector_dev.specs.Device.{State, IsStable}
+use Rattle.sector_dev.specs.Replay.{recorded_state}
 use Rattle.sector_dev.specs.declared.memory.MemoryDevice.{MemoryDevice}
-use Rattle.sector_dev.specs.Memory.{Disk, shown, step, after, at_rest}
+use Rattle.sector_dev.specs.Memory.{Disk, step, after, at_rest}
 use Rattle.sector_dev.specs.declared.memory.Call.TheVariants.{Written}
 
 -- its stable values and pending writes
@@ -14,29 +14,9 @@ disk_of m = after (at_rest m.base.items) m.calls.items
 abbrev pub sector_count_of : MemoryDevice → ℕ
 sector_count_of m = length m.base.items
 
--- it keeps the model always
-abbrev pub KeepsModel : MemoryDevice → Type 0
-KeepsModel m = ⊤
-
--- what reads give
-abbrev pub reads_of : MemoryDevice → List (List ℕ)
-reads_of m = shown (disk_of m)
-
--- what a crash at this moment may leave
-abbrev pub image_of : MemoryDevice → List (List ℕ) → Type 0
-image_of m = MayLeave (disk_of m)
-
--- what a crash at some moment from t on might have left
-abbrev pub since : MemoryDevice → ℕ → List (List ℕ) → Type 0
-since m = MightLeaveSince m.base.items m.calls.items
-
--- the moment: how many calls are recorded
-abbrev pub moment_of : MemoryDevice → ℕ
-moment_of m = length m.calls.items
-
--- time goes on by a call that leaves these images on its way
-abbrev pub TimePasses : MemoryDevice → MemoryDevice → (List (List ℕ) → Type 0) → Type 0
-TimePasses old new during = Elapses (moment_of old) (moment_of new) (since old) (since new) during
+-- what is known of it; it keeps the model always
+abbrev pub state_of : MemoryDevice → State
+state_of m = recorded_state m.base.items m.calls.items
 
 -- sectors of zeros
 abbrev pub zeros : ℕ → List (List ℕ)
@@ -45,7 +25,7 @@ zeros sectors = replicate sectors (replicate 512 0)
 -- zeros, stable, nothing pending, calls not limited, and no failure so far
 pub record IsZeroed (sectors : ℕ) (device : MemoryDevice) : Type 0 where
   pub sector_count : sector_count_of device ≡ sectors
-  pub stable : IsStable (zeros sectors) (reads_of device) (image_of device)
+  pub stable : IsStable (zeros sectors) (state_of device)
   pub disk : disk_of device ≡ at_rest (zeros sectors)
   pub calls_left : device.calls_left ≡ None
   pub failed_pending : device.failed_pending ≡ false

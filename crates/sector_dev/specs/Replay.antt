@@ -1,5 +1,5 @@
 -- What a record of calls says of the device now and earlier, and the laws of it.
-use Rattle.std.specs.Prelude.{◌≡◌, ◌⊎◌, ◌<◌, ◌≤◌, ℕ, List, [], ◌∷◌, length, take, slice_index_or, slice_set, refl}
+use Rattle.std.specs.Prelude.{◌≡◌, ◌⊎◌, ◌<◌, ◌≤◌, ℕ, List, [], ◌∷◌, length, take, slice_index_or, slice_set, refl, ⊤}
 use Rattle.std.proofs.Common.{inl, inr, sym, ◌∙◌, subst, arith}
 use Rattle.std.proofs.lemmas.Bool.{cases_eq}
 use Rattle.std.proofs.lemmas.List.{take_all, length-set, get_or-set_other}
@@ -7,6 +7,7 @@ use Rattle.std.proofs.lemmas.Grind.{get_or-set_at}
 use Rattle.sector_dev.specs.declared.memory.Call.{Call}
 use Rattle.sector_dev.specs.declared.memory.Call.TheVariants.{Written, Synced}
 use Rattle.sector_dev.specs.Image.{Write, IsWritten, Image, applied}
+use Rattle.sector_dev.specs.Device.{State, IsCoherent}
 use Rattle.sector_dev.specs.Memory.{Disk, shown, step, after, at_rest}
 
 -- a crash of this disk may leave that
@@ -69,3 +70,25 @@ shown_is_image d = record {
 pub image_has_size : (stable : List (List ℕ)) (calls : List Call) (c : List (List ℕ))
     → MayLeave (after (at_rest stable) calls) c → length c ≡ length stable
 image_has_size stable calls c i = i.size ∙ length-after (at_rest stable) calls
+
+-- what is known of a device in memory with this record of calls
+abbrev pub recorded_state : List (List ℕ) → List Call → State
+recorded_state stable calls = record {
+  keeps_model = ⊤;
+  reads = shown (after (at_rest stable) calls);
+  image = MayLeave (after (at_rest stable) calls);
+  moment = length calls;
+  image_since = MightLeaveSince stable calls;
+}
+
+pub recorded_is_coherent : (stable : List (List ℕ)) (calls : List Call)
+    → IsCoherent (length stable) (recorded_state stable calls)
+recorded_is_coherent stable calls =
+    let d = after (at_rest stable) calls in
+    record {
+      counts_now = λ t c model le now. this_moment_counts stable calls t c le now;
+      only_now = λ c model since. no_other_moment stable calls c since;
+      some_disk = λ model. (d.stable, d.pending, λ c. (λ i. i, λ i. i));
+      reads_are_image = λ model. shown_is_image d;
+      image_size = λ c model i. image_has_size stable calls c i;
+    }

@@ -1,10 +1,10 @@
 // A device in memory: the values that were stable when its record began, and the record of the calls since.
 ghost use Rattle.std.specs.Prelude.{◌≡◌, ◌⊎◌, ◌<◌, ◌≤◌, ◌^◌, ◌++◌, ◌∷◌, ◌↔◌, [], true, false, length, slice_index_or, slice_set, replicate, Some, None, ⊤, is_ok, IsErr, IfOk, OnOk, OnErr};
-ghost use Rattle.sector_dev.specs.Device.{WithOrWithout, IsUnchanged, IsPending, MayBePending, IsStable, MayBeStable, CountsFailure, TakesOne, one_less};
+ghost use Rattle.sector_dev.specs.Device.{WithOrWithout, IsUnchanged, IsPending, MayBePending, IsStable, MayBeStable, Elapses, CountsFailure, TakesOne, one_less};
 ghost use Rattle.sector_dev.specs.Image.{applied};
 ghost use Rattle.sector_dev.specs.Crash.{left_by};
 ghost use Rattle.sector_dev.specs.Memory.{shown, after, at_rest, writes_of, IsUnsynced, IsSettledAt};
-ghost use Rattle.sector_dev.specs.Replay.{MayLeave, MightLeaveSince, this_moment_counts, no_other_moment, shown_is_image, image_has_size};
+ghost use Rattle.sector_dev.specs.Replay.{recorded_is_coherent};
 
 use crate::{CrashDevice, Device, DeviceFault};
 use std::alloc::{AllocError, Global};
@@ -38,8 +38,8 @@ pub struct MemoryDevice {
 impl MemoryDevice {
     ghost use Rattle.sector_dev.specs.Made.{IsZeroed};
 
-    /// A device of zeros, all of them stable, whose calls are not limited. `AllocError` where memory for twice its sectors
-    /// of 512 bytes is refused.
+    /// A device of zeros, all of them stable, whose calls are not limited. `AllocError` where memory for twice its
+    /// sectors is refused.
     pub fn new(alloc: Global, sectors: u32) -> Result<MemoryDevice, AllocError>
         ensures { IfOk result (λ device. IsZeroed sectors device) }
     {
@@ -111,35 +111,19 @@ fn put(
 }
 
 impl Device for MemoryDevice {
-    ghost use Rattle.sector_dev.specs.Made.{KeepsModel, disk_of, sector_count_of, reads_of, image_of, moment_of, since, TimePasses, KeepsDisk, Pends, IsFirstFailed};
+    ghost use Rattle.sector_dev.specs.Made.{disk_of, sector_count_of, state_of, KeepsDisk, Pends, IsFirstFailed};
     ghost use Rattle.sector_dev.specs.Memory.{step};
     ghost use Rattle.sector_dev.specs.declared.memory.Call.TheVariants.{Synced};
 
-    ghost keeps_model = { KeepsModel };
+    ghost state = { state_of };
 
     ghost sector_count = { sector_count_of };
-
-    ghost reads = { reads_of };
-
-    ghost image = { image_of };
-
-    ghost moment = { moment_of };
-
-    ghost image_since = { since };
 
     ghost failures = { λ m. m.failures };
 
     ghost calls_left = { λ m. m.calls_left };
 
-    ghost counts_now = { λ m t c model le now. this_moment_counts m.base.items m.calls.items t c le now };
-
-    ghost only_now = { λ m c model since. no_other_moment m.base.items m.calls.items c since };
-
-    ghost images_of_some_disk = { λ m model. ((disk_of m).stable, (disk_of m).pending, λ c. (λ i. i, λ i. i)) };
-
-    ghost reads_are_image = { λ m model. shown_is_image (disk_of m) };
-
-    ghost image_size = { λ m c model i. image_has_size m.base.items m.calls.items c i };
+    ghost coherent = { λ m. recorded_is_coherent m.base.items m.calls.items };
 
     fn sectors(&self) -> u32 {
         self.base.len() as u32
@@ -149,11 +133,13 @@ impl Device for MemoryDevice {
     fn read(&mut self, at: u32, into: &mut [u8; 512]) -> Result<(), DeviceFault>
         requires { at < sector_count_of self.old }
         ensures sectors { sector_count_of self.new ≡ sector_count_of self.old }
-        ensures model { KeepsModel self.new ↔ KeepsModel self.old }
-        ensures value { KeepsModel self.old → OnOk result (into.new ≡ slice_index_or (reads_of self.old) at []) }
-        ensures unchanged { KeepsModel self.old
-            → IsUnchanged (reads_of self.old) (reads_of self.new) (image_of self.old) (image_of self.new) }
-        ensures time { KeepsModel self.old → TimePasses self.old self.new (image_of self.old) }
+        ensures model { (state_of self.new).keeps_model ↔ (state_of self.old).keeps_model }
+        ensures value { (state_of self.old).keeps_model
+            → OnOk result (into.new ≡ slice_index_or (state_of self.old).reads at []) }
+        ensures unchanged { (state_of self.old).keeps_model
+            → IsUnchanged (state_of self.old) (state_of self.new) }
+        ensures time { (state_of self.old).keeps_model
+            → Elapses (state_of self.old) (state_of self.new) (state_of self.old).image }
         ensures cause { CountsFailure result self.old.failures self.new.failures }
         ensures calls_left { TakesOne result self.old.calls_left self.new.calls_left }
         ensures disk { KeepsDisk self.old self.new }
@@ -169,15 +155,13 @@ impl Device for MemoryDevice {
     fn write(&mut self, at: u32, from: &[u8; 512]) -> Result<(), DeviceFault>
         requires { at < sector_count_of self.old }
         ensures sectors { sector_count_of self.new ≡ sector_count_of self.old }
-        ensures model { KeepsModel self.new ↔ KeepsModel self.old }
-        ensures ok { KeepsModel self.old
-            → OnOk result (IsPending at from.now (reads_of self.old) (reads_of self.new) (image_of self.old)
-            (image_of self.new)) }
-        ensures err { KeepsModel self.old
-            → OnErr result (MayBePending at from.now (reads_of self.old) (reads_of self.new) (image_of self.old)
-            (image_of self.new)) }
-        ensures time { KeepsModel self.old
-            → TimePasses self.old self.new (WithOrWithout at from.now (image_of self.old)) }
+        ensures model { (state_of self.new).keeps_model ↔ (state_of self.old).keeps_model }
+        ensures ok { (state_of self.old).keeps_model
+            → OnOk result (IsPending at from.now (state_of self.old) (state_of self.new)) }
+        ensures err { (state_of self.old).keeps_model
+            → OnErr result (MayBePending at from.now (state_of self.old) (state_of self.new)) }
+        ensures time { (state_of self.old).keeps_model
+            → Elapses (state_of self.old) (state_of self.new) (WithOrWithout at from.now (state_of self.old).image) }
         ensures cause { CountsFailure result self.old.failures self.new.failures }
         ensures calls_left { TakesOne result self.old.calls_left self.new.calls_left }
         ensures pending { OnOk result (Pends at from.now self.old self.new) }
@@ -215,13 +199,13 @@ impl Device for MemoryDevice {
     /// One that fails leaves the pending writes as they are.
     fn sync(&mut self) -> Result<(), DeviceFault>
         ensures sectors { sector_count_of self.new ≡ sector_count_of self.old }
-        ensures model { KeepsModel self.new ↔ KeepsModel self.old }
-        ensures ok { KeepsModel self.old
-            → OnOk result (IsStable (reads_of self.old) (reads_of self.new) (image_of self.new)) }
-        ensures err { KeepsModel self.old
-            → OnErr result (MayBeStable (reads_of self.old) (reads_of self.new) (image_of self.old)
-            (image_of self.new)) }
-        ensures time { KeepsModel self.old → TimePasses self.old self.new (image_of self.old) }
+        ensures model { (state_of self.new).keeps_model ↔ (state_of self.old).keeps_model }
+        ensures ok { (state_of self.old).keeps_model
+            → OnOk result (IsStable (state_of self.old).reads (state_of self.new)) }
+        ensures err { (state_of self.old).keeps_model
+            → OnErr result (MayBeStable (state_of self.old) (state_of self.new)) }
+        ensures time { (state_of self.old).keeps_model
+            → Elapses (state_of self.old) (state_of self.new) (state_of self.old).image }
         ensures cause { CountsFailure result self.old.failures self.new.failures }
         ensures calls_left { TakesOne result self.old.calls_left self.new.calls_left }
         ensures settled { OnOk result (disk_of self.new ≡ step (disk_of self.old) Synced) }
@@ -280,8 +264,7 @@ fn redo_kept(sectors: &mut [[u8; 512]], calls: &[Call], keep: &[bool])
 
 // Makes the writes that a sync has settled, and of the later ones those whose place is true.
 fn play(sectors: &mut [[u8; 512]], calls: &[Call], keep: &[bool])
-    ensures { sectors.new ≡ left_by (after (at_rest sectors.old) calls.now).stable
-        (after (at_rest sectors.old) calls.now).pending keep.now }
+    ensures { let disk = after (at_rest sectors.old) calls.now in sectors.new ≡ left_by disk.stable disk.pending keep.now }
 {
     let settled = settled(calls);
     redo(sectors, &calls[..settled]);
@@ -290,26 +273,27 @@ fn play(sectors: &mut [[u8; 512]], calls: &[Call], keep: &[bool])
 
 impl CrashDevice for MemoryDevice {
     ghost use Rattle.std.specs.Prelude.{refl};
-    ghost use Rattle.sector_dev.specs.Made.{KeepsModel, disk_of, sector_count_of, reads_of, image_of, TimePasses};
+    ghost use Rattle.sector_dev.specs.Made.{disk_of, sector_count_of, state_of};
 
     ghost stable = { λ m. (disk_of m).stable };
 
     ghost pending = { λ m. (disk_of m).pending };
 
-    ghost images_are = { λ m c model. (λ i. i, λ i. i) };
-
-    ghost reads_are = { λ m model. refl };
+    ghost of_disk = { λ m model. record { images = λ c. (λ i. i, λ i. i); reads = refl } };
 
     fn arm(&mut self, calls: u64)
         ensures sectors { sector_count_of self.new ≡ sector_count_of self.old }
-        ensures model { KeepsModel self.new ↔ KeepsModel self.old }
+        ensures model { (state_of self.new).keeps_model ↔ (state_of self.old).keeps_model }
         ensures calls_left { self.new.calls_left ≡ Some calls }
         ensures failures { self.new.failures ≡ self.old.failures }
-        ensures unchanged { KeepsModel self.old
-            → IsUnchanged (reads_of self.old) (reads_of self.new) (image_of self.old) (image_of self.new) }
-        ensures time { KeepsModel self.old → TimePasses self.old self.new (image_of self.old) }
-        ensures stable { KeepsModel self.old → (disk_of self.new).stable ≡ (disk_of self.old).stable }
-        ensures pending { KeepsModel self.old → (disk_of self.new).pending ≡ (disk_of self.old).pending }
+        ensures unchanged { (state_of self.old).keeps_model
+            → IsUnchanged (state_of self.old) (state_of self.new) }
+        ensures time { (state_of self.old).keeps_model
+            → Elapses (state_of self.old) (state_of self.new) (state_of self.old).image }
+        ensures stable { (state_of self.old).keeps_model
+            → (disk_of self.new).stable ≡ (disk_of self.old).stable }
+        ensures pending { (state_of self.old).keeps_model
+            → (disk_of self.new).pending ≡ (disk_of self.old).pending }
         ensures failed_pending { self.new.failed_pending ≡ false }
     {
         self.calls_left = Some(calls);
@@ -318,16 +302,15 @@ impl CrashDevice for MemoryDevice {
 
     fn crash(&mut self, keep: &[bool])
         ensures sectors { sector_count_of self.new ≡ sector_count_of self.old }
-        ensures model { KeepsModel self.new ↔ KeepsModel self.old }
+        ensures model { (state_of self.new).keeps_model ↔ (state_of self.old).keeps_model }
         ensures calls_left { self.new.calls_left ≡ None }
         ensures failures { self.new.failures ≡ self.old.failures }
-        ensures left { KeepsModel self.old
-            → IsStable (left_by (disk_of self.old).stable (disk_of self.old).pending keep.now) (reads_of self.new)
-            (image_of self.new) }
-        ensures image { KeepsModel self.old → image_of self.old (reads_of self.new) }
-        ensures stable { KeepsModel self.old
+        ensures left { (state_of self.old).keeps_model
+            → IsStable (left_by (disk_of self.old).stable (disk_of self.old).pending keep.now) (state_of self.new) }
+        ensures image { (state_of self.old).keeps_model → (state_of self.old).image (state_of self.new).reads }
+        ensures stable { (state_of self.old).keeps_model
             → (disk_of self.new).stable ≡ left_by (disk_of self.old).stable (disk_of self.old).pending keep.now }
-        ensures pending { KeepsModel self.old → (disk_of self.new).pending ≡ [] }
+        ensures pending { (state_of self.old).keeps_model → (disk_of self.new).pending ≡ [] }
         ensures failed_pending { self.new.failed_pending ≡ false }
     {
         play(&mut self.base, &self.calls, keep);

@@ -1,11 +1,11 @@
 -- What a pending write makes of sectors that have changed or not.
-use Rattle.std.proofs.Common.{inl, inr, ℕ, List, sym, ◌∙◌, ap, subst}
+use Rattle.std.proofs.Common.{◌≡◌, inl, inr, ℕ, List, sym, ◌∙◌, ap, subst}
 use Rattle.std.specs.Prelude.{slice_set}
 use Rattle.sector_dev.specs.Device.{WithOrWithout}
-use Rattle.sector_dev.specs.Runs.{Only}
 use Rattle.sector_dev_callers.specs.Changes.{OldOrChanged, OldOrEither}
 
-pub one_changed : (old : List (List ℕ)) (images : List (List ℕ) → Type 0) (at : ℕ) (value : List ℕ) → Only old images
+pub one_changed : (old : List (List ℕ)) (images : List (List ℕ) → Type 0) (at : ℕ) (value : List ℕ)
+    → ((d : List (List ℕ)) → images d → d ≡ old)
     → (c : List (List ℕ)) → WithOrWithout at value images c → OldOrChanged old at value c
 one_changed old images at value only c h = elim h.2 [
   | inl same ↦ inl (same ∙ only h.0 h.1)

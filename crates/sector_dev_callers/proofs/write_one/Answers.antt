@@ -10,12 +10,13 @@ returns-in_err-write-clause-any_moment g c =
     λ at_rest.
     let d = c.args.device.now in
     let model = at_rest.0 in
-    let reads = g.D.Device.reads d in
+    let old = g.D.Device.state d in
+    let reads = old.reads in
     let P = OldOrChanged reads c.args.at c.args.value.now in
-    let one = one_changed reads (g.D.Device.image d) c.args.at c.args.value.now at_rest.1 in
-    let at_start = started g.D.Device.moment g.D.Device.image_since d P
-    (λ f left. inl (at_rest.1 f (g.met.D.Device.only_now d f model left))) in
-    let wrote = goes_on g.D.Device.moment g.D.Device.image_since d d c.write.new.self P _ at_start
+    let one = one_changed reads (old.image) c.args.at c.args.value.now at_rest.1 in
+    let at_start = started old P
+    (λ f left. inl (at_rest.1 f ((g.met.D.Device.coherent d).only_now f model left))) in
+    let wrote = goes_on old old (g.D.Device.state c.write.new.self) P _ at_start
     (c.write.ensures.time model) one in
     wrote
 
@@ -24,15 +25,16 @@ returns-in_err-sync-clause-any_moment g c =
     λ at_rest.
     let d = c.args.device.now in
     let model = at_rest.0 in
-    let reads = g.D.Device.reads d in
+    let old = g.D.Device.state d in
+    let reads = old.reads in
     let P = OldOrChanged reads c.args.at c.args.value.now in
-    let one = one_changed reads (g.D.Device.image d) c.args.at c.args.value.now at_rest.1 in
-    let at_start = started g.D.Device.moment g.D.Device.image_since d P
-    (λ f left. inl (at_rest.1 f (g.met.D.Device.only_now d f model left))) in
-    let wrote = goes_on g.D.Device.moment g.D.Device.image_since d d c.write.new.self P _ at_start
+    let one = one_changed reads (old.image) c.args.at c.args.value.now at_rest.1 in
+    let at_start = started old P
+    (λ f left. inl (at_rest.1 f ((g.met.D.Device.coherent d).only_now f model left))) in
+    let wrote = goes_on old old (g.D.Device.state c.write.new.self) P _ at_start
     (c.write.ensures.time model) one in
     let pending = c.in_ok-write.ensures.ok model in
-    let synced = goes_on g.D.Device.moment g.D.Device.image_since d c.write.new.self c.sync.new.self P _ wrote
+    let synced = goes_on old (g.D.Device.state c.write.new.self) (g.D.Device.state c.sync.new.self) P _ wrote
     (c.sync.ensures.time (c.write.ensures.model.1 model)) (λ f now. one f ((pending.images f).0 now)) in
     synced
 
@@ -41,15 +43,16 @@ returns-clause-any_moment g c =
     λ at_rest.
     let d = c.args.device.now in
     let model = at_rest.0 in
-    let reads = g.D.Device.reads d in
+    let old = g.D.Device.state d in
+    let reads = old.reads in
     let P = OldOrChanged reads c.args.at c.args.value.now in
-    let one = one_changed reads (g.D.Device.image d) c.args.at c.args.value.now at_rest.1 in
-    let at_start = started g.D.Device.moment g.D.Device.image_since d P
-    (λ f left. inl (at_rest.1 f (g.met.D.Device.only_now d f model left))) in
-    let wrote = goes_on g.D.Device.moment g.D.Device.image_since d d c.write.new.self P _ at_start
+    let one = one_changed reads (old.image) c.args.at c.args.value.now at_rest.1 in
+    let at_start = started old P
+    (λ f left. inl (at_rest.1 f ((g.met.D.Device.coherent d).only_now f model left))) in
+    let wrote = goes_on old old (g.D.Device.state c.write.new.self) P _ at_start
     (c.write.ensures.time model) one in
     let pending = c.in_ok-write.ensures.ok model in
-    let synced = goes_on g.D.Device.moment g.D.Device.image_since d c.write.new.self c.sync.new.self P _ wrote
+    let synced = goes_on old (g.D.Device.state c.write.new.self) (g.D.Device.state c.sync.new.self) P _ wrote
     (c.sync.ensures.time (c.write.ensures.model.1 model)) (λ f now. one f ((pending.images f).0 now)) in
     synced
 
@@ -59,5 +62,5 @@ returns-clause-changed g c =
     let model = at_rest.0 in
     let pending = c.in_ok-write.ensures.ok model in
     let stable = c.in_ok-sync.ensures.ok (c.write.ensures.model.1 model) in
-    subst (λ (s : List (List ℕ)). IsStable s (g.D.Device.reads c.sync.new.self) (g.D.Device.image c.sync.new.self))
+    subst (λ (s : List (List ℕ)). IsStable s (g.D.Device.state c.sync.new.self))
     pending.reads stable

@@ -1,0 +1,16 @@
+-- The state of a device of which nothing can be shown.
+use Rattle.std.specs.Prelude.{ℕ, []}
+use Rattle.sector_dev.specs.Device.{State, IsCoherent}
+
+-- it doesn't claim the model
+abbrev pub unknown : State
+unknown = record { keeps_model = ⊥; reads = []; image = λ c. ⊥; moment = 0; image_since = λ t c. ⊥ }
+
+pub unknown_is_coherent : (sector_count : ℕ) → IsCoherent sector_count unknown
+unknown_is_coherent sector_count = record {
+  counts_now = λ t c model le now. absurd model;
+  only_now = λ c model since. absurd model;
+  some_disk = λ model. absurd model;
+  reads_are_image = λ model. absurd model;
+  image_size = λ c model now. absurd model;
+}
