@@ -1,6 +1,6 @@
 -- How a run of device calls goes on.
 use Rattle.std.proofs.Common.{inl, inr, ⊎_elim, ℕ, List, arith}
-use Rattle.sector_dev.specs.Device.{State, IsCoherent, Elapses}
+use Rattle.sector_dev.specs.Device.{State, Elapses}
 use Rattle.sector_dev.specs.Runs.{LeavesOnly}
 
 -- before the first call
@@ -17,8 +17,3 @@ goes_on old mid new P during so_far time here = record {
   before = λ t c le left. ⊎_elim (so_far.before t c le) (λ now. inr (here c now))
       (time.nothing_else t c (omega (arith, le, so_far.later)) left);
 }
-
--- what a crash leaves now has P too
-pub now_left : (sector_count : ℕ) (old new : State) (P : List (List ℕ) → Type 0) → IsCoherent sector_count new
-    → LeavesOnly old new P → new.keeps_model → (c : List (List ℕ)) → new.image c → P c
-now_left sector_count old new P laws so_far model c now = so_far.each c (laws.counts_now old.moment c model so_far.later now)

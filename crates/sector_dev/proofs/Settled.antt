@@ -39,9 +39,6 @@ unsynced-append [] at v u = tt
 unsynced-append (Written a x ∷ xs) at v u = unsynced-append xs at v u
 unsynced-append (Synced ∷ xs) at v u = absurd u
 
-pub settled_start : IsSettledAt [] 0
-settled_start = record { within = omega arith; unsynced = tt; disk = λ stable. refl }
-
 -- the disk of a record that is settled at a place
 abbrev disk_at : List (List ℕ) → List Call → List Call → Disk
 disk_at stable front back = record { stable = applied stable (writes_of front); pending = writes_of back }

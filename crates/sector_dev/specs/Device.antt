@@ -10,7 +10,7 @@ pub record State : Type 1 where
   pub reads : List (List ℕ)
   -- what a crash at this moment may leave
   pub image : List (List ℕ) → Type 0
-  -- the moment, as a number that no call makes smaller
+  -- the moment, as a number that no call of `Device` makes smaller, nor `arm`; a crash begins it anew
   pub moment : ℕ
   -- what a crash at some moment from that one on might have left, before, within or after a call
   pub image_since : ℕ → List (List ℕ) → Type 0
@@ -23,7 +23,8 @@ pub record IsCoherent (sector_count : ℕ) (now : State) : Type 0 where
   pub only_now : (c : List (List ℕ)) → now.keeps_model → now.image_since now.moment c → now.image c
   -- the images are those of some stable values and some pending writes
   pub some_disk : now.keeps_model
-      → (stable : List (List ℕ)) × (pending : List Write) × ((c : List (List ℕ)) → now.image c ↔ Image stable pending c)
+      → (stable : List (List ℕ)) × (pending : List Write)
+      × ((c : List (List ℕ)) → now.image c ↔ Image stable pending c)
   -- what reads give is one of them
   pub reads_are_image : now.keeps_model → now.image now.reads
   -- none has more sectors, or fewer
@@ -54,16 +55,18 @@ pub record IsStable (sectors : List (List ℕ)) (now : State) : Type 0 where
   pub reads : now.reads ≡ sectors
   pub images : (c : List (List ℕ)) → now.image c ↔ (c ≡ sectors)
 
--- Reads give what they gave, and a crash leaves nothing that it might not have left before: some of the pending writes
--- may have become stable.
+-- Reads give what they gave, and a crash leaves nothing that it might not have left before: some of the pending
+-- writes may have become stable.
 pub record MayBeStable (old new : State) : Type 0 where
   pub reads : new.reads ≡ old.reads
   pub images : (c : List (List ℕ)) → new.image c → old.image c
 
--- Time goes on: a crash since t might have left what it might have left before, or what it might leave during the call.
+-- Time goes on: a crash since t might have left what it might have left before, all of it, or what it might leave
+-- during the call.
 pub record Elapses (old new : State) (during : List (List ℕ) → Type 0) : Type 0 where
   pub later : old.moment ≤ new.moment
-  pub nothing_else : (t : ℕ) (c : List (List ℕ)) → t ≤ old.moment → new.image_since t c → old.image_since t c ⊎ during c
+  pub nothing_else : (t : ℕ) (c : List (List ℕ)) → t ≤ old.moment
+      → new.image_since t c → old.image_since t c ⊎ during c
   pub keeps : (t : ℕ) (c : List (List ℕ)) → t ≤ old.moment → old.image_since t c → new.image_since t c
 
 -- the count rose, or stays where 64 bits hold no more

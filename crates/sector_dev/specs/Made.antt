@@ -1,4 +1,4 @@
--- What a new device in memory is.
+-- A device in memory as its clauses see it.
 use Rattle.std.specs.Prelude.{◌≡◌, ℕ, List, Some, None, false, true, length, replicate}
 use Rattle.sector_dev.specs.Device.{State, IsStable}
 use Rattle.sector_dev.specs.Replay.{recorded_state}

@@ -4,6 +4,7 @@ use Rattle.sector_dev.specs.declared.memory.Call.{Call}
 use Rattle.sector_dev.specs.declared.memory.Call.TheVariants.{Written, Synced}
 use Rattle.sector_dev.specs.Image.{Write, applied}
 
+-- stable values, and pending writes in the order in which they were made
 pub record Disk : Type 0 where
   pub stable : List (List ℕ)
   pub pending : List Write

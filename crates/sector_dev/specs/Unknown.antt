@@ -2,7 +2,7 @@
 use Rattle.std.specs.Prelude.{ℕ, []}
 use Rattle.sector_dev.specs.Device.{State, IsCoherent}
 
--- it doesn't claim the model
+-- it keeps no model, as far as is shown
 abbrev pub unknown : State
 unknown = record { keeps_model = ⊥; reads = []; image = λ c. ⊥; moment = 0; image_since = λ t c. ⊥ }
 

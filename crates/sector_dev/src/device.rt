@@ -9,7 +9,8 @@ ghost use Rattle.sector_dev.specs.Crash.{left_by, IsOfDisk};
 pub struct DeviceFault;
 
 /// Sectors of 512 bytes. Its clauses speak of the disk model: `docs/DISK.md` in words, `specs/Device.antt` for what a
-/// caller can know, `specs/Image.antt` for what a crash may leave.
+/// caller can know, `specs/Image.antt` for what a crash may leave. A sector is named by its number, which callers keep
+/// below `sectors()`.
 pub trait Device {
     /// What reads give and what a crash may leave, where the device keeps the model. Without it only the number of
     /// sectors and the two counts are promised.
@@ -28,7 +29,8 @@ pub trait Device {
     fn sectors(&self) -> u32
         ensures { result ≡ sector_count self.now };
 
-    /// At `Ok` the sector's 512 bytes are in `into`. It changes nothing. `DeviceFault` comes with a failure counted.
+    /// At `Ok` the sector's 512 bytes are in `into`; after `DeviceFault`, which comes with a failure counted, it may
+    /// hold anything. Nothing changes.
     fn read(&mut self, at: u32, into: &mut [u8; 512]) -> Result<(), DeviceFault>
         requires { at < sector_count self.old }
         ensures sectors { sector_count self.new ≡ sector_count self.old }
@@ -83,8 +85,8 @@ pub trait CrashDevice: Device {
     /// clauses of a type, as `MemoryDevice`.
     ghost pending: { Self → List Write };
 
-    /// The next `calls` calls of `read`, `write` and `sync` are served, and every later one fails, until a crash or until
-    /// the device is armed again. Nothing else changes.
+    /// The next `calls` calls of `read`, `write` and `sync` are served, unless they fail for another reason, and every
+    /// later one fails, until a crash or until the device is armed again. Nothing else changes.
     fn arm(&mut self, calls: u64)
         ensures sectors { Self.sector_count self.new ≡ Self.sector_count self.old }
         ensures model { (Self.state self.new).keeps_model ↔ (Self.state self.old).keeps_model }

@@ -1,6 +1,6 @@
 // A device in memory: the values that were stable when its record began, and the record of the calls since.
-ghost use Rattle.std.specs.Prelude.{◌≡◌, ◌⊎◌, ◌<◌, ◌≤◌, ◌^◌, ◌++◌, ◌∷◌, ◌↔◌, [], true, false, length, slice_index_or, slice_set, replicate, Some, None, ⊤, is_ok, IsErr, IfOk, OnOk, OnErr};
-ghost use Rattle.sector_dev.specs.Device.{WithOrWithout, IsUnchanged, IsPending, MayBePending, IsStable, MayBeStable, Elapses, CountsFailure, TakesOne, one_less};
+ghost use Rattle.std.specs.Prelude.{◌≡◌, ◌⊎◌, ◌<◌, ◌^◌, ◌++◌, ◌∷◌, ◌↔◌, [], true, false, length, slice_index_or, slice_set, Some, None, IsErr, IfOk, OnOk, OnErr};
+ghost use Rattle.sector_dev.specs.Device.{WithOrWithout, IsUnchanged, IsPending, MayBePending, IsStable, MayBeStable, Elapses, CountsFailure, TakesOne};
 ghost use Rattle.sector_dev.specs.Image.{applied};
 ghost use Rattle.sector_dev.specs.Crash.{left_by};
 ghost use Rattle.sector_dev.specs.Memory.{shown, after, at_rest, writes_of, IsUnsynced, IsSettledAt};
@@ -12,9 +12,12 @@ use std::alloc::{AllocError, Global};
 #[cfg(test)]
 mod tests;
 
+/// A recorded call.
 #[derive(Clone, Copy)]
 pub enum Call {
+    /// A write of these bytes to the sector with this number, also one that failed and is pending.
     Written(u32, [u8; 512]),
+    /// A sync that answered `Ok`.
     Synced,
 }
 
@@ -150,8 +153,8 @@ impl Device for MemoryDevice {
         Ok(())
     }
 
-    /// A write that fails because the device is armed is pending if it is the first such, else not. One that fails
-    /// for want of memory is not pending.
+    /// Of the writes that fail because the device is armed, the first for which there is memory is pending, and the
+    /// others are not. One that fails for want of memory is not pending.
     fn write(&mut self, at: u32, from: &[u8; 512]) -> Result<(), DeviceFault>
         requires { at < sector_count_of self.old }
         ensures sectors { sector_count_of self.new ≡ sector_count_of self.old }
@@ -264,7 +267,8 @@ fn redo_kept(sectors: &mut [[u8; 512]], calls: &[Call], keep: &[bool])
 
 // Makes the writes that a sync has settled, and of the later ones those whose place is true.
 fn play(sectors: &mut [[u8; 512]], calls: &[Call], keep: &[bool])
-    ensures { let disk = after (at_rest sectors.old) calls.now in sectors.new ≡ left_by disk.stable disk.pending keep.now }
+    ensures { let disk = after (at_rest sectors.old) calls.now in
+        sectors.new ≡ left_by disk.stable disk.pending keep.now }
 {
     let settled = settled(calls);
     redo(sectors, &calls[..settled]);

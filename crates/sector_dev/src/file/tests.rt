@@ -130,7 +130,7 @@ fn a_file_has_one_device_at_a_time(rt: HostRuntime) -> Result<(), Fail> {
 }
 
 #[test]
-fn what_is_no_file_is_refused(rt: HostRuntime) -> Result<(), Fail> {
+fn what_is_missing_or_a_folder_is_refused(rt: HostRuntime) -> Result<(), Fail> {
     let path = free_path(&rt, "missing")?;
     assert_eq!(rt;
         refusal(FileDevice::open(&rt, &path)),
@@ -157,7 +157,11 @@ fn what_is_no_file_is_refused(rt: HostRuntime) -> Result<(), Fail> {
         Some(ErrorKind::IsADirectory)
     );
     fs::remove_dir(&rt, &path)?;
+    Ok(())
+}
 
+#[test]
+fn what_can_be_opened_and_is_no_file_is_refused(rt: HostRuntime) -> Result<(), Fail> {
     let (pipe, _writer) = io::pipe(&rt)?;
     let pipe = format!(in rt.alloc(); "/proc/self/fd/{}", pipe.as_raw_fd())?;
     for path in ["/dev/null", pipe.as_str()] {
@@ -211,6 +215,7 @@ fn a_write_and_a_sync_that_the_system_refuses_fail(rt: HostRuntime) -> Result<()
         file: File::open(&rt, "/dev/null")?,
         sectors: 2,
         failures: 0,
+        sync_failed: false,
     };
     assert_eq!(rt;
         write_sector(&rt, &mut device, 1, &[3; 512]),
@@ -219,5 +224,11 @@ fn a_write_and_a_sync_that_the_system_refuses_fail(rt: HostRuntime) -> Result<()
     assert_eq!(rt; device.failures, 1);
     assert_eq!(rt; device.sync(), Err(DeviceFault));
     assert_eq!(rt; device.failures, 2);
+    // A file that can be synced does not mend it.
+    let path = free_path(&rt, "synced")?;
+    device.file = File::create_new(&rt, &path)?;
+    assert_eq!(rt; device.sync(), Err(DeviceFault));
+    assert_eq!(rt; device.failures, 3);
+    fs::remove_file(&rt, &path)?;
     Ok(())
 }

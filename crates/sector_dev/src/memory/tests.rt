@@ -5,10 +5,10 @@ use std::alloc::{AllocError, Global};
 use std::process::Abort;
 use std::test::Fail;
 
-/// What each of three sectors is filled with.
+// What each of three sectors is filled with.
 type Bytes = [u8; 3];
 
-/// Distinct, and no byte that a test writes over them.
+// Distinct, and no byte that a test writes over them.
 const STABLE: Bytes = [101, 102, 103];
 
 // Fills a sector with a byte.
@@ -51,7 +51,7 @@ fn settle<D: Device>(device: &mut D, stable: Bytes) -> Result<(), DeviceFault> {
     device.sync()
 }
 
-/// A sector, and what it is filled with.
+// A sector, and what it is filled with.
 type Filling = (u32, u8);
 
 // The stable bytes after those writes whose place in `keep` is true.
@@ -267,7 +267,7 @@ fn armed_calls(rt: HostRuntime) -> Result<(), Fail> {
     Ok(())
 }
 
-/// What the calls that were answered `Ok` come to.
+// What the calls that were answered `Ok` come to.
 #[derive(Clone, Copy)]
 struct Expected {
     seen: Bytes,
@@ -356,7 +356,7 @@ fn make_or_refuse<D: CrashDevice>(
     assert_eq!(rt; bytes(rt, device), Ok(expected.left), "left at the end");
 }
 
-// Passes whichever allocation is refused.
+// Passes whichever allocation is refused. `bench/refused-memory` refuses them in turn; else none is.
 #[test]
 fn refused_memory(rt: HostRuntime) {
     let mixed = [false, true, false, true, false, true, false, true];
