@@ -171,32 +171,19 @@ impl Device for MemoryDevice {
         ensures failed_pending { OnOk result (self.new.failed_pending ≡ self.old.failed_pending) }
         ensures failed { OnErr result (KeepsDisk self.old self.new ⊎ IsFirstFailed at from.now self.old self.new) }
     {
-        match take_one(&mut self.calls_left, &mut self.failures) {
-            Ok(()) => {
-                put(
-                    &mut self.seen,
-                    &mut self.calls,
-                    at,
-                    from,
-                    &mut self.failures,
-                )?;
-                Ok(())
-            }
-            Err(fault) => {
-                if self.failed_pending {
-                    return Err(fault);
-                }
-                put(
-                    &mut self.seen,
-                    &mut self.calls,
-                    at,
-                    from,
-                    &mut self.failures,
-                )?;
-                self.failed_pending = true;
-                Err(fault)
-            }
+        let taken = take_one(&mut self.calls_left, &mut self.failures);
+        if taken.is_err() && self.failed_pending {
+            return taken;
         }
+        put(
+            &mut self.seen,
+            &mut self.calls,
+            at,
+            from,
+            &mut self.failures,
+        )?;
+        self.failed_pending |= taken.is_err();
+        taken
     }
 
     /// One that fails leaves the pending writes as they are.
