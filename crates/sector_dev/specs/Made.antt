@@ -1,5 +1,5 @@
 -- A device in memory as its clauses see it.
-use Rattle.std.specs.Prelude.{◌≡◌, ℕ, List, Some, None, false, true, length, replicate}
+use Rattle.std.specs.Prelude.{◌≡◌, ◌≤◌, ◌+◌, ◌-◌, ◌^◌, min, ℕ, List, Some, None, false, true, length, replicate}
 use Rattle.sector_dev.specs.Device.{State, IsStable}
 use Rattle.sector_dev.specs.Replay.{recorded_state}
 use Rattle.sector_dev.specs.declared.memory.MemoryDevice.{MemoryDevice}
@@ -35,6 +35,12 @@ pub record IsZeroed (sectors : ℕ) (device : MemoryDevice) : Type 0 where
 pub record KeepsDisk (old new : MemoryDevice) : Type 0 where
   pub disk : disk_of new ≡ disk_of old
   pub failed_pending : new.failed_pending ≡ old.failed_pending
+
+-- A write that fails has changed nothing. Where it is the first that fails since the device was armed, that is because
+-- memory was refused too, which counts as one more failure.
+pub record IsRefused (old new : MemoryDevice) : Type 0 where
+  pub kept : KeepsDisk old new
+  pub counted : old.calls_left ≡ Some 0 → old.failed_pending ≡ false → min (old.failures + 2) (2 ^ 64 - 1) ≤ new.failures
 
 -- the write is the last pending one
 abbrev pub Pends : ℕ → List ℕ → MemoryDevice → MemoryDevice → Type 0

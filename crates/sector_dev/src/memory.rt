@@ -114,7 +114,7 @@ fn put(
 }
 
 impl Device for MemoryDevice {
-    ghost use Rattle.sector_dev.specs.Made.{disk_of, sector_count_of, state_of, KeepsDisk, Pends, IsFirstFailed};
+    ghost use Rattle.sector_dev.specs.Made.{disk_of, sector_count_of, state_of, KeepsDisk, IsRefused, Pends, IsFirstFailed};
     ghost use Rattle.sector_dev.specs.Memory.{step};
     ghost use Rattle.sector_dev.specs.declared.memory.Call.TheVariants.{Synced};
 
@@ -169,7 +169,7 @@ impl Device for MemoryDevice {
         ensures calls_left { TakesOne result self.old.calls_left self.new.calls_left }
         ensures pending { OnOk result (Pends at from.now self.old self.new) }
         ensures failed_pending { OnOk result (self.new.failed_pending ≡ self.old.failed_pending) }
-        ensures failed { OnErr result (KeepsDisk self.old self.new ⊎ IsFirstFailed at from.now self.old self.new) }
+        ensures failed { OnErr result (IsRefused self.old self.new ⊎ IsFirstFailed at from.now self.old self.new) }
     {
         let taken = take_one(&mut self.calls_left, &mut self.failures);
         if taken.is_err() && self.failed_pending {
