@@ -1,6 +1,6 @@
 -- What a crash leaves that keeps some of the pending writes and loses the others.
 use Rattle.std.specs.Prelude.{◌≡◌, ◌↔◌, ℕ, List, [], ◌∷◌, Bool, true, false, refl}
-use Rattle.sector_dev.specs.Image.{Write, Image, applied}
+use Rattle.sector_dev.specs.Image.{Write, Image, applied, two_sectors, three_writes}
 use Rattle.sector_dev.specs.Device.{State}
 
 -- The images are those of these stable values and pending writes, and reads give the last write to each sector, or its
@@ -20,30 +20,21 @@ kept (w ∷ ws) (false ∷ keep) = kept ws keep
 abbrev pub left_by : List (List ℕ) → List Write → List Bool → List (List ℕ)
 left_by stable pending keep = applied stable (kept pending keep)
 
--- two pending writes to the first sector and one to the second
-abbrev three_writes : List Write
-three_writes = record { at = 0; value = 11 ∷ [] } ∷ record { at = 1; value = 21 ∷ [] } ∷ record {
-  at = 0;
-  value =
-      12 ∷ [];
-} ∷ []
-
 -- of two kept writes to one sector the last one stands
-last_stands : left_by ((10 ∷ []) ∷ (20 ∷ []) ∷ []) three_writes (true ∷ false ∷ true ∷ []) ≡ (12 ∷ []) ∷ (20 ∷ []) ∷ []
+last_stands : left_by two_sectors three_writes (true ∷ false ∷ true ∷ []) ≡ (12 ∷ []) ∷ (20 ∷ []) ∷ []
 last_stands = refl
 
 -- the first of them alone
-first_kept : left_by ((10 ∷ []) ∷ (20 ∷ []) ∷ []) three_writes (true ∷ true ∷ false ∷ []) ≡ (11 ∷ []) ∷ (21 ∷ []) ∷ []
+first_kept : left_by two_sectors three_writes (true ∷ true ∷ false ∷ []) ≡ (11 ∷ []) ∷ (21 ∷ []) ∷ []
 first_kept = refl
 
 -- a missing place is false, and a place too many says nothing
-missing_is_false : left_by ((10 ∷ []) ∷ (20 ∷ []) ∷ []) three_writes (false ∷ true ∷ []) ≡ (10 ∷ []) ∷ (21 ∷ []) ∷ []
+missing_is_false : left_by two_sectors three_writes (false ∷ true ∷ []) ≡ (10 ∷ []) ∷ (21 ∷ []) ∷ []
 missing_is_false = refl
 
-too_many : left_by ((10 ∷ []) ∷ (20 ∷ []) ∷ []) three_writes (false ∷ false ∷ true ∷ true ∷ true ∷ []) ≡ (12 ∷ []) ∷
-    (20 ∷ []) ∷ []
+too_many : left_by two_sectors three_writes (false ∷ false ∷ true ∷ true ∷ true ∷ []) ≡ (12 ∷ []) ∷ (20 ∷ []) ∷ []
 too_many = refl
 
 -- with nothing kept the stable values are left
-none_kept : left_by ((10 ∷ []) ∷ (20 ∷ []) ∷ []) three_writes [] ≡ (10 ∷ []) ∷ (20 ∷ []) ∷ []
+none_kept : left_by two_sectors three_writes [] ≡ two_sectors
 none_kept = refl

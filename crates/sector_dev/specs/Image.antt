@@ -38,34 +38,38 @@ abbrev pub images : ℕ → List (List ℕ) → List Write → List (List (List 
 images at [] pending = [] ∷ []
 images at (stable ∷ rest) pending = each_before (values at stable pending) (images (at + 1) rest pending)
 
--- two pending writes to the first sector and one to the second: six images
+-- for the examples: a write to this sector of this one byte
+abbrev pub put : ℕ → ℕ → Write
+put at byte = record { at = at; value = byte ∷ [] }
+
+-- two stable sectors; two pending writes to the first and one to the second
+abbrev pub two_sectors : List (List ℕ)
+two_sectors = (10 ∷ []) ∷ (20 ∷ []) ∷ []
+
+abbrev pub three_writes : List Write
+three_writes = put 0 11 ∷ put 1 21 ∷ put 0 12 ∷ []
+
+-- six images
 two_and_one :
-    images 0 ((10 ∷ []) ∷ (20 ∷ []) ∷ [])
-    (record { at = 0; value = 11 ∷ [] } ∷ record { at = 1; value = 21 ∷ [] } ∷ record { at = 0; value = 12 ∷ [] }
-    ∷ [])
+    images 0 two_sectors three_writes
     ≡ ((11 ∷ []) ∷ (21 ∷ []) ∷ []) ∷ ((11 ∷ []) ∷ (20 ∷ []) ∷ [])
     ∷ ((12 ∷ []) ∷ (21 ∷ []) ∷ []) ∷ ((12 ∷ []) ∷ (20 ∷ []) ∷ [])
     ∷ ((10 ∷ []) ∷ (21 ∷ []) ∷ []) ∷ ((10 ∷ []) ∷ (20 ∷ []) ∷ []) ∷ []
 two_and_one = refl
 
 -- nothing pending: the stable values alone
-nothing_pending : images 0 ((10 ∷ []) ∷ (20 ∷ []) ∷ []) [] ≡ ((10 ∷ []) ∷ (20 ∷ []) ∷ []) ∷ []
+nothing_pending : images 0 two_sectors [] ≡ two_sectors ∷ []
 nothing_pending = refl
 
 -- what reads give is the last write to each sector
-last_write_read :
-    applied ((10 ∷ []) ∷ (20 ∷ []) ∷ [])
-    (record { at = 0; value = 11 ∷ [] } ∷ record { at = 1; value = 21 ∷ [] } ∷ record { at = 0; value = 12 ∷ [] }
-    ∷ [])
-    ≡ (12 ∷ []) ∷ (21 ∷ []) ∷ []
+last_write_read : applied two_sectors three_writes ≡ (12 ∷ []) ∷ (21 ∷ []) ∷ []
 last_write_read = refl
 
 -- three sectors, four pending writes: three values, two and two
-twelve_images : length (images 0 ((10 ∷ []) ∷ (20 ∷ []) ∷ (30 ∷ []) ∷ [])
-    (record { at = 0; value = 11 ∷ [] } ∷ record { at = 2; value = 31 ∷ [] } ∷ record { at = 0; value = 12 ∷ [] }
-    ∷ record { at = 1; value = 21 ∷ [] } ∷ [])) ≡ 12
+twelve_images :
+    length (images 0 ((10 ∷ []) ∷ (20 ∷ []) ∷ (30 ∷ []) ∷ []) (put 0 11 ∷ put 2 31 ∷ put 0 12 ∷ put 1 21 ∷ [])) ≡ 12
 twelve_images = refl
 
 -- the value of a write to the other sector is none that a crash leaves in this one
-other_sector : values 1 (20 ∷ []) (record { at = 0; value = 11 ∷ [] } ∷ []) ≡ (20 ∷ []) ∷ []
+other_sector : values 1 (20 ∷ []) (put 0 11 ∷ []) ≡ (20 ∷ []) ∷ []
 other_sector = refl

@@ -4,6 +4,6 @@ pub mod Crash
 pub mod Runs
 pub mod Memory
 pub mod Replay
-pub mod Made
+pub mod InMemory
 pub mod Unknown
 pub mod File

@@ -2,7 +2,7 @@
 use Rattle.std.specs.Prelude.{◌≡◌, ◌≤◌, ℕ, List, [], ◌∷◌, ◌++◌, length, take, drop, ⊤, refl}
 use Rattle.sector_dev.specs.declared.memory.Call.{Call}
 use Rattle.sector_dev.specs.declared.memory.Call.TheVariants.{Written, Synced}
-use Rattle.sector_dev.specs.Image.{Write, applied}
+use Rattle.sector_dev.specs.Image.{Write, applied, put, two_sectors}
 
 -- stable values, and pending writes in the order in which they were made
 pub record Disk : Type 0 where
@@ -28,9 +28,9 @@ abbrev pub at_rest : List (List ℕ) → Disk
 at_rest stable = record { stable = stable; pending = [] }
 
 -- two writes, a sync and a write: the two are stable and the last one pending
-after_four_calls : after (at_rest ((10 ∷ []) ∷ (20 ∷ []) ∷ []))
-    (Written 0 (11 ∷ []) ∷ Written 1 (21 ∷ []) ∷ Synced ∷ Written 0 (12 ∷ []) ∷ [])
-    ≡ record { stable = (11 ∷ []) ∷ (21 ∷ []) ∷ []; pending = record { at = 0; value = 12 ∷ [] } ∷ [] }
+after_four_calls :
+    after (at_rest two_sectors) (Written 0 (11 ∷ []) ∷ Written 1 (21 ∷ []) ∷ Synced ∷ Written 0 (12 ∷ []) ∷ [])
+    ≡ record { stable = (11 ∷ []) ∷ (21 ∷ []) ∷ []; pending = put 0 12 ∷ [] }
 after_four_calls = refl
 
 -- the writes among these calls
@@ -45,13 +45,15 @@ IsUnsynced [] = ⊤
 IsUnsynced (Written at value ∷ cs) = IsUnsynced cs
 IsUnsynced (Synced ∷ cs) = ⊥
 
+-- the disk of calls of which those before this place are settled and the others pending
+abbrev pub settled_disk : List (List ℕ) → List Call → ℕ → Disk
+settled_disk stable calls place = record {
+  stable = applied stable (writes_of (take place calls));
+  pending = writes_of (drop place calls);
+}
+
 -- The calls before this place are settled by a sync, and those from it on are pending.
 pub record IsSettledAt (calls : List Call) (place : ℕ) : Type 0 where
   pub within : place ≤ length calls
   pub unsynced : IsUnsynced (drop place calls)
-  pub disk : (stable : List (List ℕ))
-      → after (at_rest stable) calls ≡ record {
-        stable = applied stable (writes_of (take place calls));
-        pending =
-            writes_of (drop place calls);
-      }
+  pub disk : (stable : List (List ℕ)) → after (at_rest stable) calls ≡ settled_disk stable calls place

@@ -61,11 +61,8 @@ each_applied stable (w ∷ ws) at lt =
 
 -- what reads give is one of the images
 pub shown_is_image : (d : Disk) → MayLeave d (shown d)
-shown_is_image d = record {
-  size = length-applied d.stable d.pending;
-  each =
-      λ at lt. each_applied d.stable d.pending at lt;
-}
+shown_is_image d =
+    record { size = length-applied d.stable d.pending; each = λ at lt. each_applied d.stable d.pending at lt }
 
 pub image_has_size : (stable : List (List ℕ)) (calls : List Call) (c : List (List ℕ))
     → MayLeave (after (at_rest stable) calls) c → length c ≡ length stable

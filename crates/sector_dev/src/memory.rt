@@ -39,7 +39,7 @@ pub struct MemoryDevice {
 }
 
 impl MemoryDevice {
-    ghost use Rattle.sector_dev.specs.Made.{IsZeroed};
+    ghost use Rattle.sector_dev.specs.InMemory.{IsZeroed};
 
     /// A device of zeros, all of them stable, whose calls are not limited. `AllocError` where memory for twice its
     /// sectors is refused.
@@ -114,7 +114,7 @@ fn put(
 }
 
 impl Device for MemoryDevice {
-    ghost use Rattle.sector_dev.specs.Made.{disk_of, sector_count_of, state_of, KeepsDisk, IsRefused, Pends, IsFirstFailed};
+    ghost use Rattle.sector_dev.specs.InMemory.{disk_of, sector_count_of, state_of, KeepsDisk, IsRefused, Pends, IsFirstFailed};
     ghost use Rattle.sector_dev.specs.Memory.{step};
     ghost use Rattle.sector_dev.specs.declared.memory.Call.TheVariants.{Synced};
 
@@ -264,7 +264,7 @@ fn play(sectors: &mut [[u8; 512]], calls: &[Call], keep: &[bool])
 
 impl CrashDevice for MemoryDevice {
     ghost use Rattle.std.specs.Prelude.{refl};
-    ghost use Rattle.sector_dev.specs.Made.{disk_of, sector_count_of, state_of};
+    ghost use Rattle.sector_dev.specs.InMemory.{disk_of, sector_count_of, state_of};
 
     ghost stable = { λ m. (disk_of m).stable };
 

@@ -1,7 +1,9 @@
 -- What a pending write makes of sectors that have changed or not.
 use Rattle.std.proofs.Common.{◌≡◌, inl, inr, ℕ, List, sym, ◌∙◌, ap, subst}
 use Rattle.std.specs.Prelude.{slice_set}
-use Rattle.sector_dev.specs.Device.{WithOrWithout}
+use Rattle.sector_dev.specs.Device.{State, IsCoherent, WithOrWithout, IsPending, Elapses}
+use Rattle.sector_dev.specs.Runs.{IsAtRest, LeavesOnly}
+use Rattle.sector_dev.proofs.Runs.{started, goes_on}
 use Rattle.sector_dev_callers.specs.Changes.{OldOrChanged, OldOrEither}
 
 pub one_changed : (old : List (List ℕ)) (images : List (List ℕ) → Type 0) (at : ℕ) (value : List ℕ)
@@ -23,3 +25,50 @@ two_changed old images at value also_at also one c h = elim h.2 [
     | inr is ↦ inr (inr (set ∙ ap (λ (d : List (List ℕ)). slice_set d also_at also) is))
   ]
 ]
+
+-- From a device at rest: the first write, and a second one.
+module _ (old : State) (sector_count : ℕ) (laws : IsCoherent sector_count old) (at_rest : IsAtRest old)
+    (at : ℕ) (value : List ℕ) where
+  pub during_first : (mid : State) (P : List (List ℕ) → Type 0)
+      → ((c : List (List ℕ)) → OldOrChanged old.reads at value c → P c)
+      → Elapses old mid (WithOrWithout at value old.image) → LeavesOnly old mid P
+  during_first mid P here time =
+      let at_start = started old P (λ c left. here c (inl (at_rest.1 c (laws.only_now c at_rest.0 left)))) in
+      goes_on old old mid P (WithOrWithout at value old.image) at_start time
+      (λ c now. here c (one_changed old.reads old.image at value at_rest.1 c now))
+
+  after_first : (mid : State) → IsPending at value old mid → (c : List (List ℕ)) → mid.image c
+      → OldOrChanged old.reads at value c
+  after_first mid pending c now =
+      one_changed old.reads old.image at value at_rest.1 c ((pending.images c).0 now)
+
+  -- the write and a sync
+  pub during_first_sync : (mid new : State) → Elapses old mid (WithOrWithout at value old.image)
+      → IsPending at value old mid → Elapses mid new mid.image → LeavesOnly old new (OldOrChanged old.reads at value)
+  during_first_sync mid new time pending sync_time =
+      let P = OldOrChanged old.reads at value in
+      goes_on old mid new P mid.image (during_first mid P (λ c one. one) time) sync_time (after_first mid pending)
+
+  module _ (also_at : ℕ) (also : List ℕ) where
+    pub during_second : (mid late : State) → Elapses old mid (WithOrWithout at value old.image)
+        → IsPending at value old mid → Elapses mid late (WithOrWithout also_at also mid.image)
+        → LeavesOnly old late (OldOrEither old.reads at value also_at also)
+    during_second mid late time pending time_2 =
+        let P = OldOrEither old.reads at value also_at also in
+        goes_on old mid late P (WithOrWithout also_at also mid.image)
+        (during_first mid P (λ c one. inl one) time) time_2
+        (two_changed old.reads mid.image at value also_at also (after_first mid pending))
+
+    after_second : (mid late : State) → IsPending at value old mid → IsPending also_at also mid late
+        → (c : List (List ℕ)) → late.image c → OldOrEither old.reads at value also_at also c
+    after_second mid late pending pending_2 c now =
+        two_changed old.reads mid.image at value also_at also (after_first mid pending) c ((pending_2.images c).0 now)
+
+    -- both writes and a sync
+    pub during_second_sync : (mid late new : State) → Elapses old mid (WithOrWithout at value old.image)
+        → IsPending at value old mid → Elapses mid late (WithOrWithout also_at also mid.image)
+        → IsPending also_at also mid late → Elapses late new late.image
+        → LeavesOnly old new (OldOrEither old.reads at value also_at also)
+    during_second_sync mid late new time pending time_2 pending_2 sync_time =
+        goes_on old late new (OldOrEither old.reads at value also_at also) late.image
+        (during_second mid late time pending time_2) sync_time (after_second mid late pending pending_2)

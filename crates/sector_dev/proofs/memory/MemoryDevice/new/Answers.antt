@@ -1,7 +1,7 @@
 use Rattle.std.proofs.Common.{◌≡◌, refl, rules, length, ap, ◌∙◌}
 use Rattle.std.specs.Prelude.{replicate}
 use Rattle.std.proofs.lemmas.List.{length-replicate}
-use Rattle.sector_dev.specs.Made.{zeros}
+use Rattle.sector_dev.specs.InMemory.{zeros}
 use Rattle.sector_dev.proofs.Crashes.{rest_is_stable}
 use Rattle.sector_dev.proofs.memory.MemoryDevice.new.Goals as goal
 

@@ -40,7 +40,8 @@ pub record KeepsDisk (old new : MemoryDevice) : Type 0 where
 -- memory was refused too, which counts as one more failure.
 pub record IsRefused (old new : MemoryDevice) : Type 0 where
   pub kept : KeepsDisk old new
-  pub counted : old.calls_left ≡ Some 0 → old.failed_pending ≡ false → min (old.failures + 2) (2 ^ 64 - 1) ≤ new.failures
+  pub counted : old.calls_left ≡ Some 0 → old.failed_pending ≡ false
+      → min (old.failures + 2) (2 ^ 64 - 1) ≤ new.failures
 
 -- the write is the last pending one
 abbrev pub Pends : ℕ → List ℕ → MemoryDevice → MemoryDevice → Type 0
