@@ -4,3 +4,4 @@ pub mod ManLemmas
 pub mod MemberLemmas
 pub mod TableLemmas
 pub mod WordLemmas
+pub mod SetLemmas

@@ -17,10 +17,10 @@ use Rattle.chess_bits.proofs.WordLemmas.{length-bools_of, get_or-bools_of}
 
 -- ---- a filter of numbers
 
-filter-here : {A : Type 0} (p : A → Bool) (x : A) (xs : List A) → p x ≡ true → filter p (x ∷ xs) ≡ x ∷ filter p xs
+pub filter-here : {A : Type 0} (p : A → Bool) (x : A) (xs : List A) → p x ≡ true → filter p (x ∷ xs) ≡ x ∷ filter p xs
 filter-here p x xs e = ap (λ (b : Bool). cond b (x ∷ filter p xs) (filter p xs)) e
 
-filter-not_here : {A : Type 0} (p : A → Bool) (x : A) (xs : List A) → p x ≡ false → filter p (x ∷ xs) ≡ filter p xs
+pub filter-not_here : {A : Type 0} (p : A → Bool) (x : A) (xs : List A) → p x ≡ false → filter p (x ∷ xs) ≡ filter p xs
 filter-not_here p x xs e = ap (λ (b : Bool). cond b (x ∷ filter p xs) (filter p xs)) e
 
 -- tests that agree on the numbers keep the same

@@ -1,11 +1,11 @@
-use Rattle.std.proofs.Common.{ℕ, zero, suc, ◌≡◌, ◌*◌, ◌/◌, ◌%◌, ◌^◌, ◌<◌, Bool, true, false, eqb, ◌||◌, ◌&&◌, List, [], ◌∷◌, length, get_or, set, replicate, refl, ap, sym, ◌∙◌, inl, inr, arith, bit_and, bit_or, min, max}
+use Rattle.std.proofs.Common.{ℕ, zero, suc, ◌≡◌, ◌-◌, ◌*◌, ◌/◌, ◌%◌, ◌^◌, ◌<◌, Bool, true, false, eqb, ◌||◌, ◌&&◌, not, List, [], ◌∷◌, length, get_or, set, replicate, refl, ap, sym, ◌∙◌, inl, inr, arith, bit_and, bit_or, min, max}
 use Rattle.std.proofs.lemmas.Bool.{cases_eq}
 use Rattle.std.proofs.lemmas.Bool.Decides.{nat_tests}
 use Rattle.std.proofs.lemmas.List.{ext_get_or, length-set, get_or-set_same, get_or-set_other, length-replicate, get_or-replicate}
-use Rattle.std.proofs.lemmas.Nat.Bits.{bit_at_lowest, bit_at-suc, bit_at_and, bit_at_or, bit_at-lt, bit_at-zero, bit_at_set_same, bit_at_set_other, bit_at_clear_same, bit_at_clear_other}
+use Rattle.std.proofs.lemmas.Nat.Bits.{bit_at_lowest, bit_at-suc, bit_at_and, bit_at_or, bit_at-lt, bit_at-zero, bit_at_set_same, bit_at_set_other, bit_at_clear_same, bit_at_clear_other, bit_at_not}
 use Rattle.std.specs.Int.{bit_at, w64, bit_not}
 use Rattle.chess_bits.specs.Word.{bools_of}
-use Rattle.chess_bits.specs.Table.{each, union, meet, empty}
+use Rattle.chess_bits.specs.Table.{each, union, meet, without, empty}
 
 pub length-bools_of : (n w : ℕ) → length (bools_of n w) ≡ n
 unfolding bools_of
@@ -59,6 +59,13 @@ both (suc zero) (suc zero) h k = refl
 both (suc zero) (suc (suc b)) h k = absurd (omega arith)
 both (suc (suc a)) b h k = absurd (omega arith)
 
+without_other : (a b : ℕ) → a < 2 → b < 2 → eqb (min a (1 - b)) 1 ≡ (eqb a 1 && not (eqb b 1))
+without_other zero b h k = grind (arith, nat_tests)
+without_other (suc zero) zero h k = refl
+without_other (suc zero) (suc zero) h k = refl
+without_other (suc zero) (suc (suc b)) h k = absurd (omega arith)
+without_other (suc (suc a)) b h k = absurd (omega arith)
+
 pub bools_of-or : (n a b : ℕ) → bools_of n (bit_or a b) ≡ union (bools_of n a) (bools_of n b)
 unfolding union
 bools_of-or n a b =
@@ -82,6 +89,21 @@ bools_of-and n a b =
     (omega (arith, length-bools_of n b))
     ∙ ap (λ (x : Bool). x && get_or (bools_of n b) i false) (get_or-bools_of n a i h)
     ∙ ap (λ (x : Bool). bit a i && x) (get_or-bools_of n b i h)))
+
+pub bools_of-without : (a b : ℕ) → b < 2 ^ 64 →
+    bools_of 64 (bit_and a (bit_not w64 b)) ≡ without (bools_of 64 a) (bools_of 64 b)
+unfolding without
+bools_of-without a b fits =
+    same_bools 64 (bit_and a (bit_not w64 b)) _ (length-each (λ x y. x && not y) _ _ (length-bools_of 64 a
+    ∙ sym (length-bools_of 64 b)) ∙ length-bools_of 64 a)
+    (λ i h.
+    ap (λ (x : ℕ). eqb x 1) (bit_at_and a (bit_not w64 b) i
+    ∙ ap (λ (x : ℕ). min (bit_at a i) x) (bit_at_not w64 b i fits h))
+    ∙ without_other (bit_at a i) (bit_at b i) (bit_at-lt a i) (bit_at-lt b i)
+    ∙ sym (get_or-each (λ x y. x && not y) (bools_of 64 a) (bools_of 64 b) i (omega (arith, length-bools_of 64 a))
+    (omega (arith, length-bools_of 64 b))
+    ∙ ap (λ (x : Bool). x && not (get_or (bools_of 64 b) i false)) (get_or-bools_of 64 a i h)
+    ∙ ap (λ (x : Bool). bit a i && not x) (get_or-bools_of 64 b i h)))
 
 pub bools_of-zero : bools_of 64 0 ≡ empty
 unfolding empty

@@ -4,3 +4,4 @@ pub mod Word
 pub mod Man
 pub mod Attack
 pub mod SquaresOf
+pub mod Placement

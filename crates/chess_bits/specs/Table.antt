@@ -1,5 +1,5 @@
-use Rattle.std.specs.Prelude.{Bool, false, ◌||◌, ◌&&◌, if◌then◌else◌, List, [], ◌∷◌, Option, Some, None, filter, replicate, slice_index_or, slice_set}
-use Rattle.chess_bits.specs.Square.{Square, on_board, number_of, squares}
+use Rattle.std.specs.Prelude.{◌≡◌, ◌<◌, ◌↔◌, Bool, true, false, ◌||◌, ◌&&◌, not, if◌then◌else◌, List, [], ◌∷◌, length, Option, Some, None, filter, replicate, slice_index_or, slice_set}
+use Rattle.chess_bits.specs.Square.{Square, IsOnBoard, on_board, number_of, squares}
 
 -- A finite map from squares is written as the list of its 64 values, by rising number of the square.
 -- What it has at a square; off the board it has `none`.
@@ -28,6 +28,21 @@ union a b = each (λ x y. x || y) a b
 
 unfoldable pub meet : List Bool → List Bool → List Bool
 meet a b = each (λ x y. x && y) a b
+
+-- the squares in the first set that are not in the second
+unfoldable pub without : List Bool → List Bool → List Bool
+without a b = each (λ x y. x && not y) a b
+
+-- the set of exactly the squares of the board that are so
+pub record IsSetOf (set : List Bool) (P : Square → Type 0) : Type 0 where
+  pub whole : length set ≡ 64
+  pub exact : (s : Square) → IsOnBoard s → (has set s ≡ true) ↔ P s
+
+-- the square of a set with the greatest number
+pub record IsGreatest (set : List Bool) (s : Square) : Type 0 where
+  pub on_board : IsOnBoard s
+  pub member : has set s ≡ true
+  pub after : (q : Square) → IsOnBoard q → number_of s < number_of q → has set q ≡ false
 
 -- the squares of a set, by rising number
 unfoldable pub members : List Bool → List Square

@@ -1,5 +1,6 @@
-ghost use Rattle.std.specs.Prelude.{◌≡◌, ◌↔◌, IsTrue, true, false, [], length};
-ghost use Rattle.chess_bits.specs.Table.{has, put, union, meet, empty, members, head_of};
+ghost use Rattle.std.specs.Prelude.{◌≡◌, ◌↔◌, IsTrue, IfSome, IfNone, true, false, [], length};
+ghost use Rattle.chess_bits.specs.Table.{has, put, union, meet, without, empty, members, head_of, IsGreatest};
+ghost use Rattle.chess_bits.specs.Word.{bools_of};
 ghost use Rattle.chess_bits.specs.Square.{IsOnBoard};
 ghost use Rattle.chess_bits.specs.SquaresOf.{squares_left};
 
@@ -36,6 +37,13 @@ impl Bits {
         ensures { result ≡ empty }
     {
         Bits { word: 0 }
+    }
+
+    /// The set of the squares whose bits are 1: bit 0 is a1, bit 7 h1, bit 63 h8.
+    pub fn from_word(word: u64) -> Bits
+        ensures { result ≡ bools_of 64 word }
+    {
+        Bits { word }
     }
 
     /// Whether the square is in the set.
@@ -92,6 +100,15 @@ impl Bits {
         }
     }
 
+    /// The squares in this set that are not in the other.
+    pub fn without(self, other: Bits) -> Bits
+        ensures { result ≡ without self other }
+    {
+        Bits {
+            word: self.word & !other.word,
+        }
+    }
+
     /// How many squares are in the set.
     pub fn count(self) -> u32
         ensures { result ≡ length (members self) }
@@ -114,6 +131,18 @@ impl Bits {
             None
         } else {
             Some(Square::new(self.word.trailing_zeros() as u8))
+        }
+    }
+
+    /// The square of the set with the greatest number, or `None` of the empty set.
+    pub fn last(self) -> Option<Square>
+        ensures greatest { IfSome result (IsGreatest self) }
+        ensures none { IfNone result (members self ≡ []) }
+    {
+        if self.word == 0 {
+            None
+        } else {
+            Some(Square::new(63 - self.word.leading_zeros() as u8))
         }
     }
 
