@@ -86,12 +86,12 @@ Decides-each_from test P a (suc n) decides =
 
 -- Some square of the board, and each.
 
-list_any-map : {A B : Type 0} (test : B → Bool) (f : A → B) (xs : List A) →
+pub list_any-map : {A B : Type 0} (test : B → Bool) (f : A → B) (xs : List A) →
     list_any test (map f xs) ≡ list_any (λ x. test (f x)) xs
 list_any-map test f [] = refl
 list_any-map test f (x ∷ xs) = ap (λ rest. test (f x) || rest) (list_any-map test f xs)
 
-list_all-map : {A B : Type 0} (test : B → Bool) (f : A → B) (xs : List A) →
+pub list_all-map : {A B : Type 0} (test : B → Bool) (f : A → B) (xs : List A) →
     list_all test (map f xs) ≡ list_all (λ x. test (f x)) xs
 list_all-map test f [] = refl
 list_all-map test f (x ∷ xs) = ap (λ rest. test (f x) && rest) (list_all-map test f xs)

@@ -1,0 +1,5 @@
+pub mod Listed
+pub mod Words
+pub mod WayLemmas
+pub mod Cutting
+pub mod Uniting
