@@ -5,3 +5,4 @@ pub mod MemberLemmas
 pub mod TableLemmas
 pub mod WordLemmas
 pub mod SetLemmas
+pub mod Reversal
