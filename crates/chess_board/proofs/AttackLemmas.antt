@@ -3,18 +3,17 @@ use Rattle.std.specs.List.{list_all}
 use Rattle.chess_bits.specs.declared.men.Colour.{Colour}
 use Rattle.chess_bits.specs.declared.men.Colour.TheVariants.{White, Black}
 use Rattle.chess_bits.specs.declared.men.Kind.{Kind}
-use Rattle.chess_bits.specs.declared.men.Kind.TheVariants.{Pawn, Knight, Bishop, Rook, Queen, King}
+use Rattle.chess_bits.specs.declared.men.Kind.TheVariants.{Pawn}
 use Rattle.chess_bits.specs.Square.{Square, squares}
 use Rattle.chess_bits.specs.Man.{Man, is_of, is_man, is_colour, holds}
 use Rattle.chess_bits.specs.Table.{has, meet, members}
-use Rattle.chess_bits.specs.Attack.{SomeOf}
 use Rattle.chess_bits.proofs.TableLemmas.{at-map}
-use Rattle.chess_bits.proofs.AlongLemmas.{SomeOf-members, list_all-filter, list_all-same}
+use Rattle.chess_bits.proofs.ManLemmas.{holds-is_man, holds-is_man_same}
+use Rattle.chess_bits.proofs.AlongLemmas.{list_all-filter, list_all-same}
 use Rattle.chess_board.specs.Occupancy.{squares_with, is_a}
-use Rattle.chess_board.specs.Position.{man_at, IsAttacker, IsAttacked}
+use Rattle.chess_board.specs.Position.{Placement, man_at}
 use Rattle.chess_board.specs.Computing.{is_inside}
 use Rattle.chess_board.proofs.MenLemmas.{each-map, map-same}
-use Rattle.chess_board.proofs.Candidates.{IsOnBoard-from_man}
 
 -- whether a square is in a set tells of the man on it
 pub has-squares_with : (is : Man → Bool) (placement : List (Option Man)) (s : Square) →
@@ -30,70 +29,31 @@ pub has-own : (placement : List (Option Man)) (side : Colour) (kind : Kind) (s :
 has-own placement side k s e = has-squares_with (is_of side) placement s ∙ ap (holds (is_of side)) e
     ∙ own_colour side
 
--- the attackers of a square are among the squares of their side
-pub SomeOf-attackers : (placement : List (Option Man)) (side : Colour) (b : Square) → IsAttacked placement side b →
-    SomeOf (IsAttacker placement side b) (members (squares_with (is_of side) placement))
-SomeOf-attackers placement side b (a, attacker) =
-    SomeOf-members (IsAttacker placement side b) (squares_with (is_of side) placement) a
-    (IsOnBoard-from_man placement a (side, attacker.kind) attacker.stands)
-    (has-own placement side attacker.kind a attacker.stands) attacker
-
--- the squares with a man of a side and a kind
-pub meet-squares_with : (f g : Man → Bool) (placement : List (Option Man)) (s : Square) →
-    has (meet (squares_with f placement)
-    (squares_with g placement)) s ≡ (holds f (man_at placement s) && holds g (man_at placement s))
+-- the squares of the men of a side that are of a kind
+pub meet-is_man : (placement : Placement) (side : Colour) (kind : Kind) →
+    meet (squares_with (is_of side) placement) (squares_with (is_a kind) placement) ≡
+    squares_with (is_man (side, kind)) placement
 unfolding meet
-meet-squares_with f g placement s =
-    ap (λ (bs : List Bool). has bs s) (each-map (λ x y. x && y) (holds f) (holds g) placement)
-    ∙ at-map (λ here. holds f here && holds g here) None false placement s refl
-
-pub king_there : (side : Colour) (here : Option Man) →
-    (holds (is_of side) here && holds (is_a King) here) ≡ true → here ≡ Some (side, King)
-king_there side None e = cc
-king_there White (Some (White, King)) e = refl
-king_there Black (Some (Black, King)) e = refl
-king_there White (Some (Black, k)) e = cc
-king_there Black (Some (White, k)) e = cc
-king_there White (Some (White, Pawn)) e = cc
-king_there White (Some (White, Knight)) e = cc
-king_there White (Some (White, Bishop)) e = cc
-king_there White (Some (White, Rook)) e = cc
-king_there White (Some (White, Queen)) e = cc
-king_there Black (Some (Black, Pawn)) e = cc
-king_there Black (Some (Black, Knight)) e = cc
-king_there Black (Some (Black, Bishop)) e = cc
-king_there Black (Some (Black, Rook)) e = cc
-king_there Black (Some (Black, Queen)) e = cc
-
-king_shown : (side : Colour) → (holds (is_of side) (Some (side, King)) && holds (is_a King) (Some (side, King))) ≡ true
-king_shown White = refl
-king_shown Black = refl
-
-abbrev pub kings_of : List (Option Man) → Colour → List Bool
-kings_of placement side = meet (squares_with (is_of side) placement) (squares_with (is_a King) placement)
-
-pub has-king : (placement : List (Option Man)) (side : Colour) (k : Square) →
-    man_at placement k ≡ Some (side, King) → has (kings_of placement side) k ≡ true
-has-king placement side k e =
-    meet-squares_with (is_of side) (is_a King) placement k
-    ∙ ap (λ (here : Option Man). holds (is_of side) here && holds (is_a King) here) e ∙ king_shown side
-
-pub king-has : (placement : List (Option Man)) (side : Colour) (k : Square) →
-    has (kings_of placement side) k ≡ true → man_at placement k ≡ Some (side, King)
-king-has placement side k e = king_there side (man_at placement k) (sym (meet-squares_with (is_of side)
-    (is_a King) placement k) ∙ e)
-
--- the kings of a side as one set
-pub kings_of-squares_with : (placement : List (Option Man)) (side : Colour) →
-    kings_of placement side ≡ squares_with (is_man (side, King)) placement
-unfolding meet
-kings_of-squares_with placement side =
-    each-map (λ x y. x && y) (holds (is_of side)) (holds (is_a King)) placement
-    ∙ map-same (λ here. holds (is_of side) here && holds (is_a King) here) (holds (is_man (side, King))) same placement
+meet-is_man placement side kind =
+    each-map (λ x y. x && y) (holds (is_of side)) (holds (is_a kind)) placement
+    ∙ map-same (λ here. holds (is_of side) here && holds (is_a kind) here) (holds (is_man (side, kind))) same placement
   where
-    same : (here : Option Man) → (holds (is_of side) here && holds (is_a King) here) ≡ holds (is_man (side, King)) here
+    same : (here : Option Man) →
+        (holds (is_of side) here && holds (is_a kind) here) ≡ holds (is_man (side, kind)) here
     same None = refl
     same (Some man) = refl
+
+-- a square is among those of a man exactly where the man stands there
+pub has-man : (placement : Placement) (side : Colour) (kind : Kind) (s : Square) →
+    man_at placement s ≡ Some (side, kind) → has (squares_with (is_man (side, kind)) placement) s ≡ true
+has-man placement side kind s e =
+    has-squares_with (is_man (side, kind)) placement s
+    ∙ holds-is_man_same (side, kind) (man_at placement s) e
+
+pub man-has : (placement : Placement) (side : Colour) (kind : Kind) (s : Square) →
+    has (squares_with (is_man (side, kind)) placement) s ≡ true → man_at placement s ≡ Some (side, kind)
+man-has placement side kind s e =
+    holds-is_man (side, kind) (man_at placement s) (sym (has-squares_with (is_man (side, kind)) placement s) ∙ e)
 
 -- the pawns are inside where each square with a pawn is
 pub pawns_inside : (placement : List (Option Man)) → list_all is_inside (members (squares_with (is_a Pawn) placement)) ≡

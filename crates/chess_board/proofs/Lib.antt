@@ -6,8 +6,8 @@ pub mod LegalMoves
 pub mod ManAfter
 pub mod MenLemmas
 pub mod Moved
+pub mod Outward
 pub mod PlacementAfter
-pub mod SlideLemmas
 pub mod Steps
 pub mod ValidMen
 pub mod ValidNext

@@ -5,6 +5,7 @@ use Rattle.chess_bits.specs.declared.men.Kind.TheVariants.{Pawn, Knight, Bishop,
 use Rattle.chess_bits.specs.Square.{Square, squares}
 use Rattle.chess_bits.specs.Man.{Man, is_of}
 use Rattle.chess_bits.specs.Table.{has}
+use Rattle.chess_bits.specs.Placement.{Placement}
 use Rattle.chess_board.specs.Occupancy.{squares_with, is_a}
 use Rattle.chess_board.specs.declared.men.Men.TheInside.{Inside}
 
@@ -26,11 +27,11 @@ man_on sets s =
     else None
 
 -- the placement that the sets tell
-unfoldable pub placement_of : Inside → List (Option Man)
+unfoldable pub placement_of : Inside → Placement
 placement_of sets = map (man_on sets) squares
 
 -- the sets that a placement has
-unfoldable pub sets_of : List (Option Man) → Inside
+unfoldable pub sets_of : Placement → Inside
 sets_of placement = record {
   white = squares_with (is_of White) placement;
   black = squares_with (is_of Black) placement;

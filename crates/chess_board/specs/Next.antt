@@ -10,7 +10,7 @@ use Rattle.chess_bits.specs.Attack.{along, forward}
 use Rattle.chess_board.specs.declared.castling.Wing.{Wing}
 use Rattle.chess_board.specs.declared.castling.Wing.TheVariants as wing
 use Rattle.chess_board.specs.declared.moves.Move.{Move}
-use Rattle.chess_board.specs.Position.{Position, Rights, has_right, man_at, king_home, rook_home, home_rank}
+use Rattle.chess_board.specs.Position.{Position, Placement, Rights, has_right, man_at, king_home, rook_home, home_rank}
 
 -- whether a man of the kind makes the move
 abbrev pub moves_kind : Position → Move → Kind → Bool
@@ -59,18 +59,18 @@ became p m = became_of p.side m.promotion (man_at p.placement m.from)
 -- The placement after the move. It loses the square left, the square of a pawn taken en passant and, in castling,
 -- the rook's home. It gains the man on the square reached, in place of a man taken there, and, in castling, the
 -- rook on the square that the king crossed.
-abbrev pub without_taken : Position → Move → List (Option Man) → List (Option Man)
+abbrev pub without_taken : Position → Move → Placement → Placement
 without_taken p m placement = if is_en_passant p m then put placement (beside m) None else placement
 
-abbrev pub rook_moved : Colour → Wing → List (Option Man) → List (Option Man)
+abbrev pub rook_moved : Colour → Wing → Placement → Placement
 rook_moved side wing placement = put (put placement (rook_home side wing) None) (castled_rook side wing)
     (Some (side, Rook))
 
-abbrev pub with_rook : Position → Move → Wing → List (Option Man) → List (Option Man)
+abbrev pub with_rook : Position → Move → Wing → Placement → Placement
 with_rook p m wing placement =
     if castles_to p m wing then rook_moved p.side wing placement else placement
 
-unfoldable pub placement_after : Position → Move → List (Option Man)
+unfoldable pub placement_after : Position → Move → Placement
 placement_after p m =
     with_rook p m wing.Queen (with_rook p m wing.King
     (put (without_taken p m (put p.placement m.from None)) m.to (became p m)))

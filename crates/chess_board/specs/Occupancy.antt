@@ -1,9 +1,10 @@
-use Rattle.std.specs.Prelude.{Bool, List, map, Option}
+use Rattle.std.specs.Prelude.{Bool, List, map}
 use Rattle.chess_bits.specs.declared.men.Kind.{Kind}
 use Rattle.chess_bits.specs.Man.{Man, is_kind, holds}
+use Rattle.chess_bits.specs.Placement.{Placement}
 
 -- the squares whose men are so
-abbrev pub squares_with : (Man → Bool) → List (Option Man) → List Bool
+abbrev pub squares_with : (Man → Bool) → Placement → List Bool
 squares_with is placement = map (holds is) placement
 
 -- whether a man is of the kind

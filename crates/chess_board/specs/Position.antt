@@ -6,18 +6,10 @@ use Rattle.chess_bits.specs.declared.men.Kind.{Kind}
 use Rattle.chess_bits.specs.declared.men.Kind.TheVariants.{Pawn, Rook, King}
 use Rattle.chess_bits.specs.Square.{Square, IsOnBoard, squares}
 use Rattle.chess_bits.specs.Man.{Man, other, is_man, is_of, holds}
-use Rattle.chess_bits.specs.Table.{at}
+pub use Rattle.chess_bits.specs.Placement.{Placement, man_at, occupied_of}
 use Rattle.chess_bits.specs.Attack.{along, forward, Attacks, attacks}
 use Rattle.chess_board.specs.declared.castling.Wing.{Wing}
 use Rattle.chess_board.specs.declared.castling.Wing.TheVariants as wing
-
--- what stands on a square of a placement: a finite map from squares to men
-abbrev pub man_at : List (Option Man) → Square → Option Man
-man_at placement s = at None placement s
-
--- the squares with men
-abbrev pub occupied_of : List (Option Man) → List Bool
-occupied_of placement = map is_some placement
 
 -- the castling rights that are left (FIDE article 3.8.2.1)
 pub record Rights : Type 0 where
@@ -34,7 +26,7 @@ has_right rights Black wing.Queen = rights.black_queen
 
 -- a placement, the side to move, castling rights, en passant target, halfmove clock and fullmove number
 pub record Position : Type 0 where
-  pub placement : List (Option Man)
+  pub placement : Placement
   pub side : Colour
   pub rights : Rights
   pub target : Option Square
@@ -42,17 +34,17 @@ pub record Position : Type 0 where
   pub fullmove : ℕ
 
 -- a man of the side on `a` attacks `b`
-pub record IsAttacker (placement : List (Option Man)) (side : Colour) (b a : Square) : Type 0 where
+pub record IsAttacker (placement : Placement) (side : Colour) (b a : Square) : Type 0 where
   pub kind : Kind
   pub stands : man_at placement a ≡ Some (side, kind)
   pub attacks : Attacks (occupied_of placement) side kind a b
 
 -- some man of the side attacks the square (FIDE article 3.1.3)
-abbrev pub IsAttacked : List (Option Man) → Colour → Square → Type 0
+abbrev pub IsAttacked : Placement → Colour → Square → Type 0
 IsAttacked placement side b = (a : Square) × IsAttacker placement side b a
 
 -- a king of the side stands on a square that the opponent attacks (FIDE article 3.9.1)
-abbrev pub IsInCheck : List (Option Man) → Colour → Type 0
+abbrev pub IsInCheck : Placement → Colour → Type 0
 IsInCheck placement side = (k : Square) × (man_at placement k ≡ Some (side, King)) × IsAttacked placement (other side) k
 
 -- the rank on which a side's pieces start, and the squares from which king and rook castle (FIDE articles 2.3 and 3.8.2)
@@ -68,7 +60,7 @@ rook_home side wing.King = record { file = 8; rank = home_rank side }
 rook_home side wing.Queen = record { file = 1; rank = home_rank side }
 
 -- how many men are so
-abbrev pub count_of : (Man → Bool) → List (Option Man) → ℕ
+abbrev pub count_of : (Man → Bool) → Placement → ℕ
 count_of is placement = count_by (λ here. holds is here) placement
 
 -- one king a side
@@ -126,13 +118,13 @@ pub record IsValid (p : Position) : Type 0 where
   pub counters : HasCounters p
 
 -- attacks on a square of the board and check as tests, which compute
-abbrev pub is_attacker : List (Option Man) → Colour → Square → Option Man → Square → Bool
+abbrev pub is_attacker : Placement → Colour → Square → Option Man → Square → Bool
 is_attacker placement side b None a = false
 is_attacker placement side b (Some man) a = is_of side man && attacks (occupied_of placement) side man.1 a b
 
-abbrev pub is_attacked : List (Option Man) → Colour → Square → Bool
+abbrev pub is_attacked : Placement → Colour → Square → Bool
 is_attacked placement side b = list_any (λ a. is_attacker placement side b (man_at placement a) a) squares
 
-abbrev pub is_in_check : List (Option Man) → Colour → Bool
+abbrev pub is_in_check : Placement → Colour → Bool
 is_in_check placement side = list_any (λ k. holds (is_man (side, King))
     (man_at placement k) && is_attacked placement (other side) k) squares

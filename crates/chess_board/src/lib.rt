@@ -9,7 +9,7 @@ mod men;
 mod moves;
 mod parts;
 
-pub use attack::{attacks, is_attacked, is_in_check};
+pub use attack::{is_attacked, is_in_check};
 pub use board::Board;
 pub use castling::{
     CastlingRights, Wing, castled_king, castled_rook, home_rank, king_home, rook_home,

@@ -120,6 +120,13 @@ impl Men {
         }
     }
 
+    /// The squares with men of a colour and a kind.
+    pub fn of_man(&self, colour: Colour, kind: Kind) -> Bits
+        ensures { result ≡ squares_with (same_man (colour, kind)) self.now }
+    {
+        self.of(colour).meet(self.of_kind(kind))
+    }
+
     /// How many men a colour has.
     pub fn count_of(&self, colour: Colour) -> u32
         ensures { result ≡ count_of (man_is_of colour) self.now }

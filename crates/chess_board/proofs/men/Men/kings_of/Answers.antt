@@ -9,7 +9,7 @@ use Rattle.chess_board.specs.Occupancy.{squares_with}
 use Rattle.chess_board.specs.Position.{count_of}
 use Rattle.chess_board.specs.Men.{placement_of}
 use Rattle.chess_board.proofs.MenLemmas.{squares_with-white, squares_with-black, squares_with-kings, length-placement_of}
-use Rattle.chess_board.proofs.AttackLemmas.{kings_of-squares_with}
+use Rattle.chess_board.proofs.AttackLemmas.{meet-is_man}
 use Rattle.chess_board.proofs.men.Men.kings_of.Goals as goal
 
 pub returns-in-White : goal.returns-in-White
@@ -19,7 +19,7 @@ returns-in-White c =
     ∙ ap (λ (bs : List Bool). meet bs c.self.inside.kings) (sym (squares_with-white c.self.inside c.self.invariant))
     ∙ ap (meet (squares_with (is_of White) (placement_of c.self.inside)))
     (sym (squares_with-kings c.self.inside c.self.invariant))
-    ∙ kings_of-squares_with (placement_of c.self.inside) White)
+    ∙ meet-is_man (placement_of c.self.inside) White King)
     ∙ length-members_map (holds (is_man (White, King))) (placement_of c.self.inside) (length-placement_of c.self.inside)
     ∙ ap (count_of (is_man (White, King))) c.self.view_is
     ∙ ap (λ (k : Colour). count_of (is_man (k, King)) c.args.self.now) (sym c.in-White.is)
@@ -31,7 +31,7 @@ returns-in-Black c =
     ∙ ap (λ (bs : List Bool). meet bs c.self.inside.kings) (sym (squares_with-black c.self.inside c.self.invariant))
     ∙ ap (meet (squares_with (is_of Black) (placement_of c.self.inside)))
     (sym (squares_with-kings c.self.inside c.self.invariant))
-    ∙ kings_of-squares_with (placement_of c.self.inside) Black)
+    ∙ meet-is_man (placement_of c.self.inside) Black King)
     ∙ length-members_map (holds (is_man (Black, King))) (placement_of c.self.inside) (length-placement_of c.self.inside)
     ∙ ap (count_of (is_man (Black, King))) c.self.view_is
     ∙ ap (λ (k : Colour). count_of (is_man (k, King)) c.args.self.now) (sym c.in-Black.is)
