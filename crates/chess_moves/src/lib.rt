@@ -5,6 +5,7 @@ mod castling;
 mod legality;
 mod pawns;
 mod pieces;
+mod reach;
 mod squares;
 
 pub use legality::legal;

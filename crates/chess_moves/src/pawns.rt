@@ -3,9 +3,10 @@ ghost use Rattle.chess_bits.specs.Square.{IsOnBoard};
 ghost use Rattle.chess_bits.specs.Attack.{pawn_attacks, Reaches};
 ghost use Rattle.chess_board.specs.Legal as rules;
 
+use crate::reach::attacks;
 use crate::squares::{holds_colour, is_empty, is_same, leads_to};
 use chess_bits::{Colour, Kind, Square};
-use chess_board::{Board, Move, attacks, home_rank};
+use chess_board::{Board, Move, home_rank};
 
 // Whether a pawn may become the kind.
 fn is_promotion_kind(kind: Kind) -> bool
