@@ -14,16 +14,30 @@ fn set_of(squares: &[Square]) -> Bits {
 fn steps_stop_at_the_edge(rt: HostRuntime) {
     let (a1, h8) = (Square::at(1, 1), Square::at(8, 8));
     assert_eq!(rt; knight(h8), set_of(&[Square::at(6, 7), Square::at(7, 6)]));
-    assert_eq!(rt; king(a1), set_of(&[Square::at(1, 2), Square::at(2, 2), Square::at(2, 1)]));
-    assert_eq!(rt; pawn(Colour::White, Square::at(1, 2)), set_of(&[Square::at(2, 3)]));
-    assert_eq!(rt; pawn(Colour::Black, Square::at(8, 7)), set_of(&[Square::at(7, 6)]));
+    assert_eq!(rt;
+        king(a1),
+        set_of(&[Square::at(1, 2), Square::at(2, 2), Square::at(2, 1)])
+    );
+    assert_eq!(rt;
+        pawn(Colour::White, Square::at(1, 2)),
+        set_of(&[Square::at(2, 3)])
+    );
+    assert_eq!(rt;
+        pawn(Colour::Black, Square::at(8, 7)),
+        set_of(&[Square::at(7, 6)])
+    );
     assert_eq!(rt; knight(Square::at(4, 4)).count(), 8);
 }
 
 #[test]
 fn slides_end_at_the_first_man(rt: HostRuntime) {
     let d4 = Square::at(4, 4);
-    let (d6, b4, f6, f2) = (Square::at(4, 6), Square::at(2, 4), Square::at(6, 6), Square::at(6, 2));
+    let (d6, b4, f6, f2) = (
+        Square::at(4, 6),
+        Square::at(2, 4),
+        Square::at(6, 6),
+        Square::at(6, 2),
+    );
     let men = set_of(&[d4, d6, b4, f6, f2, Square::at(4, 8)]);
     assert_eq!(rt; rook(d4, men).count(), 2 + 4 + 3 + 2);
     assert!(rt; rook(d4, men).contains(d6));
