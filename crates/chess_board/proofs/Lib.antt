@@ -14,3 +14,4 @@ pub mod ValidNext
 pub mod ValidRights
 pub mod ValidTarget
 pub mod Ways
+pub mod MenAssign

@@ -1,9 +1,9 @@
-ghost use Rattle.std.specs.Prelude.{◌≡◌, None, Some, replicate};
+ghost use Rattle.std.specs.Prelude.{◌≡◌, not, None, Some, replicate};
 ghost use Rattle.chess_bits.specs.declared.men.Kind.TheVariants.{King};
 ghost use Rattle.chess_bits.specs.Table.{put};
 ghost use Rattle.chess_bits.specs.Man.{holds, is_man as same_man, is_of as man_is_of};
 ghost use Rattle.chess_board.specs.Position.{man_at, occupied_of, count_of};
-ghost use Rattle.chess_board.specs.Occupancy.{squares_with, is_a as man_is_a};
+ghost use Rattle.chess_board.specs.Occupancy.{squares_with, is_a as man_is_a, there_if};
 
 use chess_bits::{Bits, Colour, Kind, Square};
 use std::marker::Model;
@@ -82,18 +82,36 @@ impl Men {
         Some((colour, kind))
     }
 
+    // Puts a man onto an empty square, or takes the man that stands there away: two sets change.
+    fn assign(&mut self, square: Square, colour: Colour, kind: Kind, stands: bool)
+        requires { man_at self.old square ≡ there_if (not stands) (colour, kind) }
+        ensures { self.new ≡ put self.old square (there_if stands (colour, kind)) }
+    {
+        match colour {
+            Colour::White => self.white.assign(square, stands),
+            Colour::Black => self.black.assign(square, stands),
+        }
+        match kind {
+            Kind::Pawn => self.pawns.assign(square, stands),
+            Kind::Knight => self.knights.assign(square, stands),
+            Kind::Bishop => self.bishops.assign(square, stands),
+            Kind::Rook => self.rooks.assign(square, stands),
+            Kind::Queen => self.queens.assign(square, stands),
+            Kind::King => self.kings.assign(square, stands),
+        }
+    }
+
     /// Puts a man onto a square, in place of what stood there, or empties it.
     pub fn set(&mut self, square: Square, man: Option<(Colour, Kind)>)
         ensures { self.new ≡ put self.old square man }
     {
-        self.white.assign(square, is_of(man, Colour::White));
-        self.black.assign(square, is_of(man, Colour::Black));
-        self.pawns.assign(square, is_a(man, Kind::Pawn));
-        self.knights.assign(square, is_a(man, Kind::Knight));
-        self.bishops.assign(square, is_a(man, Kind::Bishop));
-        self.rooks.assign(square, is_a(man, Kind::Rook));
-        self.queens.assign(square, is_a(man, Kind::Queen));
-        self.kings.assign(square, is_a(man, Kind::King));
+        let _on_board = square.number();
+        if let Some((colour, kind)) = self.man_at(square) {
+            self.assign(square, colour, kind, false);
+        }
+        if let Some((colour, kind)) = man {
+            self.assign(square, colour, kind, true);
+        }
     }
 
     /// The squares with men of a colour.

@@ -54,7 +54,8 @@ fn push_run(text: &mut Text, empty: u8)
     ensures one { array_string_len text.new ≤ array_string_len text.old + 1 }
 {
     if empty > 0 {
-        push(text, char::from(b'0' + empty));
+        // The bound lets the compiler see one byte of text.
+        push(text, char::from(b'0' + empty.min(8)));
     }
 }
 
