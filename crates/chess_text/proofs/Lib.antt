@@ -6,3 +6,4 @@ pub mod ReadBack
 pub mod Joined
 pub mod OnePosition
 pub mod Rights
+pub mod LetterLemmas

@@ -1,18 +1,18 @@
-use Rattle.std.specs.Prelude.{ℕ, zero, suc, ◌≡◌, ◌+◌, ◌≤◌, Bool, if◌then◌else◌, List, [], ◌∷◌, ◌++◌, map, replicate, Option, Some, None, decimal}
+use Rattle.std.specs.Prelude.{ℕ, zero, suc, ◌≡◌, ◌+◌, ◌≤◌, Bool, if◌then◌else◌, List, [], ◌∷◌, ◌++◌, map, replicate, Option, Some, None, decimal, slice_index}
 use Rattle.std.specs.List.{range_with_len, join_with_byte}
 use Rattle.chess_bits.specs.declared.men.Colour.{Colour}
 use Rattle.chess_bits.specs.declared.men.Colour.TheVariants.{White, Black}
 use Rattle.chess_bits.specs.Man.{Man}
-use Rattle.chess_bits.specs.Square.{Square}
-use Rattle.chess_board.specs.Position.{Position, Rights, man_at}
+use Rattle.chess_bits.specs.Square.{Square, IsOnBoard, number_of}
+use Rattle.chess_board.specs.Position.{Position, Placement, Rights, man_at}
 use Rattle.chess_text.specs.Name.{square_name, letter_of}
 
 -- the squares of a rank, from the a-file on
-unfoldable pub rank_of : List (Option Man) → ℕ → List (Option Man)
+unfoldable pub rank_of : Placement → ℕ → List (Option Man)
 rank_of placement rank = map (λ file. man_at placement (record { file = file; rank = rank })) (range_with_len 1 8)
 
 -- the ranks from 8 down to 1
-unfoldable pub ranks_of : List (Option Man) → List (List (Option Man))
+unfoldable pub ranks_of : Placement → List (List (Option Man))
 ranks_of placement = map (rank_of placement) (8 ∷ 7 ∷ 6 ∷ 5 ∷ 4 ∷ 3 ∷ 2 ∷ 1 ∷ [])
 
 -- the next square, if there is one, has a man
@@ -38,7 +38,7 @@ AreRowTexts (text ∷ texts) [] = ⊥
 AreRowTexts (text ∷ texts) (row ∷ rows) = IsRowText text row × AreRowTexts texts rows
 
 -- the ranks from 8 down to 1, with `/` between each two (PGN Standard, section 16.1.3.1)
-pub record IsPlacementText (text : List ℕ) (placement : List (Option Man)) : Type 0 where
+pub record IsPlacementText (text : List ℕ) (placement : Placement) : Type 0 where
   pub texts : List (List ℕ)
   pub ranks : AreRowTexts texts (ranks_of placement)
   pub joined : text ≡ join_with_byte 47 texts
@@ -92,8 +92,18 @@ row_text_after n (Some man ∷ rest) = run_text n ++ (letter_of man ∷ row_text
 abbrev pub row_text : List (Option Man) → List ℕ
 row_text row = row_text_after 0 row
 
-unfoldable pub placement_text : List (Option Man) → List ℕ
+unfoldable pub placement_text : Placement → List ℕ
 placement_text placement = join_with_byte 47 (map row_text (ranks_of placement))
 
 unfoldable pub fen_of : Position → List ℕ
 fen_of p = join_with_byte 32 (fields (placement_text p.placement) p)
+
+-- the letter of a man, and 0 for none
+abbrev pub letter_or_zero : Option Man → ℕ
+letter_or_zero None = 0
+letter_or_zero (Some man) = letter_of man
+
+-- By the number of its square, each place has the letter of the man there, or 0.
+abbrev pub AreLetters : List ℕ → Placement → Type 0
+AreLetters letters placement =
+    (s : Square) → IsOnBoard s → slice_index letters (number_of s) ≡ letter_or_zero (man_at placement s)

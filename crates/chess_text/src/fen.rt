@@ -2,38 +2,18 @@ ghost use Rattle.std.specs.Prelude.{◌≡◌, ℕ, ◌+◌, ◌≤◌, ◌<◌,
 ghost use Rattle.arrayvec.specs.ArrayString.{array_string_len};
 ghost use Rattle.chess_bits.specs.Square.{IsOnBoard};
 ghost use Rattle.chess_board.specs.RightsOf.{rights_of};
-ghost use Rattle.chess_text.specs.Name.{square_name, letter_of};
-ghost use Rattle.chess_text.specs.Fen.{rank_of, row_text, run_text, placement_text, side_letter, letter_if, rights_text, target_text, fen_of, IsFenOf};
+ghost use Rattle.chess_text.specs.Name.{square_name};
+ghost use Rattle.chess_text.specs.Fen.{rank_of, row_text, run_text, placement_text, side_letter, letter_if, rights_text, target_text, fen_of, IsFenOf, AreLetters};
 
+use crate::letters::letters_of;
 use arrayvec::ArrayString;
 use bitflags::Flags;
-use chess_bits::{Colour, Kind, Square};
-use chess_board::{Board, CastlingRights};
+use chess_bits::{Colour, Square};
+use chess_board::{Board, CastlingRights, Men};
 use itoa::Buffer;
 
 /// Room for a FEN, which has at most 93 bytes: 64 men, 7 strokes, 17 bytes of other fields and 5 spaces.
 type Text = ArrayString<96>;
-
-// The letter of a man.
-fn letter(colour: Colour, kind: Kind) -> char
-    ensures letter { result ≡ letter_of (colour, kind) }
-    ensures ascii { result < 128 }
-{
-    match (colour, kind) {
-        (Colour::White, Kind::Pawn) => 'P',
-        (Colour::White, Kind::Knight) => 'N',
-        (Colour::White, Kind::Bishop) => 'B',
-        (Colour::White, Kind::Rook) => 'R',
-        (Colour::White, Kind::Queen) => 'Q',
-        (Colour::White, Kind::King) => 'K',
-        (Colour::Black, Kind::Pawn) => 'p',
-        (Colour::Black, Kind::Knight) => 'n',
-        (Colour::Black, Kind::Bishop) => 'b',
-        (Colour::Black, Kind::Rook) => 'r',
-        (Colour::Black, Kind::Queen) => 'q',
-        (Colour::Black, Kind::King) => 'k',
-    }
-}
 
 // Appends an ASCII character.
 fn push(text: &mut Text, character: char)
@@ -59,38 +39,41 @@ fn push_run(text: &mut Text, empty: u8)
     }
 }
 
-// Appends the text of a rank.
-fn push_rank(text: &mut Text, board: &Board, rank: u8)
+// Appends the text of a rank, from the letters on its squares. The men stand in the contract alone.
+fn push_rank(text: &mut Text, _men: &Men, letters: &[u8; 64], rank: u8)
+    requires letters { AreLetters letters.now _men.now }
     requires from { 1 ≤ rank }
     requires to { rank ≤ 8 }
     requires room { array_string_len text.old + 8 < 96 }
-    ensures bytes { text.new.bytes ≡ text.old.bytes ++ row_text (rank_of board.now.placement rank) }
+    ensures bytes { text.new.bytes ≡ text.old.bytes ++ row_text (rank_of _men.now rank) }
     ensures len { array_string_len text.new ≤ array_string_len text.old + 8 }
 {
     let mut empty = 0;
     for file in 1..9 {
-        match board.piece_at(Square::at(file, rank)) {
-            Some((colour, kind)) => {
-                push_run(text, empty);
-                push(text, letter(colour, kind));
-                empty = 0;
-            }
-            None => empty += 1,
+        let letter = letters[usize::from(Square::at(file, rank).number())];
+        if letter == 0 {
+            empty += 1;
+        } else {
+            push_run(text, empty);
+            // The bound lets the compiler see one byte of text.
+            push(text, char::from(letter.min(127)));
+            empty = 0;
         }
     }
     push_run(text, empty);
 }
 
 // The text of the ranks from 8 down to 1.
-fn placement(board: &Board) -> Text
-    ensures bytes { result.bytes ≡ placement_text board.now.placement }
+fn placement(men: &Men) -> Text
+    ensures bytes { result.bytes ≡ placement_text men.now }
     ensures len { array_string_len result ≤ 71 }
 {
+    let letters = letters_of(men);
     let mut text = ArrayString::new();
-    push_rank(&mut text, board, 8);
+    push_rank(&mut text, men, &letters, 8);
     for rank in (1..8).rev() {
         push(&mut text, '/');
-        push_rank(&mut text, board, rank);
+        push_rank(&mut text, men, &letters, rank);
     }
     text
 }
@@ -166,7 +149,7 @@ pub fn fen_write(board: &Board) -> ArrayString<96>
     ensures fen { IsFenOf result.bytes board.now }
     ensures text { result.bytes ≡ fen_of board.now }
 {
-    let mut text = placement(board);
+    let mut text = placement(board.men());
     push(&mut text, ' ');
     push_side(&mut text, board.side());
     push(&mut text, ' ');

@@ -2,6 +2,7 @@
 #![tactic(auto)]
 
 mod fen;
+mod letters;
 mod moves;
 #[cfg(test)]
 mod tests;

@@ -6,7 +6,7 @@ use Rattle.chess_text.proofs.fen.placement.Goals as goal
 
 pub loop-rank-init : goal.loop-rank-init
 loop-rank-init c =
-    let men = c.args.board.now.placement in
+    let men = c.args.men.now in
     let row = row_text (rank_of men 8) in
     let first : array_string_len c.new-text.result ≡ 0 = ap length c.new-text.ensures in
     record {
@@ -19,7 +19,7 @@ loop-rank-init c =
 
 pub loop-rank-preserved : goal.loop-rank-preserved
 loop-rank-preserved c =
-    let placement = c.args.board.now.placement in
+    let placement = c.args.men.now in
     let rank = c.loop-rank.rank in
     let row = row_text (rank_of placement (rank - 1)) in
     record {
@@ -35,6 +35,6 @@ loop-rank-preserved c =
 
 pub returns-clause-bytes : goal.returns-clause-bytes
 returns-clause-bytes c =
-    let last = ranks_below-last c.args.board.now.placement c.loop-rank.rank (omega arith) in
+    let last = ranks_below-last c.args.men.now c.loop-rank.rank (omega arith) in
     sym (append-nil c.loop-rank.text.bytes)
     ∙ (ap (λ t. c.loop-rank.text.bytes ++ t) (sym last) ∙ c.loop-rank.invariant.text)

@@ -7,7 +7,7 @@ use Rattle.chess_text.proofs.fen.placement.Given as goal
 -- What is written, with the ranks that are left, is the whole.
 abbrev pub invariant-loop-rank : goal.invariant-loop-rank
 invariant-loop-rank l = record {
-  text : l.text.bytes ++ ranks_below l.board.placement l.rank ≡ placement_text l.board.placement;
+  text : l.text.bytes ++ ranks_below l.men l.rank ≡ placement_text l.men;
   room : array_string_len l.text + 9 * l.rank ≤ 80;
   low : 1 ≤ l.rank;
 }

@@ -1,0 +1,37 @@
+ghost use Rattle.std.specs.Prelude.{◌≡◌, if◌then◌else◌, slice_index};
+ghost use Rattle.chess_bits.specs.Square.{Square, IsOnBoard, number_of};
+ghost use Rattle.chess_bits.specs.Table.{has};
+ghost use Rattle.chess_text.specs.Fen.{AreLetters};
+
+use chess_bits::{Bits, Colour, Kind};
+use chess_board::Men;
+
+// Puts a letter on each square of a set.
+fn mark(letters: &mut [u8; 64], squares: Bits, letter: u8)
+    ensures { (s : Square) → IsOnBoard s → slice_index letters.new (number_of s) ≡
+        (if has squares s then letter else slice_index letters.old (number_of s)) }
+{
+    for square in squares.iter() {
+        letters[usize::from(square.number())] = letter;
+    }
+}
+
+/// The letters of the men by the numbers of their squares, and 0 on empty squares (PGN Standard, section 16.1.3.1).
+pub fn letters_of(men: &Men) -> [u8; 64]
+    ensures { AreLetters result men.now }
+{
+    let mut letters = [0; 64];
+    mark(&mut letters, men.of_man(Colour::White, Kind::Pawn), b'P');
+    mark(&mut letters, men.of_man(Colour::White, Kind::Knight), b'N');
+    mark(&mut letters, men.of_man(Colour::White, Kind::Bishop), b'B');
+    mark(&mut letters, men.of_man(Colour::White, Kind::Rook), b'R');
+    mark(&mut letters, men.of_man(Colour::White, Kind::Queen), b'Q');
+    mark(&mut letters, men.of_man(Colour::White, Kind::King), b'K');
+    mark(&mut letters, men.of_man(Colour::Black, Kind::Pawn), b'p');
+    mark(&mut letters, men.of_man(Colour::Black, Kind::Knight), b'n');
+    mark(&mut letters, men.of_man(Colour::Black, Kind::Bishop), b'b');
+    mark(&mut letters, men.of_man(Colour::Black, Kind::Rook), b'r');
+    mark(&mut letters, men.of_man(Colour::Black, Kind::Queen), b'q');
+    mark(&mut letters, men.of_man(Colour::Black, Kind::King), b'k');
+    letters
+}
