@@ -1,5 +1,5 @@
 -- Worked games, computed: the sums over their events, and what a clock shows.
-use Rattle.std.proofs.Common.{ℕ, ◌≡◌, List, [], ◌∷◌, Some, None, refl, arith}
+use Rattle.std.proofs.Common.{◌≡◌, List, [], ◌∷◌, Some, None, refl, arith}
 use Rattle.chess_bits.specs.declared.men.Colour.TheVariants.{White, Black}
 use Rattle.chess_clock.specs.declared.events.Event.{Event}
 use Rattle.chess_clock.specs.declared.events.Event.TheVariants.{Turn, WrongClaim}
@@ -60,18 +60,21 @@ both_in_second : held Black (time_control 60 2 (Some (1, 30))) (Turn White 10000
 both_in_second = refl
 
 -- the second period is given once, with its move and not after it
-given_once : held White (time_control 60 2 (Some (1, 30))) (Turn White 10000 ∷ Turn Black 59999 ∷ Turn White 0 ∷ []) ≡ 84000
+given_once :
+    held White (time_control 60 2 (Some (1, 30))) (Turn White 10000 ∷ Turn Black 59999 ∷ Turn White 0 ∷ []) ≡ 84000
 given_once = refl
 
 -- The other way: two moves before the period, of which one is completed.
 one_to_go : held White (time_control 60 0 (Some (2, 30))) (Turn White 0 ∷ Turn Black 0 ∷ []) ≡ 60000
 one_to_go = refl
 
-with_the_second_move : held White (time_control 60 0 (Some (2, 30))) (Turn White 0 ∷ Turn Black 0 ∷ Turn White 0 ∷ []) ≡ 90000
+with_the_second_move :
+    held White (time_control 60 0 (Some (2, 30))) (Turn White 0 ∷ Turn Black 0 ∷ Turn White 0 ∷ []) ≡ 90000
 with_the_second_move = refl
 
 -- a clock that goes on from what it showed after the first move gives the period with the second
 goes_on :
-    after (after (started (time_control 60 0 (Some (2, 30))) White 0) (Turn White 0 ∷ Turn Black 0 ∷ [])) (Turn White 7 ∷ [])
+    after (after (started (time_control 60 0 (Some (2, 30))) White 0) (Turn White 0 ∷ Turn Black 0 ∷ []))
+    (Turn White 7 ∷ [])
     ≡ clock_of (time_control 60 0 (Some (2, 30))) White 0 (Turn White 0 ∷ Turn Black 0 ∷ Turn White 7 ∷ [])
 goes_on = refl

@@ -1,15 +1,15 @@
 -- What can be known of a clock, and what a game does to it, by the same sums.
-use Rattle.std.specs.Prelude.{ℕ, ◌≡◌, ◌+◌, ◌-◌, ◌*◌, ◌%◌, ◌^◌, ◌<◌, ◌≤◌, Bool, false, true, not, ◌&&◌, ◌==◌, nat_le, List, [], ◌∷◌, Option, Some, None, if◌then◌else◌}
+use Rattle.std.specs.Prelude.{ℕ, ◌≡◌, ◌+◌, ◌-◌, ◌*◌, ◌%◌, ◌^◌, ◌<◌, ◌≤◌, Bool, false, true, not, ◌&&◌, ◌==◌, List, [], ◌∷◌, if◌then◌else◌}
 use Rattle.chess_bits.specs.declared.men.Colour.{Colour}
 use Rattle.chess_bits.specs.declared.men.Colour.TheVariants.{White, Black}
 use Rattle.chess_bits.specs.Man.{other, is_colour}
 use Rattle.chess_clock.specs.declared.events.Event.{Event}
 use Rattle.chess_clock.specs.declared.events.Event.TheVariants.{Turn}
-use Rattle.chess_clock.specs.TimeControl.{TimeControl, moves_to_go, second_time}
+use Rattle.chess_clock.specs.TimeControl.{TimeControl, moves_to_go}
 use Rattle.chess_clock.specs.Events.{completed_moves, wrong_claims, time_used}
 use Rattle.chess_clock.specs.Held.{held}
 pub use Rattle.chess_clock.specs.SideTimes.{SideTime}
-use Rattle.chess_clock.specs.SideTimes.{second_within}
+use Rattle.chess_clock.specs.SideTimes.{given_further}
 
 -- The times set, the side on move, the moment at which its turn began, and what each side held then, with its moves to
 -- go. A stopped clock has the moment of the stop instead, and its times do not change any more.
@@ -49,12 +49,11 @@ left side clock at =
     let time = time_of side clock in
     if runs side clock then time.held - running_turn clock at else time.held
 
--- What a side is given while these events happen, in milliseconds.
+-- what a side is given while these events happen
 abbrev pub given_within : Colour → ClockState → List Event → ℕ
 given_within side clock events =
-    1000 * clock.control.increment * completed_moves side events
-    + 120000 * wrong_claims (other side) events
-    + second_within clock.control (time_of side clock).to_go (completed_moves side events)
+    given_further clock.control (time_of side clock).to_go
+    (completed_moves side events) (wrong_claims (other side) events)
 
 -- a side's time after these events: the sums go on from what it was
 abbrev pub time_after : Colour → ClockState → List Event → SideTime

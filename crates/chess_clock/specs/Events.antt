@@ -1,5 +1,5 @@
 -- What a game does to its clock: a list of turns and wrong claims, and what is counted in it.
-use Rattle.std.specs.Prelude.{ℕ, ◌+◌, Bool, false, List, count_by, sum_by, if◌then◌else◌}
+use Rattle.std.specs.Prelude.{ℕ, Bool, false, List, count_by, sum_by, if◌then◌else◌}
 use Rattle.chess_bits.specs.declared.men.Colour.{Colour}
 use Rattle.chess_bits.specs.Man.{is_colour}
 use Rattle.chess_clock.specs.declared.events.Event.{Event}

@@ -7,9 +7,9 @@ use Rattle.chess_clock.specs.declared.events.Event.{Event}
 use Rattle.chess_clock.specs.TimeControl.{TimeControl, second_period}
 use Rattle.chess_clock.specs.Events.{completed_moves, wrong_claims, time_used}
 
--- The milliseconds that a side is given which completes so many moves and whose opponent makes so many wrong claims: its
--- initial time, the increment for each of the moves, 120,000 for each of the claims, and the second period once it has
--- completed the moves before it.
+-- The milliseconds that a side is given which completes so many moves and whose opponent makes so many wrong claims:
+-- its initial time, the increment for each of the moves, 120,000 for each of the claims, and the second period once it
+-- has completed the moves before it.
 abbrev pub given_for : TimeControl → ℕ → ℕ → ℕ
 given_for control moves claims =
     1000 * control.initial

@@ -1,5 +1,5 @@
 -- Which lists of events a clock can go through.
-use Rattle.std.specs.Prelude.{ℕ, ◌≡◌, ◌+◌, ◌^◌, ◌<◌, ◌≤◌, List, ◌∷◌, ◌++◌}
+use Rattle.std.specs.Prelude.{ℕ, ◌≡◌, ◌<◌, ◌≤◌, ◌+◌, List, ◌∷◌, ◌++◌}
 use Rattle.chess_bits.specs.declared.men.Colour.{Colour}
 use Rattle.chess_bits.specs.declared.men.Colour.TheVariants.{White, Black}
 use Rattle.chess_clock.specs.declared.events.Event.{Event}
@@ -7,14 +7,18 @@ use Rattle.chess_clock.specs.declared.events.Event.TheVariants.{Turn}
 use Rattle.chess_clock.specs.Events.{time_used}
 use Rattle.chess_clock.specs.ClockState.{ClockState, after, time_of, given_within, TimesFit}
 
+-- The side is on move, and a turn of so many milliseconds ends before its flag falls.
+pub record EndsInTime (clock : ClockState) (side : Colour) (length : ℕ) : Type 0 where
+  pub on_move : side ≡ clock.side
+  pub in_time : length < (time_of side clock).held
+
 -- Each turn is one of the side on move, and ends before its flag falls.
 abbrev pub TurnsEndInTime : ClockState → List Event → Type 0
 TurnsEndInTime clock events =
     (before : List Event) (side : Colour) (length : ℕ) (rest : List Event)
-    → events ≡ before ++ Turn side length ∷ rest
-    → (side ≡ (after clock before).side) × (length < (time_of side (after clock before)).held)
+    → events ≡ before ++ Turn side length ∷ rest → EndsInTime (after clock before) side length
 
--- After each event the times held fit.
+-- At the start and after each event the times held fit.
 abbrev pub TimesAlwaysFit : ClockState → List Event → Type 0
 TimesAlwaysFit clock events = (before rest : List Event) → events ≡ before ++ rest → TimesFit (after clock before)
 

@@ -5,8 +5,14 @@ use Rattle.chess_clock.specs.TimeControl.{TimeControl, second_time}
 
 -- The milliseconds that the second period adds to a side with so many moves to go to it, which completes so many.
 abbrev pub second_within : TimeControl → ℕ → ℕ → ℕ
-second_within control to_go completed =
-    if nat_le 1 to_go && nat_le to_go completed then second_time control.period else 0
+second_within control to_go moves =
+    if nat_le 1 to_go && nat_le to_go moves then second_time control.period else 0
+
+-- The milliseconds that a side with so many moves to go is given further which completes so many moves and whose
+-- opponent makes so many wrong claims.
+abbrev pub given_further : TimeControl → ℕ → ℕ → ℕ → ℕ
+given_further control to_go moves claims =
+    1000 * control.increment * moves + 120000 * claims + second_within control to_go moves
 
 -- a side's time after a turn of so many milliseconds
 abbrev pub after_turn : TimeControl → SideTime → ℕ → SideTime

@@ -151,7 +151,8 @@ impl Clock {
     /// moves, and goes on from there.
     pub fn set_held(&mut self, colour: Colour, ms: u32, completed: u32)
         requires { self.old.is_stopped ≡ false }
-        ensures { self.new ≡ with_time colour self.old (record { held = ms; to_go = moves_to_go self.old.control.period completed }) }
+        ensures { self.new ≡ with_time colour self.old
+            (record { held = ms; to_go = moves_to_go self.old.control.period completed }) }
     {
         let to_go = self.control.moves_to_go(completed);
         self.set_time(colour, SideTime { held: ms, to_go });
@@ -182,8 +183,9 @@ impl Clock {
     ghost use Rattle.chess_clock.specs.ClockState.{started, after, clock_of};
     ghost use Rattle.chess_clock.specs.Replay.{TurnsEndInTime, TimesAlwaysFit, IsWithinTime};
 
-    /// Takes the clock through the turns and wrong claims of a game: its times are then the sums over all of them, going
-    /// on from what it was, and no side has used more than it had.
+    /// Takes the clock through turns and wrong claims: its times are then the sums over all of them, going on from what
+    /// they were, and no side has used more than it had. Each turn is one of the side on move and ends before its flag
+    /// falls, and no time held comes to pass 4,294,967,295 ms.
     pub fn replay(&mut self, events: &[Event])
         requires running { self.old.is_stopped ≡ false }
         requires in_time { TurnsEndInTime self.old events.now }

@@ -1,4 +1,4 @@
-use Rattle.std.proofs.Common.{◌≡◌, List, [], ◌∷◌, Some, refl, sym, ap, subst, ◌∙◌}
+use Rattle.std.proofs.Common.{List, [], ◌∷◌, Some, refl, sym, ap, subst, ◌∙◌}
 use Rattle.chess_bits.specs.declared.men.Colour.TheVariants.{White, Black}
 use Rattle.chess_clock.specs.declared.events.Event.{Event}
 use Rattle.chess_clock.specs.declared.events.Event.TheVariants.{Turn, WrongClaim}
