@@ -62,7 +62,7 @@ time_after side clock events = record {
   to_go = (time_of side clock).to_go - completed_moves side events;
 }
 
--- the side on move after so many turns, since the players alternate (FIDE article 1.3)
+-- the side on move after so many turns, since the players alternate (FIDE article 1.2)
 abbrev pub on_move_after : Colour → ℕ → Colour
 on_move_after side turns = if turns % 2 == 0 then side else other side
 

@@ -45,8 +45,9 @@ impl Model for Clock {
 }
 
 impl Clock {
-    /// The clock of a game whose first turn, of this side, starts at this moment. The initial time and the increment
-    /// are in seconds; a second period is the moves before it and its seconds.
+    /// The clock of a game whose first turn, of this side, starts at this moment. The initial time, 1 to 86,400, and
+    /// the increment, 0 to 60, are in seconds; a second period is the moves before it, 1 to 255, and its seconds, 1 to
+    /// 86,400.
     pub fn new(
         initial: u32,
         increment: u32,
@@ -72,7 +73,8 @@ impl Clock {
         }
     }
 
-    /// The time that the side held at the start of the running turn, or had left where the clock is stopped.
+    /// The time that the side held at the start of the running turn, or had left where the clock is stopped, in
+    /// milliseconds.
     pub fn held(&self, colour: Colour) -> u32
         ensures { result ≡ (time_of colour self.now).held }
     {
@@ -86,8 +88,8 @@ impl Clock {
         self.since
     }
 
-    /// The time that the side has left at this moment: what it holds, less the running turn if it is the side on move,
-    /// and never below 0. A stopped clock stands still.
+    /// The time that the side has left at this moment, in milliseconds: what it holds, less the running turn if it is
+    /// the side on move, and never below 0. A stopped clock stands still.
     pub fn left(&self, colour: Colour, at: u64) -> u32
         requires { IsNotBefore self.now at }
         ensures { result ≡ left colour self.now at }
@@ -99,8 +101,8 @@ impl Clock {
         u64::from(held).saturating_sub(at - self.since) as u32
     }
 
-    /// Whether the flag of the side on move has fallen: the running turn is at least as long as the time held (FIDE
-    /// article 6.8).
+    /// Whether the flag of the side on move has fallen: the running turn is at least as long as the time held, before
+    /// any increment of a move that would end it (our own choice; FIDE article 6.9 says what follows).
     pub fn fallen(&self, at: u64) -> bool
         requires running { self.now.is_stopped ≡ false }
         requires from_start { self.now.since ≤ at }
@@ -109,8 +111,9 @@ impl Clock {
         at - self.since >= u64::from(self.held(self.side))
     }
 
-    /// Ends the running turn with a completed move: the side's time is less its length, and more the increment, and
-    /// the second period's time where it was the last move before it. The other side's turn starts.
+    /// Ends the running turn, in which the flag has not fallen, with a completed move: the side's time is less the
+    /// turn's length, and more the increment, and the second period's time with the last move before it. The other
+    /// side's turn starts (FIDE article 6.2.1).
     pub fn finish_turn(&mut self, at: u64)
         requires running { self.old.is_stopped ≡ false }
         requires from_start { self.old.since ≤ at }
@@ -126,7 +129,7 @@ impl Clock {
         self.side = self.side.other();
     }
 
-    /// Adds 120,000 ms to the colour's time, for a wrong claim of its opponent.
+    /// Adds 120,000 ms to the colour's time, for a wrong claim of its opponent (FIDE article 9.5.3).
     pub fn penalty(&mut self, colour: Colour)
         requires running { self.old.is_stopped ≡ false }
         requires fits { TimesFit (after self.old (Event.WrongClaim (other colour) ∷ [])) }
