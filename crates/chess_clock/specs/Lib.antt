@@ -1,0 +1,6 @@
+pub mod TimeControl
+pub mod Events
+pub mod SideTimes
+pub mod Held
+pub mod ClockState
+pub mod Replay
