@@ -203,7 +203,7 @@ to_of_between from to m here = ap (λ (x : Move). x.to) (sym (moves_between-case
 from_of_between : (from to : Square) (m : Move) → Contains (moves_between from to) m → m.from ≡ from
 from_of_between from to m here = ap (λ (x : Move). x.from) (sym (moves_between-cases from to m here).1)
 
-from_of_moves : (from : Square) (tos : List Square) (m : Move) → Contains (flat_map (moves_between from) tos) m →
+pub from_of_moves : (from : Square) (tos : List Square) (m : Move) → Contains (flat_map (moves_between from) tos) m →
     m.from ≡ from
 from_of_moves from [] m here = absurd (Contains-none m here)
 from_of_moves from (to ∷ tos) m here =
