@@ -1,6 +1,7 @@
 pub mod AttackLemmas
 pub mod Candidates
 pub mod Deciding
+pub mod DistinctMoves
 mod Examples
 pub mod LegalMoves
 pub mod ManAfter

@@ -8,3 +8,14 @@ pub struct Move {
     pub to: Square,
     pub promotion: Option<Kind>,
 }
+
+impl Default for Move {
+    // From a1 to a1, which is never legal: what an unused place of a list of moves holds.
+    fn default() -> Move {
+        Move {
+            from: Square::new(0),
+            to: Square::new(0),
+            promotion: None,
+        }
+    }
+}

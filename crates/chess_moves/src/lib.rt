@@ -1,11 +1,16 @@
-//! Whether a move is legal.
+//! The legal moves of a position.
 #![tactic(auto)]
 
 mod castling;
 mod legality;
+mod listing;
 mod pawns;
-mod pieces;
-mod reach;
+mod promotions;
 mod squares;
+mod targets;
 
 pub use legality::legal;
+pub use listing::{has_legal, legal_moves};
+
+#[cfg(test)]
+mod tests;

@@ -1,34 +1,14 @@
-ghost use Rattle.std.specs.Prelude.{◌≡◌, ◌↔◌, IsTrue};
-ghost use Rattle.chess_bits.specs.Square.{IsOnBoard};
-ghost use Rattle.chess_bits.specs.Attack.{pawn_attacks, Reaches};
+ghost use Rattle.std.specs.Prelude.{◌≡◌, ◌⊎◌, Some};
+ghost use Rattle.chess_bits.specs.declared.men.Kind.TheVariants as kind;
+ghost use Rattle.chess_bits.specs.Man.{other};
+ghost use Rattle.chess_bits.specs.Table.{IsSetOf};
 ghost use Rattle.chess_board.specs.Legal as rules;
+ghost use Rattle.chess_moves.specs.Targets.{plain, GoesTo};
 
-use crate::reach::attacks;
-use crate::squares::{holds_colour, is_empty, is_same, leads_to};
-use chess_bits::{Colour, Kind, Square};
-use chess_board::{Board, Move, home_rank};
-
-// Whether a pawn may become the kind.
-fn is_promotion_kind(kind: Kind) -> bool
-    ensures { IsTrue result ↔ rules.IsPromotionKind kind }
-{
-    match kind {
-        Kind::Queen | Kind::Rook | Kind::Bishop | Kind::Knight => true,
-        Kind::Pawn | Kind::King => false,
-    }
-}
-
-// Whether a pawn that goes to the square becomes what it must (FIDE article 3.7.3.3).
-fn is_promotion(side: Colour, to: Square, promotion: Option<Kind>) -> bool
-    ensures becomes { IsTrue result ↔ rules.IsPromotion side to promotion }
-    ensures on_board { IsOnBoard to }
-{
-    let is_last = to.rank() == home_rank(side.other());
-    match promotion {
-        None => !is_last,
-        Some(kind) => is_last && is_promotion_kind(kind),
-    }
-}
+use crate::squares::{is_empty, men_of, only};
+use chess_attacks::pawn;
+use chess_bits::{Bits, Colour, Square};
+use chess_board::Board;
 
 // The rank from which a side's pawns may advance two squares.
 fn pawn_rank(side: Colour) -> u8
@@ -40,70 +20,58 @@ fn pawn_rank(side: Colour) -> u8
     }
 }
 
-// Whether a pawn goes one square forward, to an empty square (FIDE article 3.7.1).
-fn advances(board: &Board, mv: &Move) -> bool
-    ensures { IsTrue result ↔ rules.Advances board.now mv.now }
+// Where a pawn goes one square forward, to an empty square (FIDE article 3.7.1).
+fn one_step(board: &Board, from: Square) -> Bits
+    ensures { IsSetOf result (λ to. rules.Advances board.now (plain from to)) }
 {
-    let from = mv.from;
-    let to = mv.to;
-    leads_to(from, board.side().forward(), to) && is_empty(board, to)
+    match from.step(board.side().forward()) {
+        None => Bits::new(),
+        Some(to) => only(to, is_empty(board, to)),
+    }
 }
 
-// Whether a pawn goes two squares forward from its first rank, both empty (FIDE article 3.7.2).
-fn advances_two(board: &Board, mv: &Move) -> bool
-    ensures { IsTrue result ↔ rules.AdvancesTwo board.now mv.now }
+// Where a pawn goes two squares forward from its first rank, both empty (FIDE article 3.7.2).
+fn two_steps(board: &Board, from: Square) -> Bits
+    ensures { IsSetOf result (λ to. rules.AdvancesTwo board.now (plain from to)) }
 {
-    let from = mv.from;
-    let to = mv.to;
     let side = board.side();
     if from.rank() != pawn_rank(side) {
-        return false;
+        return Bits::new();
     }
-    match from.step(side.forward()) {
-        Some(crossed) => {
-            leads_to(crossed, side.forward(), to) && is_empty(board, crossed) && is_empty(board, to)
-        }
-        None => false,
+    let Some(crossed) = from.step(side.forward()) else {
+        return Bits::new();
+    };
+    match crossed.step(side.forward()) {
+        None => Bits::new(),
+        Some(to) => only(to, is_empty(board, crossed) & is_empty(board, to)),
     }
 }
 
-// Whether a pawn attacks the square that it goes to.
-fn is_pawn_attack(board: &Board, mv: &Move) -> bool
-    ensures { IsTrue result ↔ Reaches (pawn_attacks board.now.side) mv.now.from mv.now.to }
+// Where a pawn of the side to move can take: a man of the opponent, or the pawn that has just crossed the square
+// (FIDE articles 3.7.3 and 3.7.3.1).
+fn takable(board: &Board) -> Bits
+    ensures { IsSetOf result
+        (λ s. rules.HoldsColour board.now s (other board.now.side) ⊎ (board.now.target ≡ Some s)) }
 {
-    let from = mv.from;
-    let to = mv.to;
-    attacks(board.men().occupied(), board.side(), Kind::Pawn, from, to)
-}
-
-// Whether a pawn takes a man of the opponent (FIDE article 3.7.3).
-fn pawn_takes(board: &Board, mv: &Move) -> bool
-    ensures { IsTrue result ↔ rules.PawnTakes board.now mv.now }
-{
-    let to = mv.to;
-    is_pawn_attack(board, mv) && holds_colour(board, to, board.side().other())
-}
-
-// Whether a pawn goes diagonally to the square that a pawn has just crossed (FIDE article 3.7.3.1).
-fn takes_en_passant(board: &Board, mv: &Move) -> bool
-    ensures { IsTrue result ↔ rules.TakesEnPassant board.now mv.now }
-{
-    let to = mv.to;
+    let theirs = men_of(board, board.side().other());
     match board.target() {
-        None => false,
-        Some(target) => is_same(target, to) && is_pawn_attack(board, mv),
+        None => theirs,
+        Some(target) => theirs.union(only(target, true)),
     }
 }
 
-// Whether the move is one of a pawn (FIDE article 3.7).
-pub fn is_pawn_move(board: &Board, mv: &Move) -> bool
-    ensures rule { IsTrue result ↔ rules.IsPawnMove board.now mv.now }
-    ensures on_board { IsOnBoard mv.now.to }
+// Where a pawn takes.
+fn takes(board: &Board, from: Square) -> Bits
+    ensures { IsSetOf result
+        (λ to. rules.PawnTakes board.now (plain from to) ⊎ rules.TakesEnPassant board.now (plain from to)) }
 {
-    let to = mv.to;
-    is_promotion(board.side(), to, mv.promotion)
-        && (advances(board, mv)
-            || advances_two(board, mv)
-            || pawn_takes(board, mv)
-            || takes_en_passant(board, mv))
+    pawn(board.side(), from).meet(takable(board))
+}
+
+// Where a pawn goes (FIDE article 3.7).
+pub fn pawn_targets(board: &Board, from: Square) -> Bits
+    ensures { IsSetOf result (GoesTo board.now kind.Pawn from) }
+{
+    let forward = one_step(board, from).union(two_steps(board, from));
+    forward.union(takes(board, from))
 }

@@ -1,0 +1,27 @@
+use Rattle.std.proofs.Common.{◌≡◌, ◌∙◌, List, ap, subst, sym, refl}
+use Rattle.chess_bits.specs.declared.men.Colour.{Colour}
+use Rattle.chess_bits.specs.Square.{Square}
+use Rattle.chess_bits.specs.Man.{is_of}
+use Rattle.chess_bits.specs.Attack.{SomeOf}
+use Rattle.chess_bits.specs.Table.{members}
+use Rattle.chess_bits.specs.SquaresOf.{squares_left}
+use Rattle.chess_bits.proofs.AlongLemmas.{SomeOf-members}
+use Rattle.chess_board.specs.Occupancy.{squares_with}
+use Rattle.chess_board.proofs.AttackLemmas.{has-own}
+use Rattle.chess_board.proofs.Candidates.{IsOnBoard-from_man}
+use Rattle.chess_moves.specs.Moves.{HasLegalFrom}
+use Rattle.chess_moves.proofs.listing.has_legal.Goals as goal
+
+pub loop-from-init : goal.loop-from-init
+loop-from-init c (m, legal) =
+    let p = c.args.board.now in
+    let own = legal.candidate.own in
+    let start : squares_left c.into_iter-from-iterator.result ≡ members (squares_with (is_of p.side) p.placement) =
+    ap squares_left c.into_iter-from-iterator.ensures.into_iter_gives ∙ c.iter-from-items.ensures
+    ∙ ap members (c.men_of.ensures.squares
+    ∙ ap (λ (side : Colour). squares_with (is_of side) p.placement) c.side.ensures) in
+    let Some' : List Square → Type 0 = SomeOf (HasLegalFrom p) in
+    subst Some' (sym start)
+    (SomeOf-members (HasLegalFrom p) (squares_with (is_of p.side) p.placement) m.from
+    (IsOnBoard-from_man p.placement m.from (p.side, legal.candidate.kind) own)
+    (has-own p.placement p.side legal.candidate.kind m.from own) (m, refl, legal))
