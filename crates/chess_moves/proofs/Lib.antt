@@ -2,7 +2,8 @@ pub mod ListLemmas
 pub mod SquareLemmas
 pub mod SetForms
 pub mod Parts
-pub mod Safety
+pub mod Promoting
 pub mod Listed
 pub mod Taken
 pub mod Bound
+pub mod Risks

@@ -30,7 +30,7 @@ use Rattle.chess_moves.specs.Moves.{IsListOfLegalMoves, HasLegalFrom}
 use Rattle.chess_moves.specs.Listing.{legal_from, promoted, promotions, choices}
 use Rattle.chess_moves.proofs.ListLemmas.{filter-flat_map, flat_map-filter, filter-none, filter-same}
 use Rattle.chess_moves.proofs.Parts.{move_of_parts, goes_of_move, becomes_of_move, candidate_kind}
-use Rattle.chess_moves.proofs.Safety.{promoted_check, plain_check}
+use Rattle.chess_moves.proofs.Promoting.{promoted_check, plain_check}
 
 -- ---- tests
 

@@ -6,6 +6,7 @@ mod legality;
 mod listing;
 mod pawns;
 mod promotions;
+mod safety;
 mod squares;
 mod targets;
 

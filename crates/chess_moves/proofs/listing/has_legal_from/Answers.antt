@@ -9,6 +9,6 @@ returns-then-eq c =
     let p = c.args.board.now in
     let kind = c.in-Some.kind in
     let own : man_at p.placement c.args.from ≡ Some (p.side, kind) = first_of (search rules, grind common_steps) in (
-      λ safe. legal_from_target p c.args.from kind c.requires.whole own (c.has_safe_target.ensures.0 safe),
-      λ legal. c.has_safe_target.ensures.1 (target_from_legal p c.args.from kind c.requires.whole own legal),
+      λ safe. legal_from_target p c.args.from kind c.requires.valid.whole own (c.has_safe_target.ensures.0 safe),
+      λ legal. c.has_safe_target.ensures.1 (target_from_legal p c.args.from kind c.requires.valid.whole own legal),
     )
