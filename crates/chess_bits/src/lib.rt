@@ -9,9 +9,7 @@ mod steps;
 pub use bit_set::{Bits, SquaresOf};
 pub use coordinates::Square;
 pub use men::{Colour, Kind};
-pub use steps::{
-    ADJOINING, BLACK_PAWN_ATTACKS, DIAGONAL, KNIGHT_STEPS, STRAIGHT, Step, WHITE_PAWN_ATTACKS,
-};
+pub use steps::Step;
 
 #[cfg(test)]
 mod tests;
