@@ -4,3 +4,8 @@ pub mod MoveListLemmas
 pub mod FieldLemmas
 pub mod PositionLemmas
 pub mod EntryLemmas
+pub mod RecordLemmas
+pub mod SnapshotLemmas
+pub mod SectorLemmas
+pub mod HeaderLemmas
+mod Examples

@@ -134,9 +134,11 @@ codes-fit ms h = joined (map move_code ms) (replicate (60 - length ms) 0) (fits 
     fits : (ms : List Move) → AllByRecursion IsStorable ms → AllByRecursion (λ c. c < 65536) (map move_code ms)
     fits [] h = tt
     fits (m ∷ ms) h = (omega (arith, move_code-below m h.0), fits ms h.1)
+
     none : (n : ℕ) → AllByRecursion (λ c. c < 65536) (replicate n 0)
     none zero = tt
     none (suc n) = (omega arith, none n)
+
     joined : (xs ys : List ℕ) → AllByRecursion (λ c. c < 65536) xs → AllByRecursion (λ c. c < 65536) ys →
         AllByRecursion (λ c. c < 65536) (xs ++ ys)
     joined [] ys h k = k

@@ -8,3 +8,5 @@ pub mod Flags
 pub mod Position
 pub mod Records
 pub mod Period
+pub mod Sector
+pub mod Header

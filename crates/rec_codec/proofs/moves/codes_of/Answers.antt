@@ -10,9 +10,9 @@ loop-i-preserved c =
     let m = c.index-moves-i.result in
     record {
       codes =
-        ap (slice_set c.loop-i.codes i) c.move_code.ensures.code
-        ∙ more-codes ms c.loop-i.codes i m c.loop-i-test.true c.requires.few c.index-moves-i.is c.loop-i.invariant.codes;
+          ap (slice_set c.loop-i.codes i) c.move_code.ensures.code
+          ∙ more-codes ms c.loop-i.codes i m c.loop-i-test.true c.requires.few c.index-moves-i.is c.loop-i.invariant.codes;
       on_board =
-        more-on_board ms i m c.loop-i-test.true c.index-moves-i.is c.loop-i.invariant.on_board
-        c.move_code.ensures.from c.move_code.ensures.to;
+          more-on_board ms i m c.loop-i-test.true c.index-moves-i.is c.loop-i.invariant.on_board
+          c.move_code.ensures.from c.move_code.ensures.to;
     }

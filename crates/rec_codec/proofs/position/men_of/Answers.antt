@@ -9,10 +9,10 @@ loop-k-preserved c =
     record {
       whole = simp length-set c.loop-k.invariant.whole;
       done = λ p whole e.
-        next_pair p c.loop-k.men c.loop-k.k c.man_numbered.result c.man_numbered-in-loop-k.result low
-        c.loop-k.invariant.whole (c.loop-k.invariant.done p whole e)
-        (c.man_numbered.ensures ∙ low_man p c.args.bytes.now c.loop-k.k low e)
-        (c.man_numbered-in-loop-k.ensures ∙ high_man p c.args.bytes.now c.loop-k.k low e);
+          next_pair p c.loop-k.men c.loop-k.k c.man_numbered.result c.man_numbered-in-loop-k.result low
+          c.loop-k.invariant.whole (c.loop-k.invariant.done p whole e)
+          (c.man_numbered.ensures ∙ low_man p c.args.bytes.now c.loop-k.k low e)
+          (c.man_numbered-in-loop-k.ensures ∙ high_man p c.args.bytes.now c.loop-k.k low e);
     }
 
 pub returns : goal.returns
