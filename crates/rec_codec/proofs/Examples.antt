@@ -1,7 +1,7 @@
 -- Worked bytes, computed by the definitions alone.
-use Rattle.std.proofs.Common.{◌≡◌, ℕ, ◌+◌, ◌*◌, true, false, List, [], ◌∷◌, ◌++◌, take, drop, length, map, replicate, Option, Some, None, refl}
+use Rattle.std.proofs.Common.{◌≡◌, ℕ, true, List, [], ◌∷◌, ◌++◌, take, drop, replicate, Option, Some, None, refl}
 use Rattle.std.specs.Prelude.{codes}
-use Rattle.chess_bits.specs.declared.men.Colour.TheVariants.{White, Black}
+use Rattle.chess_bits.specs.declared.men.Colour.TheVariants.{Black}
 use Rattle.chess_bits.specs.declared.men.Kind.TheVariants.{Queen}
 use Rattle.chess_bits.specs.Square.{square}
 use Rattle.chess_bits.specs.Table.{at}

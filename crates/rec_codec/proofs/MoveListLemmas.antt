@@ -1,18 +1,17 @@
 -- A list of moves and its 60 places.
-use Rattle.std.proofs.Common.{◌≡◌, ℕ, zero, suc, ◌+◌, ◌-◌, ◌*◌, ◌/◌, ◌%◌, ◌^◌, ◌<◌, ◌≤◌, Bool, true, false, ◌&&◌, List, [], ◌∷◌, ◌++◌, length, map, take, drop, replicate, get_or, refl, sym, ap, ◌∙◌, subst, arith, append_assoc}
+use Rattle.std.proofs.Common.{◌≡◌, ℕ, zero, suc, ◌+◌, ◌-◌, ◌*◌, ◌/◌, ◌%◌, ◌<◌, ◌≤◌, Bool, true, false, ◌&&◌, List, [], ◌∷◌, ◌++◌, length, map, take, drop, replicate, get_or, refl, sym, ap, ◌∙◌, subst, arith, append_assoc}
 use Rattle.std.specs.Prelude.{◌==◌, nat_lt, slice_set}
 use Rattle.std.specs.List.{list_all, flat_map, AllByRecursion}
-use Rattle.std.proofs.lemmas.Bool.{false≢true, lt-ltb}
+use Rattle.std.proofs.lemmas.Bool.{false≢true}
 use Rattle.std.proofs.lemmas.Bool.Decides.{nat_tests}
-use Rattle.std.proofs.lemmas.List.{take_at, drop_at, take_more, take-append-drop, map-append, length-map, length-take-le, length-replicate, length-append, length-drop, set_at, get_or-map, get_or-take, same_lists, drop_more, take_all}
+use Rattle.std.proofs.lemmas.List.{take_at, drop_at, take_more, take-append-drop, map-append, length-map, length-take-le, length-replicate, length-append, length-drop, set_at, same_lists}
 use Rattle.byteorder.specs.Endian.{little_bytes, little_number, IsRead}
 use Rattle.byteorder.specs.Numbers.{little_number-reads_back}
-use Rattle.chess_bits.specs.declared.men.Kind.{Kind}
 use Rattle.chess_bits.specs.Square.{IsOnBoard, square_at}
 use Rattle.chess_board.specs.declared.moves.Move.{Move}
 use Rattle.rec_codec.specs.declared.moves.MoveList.TheInside.{Inside}
 use Rattle.rec_codec.specs.Moves.{CanBecome, IsStorable, IsMoveList, promotion_of, move_code, move_of, move_code-move_of, codes_of, are_codes}
-use Rattle.rec_codec.specs.MovesInside.{moves_of, inside_of, IsSound}
+use Rattle.rec_codec.specs.MovesInside.{inside_of, IsSound}
 use Rattle.rec_codec.proofs.MoveLemmas.{move_code-below, move_of-move_code}
 
 pub both : (a b : Bool) → (a && b) ≡ true → (a ≡ true) × (b ≡ true)

@@ -1,4 +1,4 @@
-use Rattle.std.proofs.Common.{◌≡◌, ◌∙◌, ap, arith}
+use Rattle.std.proofs.Common.{◌∙◌, ap}
 use Rattle.std.specs.Prelude.{slice_set}
 use Rattle.rec_codec.proofs.MoveListLemmas.{more-codes, more-on_board}
 use Rattle.rec_codec.proofs.moves.codes_of.Goals as goal

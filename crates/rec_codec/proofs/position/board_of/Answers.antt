@@ -1,8 +1,7 @@
-use Rattle.std.proofs.Common.{◌≡◌, ◌∙◌, Some, ap, subst, arith}
-use Rattle.chess_board.specs.Position.{Position, IsValid}
+use Rattle.std.proofs.Common.{◌∙◌, Some, ap, subst, arith}
 use Rattle.chess_board.specs.Parts.{IsFirstBroken}
 use Rattle.chess_board.specs.RightsOf.{rights_of}
-use Rattle.rec_codec.specs.Position.{position_flags, position_bytes, target_number}
+use Rattle.rec_codec.specs.Position.{position_flags, target_number}
 use Rattle.rec_codec.proofs.PositionLemmas.{position-stands, same_position, valid_unbroken, target_on_board}
 use Rattle.rec_codec.proofs.position.board_of.Goals as goal
 

@@ -1,4 +1,4 @@
-use Rattle.std.proofs.Common.{◌≡◌, ◌∙◌, None, sym, arith, rules}
+use Rattle.std.proofs.Common.{◌∙◌, None, sym, arith}
 use Rattle.std.proofs.lemmas.List.{same_lists, get_or_default, length-set}
 use Rattle.rec_codec.proofs.PositionLemmas.{next_pair, low_man, high_man}
 use Rattle.rec_codec.proofs.position.men_of.Goals as goal

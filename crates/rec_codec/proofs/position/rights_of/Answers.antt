@@ -1,5 +1,5 @@
 use Rattle.std.proofs.Common.{◌≡◌, ◌∙◌, Bool, [], ◌∷◌, ap}
-use Rattle.chess_board.specs.Position.{Position, Rights}
+use Rattle.chess_board.specs.Position.{Rights}
 use Rattle.rec_codec.specs.Flags.{is_set, is_black}
 use Rattle.rec_codec.proofs.FieldLemmas.{flag-2, flag-4, flag-8, flag-16}
 use Rattle.rec_codec.proofs.position.rights_of.Goals as goal

@@ -1,4 +1,4 @@
-use Rattle.std.proofs.Common.{◌≡◌, ◌∙◌, [], ◌∷◌, ap}
+use Rattle.std.proofs.Common.{◌∙◌, [], ◌∷◌, ap}
 use Rattle.rec_codec.specs.Flags.{is_set, is_black, colour_of}
 use Rattle.rec_codec.proofs.FieldLemmas.{flag-1}
 use Rattle.rec_codec.proofs.PositionLemmas.{colour_of-is_black}

@@ -1,4 +1,4 @@
-use Rattle.std.proofs.Common.{◌≡◌, ◌<◌, ◌^◌, ◌∙◌, [], ◌∷◌, Option, Some, None, ap, arith}
+use Rattle.std.proofs.Common.{◌<◌, ◌^◌, ◌∙◌, [], ◌∷◌, Option, Some, None, ap, arith}
 use Rattle.std.specs.Prelude.{is_some}
 use Rattle.rec_codec.specs.declared.record.Ending.{Ending}
 use Rattle.rec_codec.specs.declared.record.Ending.TheVariants as ending

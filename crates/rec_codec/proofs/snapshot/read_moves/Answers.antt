@@ -1,4 +1,4 @@
-use Rattle.std.proofs.Common.{◌≡◌, ◌≤◌, ℕ, List, ◌∙◌, Some, sym, ap, length, drop, arith}
+use Rattle.std.proofs.Common.{◌≤◌, ℕ, List, ◌∙◌, Some, sym, ap, length, drop, arith}
 use Rattle.std.proofs.lemmas.List.{take_all, length-drop}
 use Rattle.chess_board.specs.declared.moves.Move.{Move}
 use Rattle.rec_codec.specs.declared.record.Moves.{Moves}

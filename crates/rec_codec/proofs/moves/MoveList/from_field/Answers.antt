@@ -1,6 +1,6 @@
-use Rattle.std.proofs.Common.{◌≡◌, ◌≤◌, ◌∙◌, true, Some, ap, map, take, length, sym, subst, arith}
+use Rattle.std.proofs.Common.{◌≡◌, ◌∙◌, true, Some, ap, map, take, length, sym, arith}
 use Rattle.std.proofs.lemmas.Bool.{false≢true}
-use Rattle.rec_codec.specs.Moves.{move_of, codes_of, are_codes}
+use Rattle.rec_codec.specs.Moves.{move_of, are_codes}
 use Rattle.rec_codec.proofs.MoveListLemmas.{IsSound-read, read-codes, moves_of-codes_of, are_codes-codes_of}
 use Rattle.rec_codec.proofs.moves.MoveList.from_field.Goals as goal
 use Rattle.rec_codec.proofs.moves.MoveList.from_field.Goals.{else-count-ge1-via-then-count-ge1+then-count-le60+else-are_codes, else-count-ge1-via-then-count-ge1+else-count-le60, else-count-ge1-via-else-count-ge1}

@@ -1,5 +1,5 @@
-use Rattle.std.proofs.Common.{◌≡◌, ◌∙◌, ap, map, take, length, sym, subst}
-use Rattle.rec_codec.specs.Moves.{IsMoveList, move_of, codes_of}
+use Rattle.std.proofs.Common.{◌∙◌, ap, map, take, length, sym, subst}
+use Rattle.rec_codec.specs.Moves.{IsMoveList, move_of}
 use Rattle.rec_codec.specs.MovesInside.{IsSound}
 use Rattle.rec_codec.specs.declared.moves.MoveList.TheInside.{Inside}
 use Rattle.rec_codec.proofs.MoveListLemmas.{all_storable, IsSound-made, moves_of-codes_of}
