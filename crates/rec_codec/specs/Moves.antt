@@ -33,7 +33,8 @@ promotion_number (Some Rook) = 3
 promotion_number (Some Queen) = 4
 promotion_number (Some _) = 0
 
--- a move as a number: the square left in bits 0 to 5, the square reached in bits 6 to 11, the promotion in bits 12 to 14
+-- a move as a number: the square left in bits 0 to 5, the square reached in bits 6 to 11, the promotion in bits 12 to
+-- 14
 abbrev pub move_code : Move → ℕ
 move_code m = number_of m.from + 64 * number_of m.to + 4096 * promotion_number m.promotion
 
@@ -84,8 +85,14 @@ promotion_number-promotion_of (suc (suc (suc (suc (suc n))))) h = absurd (omega 
 pub move_code-move_of : (code : ℕ) → IsMoveCode code → move_code (move_of code) ≡ code
 move_code-move_of code h =
     let low : code / 4096 < 5 = omega arith in
-    omega (arith, number_of-square_at (code % 64), number_of-square_at (code / 64 % 64), promotion_number-promotion_of (code / 4096) low)
+    omega (
+      arith,
+      number_of-square_at (code % 64),
+      number_of-square_at (code / 64 % 64),
+      promotion_number-promotion_of (code / 4096) low,
+    )
 
 -- so many numbers of moves, and zeros after them
 abbrev pub are_codes : ℕ → List ℕ → Bool
-are_codes count codes = list_all (λ code. nat_lt code 20480) (take count codes) && list_all (λ code. code == 0) (drop count codes)
+are_codes count codes =
+    list_all (λ code. nat_lt code 20480) (take count codes) && list_all (λ code. code == 0) (drop count codes)

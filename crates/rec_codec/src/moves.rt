@@ -216,7 +216,8 @@ impl MoveList {
     /// The list of so many moves that a field's 120 bytes hold, if they hold one.
     pub(crate) fn from_field(count: u8, field: &[u8]) -> Option<MoveList>
         requires { length field.now ≡ 120 }
-        ensures { (list : List Move) → IsMoveList list → count ≡ length list → field.now ≡ flat_map (little_bytes 2) (codes_of list) → result ≡ Some list }
+        ensures { (list : List Move) → IsMoveList list → count ≡ length list →
+            field.now ≡ flat_map (little_bytes 2) (codes_of list) → result ≡ Some list }
     {
         let mut codes = [0; 60];
         LittleEndian::read_u16_into(field, &mut codes);

@@ -92,7 +92,8 @@ fn men_bytes(board: &Board) -> [u8; 32]
 // The men of such bytes.
 fn men_of(bytes: &[u8]) -> [Option<(Colour, Kind)>; 64]
     requires { length bytes.now ≡ 32 }
-    ensures { (p : List (Option Man)) → length p ≡ 64 → bytes.now ≡ map (pair_byte p) (range_with_len 0 32) → result ≡ p }
+    ensures { (p : List (Option Man)) → length p ≡ 64 → bytes.now ≡ map (pair_byte p) (range_with_len 0 32) →
+        result ≡ p }
 {
     let mut men = [None; 64];
     for k in 0..32 {

@@ -132,7 +132,8 @@ pub fn write_head(head: &Head) -> [u8; 128]
 fn seat_at(bytes: &[u8], taken: bool, offers: bool, name: usize, held: usize) -> Seat
     requires name_inside { name + 17 ≤ length bytes.now }
     requires held_inside { held + 4 ≤ length bytes.now }
-    ensures { (s : Seat) → spec.IsSeat s → Stands bytes.now (name_field name s.name) → Stands bytes.now (u32_field held s.held) →
+    ensures { (s : Seat) → spec.IsSeat s → Stands bytes.now (name_field name s.name) →
+        Stands bytes.now (u32_field held s.held) →
         taken ≡ s.taken → offers ≡ s.offers → result ≡ s }
 {
     Seat {

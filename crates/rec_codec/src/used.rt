@@ -101,7 +101,8 @@ pub fn period_numbers(period: Option<(u32, u32)>) -> (u32, u32)
 pub fn period_at(bytes: &[u8], at: usize, flag: bool) -> Option<(u32, u32)>
     requires { at + 8 ≤ length bytes.now }
     ensures { (period : Option (ℕ × ℕ)) → period_moves period < 2 ^ 32 → period_second period < 2 ^ 32 →
-        Stands bytes.now (u32_field at (period_moves period)) → Stands bytes.now (u32_field (at + 4) (period_second period)) →
+        Stands bytes.now (u32_field at (period_moves period)) →
+        Stands bytes.now (u32_field (at + 4) (period_second period)) →
         flag ≡ is_some period → result ≡ period }
 {
     let moves = u32_at(bytes, at);
