@@ -34,7 +34,8 @@ square_at-number_of s h =
     ap (λ f. square f (number_of s / 8 + 1)) file ∙ ap (λ r. square s.file r) rank
 
 same_move : (f g t u : Square) (p q : Option Kind) → f ≡ g → t ≡ u → p ≡ q →
-    (let a : Move = record { from = f; to = t; promotion = p } in a) ≡ (let b : Move = record { from = g; to = u; promotion = q } in b)
+    (let a : Move = record { from = f; to = t; promotion = p } in
+    a) ≡ (let b : Move = record { from = g; to = u; promotion = q } in b)
 same_move f g t u p q a b c = cc
 
 pub move_code-below : (m : Move) → IsStorable m → move_code m < 20480

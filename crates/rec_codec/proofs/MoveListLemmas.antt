@@ -73,7 +73,8 @@ zeros (c ∷ cs) h =
     ap (λ x. x ∷ cs) (is_zero c parts.0) ∙ ap (λ xs. 0 ∷ xs) (zeros cs parts.1)
 
 -- what is read from a field is sound
-pub IsSound-read : (count : ℕ) (codes : List ℕ) → 1 ≤ count → count ≤ 60 → length codes ≡ 60 → are_codes count codes ≡ true →
+pub IsSound-read : (count : ℕ) (codes : List ℕ) → 1 ≤ count → count ≤ 60 → length codes ≡ 60 →
+    are_codes count codes ≡ true →
     IsSound (record { count = count; codes = codes })
 IsSound-read count codes some few whole h =
     let parts = both (list_all is_code (take count codes)) (list_all (λ code. code == 0) (drop count codes)) h in
@@ -81,7 +82,8 @@ IsSound-read count codes some few whole h =
     let len : length (map move_of (take count codes)) ≡ count = simp length-map front in
     let rest : length (drop count codes) ≡ 60 - count = simp length-drop (omega arith) in
     let back : replicate (60 - length (map move_of (take count codes))) 0 ≡ drop count codes =
-    ap (λ n. replicate (60 - n) 0) len ∙ (ap (λ n. replicate n 0) (sym rest) ∙ sym (zeros (drop count codes) parts.1)) in
+    ap (λ n. replicate (60 - n) 0) len ∙ (ap (λ n. replicate n 0) (sym rest)
+    ∙ sym (zeros (drop count codes) parts.1)) in
     let same : codes_of (map move_of (take count codes)) ≡ codes =
     ap (λ xs. xs ++ replicate (60 - length (map move_of (take count codes))) 0) (map-codes (take count codes) parts.0)
     ∙ (ap (λ ys. take count codes ++ ys) back ∙ take-append-drop count codes) in
@@ -91,7 +93,8 @@ IsSound-read count codes some few whole h =
     }
   where
     same_inside : (n m : ℕ) (xs ys : List ℕ) → n ≡ m → xs ≡ ys →
-        (let a : Inside = record { count = n; codes = xs } in a) ≡ (let b : Inside = record { count = m; codes = ys } in b)
+        (let a : Inside = record { count = n; codes = xs } in
+        a) ≡ (let b : Inside = record { count = m; codes = ys } in b)
     same_inside n m xs ys e f = cc
 
 -- Back from the numbers of moves.
@@ -115,7 +118,8 @@ take-codes_of ms = take_at (map move_code ms) (replicate (60 - length ms) 0) (le
 drop-codes_of : (ms : List Move) → drop (length ms) (codes_of ms) ≡ replicate (60 - length ms) 0
 drop-codes_of ms = drop_at (map move_code ms) (replicate (60 - length ms) 0) (length ms) (length-map ms move_code)
 
-pub moves_of-codes_of : (ms : List Move) → AllByRecursion IsStorable ms → map move_of (take (length ms) (codes_of ms)) ≡ ms
+pub moves_of-codes_of : (ms : List Move) → AllByRecursion IsStorable ms →
+    map move_of (take (length ms) (codes_of ms)) ≡ ms
 moves_of-codes_of ms h = ap (map move_of) (take-codes_of ms) ∙ map-back ms h
 
 pub are_codes-codes_of : (ms : List Move) → AllByRecursion IsStorable ms → are_codes (length ms) (codes_of ms) ≡ true
@@ -165,7 +169,8 @@ read-back cs dst h len read =
     any_default (x ∷ xs) (suc k) d l = any_default xs k d (omega arith)
 
 -- what is read from the field of a list
-pub read-codes : (ms : List Move) (dst field : List ℕ) → IsMoveList ms → length dst ≡ 60 → field ≡ flat_map (little_bytes 2) (codes_of ms) →
+pub read-codes : (ms : List Move) (dst field : List ℕ) → IsMoveList ms → length dst ≡ 60 →
+    field ≡ flat_map (little_bytes 2) (codes_of ms) →
     IsRead little_number 2 field dst → dst ≡ codes_of ms
 read-codes ms dst field h len e read =
     read-back (codes_of ms) dst (codes-fit ms h.storable) (len ∙ sym (length-codes_of ms h.few))
@@ -176,7 +181,8 @@ pub more-codes : (ms : List Move) (codes : List ℕ) (i : ℕ) (m : Move) → i 
     m ≡ get_or ms i m → codes ≡ map move_code (take i ms) ++ replicate (60 - i) 0 →
     slice_set codes i (move_code m) ≡ map move_code (take (i + 1) ms) ++ replicate (60 - (i + 1)) 0
 more-codes ms codes i m low few is e =
-    let rest : replicate (60 - i) 0 ≡ 0 ∷ replicate (60 - (i + 1)) 0 = ap (λ n. replicate n 0) (let n : 60 - i ≡ suc (60 - (i + 1)) = omega arith in n) in
+    let rest : replicate (60 - i) 0 ≡ 0 ∷ replicate (60 - (i + 1)) 0 =
+    ap (λ n. replicate n 0) (let n : 60 - i ≡ suc (60 - (i + 1)) = omega arith in n) in
     let len : length (map move_code (take i ms)) ≡ i = simp length-map (length-take-le i ms (omega arith)) in
     let before : codes ≡ map move_code (take i ms) ++ 0 ∷ replicate (60 - (i + 1)) 0 =
     e ∙ ap (λ ys. map move_code (take i ms) ++ ys) rest in
@@ -184,7 +190,8 @@ more-codes ms codes i m low few is e =
     ap (λ xs. slice_set xs i (move_code m)) before
     ∙ (set_at (map move_code (take i ms)) 0 (replicate (60 - (i + 1)) 0) (move_code m) i len
     ∙ (sym (append_assoc (map move_code (take i ms)) (move_code m ∷ []) (replicate (60 - (i + 1)) 0))
-    ∙ ap (λ xs. xs ++ replicate (60 - (i + 1)) 0) (sym (ap (map move_code) one ∙ map-append move_code (take i ms) (m ∷ [])))))
+    ∙ ap (λ xs. xs ++ replicate (60 - (i + 1)) 0) (sym (ap (map move_code) one
+    ∙ map-append move_code (take i ms) (m ∷ [])))))
 
 pub AllByRecursion-push : {X : Type 0} (P : X → Type 0) (xs : List X) (x : X) → AllByRecursion P xs → P x →
     AllByRecursion P (xs ++ x ∷ [])

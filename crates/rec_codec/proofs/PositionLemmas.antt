@@ -69,17 +69,20 @@ pair : (p : List (Option Man)) (bytes : List ℕ) (k : ℕ) → k < 32 → bytes
 pair p bytes k low e =
     ap (λ xs. get_or xs k 0) e
     ∙ (get_or-map-range_with_len (pair_byte p) 0 32 k k 0 low (omega arith)
-    ∙ (ap (λ m. square_number m + 16 * square_number (man_at p (square_at (2 * k + 1)))) (at_number p (2 * k) (omega arith))
+    ∙ (ap (λ m. square_number m + 16 * square_number (man_at p (square_at (2 * k + 1)))) (at_number p (2 * k)
+    (omega arith))
     ∙ ap (λ m. square_number (get_or p (2 * k) None) + 16 * square_number m) (at_number p (2 * k + 1) (omega arith))))
 
-pub low_man : (p : List (Option Man)) (bytes : List ℕ) (k : ℕ) → k < 32 → bytes ≡ map (pair_byte p) (range_with_len 0 32) →
+pub low_man : (p : List (Option Man)) (bytes : List ℕ) (k : ℕ) → k < 32 →
+    bytes ≡ map (pair_byte p) (range_with_len 0 32) →
     man_numbered (get_or bytes k 0 % 16) ≡ get_or p (2 * k) None
 low_man p bytes k low e =
     let a = square_number-below (get_or p (2 * k) None) in
     let n : get_or bytes k 0 % 16 ≡ square_number (get_or p (2 * k) None) = omega (arith, pair p bytes k low e) in
     ap man_numbered n ∙ man_numbered-square_number (get_or p (2 * k) None)
 
-pub high_man : (p : List (Option Man)) (bytes : List ℕ) (k : ℕ) → k < 32 → bytes ≡ map (pair_byte p) (range_with_len 0 32) →
+pub high_man : (p : List (Option Man)) (bytes : List ℕ) (k : ℕ) → k < 32 →
+    bytes ≡ map (pair_byte p) (range_with_len 0 32) →
     man_numbered (get_or bytes k 0 / 16) ≡ get_or p (2 * k + 1) None
 high_man p bytes k low e =
     let a = square_number-below (get_or p (2 * k) None) in
@@ -88,7 +91,8 @@ high_man p bytes k low e =
 
 -- two more men in their places
 pub next_pair : (p men : List (Option Man)) (k : ℕ) (a b : Option Man) → k < 32 → length men ≡ 64 →
-    ((j : ℕ) → j < 2 * k → get_or men j None ≡ get_or p j None) → a ≡ get_or p (2 * k) None → b ≡ get_or p (2 * k + 1) None →
+    ((j : ℕ) → j < 2 * k → get_or men j None ≡ get_or p j None) → a ≡ get_or p (2 * k) None →
+        b ≡ get_or p (2 * k + 1) None →
     (j : ℕ) → j < 2 * (k + 1) → get_or (set (set men (2 * k) a) (2 * k + 1) b) j None ≡ get_or p j None
 next_pair p men k a b low whole before first second j h =
     ⊎_elim (λ e. subst (λ i. get_or (set (set men (2 * k) a) (2 * k + 1) b) i None ≡ get_or p i None) (sym e)
@@ -101,7 +105,8 @@ next_pair p men k a b low whole before first second j h =
     (cases_eq j (2 * k + 1))
 
 -- the fields of a position stand in its bytes
-pub position-stands : (p : Position) (bytes : List ℕ) → bytes ≡ position_bytes (Some p) → AllStand bytes (position_fields p)
+pub position-stands : (p : Position) (bytes : List ℕ) → bytes ≡ position_bytes (Some p) →
+    AllStand bytes (position_fields p)
 unfolding position_bytes
 position-stands p bytes e =
     subst (λ xs. AllStand xs (position_fields p)) (sym e)
@@ -117,12 +122,15 @@ colour_of-is_black White = refl
 colour_of-is_black Black = refl
 
 -- a position by its parts
-pub same_position : (p : Position) (men : List (Option Man)) (side : Colour) (rights : Rights) (target : Option Square) (half full : ℕ) →
+pub same_position : (p : Position) (men : List (Option Man)) (side : Colour) (rights : Rights)
+    (target : Option Square) (half full : ℕ) →
     men ≡ p.placement → side ≡ p.side → rights ≡ p.rights → target ≡ p.target → half ≡ p.halfmove → full ≡ p.fullmove →
-    (let made : Position = record { placement = men; side = side; rights = rights; target = target; halfmove = half; fullmove = full } in made) ≡ p
+    (let made : Position = record { placement = men; side = side; rights = rights; target = target; halfmove =
+    half; fullmove = full } in made) ≡ p
 same_position p men side rights target half full a b c d e f =
     let make : List (Option Man) → Colour → Rights → Option Square → ℕ → ℕ → Position =
-    λ men side rights target half full. record { placement = men; side = side; rights = rights; target = target; halfmove = half; fullmove = full } in
+    λ men side rights target half full. record { placement = men; side = side; rights = rights; target =
+    target; halfmove = half; fullmove = full } in
     ap (λ x. make x side rights target half full) a
     ∙ (ap (λ x. make p.placement x rights target half full) b
     ∙ (ap (λ x. make p.placement p.side x target half full) c

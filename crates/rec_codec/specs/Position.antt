@@ -45,7 +45,8 @@ target_number (Some square) = number_of square
 -- Black
 abbrev pub position_flags : Position → ℕ
 position_flags p =
-    flags_byte (is_black p.side ∷ p.rights.white_king ∷ p.rights.white_queen ∷ p.rights.black_king ∷ p.rights.black_queen ∷ [])
+    flags_byte (is_black p.side ∷ p.rights.white_king ∷ p.rights.white_queen ∷ p.rights.black_king ∷
+    p.rights.black_queen ∷ [])
 
 -- the fields of a position, from its own first byte
 abbrev pub position_fields : Position → List Field

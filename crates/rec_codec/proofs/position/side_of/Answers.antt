@@ -8,4 +8,6 @@ pub returns : goal.returns
 returns c = λ p e.
     let r = p.rights in
     c.colour_of.ensures
-    ∙ (ap colour_of (c.is_set.ensures ∙ (ap (λ f. is_set f 1) e ∙ flag-1 (is_black p.side) (r.white_king ∷ r.white_queen ∷ r.black_king ∷ r.black_queen ∷ []))) ∙ colour_of-is_black p.side)
+    ∙ (ap colour_of (c.is_set.ensures ∙ (ap (λ f. is_set f 1) e
+    ∙ flag-1 (is_black p.side) (r.white_king ∷ r.white_queen ∷ r.black_king ∷ r.black_queen ∷ [])))
+    ∙ colour_of-is_black p.side)

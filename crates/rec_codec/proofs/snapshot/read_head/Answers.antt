@@ -28,7 +28,8 @@ ending_number-below (Some ending.SeventyFiveMoves) = omega arith
 
 pub returns-in_err-start : goal.returns-in_err-start
 returns-in_err-start c = λ h is s.
-    absurd (no_some h.start c.position_at.result c.in_err-start.was (c.position_at.ensures h.start is.start s.1.1.1.1.1.1.1.1.1.0))
+    absurd (no_some h.start c.position_at.result c.in_err-start.was
+    (c.position_at.ensures h.start is.start s.1.1.1.1.1.1.1.1.1.0))
 
 pub returns : goal.returns
 returns c = λ h is s.
@@ -39,7 +40,8 @@ returns c = λ h is s.
     let k = h.claimed in
     let p = is_some h.period in
     let flags = c.u8_at-flags.ensures (flags_byte (a ∷ b ∷ o ∷ q ∷ k ∷ p ∷ [])) s.1.0 in
-    let start = same_some c.in_ok-start.start h.start c.position_at.result c.in_ok-start.was (c.position_at.ensures h.start is.start s.1.1.1.1.1.1.1.1.1.0) in
+    let start = same_some c.in_ok-start.start h.start c.position_at.result c.in_ok-start.was
+    (c.position_at.ensures h.start is.start s.1.1.1.1.1.1.1.1.1.0) in
     ap Some (same_head h c.in_ok-game.game c.u64_at-moment.result c.u32_at-moves.result c.u32_at-initial.result
     c.u32_at-increment.result c.period_at-period.result c.in_ok-start.start c.seat_at-white.result c.seat_at-black.result
     c.is_set-claimed.result c.ending_of-ending.result
@@ -58,4 +60,5 @@ returns c = λ h is s.
     (c.is_set-black_taken.ensures ∙ (ap (λ f. is_set f 2) flags ∙ flag-2 a b (o ∷ q ∷ k ∷ p ∷ [])))
     (c.is_set-black_offers.ensures ∙ (ap (λ f. is_set f 8) flags ∙ flag-8 a b o q (k ∷ p ∷ []))))
     (c.is_set-claimed.ensures ∙ (ap (λ f. is_set f 16) flags ∙ flag-16 a b o q k (p ∷ [])))
-    (c.ending_of-ending.ensures h.ending (c.u16_at.ensures (ending_number h.ending) (ending_number-below h.ending) s.1.1.0)))
+    (c.ending_of-ending.ensures h.ending (c.u16_at.ensures (ending_number h.ending)
+    (ending_number-below h.ending) s.1.1.0)))

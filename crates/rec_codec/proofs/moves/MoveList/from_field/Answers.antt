@@ -22,9 +22,11 @@ returns-else-count-ge1 c = λ list h e f.
     let few = h.few in
     let read = read-codes list c.read_u16_into.new.dst c.args.field.now h c.read_u16_into.auto.dst f c.read_u16_into.ensures in
     let passes : are_codes c.args.count c.read_u16_into.new.dst ≡ true =
-    ap (λ n. are_codes n c.read_u16_into.new.dst) e ∙ (ap (are_codes (length list)) read ∙ are_codes-codes_of list h.storable) in
+    ap (λ n. are_codes n c.read_u16_into.new.dst) e ∙ (ap (are_codes (length list)) read
+    ∙ are_codes-codes_of list h.storable) in
     elim c.else-count-ge1.branch [
-      | else-count-ge1-via-then-count-ge1+then-count-le60+else-are_codes w ↦ absurd (false≢true (sym w.if-are_codes.false ∙ (w.are_codes.ensures ∙ passes)))
+      | else-count-ge1-via-then-count-ge1+then-count-le60+else-are_codes w ↦ absurd (false≢true
+      (sym w.if-are_codes.false ∙ (w.are_codes.ensures ∙ passes)))
       | else-count-ge1-via-then-count-ge1+else-count-le60 w ↦ absurd (omega arith)
       | else-count-ge1-via-else-count-ge1 w ↦ absurd (omega arith)
     ]

@@ -13,7 +13,8 @@ invariant_of-result c =
       few = c.requires.few;
       storable = all_storable ms c.codes_of.ensures.on_board c.requires.promotions;
     } in
-    subst (λ codes. IsSound (let a : Inside = record { count = length ms; codes = codes } in a)) (sym c.codes_of.ensures.codes)
+    subst (λ codes. IsSound (let a : Inside = record { count = length ms; codes = codes } in
+    a)) (sym c.codes_of.ensures.codes)
     (IsSound-made ms list)
 
 pub returns : goal.returns
