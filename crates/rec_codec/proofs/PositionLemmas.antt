@@ -92,7 +92,7 @@ high_man p bytes k low e =
 -- two more men in their places
 pub next_pair : (p men : List (Option Man)) (k : ℕ) (a b : Option Man) → k < 32 → length men ≡ 64 →
     ((j : ℕ) → j < 2 * k → get_or men j None ≡ get_or p j None) → a ≡ get_or p (2 * k) None →
-        b ≡ get_or p (2 * k + 1) None →
+    b ≡ get_or p (2 * k + 1) None →
     (j : ℕ) → j < 2 * (k + 1) → get_or (set (set men (2 * k) a) (2 * k + 1) b) j None ≡ get_or p j None
 next_pair p men k a b low whole before first second j h =
     ⊎_elim (λ e. subst (λ i. get_or (set (set men (2 * k) a) (2 * k + 1) b) i None ≡ get_or p i None) (sym e)
@@ -125,12 +125,26 @@ colour_of-is_black Black = refl
 pub same_position : (p : Position) (men : List (Option Man)) (side : Colour) (rights : Rights)
     (target : Option Square) (half full : ℕ) →
     men ≡ p.placement → side ≡ p.side → rights ≡ p.rights → target ≡ p.target → half ≡ p.halfmove → full ≡ p.fullmove →
-    (let made : Position = record { placement = men; side = side; rights = rights; target = target; halfmove =
-    half; fullmove = full } in made) ≡ p
+    (let made : Position = record {
+      placement = men;
+      side = side;
+      rights = rights;
+      target = target;
+      halfmove =
+          half;
+      fullmove = full;
+    } in made) ≡ p
 same_position p men side rights target half full a b c d e f =
     let make : List (Option Man) → Colour → Rights → Option Square → ℕ → ℕ → Position =
-    λ men side rights target half full. record { placement = men; side = side; rights = rights; target =
-    target; halfmove = half; fullmove = full } in
+    λ men side rights target half full. record {
+      placement = men;
+      side = side;
+      rights = rights;
+      target =
+          target;
+      halfmove = half;
+      fullmove = full;
+    } in
     ap (λ x. make x side rights target half full) a
     ∙ (ap (λ x. make p.placement x rights target half full) b
     ∙ (ap (λ x. make p.placement p.side x target half full) c

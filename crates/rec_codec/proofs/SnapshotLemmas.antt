@@ -21,14 +21,38 @@ pub same_head : (h : Head) (game : ℕ) (moment : ℕ) (moves : ℕ) (initial : 
     (ℕ × ℕ)) (start : Position) (white : Seat) (black : Seat) (claimed : Bool) (ending : Option Ending) →
     game ≡ h.game → moment ≡ h.moment → moves ≡ h.moves → initial ≡ h.initial → increment ≡ h.increment →
     period ≡ h.period → start ≡ h.start → white ≡ h.white → black ≡ h.black → claimed ≡ h.claimed → ending ≡ h.ending →
-    (let made : Head = record { game = game; moment = moment; moves = moves; initial = initial; increment =
-    increment; period = period; start = start; white = white; black = black; claimed = claimed; ending =
-    ending } in made) ≡ h
+    (let made : Head = record {
+      game = game;
+      moment = moment;
+      moves = moves;
+      initial = initial;
+      increment =
+          increment;
+      period = period;
+      start = start;
+      white = white;
+      black = black;
+      claimed = claimed;
+      ending =
+          ending;
+    } in made) ≡ h
 same_head h game moment moves initial increment period start white black claimed ending e0 e1 e2 e3 e4 e5 e6 e7 e8 e9 e10 =
     let make : ℕ → ℕ → ℕ → ℕ → ℕ → Option (ℕ × ℕ) → Position → Seat → Seat → Bool → Option Ending → Head =
-    λ game moment moves initial increment period start white black claimed ending. record { game = game; moment =
-    moment; moves = moves; initial = initial; increment = increment; period = period; start = start; white =
-    white; black = black; claimed = claimed; ending = ending } in
+    λ game moment moves initial increment period start white black claimed ending. record {
+      game = game;
+      moment =
+          moment;
+      moves = moves;
+      initial = initial;
+      increment = increment;
+      period = period;
+      start = start;
+      white =
+          white;
+      black = black;
+      claimed = claimed;
+      ending = ending;
+    } in
     ap (λ x. make x moment moves initial increment period start white black claimed ending) e0
     ∙ (ap (λ x. make h.game x moves initial increment period start white black claimed ending) e1
     ∙ (ap (λ x. make h.game h.moment x initial increment period start white black claimed ending) e2

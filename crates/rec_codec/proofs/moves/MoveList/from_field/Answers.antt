@@ -26,7 +26,7 @@ returns-else-count-ge1 c = λ list h e f.
     ∙ are_codes-codes_of list h.storable) in
     elim c.else-count-ge1.branch [
       | else-count-ge1-via-then-count-ge1+then-count-le60+else-are_codes w ↦ absurd (false≢true
-      (sym w.if-are_codes.false ∙ (w.are_codes.ensures ∙ passes)))
+          (sym w.if-are_codes.false ∙ (w.are_codes.ensures ∙ passes)))
       | else-count-ge1-via-then-count-ge1+else-count-le60 w ↦ absurd (omega arith)
       | else-count-ge1-via-else-count-ge1 w ↦ absurd (omega arith)
     ]
