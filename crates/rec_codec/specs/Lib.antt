@@ -1,0 +1,12 @@
+pub mod Field
+pub mod Limits
+pub mod Name
+pub mod NameInside
+pub mod Moves
+pub mod MovesInside
+pub mod Flags
+pub mod Position
+pub mod Records
+pub mod Period
+pub mod Sector
+pub mod Header
