@@ -1,6 +1,8 @@
 -- A device in memory as its clauses see it.
 use Rattle.std.specs.Prelude.{◌≡◌, ◌≤◌, ◌+◌, ◌-◌, ◌^◌, min, ℕ, List, Some, None, false, true, length, replicate}
 use Rattle.sector_dev.specs.Device.{State, IsStable}
+use Rattle.sector_dev.specs.declared.device.Sector.TheVariants.{Bytes}
+use Rattle.sector_dev.specs.Image.{Sectors}
 use Rattle.sector_dev.specs.Replay.{recorded_state}
 use Rattle.sector_dev.specs.declared.memory.MemoryDevice.{MemoryDevice}
 use Rattle.sector_dev.specs.Memory.{Disk, step, after, at_rest}
@@ -19,8 +21,8 @@ abbrev pub state_of : MemoryDevice → State
 state_of m = recorded_state m.base.items m.calls.items
 
 -- sectors of zeros
-abbrev pub zeros : ℕ → List (List ℕ)
-zeros sectors = replicate sectors (replicate 512 0)
+abbrev pub zeros : ℕ → Sectors
+zeros sectors = replicate sectors (Bytes (replicate 512 0))
 
 -- zeros, stable, nothing pending, calls not limited, and no failure so far
 pub record IsZeroed (sectors : ℕ) (device : MemoryDevice) : Type 0 where

@@ -5,6 +5,6 @@ mod device;
 mod file;
 mod memory;
 
-pub use device::{CrashDevice, Device, DeviceFault};
+pub use device::{CrashDevice, Device, DeviceFault, Fate, Got, Sector};
 pub use file::FileDevice;
 pub use memory::MemoryDevice;

@@ -1,5 +1,5 @@
 use super::{FileDevice, folder_of};
-use crate::{Device, DeviceFault};
+use crate::{Device, DeviceFault, Got};
 use std::fs::{File, OpenOptions};
 use std::io::{self, ErrorKind};
 use std::os::fd::AsRawFd;
@@ -25,7 +25,7 @@ fn read_sector<D: Device>(
 ) -> Result<[u8; 512], DeviceFault> {
     assert!(rt; at < device.sectors(), "sector {at}");
     let mut sector = [0xee; 512];
-    device.read(at, &mut sector)?;
+    assert_eq!(rt; device.read(at, &mut sector)?, Got::Whole);
     Ok(sector)
 }
 
