@@ -5,6 +5,7 @@ use Rattle.sector_dev.specs.declared.device.Sector.TheVariants.{Bytes, Unreadabl
 use Rattle.sector_dev.specs.declared.device.Got.{Got}
 use Rattle.sector_dev.specs.declared.device.Got.TheVariants.{Whole, Unreadable as NoBytes}
 use Rattle.sector_dev.specs.Image.{Sectors, Write, Image}
+use Rattle.sector_dev.specs.Whole.{AreWhole}
 
 -- What a caller can know of a device.
 pub record State : Type 1 where
@@ -33,6 +34,8 @@ pub record IsCoherent (sector_count : ℕ) (now : State) : Type 0 where
   pub reads_are_image : now.keeps_model → now.image now.reads
   -- none has more sectors, or fewer
   pub image_size : (c : Sectors) → now.keeps_model → now.image c → length c ≡ sector_count
+  -- and in each a readable sector has 512 bytes
+  pub image_whole : (c : Sectors) → now.keeps_model → now.image c → AreWhole c
 
 -- what a read answers of this sector, and what it gives: zeros where it is unreadable
 abbrev pub IsRead : Sector → Got → List ℕ → Type 0
@@ -108,7 +111,7 @@ last_call = refl
 none_left : one_less (Some 0) ≡ Some 0
 none_left = refl
 
--- a call takes one of those that are left, and fails where none is
+-- A call that succeeds takes one of those that are left, and one that fails may. Where none is left it fails.
 pub record TakesOne {T E : Type 0} (result : Result T E) (old new : Option ℕ) : Type 0 where
-  pub left : new ≡ one_less old
+  pub left : MatchResult result (λ _. new ≡ one_less old) (λ _. (new ≡ one_less old) ⊎ (new ≡ old))
   pub stopped : old ≡ Some 0 → IsErr result

@@ -24,8 +24,9 @@ state_of m = recorded_state m.base.items m.calls.items
 abbrev pub zeros : ℕ → Sectors
 zeros sectors = replicate sectors (Bytes (replicate 512 0))
 
--- zeros, stable, nothing pending, calls not limited, and no failure so far
+-- it keeps the model, and has zeros, stable, nothing pending, calls not limited, and no failure so far
 pub record IsZeroed (sectors : ℕ) (device : MemoryDevice) : Type 0 where
+  pub keeps_model : (state_of device).keeps_model
   pub sector_count : sector_count_of device ≡ sectors
   pub stable : IsStable (zeros sectors) (state_of device)
   pub disk : disk_of device ≡ at_rest (zeros sectors)

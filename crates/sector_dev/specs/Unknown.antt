@@ -13,4 +13,5 @@ unknown_is_coherent sector_count = record {
   some_disk = λ model. absurd model;
   reads_are_image = λ model. absurd model;
   image_size = λ c model now. absurd model;
+  image_whole = λ c model now. absurd model;
 }

@@ -1,7 +1,8 @@
 // A device in memory: the values that were stable when its record began, and the record of the calls since.
 ghost use Rattle.std.specs.Prelude.{◌≡◌, ◌⊎◌, ◌<◌, ◌^◌, ◌++◌, ◌∷◌, ◌↔◌, [], true, false, map, length, slice_set, Some, None, IsErr, IfOk, OnOk, OnErr};
 ghost use Rattle.sector_dev.specs.declared.device.Sector.TheVariants.{Bytes};
-ghost use Rattle.sector_dev.specs.Device.{IsRead, WithOrWithout, IsUnchanged, IsPending, MayBePending, IsStable, MayBeStable, Elapses, CountsFailure, TakesOne};
+ghost use Rattle.sector_dev.specs.Device.{IsRead, WithOrWithout, IsUnchanged, IsPending, MayBePending, IsStable, MayBeStable, Elapses, CountsFailure, TakesOne, one_less};
+ghost use Rattle.sector_dev.specs.Whole.{AreWhole, AreWholeWrites};
 ghost use Rattle.sector_dev.specs.Image.{sector_at, applied};
 ghost use Rattle.sector_dev.specs.Crash.{left_by, fates_of, kept_or_lost};
 ghost use Rattle.sector_dev.specs.Memory.{shown, after, at_rest, writes_of, IsUnsynced, IsSettledAt};
@@ -37,6 +38,8 @@ pub struct MemoryDevice {
     failures: u64,
     ghost fits: { length base.items < 2 ^ 32 },
     ghost is_shown: { seen.items ≡ shown (after (at_rest base.items) calls.items) },
+    ghost whole: { AreWhole base.items },
+    ghost whole_writes: { AreWholeWrites (writes_of calls.items) },
 }
 
 impl MemoryDevice {
@@ -65,6 +68,7 @@ impl MemoryDevice {
 // Takes one of the calls that are left.
 fn take_one(calls_left: &mut Option<u64>, failures: &mut u64) -> Result<(), DeviceFault>
     ensures taken { TakesOne result calls_left.old calls_left.new }
+    ensures left { calls_left.new ≡ one_less calls_left.old }
     ensures variant { IsErr result ↔ (calls_left.old ≡ Some 0) }
     ensures cause { CountsFailure result failures.old failures.new }
 {
@@ -127,7 +131,7 @@ impl Device for MemoryDevice {
 
     ghost calls_left = { λ m. m.calls_left };
 
-    ghost coherent = { λ m. recorded_is_coherent m.base.items m.calls.items };
+    ghost coherent = { λ m. recorded_is_coherent m.base.items m.calls.items m.whole m.whole_writes };
 
     fn sectors(&self) -> u32 {
         self.base.len() as u32
@@ -146,6 +150,7 @@ impl Device for MemoryDevice {
             → Elapses (state_of self.old) (state_of self.new) (state_of self.old).image }
         ensures cause { CountsFailure result self.old.failures self.new.failures }
         ensures calls_left { TakesOne result self.old.calls_left self.new.calls_left }
+        ensures taken { self.new.calls_left ≡ one_less self.old.calls_left }
         ensures disk { KeepsDisk self.old self.new }
         ensures fails { IsErr result ↔ (self.old.calls_left ≡ Some 0) }
     {
@@ -176,6 +181,7 @@ impl Device for MemoryDevice {
             → Elapses (state_of self.old) (state_of self.new) (WithOrWithout at from.now (state_of self.old).image) }
         ensures cause { CountsFailure result self.old.failures self.new.failures }
         ensures calls_left { TakesOne result self.old.calls_left self.new.calls_left }
+        ensures taken { self.new.calls_left ≡ one_less self.old.calls_left }
         ensures pending { OnOk result (Pends at from.now self.old self.new) }
         ensures failed_pending { OnOk result (self.new.failed_pending ≡ self.old.failed_pending) }
         ensures failed { OnErr result (IsRefused self.old self.new ⊎ IsFirstFailed at from.now self.old self.new) }
@@ -207,6 +213,7 @@ impl Device for MemoryDevice {
             → Elapses (state_of self.old) (state_of self.new) (state_of self.old).image }
         ensures cause { CountsFailure result self.old.failures self.new.failures }
         ensures calls_left { TakesOne result self.old.calls_left self.new.calls_left }
+        ensures taken { self.new.calls_left ≡ one_less self.old.calls_left }
         ensures settled { OnOk result (disk_of self.new ≡ step (disk_of self.old) Synced) }
         ensures failed_pending { OnOk result (self.new.failed_pending ≡ self.old.failed_pending) }
         ensures failed { OnErr result (KeepsDisk self.old self.new) }
