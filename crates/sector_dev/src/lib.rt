@@ -4,7 +4,9 @@
 mod device;
 mod file;
 mod memory;
+mod once;
 
 pub use device::{CrashDevice, Device, DeviceFault, Fate, Got, Sector};
 pub use file::FileDevice;
 pub use memory::MemoryDevice;
+pub use once::OnceDevice;
