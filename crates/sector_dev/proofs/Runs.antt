@@ -1,11 +1,11 @@
 -- How a run of device calls goes on.
-use Rattle.std.proofs.Common.{◌≡◌, ◌≢◌, ◌⊎◌, ◌<◌, ◌↔◌, ◌++◌, ◌∷◌, [], inl, inr, refl, sym, ◌∙◌, ap, subst, ⊎_elim, ℕ, List, length, arith}
-use Rattle.std.specs.Prelude.{slice_set, Result, Ok, Err}
+use Rattle.std.proofs.Common.{◌≡◌, ◌<◌, ◌++◌, ◌∷◌, [], inl, inr, refl, sym, ◌∙◌, ap, subst, ⊎_elim, ℕ, List, length, arith}
+use Rattle.std.specs.Prelude.{slice_set, Result, Ok}
 use Rattle.std.proofs.lemmas.Bool.{cases_lt}
 use Rattle.std.proofs.lemmas.List.{get_or-set_other, get_or_past}
 use Rattle.sector_dev.specs.declared.device.Sector.{Sector}
 use Rattle.sector_dev.specs.declared.device.Sector.TheVariants.{Bytes, Unreadable}
-use Rattle.sector_dev.specs.Image.{Sectors, sector_at, Write, IsWritten, Image, applied}
+use Rattle.sector_dev.specs.Image.{Sectors, sector_at, Write, IsWritten}
 use Rattle.sector_dev.specs.Device.{State, WithOrWithout, IsPending, MayBePending, Elapses, CountsFailure}
 use Rattle.sector_dev.specs.Runs.{LeavesOnly, IsRun, WithWrites, ArePending, AgreeElsewhere, IsUntouched}
 use Rattle.sector_dev.proofs.Images.{pending_images, stable_images, applied-append}

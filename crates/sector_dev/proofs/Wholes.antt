@@ -1,18 +1,17 @@
 -- Readable sectors keep their 512 bytes.
-use Rattle.std.proofs.Common.{◌≡◌, ◌<◌, ℕ, inl, inr, length, get_or, List, [], ◌∷◌, ◌++◌, sym, ◌∙◌, ap, subst, arith, append-nil}
+use Rattle.std.proofs.Common.{◌≡◌, ◌<◌, ℕ, inl, inr, length, get_or, List, [], ◌∷◌, ◌++◌, sym, subst, arith}
 use Rattle.std.specs.Prelude.{replicate, Result, Ok, Err, OnOk, OnErr}
 use Rattle.std.proofs.lemmas.Bool.{cases_lt}
 use Rattle.std.proofs.lemmas.List.{get_or_past, get_or-replicate, length-replicate}
 use Rattle.std.proofs.lemmas.List.Elements.{All-nil, All-cons, All-append, All-replicate}
 use Rattle.sector_dev.specs.declared.memory.Call.{Call}
 use Rattle.sector_dev.specs.declared.memory.Call.TheVariants.{Written, Synced}
-use Rattle.sector_dev.specs.declared.device.Sector.{Sector}
 use Rattle.sector_dev.specs.declared.device.Sector.TheVariants.{Bytes, Unreadable}
 use Rattle.sector_dev.specs.declared.device.Fate.{Fate}
-use Rattle.sector_dev.specs.Image.{Sectors, sector_at, Write, Image}
+use Rattle.sector_dev.specs.Image.{Sectors, Image}
 use Rattle.sector_dev.specs.Crash.{left_by}
 use Rattle.sector_dev.specs.InMemory.{zeros}
-use Rattle.sector_dev.specs.Memory.{Disk, after, at_rest, writes_of}
+use Rattle.sector_dev.specs.Memory.{after, at_rest, writes_of}
 use Rattle.sector_dev.specs.Replay.{image_is_whole, recorded_whole}
 use Rattle.sector_dev.specs.Whole.{IsWhole, AreWhole, AreWholeWrites}
 use Rattle.sector_dev.proofs.Played.{left_is_image}

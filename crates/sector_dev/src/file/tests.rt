@@ -39,6 +39,11 @@ fn write_sector<D: Device>(
     device.write(at, value)
 }
 
+// The system's number of the last error.
+fn last_number(device: &FileDevice) -> Option<i32> {
+    device.last_error().and_then(|error| error.raw_os_error())
+}
+
 // How opening failed.
 fn refusal(opened: io::Result<FileDevice>) -> Option<ErrorKind> {
     opened.err().map(|error| error.kind())
@@ -100,6 +105,28 @@ fn what_is_there_stays(rt: HostRuntime) -> Result<(), Fail> {
     assert_eq!(rt; fs::read(&rt, &path)?.as_slice(), whole.as_slice());
     assert_eq!(rt; FileDevice::create(&rt, &path, 1)?.sectors(), 2);
     assert_eq!(rt; fs::read(&rt, &path)?.as_slice(), whole.as_slice());
+    fs::remove_file(&rt, &path)?;
+    Ok(())
+}
+
+// 50,000 sectors take many writes of zeros; no hole is left in the file.
+#[test]
+fn a_long_file_is_written(rt: HostRuntime) -> Result<(), Fail> {
+    let path = free_path(&rt, "long")?;
+    fs::write(&rt, &path, [7u8; 700].as_slice())?;
+    let mut device = FileDevice::create(&rt, &path, 50_000)?;
+    assert_eq!(rt; device.sectors(), 50_000);
+    assert_eq!(rt; read_sector(&rt, &mut device, 0), Ok([7; 512]));
+    for at in [2, 31, 32, 33, 49_999] {
+        assert_eq!(rt;
+            read_sector(&rt, &mut device, at),
+            Ok([0; 512]),
+            "sector {at}"
+        );
+    }
+    let bytes = fs::read(&rt, &path)?;
+    assert_eq!(rt; bytes.len(), 25_600_000);
+    assert!(rt; bytes.iter().skip(700).all(|byte| *byte == 0));
     fs::remove_file(&rt, &path)?;
     Ok(())
 }
@@ -216,19 +243,26 @@ fn a_write_and_a_sync_that_the_system_refuses_fail(rt: HostRuntime) -> Result<()
         sectors: 2,
         failures: 0,
         sync_failed: false,
+        last_error: None,
     };
+    assert!(rt; device.last_error().is_none());
     assert_eq!(rt;
         write_sector(&rt, &mut device, 1, &[3; 512]),
         Err(DeviceFault)
     );
     assert_eq!(rt; device.failures, 1);
+    // EBADF
+    assert_eq!(rt; last_number(&device), Some(9));
     assert_eq!(rt; device.sync(), Err(DeviceFault));
     assert_eq!(rt; device.failures, 2);
+    // EINVAL
+    assert_eq!(rt; last_number(&device), Some(22));
     // A file that can be synced does not mend it.
     let path = free_path(&rt, "synced")?;
     device.file = File::create_new(&rt, &path)?;
     assert_eq!(rt; device.sync(), Err(DeviceFault));
     assert_eq!(rt; device.failures, 3);
+    assert_eq!(rt; last_number(&device), Some(22));
     fs::remove_file(&rt, &path)?;
     Ok(())
 }
