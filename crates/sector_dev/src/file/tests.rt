@@ -1,5 +1,5 @@
 use super::{FileDevice, folder_of};
-use crate::{Device, DeviceFault, Got};
+use crate::{Device, DeviceFault, Got, PositionedFile};
 use std::fs::{File, OpenOptions};
 use std::io::{self, ErrorKind};
 use std::os::fd::AsRawFd;
@@ -265,4 +265,85 @@ fn a_write_and_a_sync_that_the_system_refuses_fail(rt: HostRuntime) -> Result<()
     assert_eq!(rt; last_number(&device), Some(22));
     fs::remove_file(&rt, &path)?;
     Ok(())
+}
+
+// A file that notes where it was last read or written, and fails where it is told to.
+#[derive(Drop)]
+struct FakeFile {
+    offset: u64,
+    fails: bool,
+}
+
+impl FakeFile {
+    fn outcome(&self) -> io::Result<()> {
+        if self.fails {
+            return Err(io::Error::from(ErrorKind::StorageFull));
+        }
+        Ok(())
+    }
+}
+
+impl PositionedFile for FakeFile {
+    ghost use Rattle.sector_dev.specs.Unknown.{unknown, unknown_is_coherent};
+
+    ghost state = { λ _. unknown };
+
+    ghost sector_count = { λ _. 0 };
+
+    ghost coherent = { λ _. unknown_is_coherent 0 };
+
+    fn read_at(&mut self, into: &mut [u8; 512], offset: u64) -> io::Result<()> {
+        self.offset = offset;
+        *into = [6; 512];
+        self.outcome()
+    }
+
+    fn write_at(&mut self, _from: &[u8; 512], offset: u64) -> io::Result<()> {
+        self.offset = offset;
+        self.outcome()
+    }
+
+    fn sync(&mut self) -> io::Result<()> {
+        self.outcome()
+    }
+}
+
+fn on_fake(file: FakeFile) -> FileDevice<FakeFile> {
+    FileDevice {
+        file,
+        sectors: u32::MAX,
+        failures: 0,
+        sync_failed: false,
+        last_error: None,
+    }
+}
+
+#[test]
+fn the_last_sector_stands_before_two_tebibytes(rt: HostRuntime) -> Result<(), Fail> {
+    let file = FakeFile {
+        offset: 0,
+        fails: false,
+    };
+    let mut device = on_fake(file);
+    write_sector(&rt, &mut device, 4_294_967_294, &[1; 512])?;
+    assert_eq!(rt; device.file.offset, 2_199_023_254_528);
+    assert_eq!(rt; read_sector(&rt, &mut device, 8_388_608), Ok([6; 512]));
+    assert_eq!(rt; device.file.offset, 4_294_967_296);
+    Ok(())
+}
+
+#[test]
+fn a_sync_that_failed_is_final(rt: HostRuntime) {
+    let file = FakeFile {
+        offset: 0,
+        fails: true,
+    };
+    let mut device = on_fake(file);
+    assert_eq!(rt; device.sync(), Err(DeviceFault));
+    let kind = device.last_error().map(|error| error.kind());
+    assert_eq!(rt; kind, Some(ErrorKind::StorageFull));
+    device.file.fails = false;
+    assert_eq!(rt; device.sync(), Err(DeviceFault));
+    assert_eq!(rt; device.failures, 2);
+    assert_eq!(rt; read_sector(&rt, &mut device, 0), Ok([6; 512]));
 }
