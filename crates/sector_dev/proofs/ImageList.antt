@@ -1,9 +1,11 @@
 -- The computed list of images holds the images, each of them and nothing else.
 use Rattle.std.proofs.Common.{◌≡◌, ◌⊎◌, ◌<◌, ◌+◌, ◌==◌, ◌↔◌, inl, inr, refl, sym, ap, subst, arith}
-use Rattle.std.specs.Prelude.{ℕ, zero, suc, List, [], ◌∷◌, length, map, slice_index_or, Contains}
+use Rattle.std.specs.Prelude.{ℕ, zero, suc, List, [], ◌∷◌, length, map, Contains}
 use Rattle.std.proofs.lemmas.Bool.{cond_both, eqb-true, eqb-false}
 use Rattle.std.proofs.lemmas.List.Elements.{Contains-append_left, Contains-append_right, Contains-append_cases}
-use Rattle.sector_dev.specs.Image.{Write, IsWritten, Image, values, each_before, images}
+use Rattle.sector_dev.specs.declared.device.Sector.{Sector}
+use Rattle.sector_dev.specs.declared.device.Sector.TheVariants.{Bytes, Unreadable}
+use Rattle.sector_dev.specs.Image.{Sectors, sector_at, Write, MayBecome, IsWritten, Image, values, each_before, images}
 
 -- an element is the first one or among the others
 first_or_later : {X : Type 0} (x : X) (xs : List X) (y : X) → Contains (x ∷ xs) y → (x ≡ y) ⊎ Contains xs y
@@ -18,36 +20,55 @@ first_contained x xs y is = (zero, omega arith, is)
 later_contained : {X : Type 0} (x : X) (xs : List X) (y : X) → Contains xs y → Contains (x ∷ xs) y
 later_contained x xs y (k, within, is) = (suc k, omega arith, is)
 
--- the stable value or that of a write to this sector
-abbrev IsValue : ℕ → List ℕ → List Write → List ℕ → Type 0
+-- the stable value, or what a write to this sector may leave
+abbrev IsValue : ℕ → Sector → List Write → Sector → Type 0
 IsValue at stable pending value = (value ≡ stable) ⊎ IsWritten pending at value
 
 -- a value that a crash may leave stays one with a write more
-value_with_more : (at : ℕ) (stable : List ℕ) (w : Write) (ws : List Write) (value : List ℕ)
+value_with_more : (at : ℕ) (stable : Sector) (w : Write) (ws : List Write) (value : Sector)
     → IsValue at stable ws value → IsValue at stable (w ∷ ws) value
 value_with_more at stable w ws value (inl same) = inl same
 value_with_more at stable w ws value (inr later) = inr (inr later)
 
+-- what a write to this sector may leave is listed before the rest
+become_listed : (bytes : List ℕ) (rest : List Sector) (value : Sector) → MayBecome bytes value
+    → Contains (Bytes bytes ∷ Unreadable ∷ rest) value
+become_listed bytes rest value (inl written) = first_contained (Bytes bytes) (Unreadable ∷ rest) value (sym written)
+become_listed bytes rest value (inr unreadable) =
+    later_contained (Bytes bytes) (Unreadable ∷ rest) value (first_contained Unreadable rest value (sym unreadable))
+
+-- what is listed before the rest may be left by the write
+listed_become : (bytes : List ℕ) (rest : List Sector) (value : Sector) → Contains (Bytes bytes ∷ Unreadable ∷ rest) value
+    → MayBecome bytes value ⊎ Contains rest value
+listed_become bytes rest value listed = elim (first_or_later (Bytes bytes) (Unreadable ∷ rest) value listed) [
+  | inl same ↦ inl (inl (sym same))
+  | inr later ↦ elim (first_or_later Unreadable rest value later) [
+    | inl same ↦ inl (inr (sym same))
+    | inr last ↦ inr last
+  ]
+]
+
 -- what is listed without a write is listed with it
-listed_with_more : (at : ℕ) (stable : List ℕ) (w : Write) (ws : List Write) (value : List ℕ)
+listed_with_more : (at : ℕ) (stable : Sector) (w : Write) (ws : List Write) (value : Sector)
     → Contains (values at stable ws) value → Contains (values at stable (w ∷ ws)) value
 listed_with_more at stable w ws value listed =
-    cond_both (w.at == at) (w.value ∷ values at stable ws) (values at stable ws)
-    (λ (xs : List (List ℕ)). Contains xs value)
-    (λ yes. later_contained w.value (values at stable ws) value listed)
+    cond_both (w.at == at) (Bytes w.value ∷ Unreadable ∷ values at stable ws) (values at stable ws)
+    (λ (xs : List Sector). Contains xs value)
+    (λ yes. later_contained (Bytes w.value) (Unreadable ∷ values at stable ws) value
+    (later_contained Unreadable (values at stable ws) value listed))
     (λ no. listed)
 
--- the value of a write to this sector is listed
-written_listed : (at : ℕ) (stable : List ℕ) (w : Write) (ws : List Write) (value : List ℕ)
-    → (w.at ≡ at) × (w.value ≡ value) → Contains (values at stable (w ∷ ws)) value
+-- what a write to this sector may leave is listed
+written_listed : (at : ℕ) (stable : Sector) (w : Write) (ws : List Write) (value : Sector)
+    → (w.at ≡ at) × MayBecome w.value value → Contains (values at stable (w ∷ ws)) value
 written_listed at stable w ws value here =
-    cond_both (w.at == at) (w.value ∷ values at stable ws) (values at stable ws)
-    (λ (xs : List (List ℕ)). Contains xs value)
-    (λ yes. first_contained w.value (values at stable ws) value here.1)
+    cond_both (w.at == at) (Bytes w.value ∷ Unreadable ∷ values at stable ws) (values at stable ws)
+    (λ (xs : List Sector). Contains xs value)
+    (λ yes. become_listed w.value (values at stable ws) value here.1)
     (λ no. absurd (eqb-false w.at at no here.0))
 
 -- a value that a crash may leave is listed
-value_listed : (at : ℕ) (stable : List ℕ) (pending : List Write) (value : List ℕ)
+value_listed : (at : ℕ) (stable : Sector) (pending : List Write) (value : Sector)
     → IsValue at stable pending value → Contains (values at stable pending) value
 value_listed at stable [] value (inl same) = first_contained stable [] value (sym same)
 value_listed at stable [] value (inr none) = absurd none
@@ -58,41 +79,41 @@ value_listed at stable (w ∷ ws) value (inr (inr later)) =
     listed_with_more at stable w ws value (value_listed at stable ws value (inr later))
 
 -- what is listed is a value that a crash may leave
-listed_value : (at : ℕ) (stable : List ℕ) (pending : List Write) (value : List ℕ)
+listed_value : (at : ℕ) (stable : Sector) (pending : List Write) (value : Sector)
     → Contains (values at stable pending) value → IsValue at stable pending value
 listed_value at stable [] value listed = elim (first_or_later stable [] value listed) [
   | inl same ↦ inl (sym same)
   | inr none ↦ absurd (omega (arith, none.1))
 ]
 listed_value at stable (w ∷ ws) value listed =
-    cond_both (w.at == at) (w.value ∷ values at stable ws) (values at stable ws)
-    (λ (xs : List (List ℕ)). Contains xs value → IsValue at stable (w ∷ ws) value)
-    (λ yes held. elim (first_or_later w.value (values at stable ws) value held) [
-      | inl same ↦ inr (inl (eqb-true w.at at yes, same))
+    cond_both (w.at == at) (Bytes w.value ∷ Unreadable ∷ values at stable ws) (values at stable ws)
+    (λ (xs : List Sector). Contains xs value → IsValue at stable (w ∷ ws) value)
+    (λ yes held. elim (listed_become w.value (values at stable ws) value held) [
+      | inl become ↦ inr (inl (eqb-true w.at at yes, become))
       | inr later ↦ value_with_more at stable w ws value (listed_value at stable ws value later)
     ])
     (λ no held. value_with_more at stable w ws value (listed_value at stable ws value held))
     listed
 
 -- the value before a listed rest is listed
-before_listed : (value : List ℕ) (rests : List (List (List ℕ))) (rest : List (List ℕ))
+before_listed : (value : Sector) (rests : List Sectors) (rest : Sectors)
     → Contains rests rest → Contains (map (λ rest. value ∷ rest) rests) (value ∷ rest)
 before_listed value [] rest (k, within, is) = absurd (omega arith)
 before_listed value (r ∷ rs) rest listed = elim (first_or_later r rs rest listed) [
   | inl same ↦
       first_contained (value ∷ r) (map (λ rest. value ∷ rest) rs) (value ∷ rest)
-      (ap (λ (x : List (List ℕ)). value ∷ x) same)
+      (ap (λ (x : Sectors). value ∷ x) same)
   | inr later ↦
       later_contained (value ∷ r) (map (λ rest. value ∷ rest) rs) (value ∷ rest) (before_listed value rs rest later)
 ]
 
 -- each value is listed before each rest
-each_before_listed : (of : List (List ℕ)) (rests : List (List (List ℕ))) (value : List ℕ) (rest : List (List ℕ))
+each_before_listed : (of : List Sector) (rests : List Sectors) (value : Sector) (rest : Sectors)
     → Contains of value → Contains rests rest → Contains (each_before of rests) (value ∷ rest)
 each_before_listed [] rests value rest (k, within, is) after = absurd (omega arith)
 each_before_listed (v ∷ vs) rests value rest listed after = elim (first_or_later v vs value listed) [
   | inl same ↦
-      subst (λ (x : List ℕ). Contains (each_before (v ∷ vs) rests) (x ∷ rest)) same
+      subst (λ (x : Sector). Contains (each_before (v ∷ vs) rests) (x ∷ rest)) same
       (Contains-append_left (map (λ rest. v ∷ rest) rests) (each_before vs rests) (v ∷ rest)
       (before_listed v rests rest after))
   | inr later ↦
@@ -101,16 +122,16 @@ each_before_listed (v ∷ vs) rests value rest listed after = elim (first_or_lat
 ]
 
 -- one of these values before one of these rests
-record IsBefore (of : List (List ℕ)) (rests : List (List (List ℕ))) (c : List (List ℕ)) : Type 0 where
-  value : List ℕ
-  rest : List (List ℕ)
+record IsBefore (of : List Sector) (rests : List Sectors) (c : Sectors) : Type 0 where
+  value : Sector
+  rest : Sectors
   is : value ∷ rest ≡ c
   of_values : Contains of value
   of_rests : Contains rests rest
 
 -- what is listed for one value has it before a listed rest
-listed_before : (value : List ℕ) (rests : List (List (List ℕ))) (c : List (List ℕ))
-    → Contains (map (λ rest. value ∷ rest) rests) c → (rest : List (List ℕ)) × (value ∷ rest ≡ c) × Contains rests rest
+listed_before : (value : Sector) (rests : List Sectors) (c : Sectors)
+    → Contains (map (λ rest. value ∷ rest) rests) c → (rest : Sectors) × (value ∷ rest ≡ c) × Contains rests rest
 listed_before value [] c (k, within, is) = absurd (omega arith)
 listed_before value (r ∷ rs) c listed = elim (first_or_later (value ∷ r) (map (λ rest. value ∷ rest) rs) c listed) [
   | inl same ↦ (r, same, first_contained r rs r refl)
@@ -118,7 +139,7 @@ listed_before value (r ∷ rs) c listed = elim (first_or_later (value ∷ r) (ma
 ]
 
 -- what is listed is one of the values before one of the rests
-listed_each_before : (of : List (List ℕ)) (rests : List (List (List ℕ))) (c : List (List ℕ))
+listed_each_before : (of : List Sector) (rests : List Sectors) (c : Sectors)
     → Contains (each_before of rests) c → IsBefore of rests c
 listed_each_before [] rests c (k, within, is) = absurd (omega arith)
 listed_each_before (v ∷ vs) rests c listed =
@@ -133,16 +154,16 @@ listed_each_before (v ∷ vs) rests c listed =
     ]
 
 -- an image of sectors of which the first has the number `at`
-record ImageFrom (at : ℕ) (stable : List (List ℕ)) (pending : List Write) (image : List (List ℕ)) : Type 0 where
+record ImageFrom (at : ℕ) (stable : Sectors) (pending : List Write) (image : Sectors) : Type 0 where
   size : length image ≡ length stable
   each : (number k : ℕ) → number ≡ at + k → k < length stable
-      → IsValue number (slice_index_or stable k []) pending (slice_index_or image k [])
+      → IsValue number (sector_at stable k) pending (sector_at image k)
 
 -- each sector of a value before an image of the others
-joined_each : (at : ℕ) (first : List ℕ) (stable : List (List ℕ)) (pending : List Write)
-    (value : List ℕ) (rest : List (List ℕ)) → IsValue at first pending value → ImageFrom (at + 1) stable pending rest
+joined_each : (at : ℕ) (first : Sector) (stable : Sectors) (pending : List Write)
+    (value : Sector) (rest : Sectors) → IsValue at first pending value → ImageFrom (at + 1) stable pending rest
     → (number k : ℕ) → number ≡ at + k → k < length (first ∷ stable)
-    → IsValue number (slice_index_or (first ∷ stable) k []) pending (slice_index_or (value ∷ rest) k [])
+    → IsValue number (sector_at (first ∷ stable) k) pending (sector_at (value ∷ rest) k)
 joined_each at first stable pending value rest here i number zero is within =
     let same : at ≡ number = omega arith in
     subst (λ (n : ℕ). IsValue n first pending value) same here
@@ -150,8 +171,8 @@ joined_each at first stable pending value rest here i number (suc k) is within =
     i.each number k (omega arith) (omega arith)
 
 -- a value of the first sector before an image of the others is an image
-joined : (at : ℕ) (first : List ℕ) (stable : List (List ℕ)) (pending : List Write)
-    (value : List ℕ) (rest : List (List ℕ)) → IsValue at first pending value → ImageFrom (at + 1) stable pending rest
+joined : (at : ℕ) (first : Sector) (stable : Sectors) (pending : List Write)
+    (value : Sector) (rest : Sectors) → IsValue at first pending value → ImageFrom (at + 1) stable pending rest
     → ImageFrom at (first ∷ stable) pending (value ∷ rest)
 joined at first stable pending value rest here i = record {
   size = omega (arith, i.size);
@@ -159,8 +180,8 @@ joined at first stable pending value rest here i = record {
 }
 
 -- an image without its first sector is one of the others
-rest_image : (at : ℕ) (first : List ℕ) (stable : List (List ℕ)) (pending : List Write)
-    (value : List ℕ) (rest : List (List ℕ)) → ImageFrom at (first ∷ stable) pending (value ∷ rest)
+rest_image : (at : ℕ) (first : Sector) (stable : Sectors) (pending : List Write)
+    (value : Sector) (rest : Sectors) → ImageFrom at (first ∷ stable) pending (value ∷ rest)
     → ImageFrom (at + 1) stable pending rest
 rest_image at first stable pending value rest i = record {
   size = omega (arith, i.size);
@@ -168,23 +189,23 @@ rest_image at first stable pending value rest i = record {
 }
 
 -- what is listed is an image
-listed_image : (at : ℕ) (stable : List (List ℕ)) (pending : List Write) (c : List (List ℕ))
+listed_image : (at : ℕ) (stable : Sectors) (pending : List Write) (c : Sectors)
     → Contains (images at stable pending) c → ImageFrom at stable pending c
 listed_image at [] pending c listed = elim (first_or_later [] [] c listed) [
   | inl same ↦
-      subst (λ (x : List (List ℕ)). ImageFrom at [] pending x) same
+      subst (λ (x : Sectors). ImageFrom at [] pending x) same
       (record { size = refl; each = λ number k is within. absurd (omega arith) })
   | inr none ↦ absurd (omega (arith, none.1))
 ]
 listed_image at (first ∷ stable) pending c listed =
     let e = listed_each_before (values at first pending) (images (at + 1) stable pending) c listed in
-    subst (λ (x : List (List ℕ)). ImageFrom at (first ∷ stable) pending x) e.is
+    subst (λ (x : Sectors). ImageFrom at (first ∷ stable) pending x) e.is
     (joined at first stable pending e.value e.rest
     (listed_value at first pending e.value e.of_values)
     (listed_image (at + 1) stable pending e.rest e.of_rests))
 
 -- an image is listed
-image_listed : (at : ℕ) (stable : List (List ℕ)) (pending : List Write) (c : List (List ℕ))
+image_listed : (at : ℕ) (stable : Sectors) (pending : List Write) (c : Sectors)
     → ImageFrom at stable pending c → Contains (images at stable pending) c
 image_listed at [] pending [] i = first_contained [] [] [] refl
 image_listed at [] pending (value ∷ rest) i = absurd (omega (arith, i.size))
@@ -195,7 +216,7 @@ image_listed at (first ∷ stable) pending (value ∷ rest) i =
     (image_listed (at + 1) stable pending rest (rest_image at first stable pending value rest i))
 
 -- the list of images holds each image and nothing else
-pub images_exact : (stable : List (List ℕ)) (pending : List Write) (c : List (List ℕ))
+pub images_exact : (stable : Sectors) (pending : List Write) (c : Sectors)
     → Contains (images 0 stable pending) c ↔ Image stable pending c
 images_exact stable pending c = (
   λ listed.
@@ -205,7 +226,7 @@ images_exact stable pending c = (
     size = i.size;
     each = λ number k is within.
         let same : k ≡ number = omega arith in
-        subst (λ (n : ℕ). IsValue n (slice_index_or stable k []) pending (slice_index_or c k [])) same
+        subst (λ (n : ℕ). IsValue n (sector_at stable k) pending (sector_at c k)) same
         (i.each k within);
   }),
 )

@@ -5,3 +5,4 @@ pub mod Moments
 pub mod Settled
 pub mod Crashes
 pub mod Runs
+pub mod Wholes

@@ -6,6 +6,8 @@ use Rattle.std.proofs.lemmas.Bool.{cases_eq, false≢true}
 use Rattle.std.proofs.lemmas.List.{take_all, take-append-le}
 use Rattle.sector_dev.specs.declared.memory.Call.{Call}
 use Rattle.sector_dev.specs.declared.memory.Call.TheVariants.{Written, Synced}
+use Rattle.sector_dev.specs.declared.device.Sector.TheVariants.{Bytes}
+use Rattle.sector_dev.specs.Image.{Sectors}
 use Rattle.sector_dev.specs.Device.{State, Elapses, WithOrWithout, IsUnchanged, IsPending, IsStable}
 use Rattle.sector_dev.specs.Memory.{Disk, shown, step, after, at_rest}
 use Rattle.sector_dev.specs.Replay.{MayLeave, MightLeaveSince, length-after, length-applied, shown_is_image, recorded_state}
@@ -16,26 +18,26 @@ after-append d [] x = refl
 after-append d (c ∷ cs) x = after-append (step d c) cs x
 
 -- a recorded call is the last step
-pub recorded : (stable : List (List ℕ)) (calls next : List Call) (x : Call) → next ≡ calls ++ x ∷ []
+pub recorded : (stable : Sectors) (calls next : List Call) (x : Call) → next ≡ calls ++ x ∷ []
     → after (at_rest stable) next ≡ step (after (at_rest stable) calls) x
 recorded stable calls next x is = ap (λ (cs : List Call). after (at_rest stable) cs) is
     ∙ after-append (at_rest stable) calls x
 
 -- a call that changes nothing
-pub elapses_same : (now : State) (during : List (List ℕ) → Type 0) → Elapses now now during
+pub elapses_same : (now : State) (during : Sectors → Type 0) → Elapses now now during
 elapses_same now during = record { later = omega arith; nothing_else = λ t c le s. inl s; keeps = λ t c le s. s }
 
 pub same_is_unchanged : (now : State) → IsUnchanged now now
 same_is_unchanged now = record { reads = refl; images = λ c. (λ i. i, λ i. i) }
 
-module _ (stable : List (List ℕ)) (calls : List Call) (x : Call) where
+module _ (stable : Sectors) (calls : List Call) (x : Call) where
   abbrev disk : Disk
   disk = after (at_rest stable) calls
 
-  abbrev AtCalls : List (List ℕ) → List Call → Type 0
+  abbrev AtCalls : Sectors → List Call → Type 0
   AtCalls c cs = MayLeave (after (at_rest stable) cs) c
 
-  keeps : (t : ℕ) (c : List (List ℕ)) → MightLeaveSince stable calls t c → MightLeaveSince stable (calls ++ x ∷ []) t c
+  keeps : (t : ℕ) (c : Sectors) → MightLeaveSince stable calls t c → MightLeaveSince stable (calls ++ x ∷ []) t c
   keeps t c s = record {
     moment = s.moment;
     from = s.from;
@@ -43,8 +45,8 @@ module _ (stable : List (List ℕ)) (calls : List Call) (x : Call) where
     image = subst (AtCalls c) (sym (take-append-le s.moment calls (x ∷ []) s.to)) s.image;
   }
 
-  nothing_else : (during : List (List ℕ) → Type 0) → ((c : List (List ℕ)) → MayLeave (step disk x) c → during c)
-      → (t : ℕ) (c : List (List ℕ)) → MightLeaveSince stable (calls ++ x ∷ []) t c → MightLeaveSince stable calls t c
+  nothing_else : (during : Sectors → Type 0) → ((c : Sectors) → MayLeave (step disk x) c → during c)
+      → (t : ℕ) (c : Sectors) → MightLeaveSince stable (calls ++ x ∷ []) t c → MightLeaveSince stable calls t c
       ⊎ during c
   nothing_else during f t c s = elim (cases_eq s.moment (length calls + 1)) [
     | inl last ↦
@@ -62,7 +64,7 @@ module _ (stable : List (List ℕ)) (calls : List Call) (x : Call) where
         })
   ]
 
-  elapses_one : (during : List (List ℕ) → Type 0) → ((c : List (List ℕ)) → MayLeave (step disk x) c → during c)
+  elapses_one : (during : Sectors → Type 0) → ((c : Sectors) → MayLeave (step disk x) c → during c)
       → Elapses (recorded_state stable calls) (recorded_state stable (calls ++ x ∷ [])) during
   elapses_one during f = record {
     later = omega (arith, length-append calls (x ∷ []));
@@ -71,8 +73,8 @@ module _ (stable : List (List ℕ)) (calls : List Call) (x : Call) where
   }
 
 -- what a write does to the record's disk
-pub write_images : (stable : List (List ℕ)) (calls : List Call) (at : ℕ) (value : List ℕ) → at < length stable
-    → (c : List (List ℕ))
+pub write_images : (stable : Sectors) (calls : List Call) (at : ℕ) (value : List ℕ) → at < length stable
+    → (c : Sectors)
     → MayLeave (step (after (at_rest stable) calls) (Written at value)) c ↔ WithOrWithout at value
     (MayLeave (after (at_rest stable) calls)) c
 write_images stable calls at value lt c =
@@ -80,7 +82,7 @@ write_images stable calls at value lt c =
     pending_images d.stable d.pending (record { at = at; value = value })
     (omega (arith, lt, length-after (at_rest stable) calls)) c
 
-pub written_is_pending : (stable : List (List ℕ)) (calls next : List Call) (at : ℕ) (value : List ℕ)
+pub written_is_pending : (stable : Sectors) (calls next : List Call) (at : ℕ) (value : List ℕ)
     → at < length stable → next ≡ calls ++ Written at value ∷ []
     → IsPending at value (recorded_state stable calls) (recorded_state stable next)
 written_is_pending stable calls next at value lt is =
@@ -92,7 +94,7 @@ written_is_pending stable calls next at value lt is =
           (write_images stable calls at value lt c);
     }
 
-pub written_elapses : (stable : List (List ℕ)) (calls next : List Call) (at : ℕ) (value : List ℕ)
+pub written_elapses : (stable : Sectors) (calls next : List Call) (at : ℕ) (value : List ℕ)
     → at < length stable → next ≡ calls ++ Written at value ∷ []
     → Elapses (recorded_state stable calls) (recorded_state stable next)
     (WithOrWithout at value (MayLeave (after (at_rest stable) calls)))
@@ -101,7 +103,7 @@ written_elapses stable calls next at value lt is =
     subst (λ (cs : List Call). Elapses (recorded_state stable calls) (recorded_state stable cs) during) (sym is)
     (elapses_one stable calls (Written at value) during (λ c i. (write_images stable calls at value lt c).0 i))
 
-pub synced_is_stable : (stable : List (List ℕ)) (calls next : List Call) → next ≡ calls ++ Synced ∷ []
+pub synced_is_stable : (stable : Sectors) (calls next : List Call) → next ≡ calls ++ Synced ∷ []
     → IsStable (shown (after (at_rest stable) calls)) (recorded_state stable next)
 synced_is_stable stable calls next is =
     let now = shown (after (at_rest stable) calls) in
@@ -111,36 +113,36 @@ synced_is_stable stable calls next is =
       images = λ c. subst (λ (e : Disk). MayLeave e c ↔ (c ≡ now)) (sym leaves) (stable_images now c);
     }
 
-pub synced_elapses : (stable : List (List ℕ)) (calls next : List Call) → next ≡ calls ++ Synced ∷ []
+pub synced_elapses : (stable : Sectors) (calls next : List Call) → next ≡ calls ++ Synced ∷ []
     → Elapses (recorded_state stable calls) (recorded_state stable next) (MayLeave (after (at_rest stable) calls))
 synced_elapses stable calls next is =
     let d = after (at_rest stable) calls in
     subst (λ (cs : List Call). Elapses (recorded_state stable calls) (recorded_state stable cs) (MayLeave d)) (sym is)
     (elapses_one stable calls Synced (MayLeave d)
-    (λ c i. subst (λ (x : List (List ℕ)). MayLeave d x) (sym ((stable_images (shown d) c).0 i)) (shown_is_image d)))
+    (λ c i. subst (λ (x : Sectors). MayLeave d x) (sym ((stable_images (shown d) c).0 i)) (shown_is_image d)))
 
 -- what reads give after one more write
-pub shown-written : (stable : List (List ℕ)) (calls : List Call) (at : ℕ) (value : List ℕ)
+pub shown-written : (stable : Sectors) (calls : List Call) (at : ℕ) (value : List ℕ)
     → shown (after (at_rest stable) (calls ++ Written at value ∷ [])) ≡ slice_set
-    (shown (after (at_rest stable) calls)) at value
+    (shown (after (at_rest stable) calls)) at (Bytes value)
 shown-written stable calls at value =
     let d = after (at_rest stable) calls in
     ap shown (after-append (at_rest stable) calls (Written at value))
     ∙ applied-append d.stable d.pending (record { at = at; value = value })
 
-pub shown-synced : (stable : List (List ℕ)) (calls : List Call)
+pub shown-synced : (stable : Sectors) (calls : List Call)
     → shown (after (at_rest stable) (calls ++ Synced ∷ [])) ≡ shown (after (at_rest stable) calls)
 shown-synced stable calls = ap shown (after-append (at_rest stable) calls Synced)
 
-pub length-shown : (stable : List (List ℕ)) (calls : List Call)
+pub length-shown : (stable : Sectors) (calls : List Call)
     → length (shown (after (at_rest stable) calls)) ≡ length stable
 length-shown stable calls =
     let d = after (at_rest stable) calls in
     length-applied d.stable d.pending ∙ length-after (at_rest stable) calls
 
 -- after a call that is recorded or fails, what is seen is what reads give
-pub synced_shown : {T E : Type 0} (r : Result T E) (stable : List (List ℕ)) (calls next : List Call)
-    (seen : List (List ℕ))
+pub synced_shown : {T E : Type 0} (r : Result T E) (stable : Sectors) (calls next : List Call)
+    (seen : Sectors)
     → OnOk r (next ≡ calls ++ Synced ∷ []) → OnErr r (next ≡ calls) → seen ≡ shown (after (at_rest stable) calls)
     → seen ≡ shown (after (at_rest stable) next)
 synced_shown (Ok x) stable calls next seen ok err is = is
@@ -148,13 +150,13 @@ synced_shown (Ok x) stable calls next seen ok err is = is
 synced_shown (Err e) stable calls next seen ok err is = is
     ∙ ap (λ (cs : List Call). shown (after (at_rest stable) cs)) (sym err)
 
-pub written_shown : {T E : Type 0} (r : Result T E) (stable : List (List ℕ)) (calls next : List Call)
-    (seen later : List (List ℕ)) (at : ℕ) (value : List ℕ)
+pub written_shown : {T E : Type 0} (r : Result T E) (stable : Sectors) (calls next : List Call)
+    (seen later : Sectors) (at : ℕ) (value : List ℕ)
     → OnOk r (next ≡ calls ++ Written at value ∷ []) → OnErr r (next ≡ calls)
-    → OnOk r (later ≡ slice_set seen at value) → OnErr r (later ≡ seen)
+    → OnOk r (later ≡ slice_set seen at (Bytes value)) → OnErr r (later ≡ seen)
     → seen ≡ shown (after (at_rest stable) calls) → later ≡ shown (after (at_rest stable) next)
 written_shown (Ok x) stable calls next seen later at value ok err set same is =
-    set ∙ (ap (λ (s : List (List ℕ)). slice_set s at value) is
+    set ∙ (ap (λ (s : Sectors). slice_set s at (Bytes value)) is
     ∙ sym (ap (λ (cs : List Call). shown (after (at_rest stable) cs)) ok ∙ shown-written stable calls at value))
 written_shown (Err e) stable calls next seen later at value ok err set same is = same
     ∙ (is ∙ ap (λ (cs : List Call). shown (after (at_rest stable) cs)) (sym err))

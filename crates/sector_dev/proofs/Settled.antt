@@ -1,15 +1,17 @@
 -- Where a record of calls is settled, and what the calls after that place leave.
 use Rattle.std.proofs.Common.{◌≡◌, ◌≤◌, ◌<◌, ◌+◌, ℕ, List, [], ◌∷◌, ◌++◌, length, take, drop, refl, sym, ◌∙◌, ap, subst, arith, length-append, suc, append-nil, get_or, length-take-le, zero}
-use Rattle.std.specs.Prelude.{slice_set, slice_index_or, Bool, true, false}
+use Rattle.std.specs.Prelude.{slice_set, slice_index_or}
 use Rattle.std.proofs.lemmas.List.{take_all, take-append-le, drop-append-le}
 use Rattle.std.proofs.Math.ListN.{drop_of_length-le}
 use Rattle.std.proofs.Math.Seq.{take-suc}
 use Rattle.std.proofs.Math.Numerals.{add-one}
-use Rattle.std.proofs.lemmas.Bool.{false≢true}
 use Rattle.sector_dev.specs.declared.memory.Call.{Call}
 use Rattle.sector_dev.specs.declared.memory.Call.TheVariants.{Written, Synced}
-use Rattle.sector_dev.specs.Image.{Write, applied}
-use Rattle.sector_dev.specs.Crash.{kept, left_by}
+use Rattle.sector_dev.specs.declared.device.Sector.TheVariants.{Bytes, Unreadable}
+use Rattle.sector_dev.specs.declared.device.Fate.{Fate}
+use Rattle.sector_dev.specs.declared.device.Fate.TheVariants.{Lost, Kept, Unreadable as Ruined}
+use Rattle.sector_dev.specs.Image.{Sectors, Write, applied}
+use Rattle.sector_dev.specs.Crash.{left_by}
 use Rattle.sector_dev.specs.Memory.{Disk, shown, step, after, at_rest, writes_of, IsUnsynced, IsSettledAt}
 use Rattle.sector_dev.proofs.Images.{applied-append}
 use Rattle.sector_dev.proofs.Moments.{after-append}
@@ -20,17 +22,17 @@ writes_of-append (Written at v ∷ xs) ys =
     ap (λ (ws : List Write). record { at = at; value = v } ∷ ws) (writes_of-append xs ys)
 writes_of-append (Synced ∷ xs) ys = writes_of-append xs ys
 
-pub applied-append_all : (stable : List (List ℕ)) (ws us : List Write)
+pub applied-append_all : (stable : Sectors) (ws us : List Write)
     → applied stable (ws ++ us) ≡ applied (applied stable ws) us
 applied-append_all stable [] us = refl
-applied-append_all stable (w ∷ ws) us = applied-append_all (slice_set stable w.at w.value) ws us
+applied-append_all stable (w ∷ ws) us = applied-append_all (slice_set stable w.at (Bytes w.value)) ws us
 
 -- what reads give is each write over the one before it, synced or not
 shown_all : (d : Disk) (cs : List Call) → shown (after d cs) ≡ applied (shown d) (writes_of cs)
 shown_all d [] = refl
 shown_all d (Written at v ∷ cs) =
     shown_all (step d (Written at v)) cs
-    ∙ ap (λ (s : List (List ℕ)). applied s (writes_of cs))
+    ∙ ap (λ (s : Sectors). applied s (writes_of cs))
     (applied-append d.stable d.pending (record { at = at; value = v }))
 shown_all d (Synced ∷ cs) = shown_all (step d Synced) cs
 
@@ -40,7 +42,7 @@ unsynced-append (Written a x ∷ xs) at v u = unsynced-append xs at v u
 unsynced-append (Synced ∷ xs) at v u = absurd u
 
 -- the disk of a record that is settled at a place
-abbrev disk_at : List (List ℕ) → List Call → List Call → Disk
+abbrev disk_at : Sectors → List Call → List Call → Disk
 disk_at stable front back = record { stable = applied stable (writes_of front); pending = writes_of back }
 
 pub settled_written : (xs : List Call) (n at : ℕ) (v : List ℕ) → IsSettledAt xs n
@@ -76,24 +78,28 @@ settled_synced xs =
           ∙ ap (λ (cs : List Call). disk_at stable (take (length xs + 1) (xs ++ Synced ∷ [])) cs) (sym back)));
     }
 
--- one write more, whose place is true or not
-pub kept-append : (ws : List Write) (w : Write) (keep : List Bool) → slice_index_or keep (length ws) false ≡ true
-    → kept (ws ++ w ∷ []) keep ≡ kept ws keep ++ w ∷ []
-kept-append [] w [] is = absurd (false≢true is)
-kept-append [] w (true ∷ keep) is = refl
-kept-append [] w (false ∷ keep) is = absurd (false≢true is)
-kept-append (u ∷ ws) w [] is = absurd (false≢true is)
-kept-append (u ∷ ws) w (true ∷ keep) is = ap (λ (xs : List Write). u ∷ xs) (kept-append ws w keep is)
-kept-append (u ∷ ws) w (false ∷ keep) is = kept-append ws w keep is
+-- the fate of the write at this place
+abbrev pub fate_at : List Fate → ℕ → Fate
+fate_at fates place = slice_index_or fates place Lost
 
-pub lost-append : (ws : List Write) (w : Write) (keep : List Bool) → slice_index_or keep (length ws) false ≡ false
-    → kept (ws ++ w ∷ []) keep ≡ kept ws keep
-lost-append [] w [] is = refl
-lost-append [] w (true ∷ keep) is = absurd (false≢true (sym is))
-lost-append [] w (false ∷ keep) is = refl
-lost-append (u ∷ ws) w [] is = refl
-lost-append (u ∷ ws) w (true ∷ keep) is = ap (λ (xs : List Write). u ∷ xs) (lost-append ws w keep is)
-lost-append (u ∷ ws) w (false ∷ keep) is = lost-append ws w keep is
+-- one write more meets the fate at its place
+pub left_by-append : (stable : Sectors) (ws : List Write) (w : Write) (fates : List Fate)
+    → left_by stable (ws ++ w ∷ []) fates
+    ≡ left_by (left_by stable ws fates) (w ∷ []) (fate_at fates (length ws) ∷ [])
+left_by-append stable [] w [] = refl
+left_by-append stable [] w (Lost ∷ fates) = refl
+left_by-append stable [] w (Kept ∷ fates) = refl
+left_by-append stable [] w (Ruined ∷ fates) = refl
+left_by-append stable (u ∷ ws) w [] = refl
+left_by-append stable (u ∷ ws) w (Lost ∷ fates) = left_by-append stable ws w fates
+left_by-append stable (u ∷ ws) w (Kept ∷ fates) = left_by-append (slice_set stable u.at (Bytes u.value)) ws w fates
+left_by-append stable (u ∷ ws) w (Ruined ∷ fates) = left_by-append (slice_set stable u.at Unreadable) ws w fates
+
+-- a kept write is made
+pub left_by-kept : (stable : Sectors) (call : Call)
+    → left_by stable (writes_of (call ∷ [])) (Kept ∷ []) ≡ applied stable (writes_of (call ∷ []))
+left_by-kept stable (Written at v) = refl
+left_by-kept stable Synced = refl
 
 pub length-writes_of : (xs : List Call) → IsUnsynced xs → length (writes_of xs) ≡ length xs
 length-writes_of [] u = refl
@@ -120,14 +126,16 @@ more_settled_synced calls i d lt is =
     (sym (take_more calls i d lt ∙ ap (λ (x : Call). take i calls ++ x ∷ []) is)) (settled_synced (take i calls)))
 
 -- one write more is made
-pub more_redone : (base now next : List (List ℕ)) (calls : List Call) (i : ℕ) (d : Call) → i < length calls
+pub more_redone : (base now next : Sectors) (calls : List Call) (i : ℕ) (d : Call) → i < length calls
     → now ≡ applied base (writes_of (take i calls))
-    → next ≡ applied now (writes_of (get_or calls i d ∷ [])) → next ≡ applied base (writes_of (take (i + 1) calls))
+    → next ≡ left_by now (writes_of (get_or calls i d ∷ [])) (Kept ∷ [])
+    → next ≡ applied base (writes_of (take (i + 1) calls))
 more_redone base now next calls i d lt was is =
-    is ∙ (ap (λ (s : List (List ℕ)). applied s (writes_of (get_or calls i d ∷ []))) was
+    is ∙ (left_by-kept now (get_or calls i d)
+    ∙ (ap (λ (s : Sectors). applied s (writes_of (get_or calls i d ∷ []))) was
     ∙ sym (ap (λ (cs : List Call). applied base (writes_of cs)) (take_more calls i d lt)
     ∙ (ap (applied base) (writes_of-append (take i calls) (get_or calls i d ∷ []))
-    ∙ applied-append_all base (writes_of (take i calls)) (writes_of (get_or calls i d ∷ [])))))
+    ∙ applied-append_all base (writes_of (take i calls)) (writes_of (get_or calls i d ∷ []))))))
 
 unsynced-take : (xs : List Call) (i : ℕ) → IsUnsynced xs → IsUnsynced (take i xs)
 unsynced-take xs zero u = tt
@@ -143,7 +151,7 @@ unsynced_at (Written at v ∷ xs) zero d u lt = (record { at = at; value = v }, 
 unsynced_at (Written at v ∷ xs) (suc i) d u lt = unsynced_at xs i d u (omega arith)
 unsynced_at (Synced ∷ xs) i d u lt = absurd u
 
-module _ (base : List (List ℕ)) (calls : List Call) (keep : List Bool) (i : ℕ) (d : Call)
+module _ (base : Sectors) (calls : List Call) (fates : List Fate) (i : ℕ) (d : Call)
     (unsynced : IsUnsynced calls) (lt : i < length calls) where
   abbrev front : List Write
   front = writes_of (take i calls)
@@ -159,28 +167,29 @@ module _ (base : List (List ℕ)) (calls : List Call) (keep : List Bool) (i : �
   more_front = ap writes_of (take_more calls i d lt)
       ∙ (writes_of-append (take i calls) (get_or calls i d ∷ []) ∙ ap (λ (ws : List Write). front ++ ws) here.1)
 
-  -- one write more whose place is true
-  pub more_kept : (now next : List (List ℕ)) → slice_index_or keep i false ≡ true → now ≡ left_by base front keep
-      → next ≡ applied now (writes_of (get_or calls i d ∷ []))
-      → next ≡ left_by base (writes_of (take (i + 1) calls)) keep
-  more_kept now next place was is =
-      is ∙ (ap (λ (s : List (List ℕ)). applied s (writes_of (get_or calls i d ∷ []))) was
-      ∙ (ap (applied (left_by base front keep)) here.1
-      ∙ (sym (applied-append_all base (kept front keep) (here.0 ∷ []))
-      ∙ (ap (applied base) (sym (kept-append front here.0 keep
-      (ap (λ (n : ℕ). slice_index_or keep n false) length-front ∙ place)))
-      ∙ ap (λ (ws : List Write). left_by base ws keep) (sym more_front)))))
+  -- one write more meets its fate
+  pub more_fated : (now next : Sectors) (fate : Fate) → fate ≡ fate_at fates i → now ≡ left_by base front fates
+      → next ≡ left_by now (writes_of (get_or calls i d ∷ [])) (fate ∷ [])
+      → next ≡ left_by base (writes_of (take (i + 1) calls)) fates
+  more_fated now next fate place was is =
+      is ∙ (ap (λ (s : Sectors). left_by s (writes_of (get_or calls i d ∷ [])) (fate ∷ [])) was
+      ∙ (ap (λ (ws : List Write). left_by (left_by base front fates) ws (fate ∷ [])) here.1
+      ∙ (ap (λ (f : Fate). left_by (left_by base front fates) (here.0 ∷ []) (f ∷ []))
+      (place ∙ ap (λ (n : ℕ). fate_at fates n) (sym length-front))
+      ∙ (sym (left_by-append base front here.0 fates)
+      ∙ ap (λ (ws : List Write). left_by base ws fates) (sym more_front)))))
 
-  -- one write more whose place is false or missing
-  pub more_lost : (now : List (List ℕ)) → slice_index_or keep i false ≡ false → now ≡ left_by base front keep
-      → now ≡ left_by base (writes_of (take (i + 1) calls)) keep
+  -- one write more has no place, and is lost
+  pub more_lost : (now : Sectors) → fate_at fates i ≡ Lost → now ≡ left_by base front fates
+      → now ≡ left_by base (writes_of (take (i + 1) calls)) fates
   more_lost now place was =
-      was ∙ (ap (applied base) (sym (lost-append front here.0 keep
-      (ap (λ (n : ℕ). slice_index_or keep n false) length-front ∙ place)))
-      ∙ ap (λ (ws : List Write). left_by base ws keep) (sym more_front))
+      was ∙ (ap (λ (f : Fate). left_by (left_by base front fates) (here.0 ∷ []) (f ∷ []))
+      (sym place ∙ ap (λ (n : ℕ). fate_at fates n) (sym length-front))
+      ∙ (sym (left_by-append base front here.0 fates)
+      ∙ ap (λ (ws : List Write). left_by base ws fates) (sym more_front)))
 
 -- what is written back of a slice is the slice
-pub written_back : (n : ℕ) (new old : List (List ℕ)) → length new ≡ length old → n ≡ length old
+pub written_back : (n : ℕ) (new old : Sectors) → length new ≡ length old → n ≡ length old
     → take n (new ++ drop (length new) old) ≡ new
 written_back n new old same is = take-append-le n new (drop (length new) old) (omega (arith, same, is))
     ∙ take_all n new (omega (arith, same, is))

@@ -1,73 +1,89 @@
 -- What a device shows, and what its calls do to that and to what a crash may leave.
-use Rattle.std.specs.Prelude.{◌≡◌, ◌⊎◌, ◌≤◌, ◌+◌, ◌-◌, ◌^◌, ◌↔◌, ℕ, List, length, slice_set, min, Option, Some, None, Result, IsErr, MatchResult, refl}
-use Rattle.sector_dev.specs.Image.{Write, Image}
+use Rattle.std.specs.Prelude.{◌≡◌, ◌⊎◌, ◌≤◌, ◌+◌, ◌-◌, ◌^◌, ◌↔◌, ℕ, List, length, slice_set, replicate, min, Option, Some, None, Result, IsErr, MatchResult, refl}
+use Rattle.sector_dev.specs.declared.device.Sector.{Sector}
+use Rattle.sector_dev.specs.declared.device.Sector.TheVariants.{Bytes, Unreadable}
+use Rattle.sector_dev.specs.declared.device.Got.{Got}
+use Rattle.sector_dev.specs.declared.device.Got.TheVariants.{Whole, Unreadable as NoBytes}
+use Rattle.sector_dev.specs.Image.{Sectors, Write, Image}
+use Rattle.sector_dev.specs.Whole.{AreWhole}
 
--- What a caller can know of a device. A list of sectors has the bytes of each.
+-- What a caller can know of a device.
 pub record State : Type 1 where
   -- whether the device keeps the disk model
   pub keeps_model : Type 0
   -- what reads give
-  pub reads : List (List ℕ)
+  pub reads : Sectors
   -- what a crash at this moment may leave
-  pub image : List (List ℕ) → Type 0
+  pub image : Sectors → Type 0
   -- the moment, as a number that no call of `Device` makes smaller, nor `arm`; a crash begins it anew
   pub moment : ℕ
   -- what a crash at some moment from that one on might have left, before, within or after a call
-  pub image_since : ℕ → List (List ℕ) → Type 0
+  pub image_since : ℕ → Sectors → Type 0
 
 -- What holds of the state of each device that keeps the model.
 pub record IsCoherent (sector_count : ℕ) (now : State) : Type 0 where
   -- this moment is one of those since an earlier one
-  pub counts_now : (t : ℕ) (c : List (List ℕ)) → now.keeps_model → t ≤ now.moment → now.image c → now.image_since t c
+  pub counts_now : (t : ℕ) (c : Sectors) → now.keeps_model → t ≤ now.moment → now.image c → now.image_since t c
   -- since this moment there is no other
-  pub only_now : (c : List (List ℕ)) → now.keeps_model → now.image_since now.moment c → now.image c
+  pub only_now : (c : Sectors) → now.keeps_model → now.image_since now.moment c → now.image c
   -- the images are those of some stable values and some pending writes
   pub some_disk : now.keeps_model
-      → (stable : List (List ℕ)) × (pending : List Write)
-      × ((c : List (List ℕ)) → now.image c ↔ Image stable pending c)
+      → (stable : Sectors) × (pending : List Write)
+      × ((c : Sectors) → now.image c ↔ Image stable pending c)
   -- what reads give is one of them
   pub reads_are_image : now.keeps_model → now.image now.reads
   -- none has more sectors, or fewer
-  pub image_size : (c : List (List ℕ)) → now.keeps_model → now.image c → length c ≡ sector_count
+  pub image_size : (c : Sectors) → now.keeps_model → now.image c → length c ≡ sector_count
+  -- and in each a readable sector has 512 bytes
+  pub image_whole : (c : Sectors) → now.keeps_model → now.image c → AreWhole c
 
--- an image from before a write, with the sector changed or as it was
-abbrev pub WithOrWithout : ℕ → List ℕ → (List (List ℕ) → Type 0) → List (List ℕ) → Type 0
-WithOrWithout at value old c = (d : List (List ℕ)) × old d × ((c ≡ d) ⊎ (c ≡ slice_set d at value))
+-- what a read answers of this sector, and what it gives: zeros where it is unreadable
+abbrev pub IsRead : Sector → Got → List ℕ → Type 0
+IsRead sector Whole into = sector ≡ Bytes into
+IsRead sector NoBytes into = (sector ≡ Unreadable) × (into ≡ replicate 512 0)
+
+-- these sectors, or with this one written, or with it unreadable
+abbrev pub OldOrChanged : Sectors → ℕ → List ℕ → Sectors → Type 0
+OldOrChanged old at value c = (c ≡ old) ⊎ ((c ≡ slice_set old at (Bytes value)) ⊎ (c ≡ slice_set old at Unreadable))
+
+-- an image from before a write, or with its sector written or unreadable
+abbrev pub WithOrWithout : ℕ → List ℕ → (Sectors → Type 0) → Sectors → Type 0
+WithOrWithout at value old c = (d : Sectors) × old d × OldOrChanged d at value c
 
 -- reads give what they gave, and a crash may leave what it might have left
 pub record IsUnchanged (old new : State) : Type 0 where
   pub reads : new.reads ≡ old.reads
-  pub images : (c : List (List ℕ)) → new.image c ↔ old.image c
+  pub images : (c : Sectors) → new.image c ↔ old.image c
 
--- the write is read back, and a crash may keep it or lose it
+-- the write is read back, and a crash may keep it, lose it, or make its sector unreadable
 pub record IsPending (at : ℕ) (value : List ℕ) (old new : State) : Type 0 where
-  pub reads : new.reads ≡ slice_set old.reads at value
-  pub images : (c : List (List ℕ)) → new.image c ↔ WithOrWithout at value old.image c
+  pub reads : new.reads ≡ slice_set old.reads at (Bytes value)
+  pub images : (c : Sectors) → new.image c ↔ WithOrWithout at value old.image c
 
 -- The write failed: it may be read back or not, and it may be pending or not. The other sectors are as before.
 pub record MayBePending (at : ℕ) (value : List ℕ) (old new : State) : Type 0 where
-  pub reads : (new.reads ≡ old.reads) ⊎ (new.reads ≡ slice_set old.reads at value)
-  pub images : ((c : List (List ℕ)) → new.image c ↔ old.image c)
-      ⊎ ((c : List (List ℕ)) → new.image c ↔ WithOrWithout at value old.image c)
+  pub reads : (new.reads ≡ old.reads) ⊎ (new.reads ≡ slice_set old.reads at (Bytes value))
+  pub images : ((c : Sectors) → new.image c ↔ old.image c)
+      ⊎ ((c : Sectors) → new.image c ↔ WithOrWithout at value old.image c)
 
 -- these sectors are stable, with nothing pending
-pub record IsStable (sectors : List (List ℕ)) (now : State) : Type 0 where
+pub record IsStable (sectors : Sectors) (now : State) : Type 0 where
   pub reads : now.reads ≡ sectors
-  pub images : (c : List (List ℕ)) → now.image c ↔ (c ≡ sectors)
+  pub images : (c : Sectors) → now.image c ↔ (c ≡ sectors)
 
 -- Reads give what they gave, and a crash leaves nothing that it might not have left before: some of the pending
 -- writes may have become stable.
 pub record MayBeStable (old new : State) : Type 0 where
   pub reads : new.reads ≡ old.reads
-  pub images : (c : List (List ℕ)) → new.image c → old.image c
+  pub images : (c : Sectors) → new.image c → old.image c
 
 -- Time goes on: a crash since t might have left what it might have left before, all of it, or what it might leave
 -- during the call.
-pub record Elapses (old new : State) (during : List (List ℕ) → Type 0) : Type 0 where
+pub record Elapses (old new : State) (during : Sectors → Type 0) : Type 0 where
   pub later : old.moment ≤ new.moment
-  pub nothing_else : (t : ℕ) (c : List (List ℕ)) → t ≤ old.moment
+  pub nothing_else : (t : ℕ) (c : Sectors) → t ≤ old.moment
       → new.image_since t c → old.image_since t c ⊎ during c
-  pub keeps : (t : ℕ) (c : List (List ℕ)) → t ≤ old.moment → old.image_since t c → new.image_since t c
+  pub keeps : (t : ℕ) (c : Sectors) → t ≤ old.moment → old.image_since t c → new.image_since t c
 
 -- the count rose, or stays where 64 bits hold no more
 abbrev pub HasRisen : ℕ → ℕ → Type 0
@@ -95,7 +111,7 @@ last_call = refl
 none_left : one_less (Some 0) ≡ Some 0
 none_left = refl
 
--- a call takes one of those that are left, and fails where none is
+-- A call that succeeds takes one of those that are left, and one that fails may. Where none is left it fails.
 pub record TakesOne {T E : Type 0} (result : Result T E) (old new : Option ℕ) : Type 0 where
-  pub left : new ≡ one_less old
+  pub left : MatchResult result (λ _. new ≡ one_less old) (λ _. (new ≡ one_less old) ⊎ (new ≡ old))
   pub stopped : old ≡ Some 0 → IsErr result

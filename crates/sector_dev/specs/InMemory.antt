@@ -1,6 +1,8 @@
 -- A device in memory as its clauses see it.
 use Rattle.std.specs.Prelude.{◌≡◌, ◌≤◌, ◌+◌, ◌-◌, ◌^◌, min, ℕ, List, Some, None, false, true, length, replicate}
 use Rattle.sector_dev.specs.Device.{State, IsStable}
+use Rattle.sector_dev.specs.declared.device.Sector.TheVariants.{Bytes}
+use Rattle.sector_dev.specs.Image.{Sectors}
 use Rattle.sector_dev.specs.Replay.{recorded_state}
 use Rattle.sector_dev.specs.declared.memory.MemoryDevice.{MemoryDevice}
 use Rattle.sector_dev.specs.Memory.{Disk, step, after, at_rest}
@@ -19,11 +21,12 @@ abbrev pub state_of : MemoryDevice → State
 state_of m = recorded_state m.base.items m.calls.items
 
 -- sectors of zeros
-abbrev pub zeros : ℕ → List (List ℕ)
-zeros sectors = replicate sectors (replicate 512 0)
+abbrev pub zeros : ℕ → Sectors
+zeros sectors = replicate sectors (Bytes (replicate 512 0))
 
--- zeros, stable, nothing pending, calls not limited, and no failure so far
+-- it keeps the model, and has zeros, stable, nothing pending, calls not limited, and no failure so far
 pub record IsZeroed (sectors : ℕ) (device : MemoryDevice) : Type 0 where
+  pub keeps_model : (state_of device).keeps_model
   pub sector_count : sector_count_of device ≡ sectors
   pub stable : IsStable (zeros sectors) (state_of device)
   pub disk : disk_of device ≡ at_rest (zeros sectors)

@@ -1,4 +1,5 @@
 pub mod Image
+pub mod Whole
 pub mod Device
 pub mod Crash
 pub mod Runs

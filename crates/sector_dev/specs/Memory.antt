@@ -2,15 +2,15 @@
 use Rattle.std.specs.Prelude.{◌≡◌, ◌≤◌, ℕ, List, [], ◌∷◌, ◌++◌, length, take, drop, ⊤, refl}
 use Rattle.sector_dev.specs.declared.memory.Call.{Call}
 use Rattle.sector_dev.specs.declared.memory.Call.TheVariants.{Written, Synced}
-use Rattle.sector_dev.specs.Image.{Write, applied, put, two_sectors}
+use Rattle.sector_dev.specs.Image.{Sectors, Write, applied, put, of, two_sectors}
 
 -- stable values, and pending writes in the order in which they were made
 pub record Disk : Type 0 where
-  pub stable : List (List ℕ)
+  pub stable : Sectors
   pub pending : List Write
 
 -- what reads give
-abbrev pub shown : Disk → List (List ℕ)
+abbrev pub shown : Disk → Sectors
 shown d = applied d.stable d.pending
 
 -- after one more call
@@ -24,13 +24,13 @@ after d [] = d
 after d (c ∷ cs) = after (step d c) cs
 
 -- nothing pending
-abbrev pub at_rest : List (List ℕ) → Disk
+abbrev pub at_rest : Sectors → Disk
 at_rest stable = record { stable = stable; pending = [] }
 
 -- two writes, a sync and a write: the two are stable and the last one pending
 after_four_calls :
     after (at_rest two_sectors) (Written 0 (11 ∷ []) ∷ Written 1 (21 ∷ []) ∷ Synced ∷ Written 0 (12 ∷ []) ∷ [])
-    ≡ record { stable = (11 ∷ []) ∷ (21 ∷ []) ∷ []; pending = put 0 12 ∷ [] }
+    ≡ record { stable = of 11 ∷ of 21 ∷ []; pending = put 0 12 ∷ [] }
 after_four_calls = refl
 
 -- the writes among these calls
@@ -46,7 +46,7 @@ IsUnsynced (Written at value ∷ cs) = IsUnsynced cs
 IsUnsynced (Synced ∷ cs) = ⊥
 
 -- the disk of calls of which those before this place are settled and the others pending
-abbrev pub settled_disk : List (List ℕ) → List Call → ℕ → Disk
+abbrev pub settled_disk : Sectors → List Call → ℕ → Disk
 settled_disk stable calls place = record {
   stable = applied stable (writes_of (take place calls));
   pending = writes_of (drop place calls);
@@ -56,4 +56,4 @@ settled_disk stable calls place = record {
 pub record IsSettledAt (calls : List Call) (place : ℕ) : Type 0 where
   pub within : place ≤ length calls
   pub unsynced : IsUnsynced (drop place calls)
-  pub disk : (stable : List (List ℕ)) → after (at_rest stable) calls ≡ settled_disk stable calls place
+  pub disk : (stable : Sectors) → after (at_rest stable) calls ≡ settled_disk stable calls place

@@ -1,12 +1,40 @@
 // A device as its callers see it: what a read gives, and what a crash may leave.
-ghost use Rattle.std.specs.Prelude.{◌≡◌, ◌<◌, ◌↔◌, List, ℕ, [], slice_index_or, Option, Some, None, OnOk, OnErr};
-ghost use Rattle.sector_dev.specs.Image.{Write};
-ghost use Rattle.sector_dev.specs.Device.{State, IsCoherent, WithOrWithout, IsUnchanged, IsPending, MayBePending, IsStable, MayBeStable, Elapses, CountsFailure, TakesOne};
-ghost use Rattle.sector_dev.specs.Crash.{left_by, IsOfDisk};
+ghost use Rattle.std.specs.Prelude.{◌≡◌, ◌<◌, ◌↔◌, List, ℕ, [], Option, Some, None, IfOk, OnOk, OnErr};
+ghost use Rattle.sector_dev.specs.Image.{Sectors, sector_at, Write};
+ghost use Rattle.sector_dev.specs.Device.{State, IsCoherent, IsRead, WithOrWithout, IsUnchanged, IsPending, MayBePending, IsStable, MayBeStable, Elapses, CountsFailure, TakesOne};
+ghost use Rattle.sector_dev.specs.Crash.{left_by, fates_of, IsOfDisk};
 
 /// The device failed, or had no memory for a call.
 #[derive(Clone, Copy, Debug, PartialEq, Eq)]
 pub struct DeviceFault;
+
+/// What a read found.
+#[derive(Clone, Copy, Debug, PartialEq, Eq)]
+pub enum Got {
+    /// The sector's 512 bytes.
+    Whole,
+    /// A sector that lost its bytes in a crash and was not written since. That is no failure.
+    Unreadable,
+}
+
+/// What a sector holds.
+#[derive(Clone, Copy)]
+pub enum Sector {
+    Bytes([u8; 512]),
+    /// Nothing, until it is written again.
+    Unreadable,
+}
+
+/// What becomes of a pending write in a crash.
+#[derive(Clone, Copy, Debug, PartialEq, Eq)]
+pub enum Fate {
+    /// The sector is as though it had not been written.
+    Lost,
+    /// The sector has the bytes of the write.
+    Kept,
+    /// The sector is unreadable until it is written again.
+    Unreadable,
+}
 
 /// Sectors of 512 bytes. Its clauses speak of the disk model: `docs/DISK.md` in words, `specs/Device.antt` for what a
 /// caller can know, `specs/Image.antt` for what a crash may leave. A sector is named by its number, which callers keep
@@ -29,14 +57,14 @@ pub trait Device {
     fn sectors(&self) -> u32
         ensures { result ≡ sector_count self.now };
 
-    /// At `Ok` the sector's 512 bytes are in `into`; after `DeviceFault`, which comes with a failure counted, it may
-    /// hold anything. Nothing changes.
-    fn read(&mut self, at: u32, into: &mut [u8; 512]) -> Result<(), DeviceFault>
+    /// `Whole` with the sector's 512 bytes in `into`, or `Unreadable` with zeros in it; after `DeviceFault`, which comes
+    /// with a failure counted, it may hold anything. Nothing changes.
+    fn read(&mut self, at: u32, into: &mut [u8; 512]) -> Result<Got, DeviceFault>
         requires { at < sector_count self.old }
         ensures sectors { sector_count self.new ≡ sector_count self.old }
         ensures model { (state self.new).keeps_model ↔ (state self.old).keeps_model }
         ensures value { (state self.old).keeps_model
-            → OnOk result (into.new ≡ slice_index_or (state self.old).reads at []) }
+            → IfOk result (λ got. IsRead (sector_at (state self.old).reads at) got into.new) }
         ensures unchanged { (state self.old).keeps_model → IsUnchanged (state self.old) (state self.new) }
         ensures time { (state self.old).keeps_model
             → Elapses (state self.old) (state self.new) (state self.old).image }
@@ -79,9 +107,9 @@ pub trait Device {
 /// A device on which crashes can be played.
 pub trait CrashDevice: Device {
     /// The stable values, sector by sector.
-    ghost stable: { Self → List (List ℕ) };
+    ghost stable: { Self → Sectors };
 
-    /// The pending writes, to whose places `crash` refers. That they are in the order of the calls is said by the
+    /// The pending writes, to whose places the crashes refer. That they are in the order of the calls is said by the
     /// clauses of a type, as `MemoryDevice`.
     ghost pending: { Self → List Write };
 
@@ -99,20 +127,34 @@ pub trait CrashDevice: Device {
         ensures stable { (Self.state self.old).keeps_model → stable self.new ≡ stable self.old }
         ensures pending { (Self.state self.old).keeps_model → pending self.new ≡ pending self.old };
 
-    /// A crash that keeps those of the pending writes whose place in `keep` is true, and loses the others; a missing
-    /// place is false. Of the kept writes to one sector the last stands. Then nothing is pending, and calls are not
-    /// limited any more. Time begins anew: moments from before it mean nothing after it.
+    /// A crash that gives each pending write its fate, by place; a missing place is `Lost`. Of the writes to one sector
+    /// the last that is not lost decides. Then nothing is pending, and calls are not limited any more. Time begins
+    /// anew: moments from before it mean nothing after it.
+    fn crash_as(&mut self, fates: &[Fate])
+        ensures sectors { Self.sector_count self.new ≡ Self.sector_count self.old }
+        ensures model { (Self.state self.new).keeps_model ↔ (Self.state self.old).keeps_model }
+        ensures calls_left { Self.calls_left self.new ≡ None }
+        ensures failures { Self.failures self.new ≡ Self.failures self.old }
+        ensures left { (Self.state self.old).keeps_model
+            → IsStable (left_by (stable self.old) (pending self.old) fates.now) (Self.state self.new) }
+        ensures image { (Self.state self.old).keeps_model
+            → (Self.state self.old).image (Self.state self.new).reads }
+        ensures stable { (Self.state self.old).keeps_model
+            → stable self.new ≡ left_by (stable self.old) (pending self.old) fates.now }
+        ensures pending { (Self.state self.old).keeps_model → pending self.new ≡ [] };
+
+    /// As `crash_as`, where the writes whose place in `keep` is true are `Kept` and the others `Lost`.
     fn crash(&mut self, keep: &[bool])
         ensures sectors { Self.sector_count self.new ≡ Self.sector_count self.old }
         ensures model { (Self.state self.new).keeps_model ↔ (Self.state self.old).keeps_model }
         ensures calls_left { Self.calls_left self.new ≡ None }
         ensures failures { Self.failures self.new ≡ Self.failures self.old }
         ensures left { (Self.state self.old).keeps_model
-            → IsStable (left_by (stable self.old) (pending self.old) keep.now) (Self.state self.new) }
+            → IsStable (left_by (stable self.old) (pending self.old) (fates_of keep.now)) (Self.state self.new) }
         ensures image { (Self.state self.old).keeps_model
             → (Self.state self.old).image (Self.state self.new).reads }
         ensures stable { (Self.state self.old).keeps_model
-            → stable self.new ≡ left_by (stable self.old) (pending self.old) keep.now }
+            → stable self.new ≡ left_by (stable self.old) (pending self.old) (fates_of keep.now) }
         ensures pending { (Self.state self.old).keeps_model → pending self.new ≡ [] };
 
     /// The state is that of the stable values and the pending writes.

@@ -4,7 +4,11 @@
 mod device;
 mod file;
 mod memory;
+mod once;
+mod positioned;
 
-pub use device::{CrashDevice, Device, DeviceFault};
+pub use device::{CrashDevice, Device, DeviceFault, Fate, Got, Sector};
 pub use file::FileDevice;
 pub use memory::MemoryDevice;
+pub use once::OnceDevice;
+pub use positioned::PositionedFile;

@@ -1,12 +1,14 @@
 // A device in memory: the values that were stable when its record began, and the record of the calls since.
-ghost use Rattle.std.specs.Prelude.{◌≡◌, ◌⊎◌, ◌<◌, ◌^◌, ◌++◌, ◌∷◌, ◌↔◌, [], true, false, length, slice_index_or, slice_set, Some, None, IsErr, IfOk, OnOk, OnErr};
-ghost use Rattle.sector_dev.specs.Device.{WithOrWithout, IsUnchanged, IsPending, MayBePending, IsStable, MayBeStable, Elapses, CountsFailure, TakesOne};
-ghost use Rattle.sector_dev.specs.Image.{applied};
-ghost use Rattle.sector_dev.specs.Crash.{left_by};
+ghost use Rattle.std.specs.Prelude.{◌≡◌, ◌⊎◌, ◌<◌, ◌^◌, ◌++◌, ◌∷◌, ◌↔◌, [], true, false, map, length, slice_set, Some, None, IsErr, IfOk, OnOk, OnErr};
+ghost use Rattle.sector_dev.specs.declared.device.Sector.TheVariants.{Bytes};
+ghost use Rattle.sector_dev.specs.Device.{IsRead, WithOrWithout, IsUnchanged, IsPending, MayBePending, IsStable, MayBeStable, Elapses, CountsFailure, TakesOne, one_less};
+ghost use Rattle.sector_dev.specs.Whole.{AreWhole, AreWholeWrites};
+ghost use Rattle.sector_dev.specs.Image.{sector_at, applied};
+ghost use Rattle.sector_dev.specs.Crash.{left_by, fates_of, kept_or_lost};
 ghost use Rattle.sector_dev.specs.Memory.{shown, after, at_rest, writes_of, IsUnsynced, IsSettledAt};
 ghost use Rattle.sector_dev.specs.Replay.{recorded_is_coherent};
 
-use crate::{CrashDevice, Device, DeviceFault};
+use crate::{CrashDevice, Device, DeviceFault, Fate, Got, Sector};
 use std::alloc::{AllocError, Global};
 
 #[cfg(test)]
@@ -26,9 +28,9 @@ pub enum Call {
 #[derive(Drop)]
 pub struct MemoryDevice {
     /// The values that were stable when the record began.
-    base: Vec<[u8; 512]>,
+    base: Vec<Sector>,
     /// What reads give.
-    seen: Vec<[u8; 512]>,
+    seen: Vec<Sector>,
     calls: Vec<Call>,
     calls_left: Option<u64>,
     /// Whether, since it was armed, a write that failed became pending.
@@ -36,6 +38,8 @@ pub struct MemoryDevice {
     failures: u64,
     ghost fits: { length base.items < 2 ^ 32 },
     ghost is_shown: { seen.items ≡ shown (after (at_rest base.items) calls.items) },
+    ghost whole: { AreWhole base.items },
+    ghost whole_writes: { AreWholeWrites (writes_of calls.items) },
 }
 
 impl MemoryDevice {
@@ -47,7 +51,7 @@ impl MemoryDevice {
         ensures { IfOk result (λ device. IsZeroed sectors device) }
     {
         let mut base = Vec::new(alloc);
-        base.resize(sectors as usize, [0; 512])?;
+        base.resize(sectors as usize, Sector::Bytes([0; 512]))?;
         let mut seen = Vec::new(alloc);
         seen.extend_from_slice(&base)?;
         Ok(MemoryDevice {
@@ -64,6 +68,7 @@ impl MemoryDevice {
 // Takes one of the calls that are left.
 fn take_one(calls_left: &mut Option<u64>, failures: &mut u64) -> Result<(), DeviceFault>
     ensures taken { TakesOne result calls_left.old calls_left.new }
+    ensures left { calls_left.new ≡ one_less calls_left.old }
     ensures variant { IsErr result ↔ (calls_left.old ≡ Some 0) }
     ensures cause { CountsFailure result failures.old failures.new }
 {
@@ -95,7 +100,7 @@ fn note(calls: &mut Vec<Call>, call: Call, failures: &mut u64) -> Result<(), Dev
 
 // Makes a write pending, or does nothing for want of memory.
 fn put(
-    seen: &mut Vec<[u8; 512]>,
+    seen: &mut Vec<Sector>,
     calls: &mut Vec<Call>,
     at: u32,
     from: &[u8; 512],
@@ -103,13 +108,13 @@ fn put(
 ) -> Result<(), DeviceFault>
     requires { at < length seen.old.items }
     ensures calls { OnOk result (calls.new.items ≡ calls.old.items ++ Call.Written at from.now ∷ []) }
-    ensures seen { OnOk result (seen.new.items ≡ slice_set seen.old.items at from.now) }
+    ensures seen { OnOk result (seen.new.items ≡ slice_set seen.old.items at (Bytes from.now)) }
     ensures calls_err { OnErr result (calls.new.items ≡ calls.old.items) }
     ensures seen_err { OnErr result (seen.new.items ≡ seen.old.items) }
     ensures cause { CountsFailure result failures.old failures.new }
 {
     note(calls, Call::Written(at, *from), failures)?;
-    seen[at as usize] = *from;
+    seen[at as usize] = Sector::Bytes(*from);
     Ok(())
 }
 
@@ -126,31 +131,40 @@ impl Device for MemoryDevice {
 
     ghost calls_left = { λ m. m.calls_left };
 
-    ghost coherent = { λ m. recorded_is_coherent m.base.items m.calls.items };
+    ghost coherent = { λ m. recorded_is_coherent m.base.items m.calls.items m.whole m.whole_writes };
 
     fn sectors(&self) -> u32 {
         self.base.len() as u32
     }
 
     /// It takes no memory, so it fails only where the device is armed and no call is left.
-    fn read(&mut self, at: u32, into: &mut [u8; 512]) -> Result<(), DeviceFault>
+    fn read(&mut self, at: u32, into: &mut [u8; 512]) -> Result<Got, DeviceFault>
         requires { at < sector_count_of self.old }
         ensures sectors { sector_count_of self.new ≡ sector_count_of self.old }
         ensures model { (state_of self.new).keeps_model ↔ (state_of self.old).keeps_model }
         ensures value { (state_of self.old).keeps_model
-            → OnOk result (into.new ≡ slice_index_or (state_of self.old).reads at []) }
+            → IfOk result (λ got. IsRead (sector_at (state_of self.old).reads at) got into.new) }
         ensures unchanged { (state_of self.old).keeps_model
             → IsUnchanged (state_of self.old) (state_of self.new) }
         ensures time { (state_of self.old).keeps_model
             → Elapses (state_of self.old) (state_of self.new) (state_of self.old).image }
         ensures cause { CountsFailure result self.old.failures self.new.failures }
         ensures calls_left { TakesOne result self.old.calls_left self.new.calls_left }
+        ensures taken { self.new.calls_left ≡ one_less self.old.calls_left }
         ensures disk { KeepsDisk self.old self.new }
         ensures fails { IsErr result ↔ (self.old.calls_left ≡ Some 0) }
     {
         take_one(&mut self.calls_left, &mut self.failures)?;
-        *into = self.seen[at as usize];
-        Ok(())
+        match &self.seen[at as usize] {
+            Sector::Bytes(bytes) => {
+                *into = *bytes;
+                Ok(Got::Whole)
+            }
+            Sector::Unreadable => {
+                *into = [0; 512];
+                Ok(Got::Unreadable)
+            }
+        }
     }
 
     /// Of the writes that fail because the device is armed, the first for which there is memory is pending, and the
@@ -167,6 +181,7 @@ impl Device for MemoryDevice {
             → Elapses (state_of self.old) (state_of self.new) (WithOrWithout at from.now (state_of self.old).image) }
         ensures cause { CountsFailure result self.old.failures self.new.failures }
         ensures calls_left { TakesOne result self.old.calls_left self.new.calls_left }
+        ensures taken { self.new.calls_left ≡ one_less self.old.calls_left }
         ensures pending { OnOk result (Pends at from.now self.old self.new) }
         ensures failed_pending { OnOk result (self.new.failed_pending ≡ self.old.failed_pending) }
         ensures failed { OnErr result (IsRefused self.old self.new ⊎ IsFirstFailed at from.now self.old self.new) }
@@ -198,6 +213,7 @@ impl Device for MemoryDevice {
             → Elapses (state_of self.old) (state_of self.new) (state_of self.old).image }
         ensures cause { CountsFailure result self.old.failures self.new.failures }
         ensures calls_left { TakesOne result self.old.calls_left self.new.calls_left }
+        ensures taken { self.new.calls_left ≡ one_less self.old.calls_left }
         ensures settled { OnOk result (disk_of self.new ≡ step (disk_of self.old) Synced) }
         ensures failed_pending { OnOk result (self.new.failed_pending ≡ self.old.failed_pending) }
         ensures failed { OnErr result (KeepsDisk self.old self.new) }
@@ -222,44 +238,99 @@ fn settled(calls: &[Call]) -> usize
 }
 
 // Makes the writes among these calls.
-fn redo(sectors: &mut [[u8; 512]], calls: &[Call])
+fn redo(sectors: &mut [Sector], calls: &[Call])
     ensures { sectors.new ≡ applied sectors.old (writes_of calls.now) }
 {
     for call in calls {
-        redo_one(sectors, call);
+        redo_one(sectors, call, Fate::Kept);
     }
 }
 
-fn redo_one(sectors: &mut [[u8; 512]], call: &Call)
-    ensures { sectors.new ≡ applied sectors.old (writes_of (call.now ∷ [])) }
+// Gives a write its fate.
+fn redo_one(sectors: &mut [Sector], call: &Call, fate: Fate)
+    ensures { sectors.new ≡ left_by sectors.old (writes_of (call.now ∷ [])) (fate ∷ []) }
 {
     if let Call::Written(at, value) = call {
         if (*at as usize) < sectors.len() {
-            sectors[*at as usize] = *value;
+            match fate {
+                Fate::Lost => {}
+                Fate::Kept => sectors[*at as usize] = Sector::Bytes(*value),
+                Fate::Unreadable => sectors[*at as usize] = Sector::Unreadable,
+            }
         }
     }
 }
 
-// Makes those of these writes whose place is true.
-fn redo_kept(sectors: &mut [[u8; 512]], calls: &[Call], keep: &[bool])
+// What tells the fate of a write.
+trait TellsFate {
+    ghost use Rattle.sector_dev.specs.declared.device.Fate.{Fate};
+
+    ghost fate_of: { Self → Fate };
+
+    fn fate(&self) -> Fate
+        ensures { result ≡ fate_of self.now };
+}
+
+impl TellsFate for Fate {
+    ghost fate_of = { λ fate. fate };
+
+    fn fate(&self) -> Fate {
+        *self
+    }
+}
+
+impl TellsFate for bool {
+    ghost fate_of = { kept_or_lost };
+
+    fn fate(&self) -> Fate {
+        if *self { Fate::Kept } else { Fate::Lost }
+    }
+}
+
+// Gives each of these writes its fate.
+fn redo_as<F: TellsFate>(sectors: &mut [Sector], calls: &[Call], fates: &[F])
     requires { IsUnsynced calls.now }
-    ensures { sectors.new ≡ left_by sectors.old (writes_of calls.now) keep.now }
+    ensures { sectors.new ≡ left_by sectors.old (writes_of calls.now) (map F.fate_of fates.now) }
 {
     for (place, write) in calls.iter().enumerate() {
-        if place < keep.len() && keep[place] {
-            redo_one(sectors, write);
+        if place < fates.len() {
+            redo_one(sectors, write, fates[place].fate());
         }
     }
 }
 
-// Makes the writes that a sync has settled, and of the later ones those whose place is true.
-fn play(sectors: &mut [[u8; 512]], calls: &[Call], keep: &[bool])
+// Makes the writes that a sync has settled, and gives each later one its fate.
+fn play<F: TellsFate>(sectors: &mut [Sector], calls: &[Call], fates: &[F])
     ensures { let disk = after (at_rest sectors.old) calls.now in
-        sectors.new ≡ left_by disk.stable disk.pending keep.now }
+        sectors.new ≡ left_by disk.stable disk.pending (map F.fate_of fates.now) }
 {
     let settled = settled(calls);
     redo(sectors, &calls[..settled]);
-    redo_kept(sectors, &calls[settled..], keep);
+    redo_as(sectors, &calls[settled..], fates);
+}
+
+impl MemoryDevice {
+    ghost use Rattle.sector_dev.specs.InMemory.{disk_of, sector_count_of, state_of};
+
+    // A crash: what these fates leave is stable, and nothing is pending.
+    fn crash_by<F: TellsFate>(&mut self, fates: &[F])
+        ensures sectors { sector_count_of self.new ≡ sector_count_of self.old }
+        ensures disk { disk_of self.new
+            ≡ at_rest (left_by (disk_of self.old).stable (disk_of self.old).pending (map F.fate_of fates.now)) }
+        ensures left { IsStable
+            (left_by (disk_of self.old).stable (disk_of self.old).pending (map F.fate_of fates.now))
+            (state_of self.new) }
+        ensures image { (state_of self.old).image (state_of self.new).reads }
+        ensures calls_left { self.new.calls_left ≡ None }
+        ensures failures { self.new.failures ≡ self.old.failures }
+        ensures failed_pending { self.new.failed_pending ≡ false }
+    {
+        play(&mut self.base, &self.calls, fates);
+        self.seen.copy_from_slice(&self.base);
+        self.calls.clear();
+        self.calls_left = None;
+        self.failed_pending = false;
+    }
 }
 
 impl CrashDevice for MemoryDevice {
@@ -291,23 +362,37 @@ impl CrashDevice for MemoryDevice {
         self.failed_pending = false;
     }
 
+    fn crash_as(&mut self, fates: &[Fate])
+        ensures sectors { sector_count_of self.new ≡ sector_count_of self.old }
+        ensures model { (state_of self.new).keeps_model ↔ (state_of self.old).keeps_model }
+        ensures calls_left { self.new.calls_left ≡ None }
+        ensures failures { self.new.failures ≡ self.old.failures }
+        ensures left { (state_of self.old).keeps_model
+            → IsStable (left_by (disk_of self.old).stable (disk_of self.old).pending fates.now) (state_of self.new) }
+        ensures image { (state_of self.old).keeps_model → (state_of self.old).image (state_of self.new).reads }
+        ensures stable { (state_of self.old).keeps_model
+            → (disk_of self.new).stable ≡ left_by (disk_of self.old).stable (disk_of self.old).pending fates.now }
+        ensures pending { (state_of self.old).keeps_model → (disk_of self.new).pending ≡ [] }
+        ensures failed_pending { self.new.failed_pending ≡ false }
+    {
+        self.crash_by(fates);
+    }
+
     fn crash(&mut self, keep: &[bool])
         ensures sectors { sector_count_of self.new ≡ sector_count_of self.old }
         ensures model { (state_of self.new).keeps_model ↔ (state_of self.old).keeps_model }
         ensures calls_left { self.new.calls_left ≡ None }
         ensures failures { self.new.failures ≡ self.old.failures }
         ensures left { (state_of self.old).keeps_model
-            → IsStable (left_by (disk_of self.old).stable (disk_of self.old).pending keep.now) (state_of self.new) }
+            → IsStable (left_by (disk_of self.old).stable (disk_of self.old).pending (fates_of keep.now))
+            (state_of self.new) }
         ensures image { (state_of self.old).keeps_model → (state_of self.old).image (state_of self.new).reads }
         ensures stable { (state_of self.old).keeps_model
-            → (disk_of self.new).stable ≡ left_by (disk_of self.old).stable (disk_of self.old).pending keep.now }
+            → (disk_of self.new).stable
+            ≡ left_by (disk_of self.old).stable (disk_of self.old).pending (fates_of keep.now) }
         ensures pending { (state_of self.old).keeps_model → (disk_of self.new).pending ≡ [] }
         ensures failed_pending { self.new.failed_pending ≡ false }
     {
-        play(&mut self.base, &self.calls, keep);
-        self.seen.copy_from_slice(&self.base);
-        self.calls.clear();
-        self.calls_left = None;
-        self.failed_pending = false;
+        self.crash_by(keep);
     }
 }

@@ -1,43 +1,40 @@
 -- What a pending write makes of sectors that have changed or not.
-use Rattle.std.proofs.Common.{◌≡◌, inl, inr, ℕ, List, sym, ◌∙◌, ap, subst}
-use Rattle.std.specs.Prelude.{slice_set}
-use Rattle.sector_dev.specs.Device.{State, IsCoherent, WithOrWithout, IsPending, Elapses}
+use Rattle.std.proofs.Common.{◌≡◌, inl, inr, ℕ, List, refl, subst}
+use Rattle.sector_dev.specs.Image.{Sectors}
+use Rattle.sector_dev.specs.Device.{State, IsCoherent, OldOrChanged, WithOrWithout, IsPending, MayBePending, Elapses}
 use Rattle.sector_dev.specs.Runs.{IsAtRest, LeavesOnly}
 use Rattle.sector_dev.proofs.Runs.{started, goes_on}
-use Rattle.sector_dev_callers.specs.Changes.{OldOrChanged, OldOrEither}
+use Rattle.sector_dev_callers.specs.Changes.{OldOrEither}
 
-pub one_changed : (old : List (List ℕ)) (images : List (List ℕ) → Type 0) (at : ℕ) (value : List ℕ)
-    → ((d : List (List ℕ)) → images d → d ≡ old)
-    → (c : List (List ℕ)) → WithOrWithout at value images c → OldOrChanged old at value c
-one_changed old images at value only c h = elim h.2 [
-  | inl same ↦ inl (same ∙ only h.0 h.1)
-  | inr set ↦ inr (set ∙ ap (λ (d : List (List ℕ)). slice_set d at value) (only h.0 h.1))
-]
+pub one_changed : (old : Sectors) (images : Sectors → Type 0) (at : ℕ) (value : List ℕ)
+    → ((d : Sectors) → images d → d ≡ old)
+    → (c : Sectors) → WithOrWithout at value images c → OldOrChanged old at value c
+one_changed old images at value only c h =
+    subst (λ (d : Sectors). OldOrChanged d at value c) (only h.0 h.1) h.2
 
-pub two_changed : (old : List (List ℕ)) (images : List (List ℕ) → Type 0) (at : ℕ) (value : List ℕ) (also_at : ℕ)
+pub two_changed : (old : Sectors) (images : Sectors → Type 0) (at : ℕ) (value : List ℕ) (also_at : ℕ)
     (also : List ℕ)
-    → ((d : List (List ℕ)) → images d → OldOrChanged old at value d)
-    → (c : List (List ℕ)) → WithOrWithout also_at also images c → OldOrEither old at value also_at also c
-two_changed old images at value also_at also one c h = elim h.2 [
-  | inl same ↦ inl (subst (OldOrChanged old at value) (sym same) (one h.0 h.1))
-  | inr set ↦ elim (one h.0 h.1) [
-    | inl is ↦ inr (inl (set ∙ ap (λ (d : List (List ℕ)). slice_set d also_at also) is))
-    | inr is ↦ inr (inr (set ∙ ap (λ (d : List (List ℕ)). slice_set d also_at also) is))
-  ]
-]
+    → ((d : Sectors) → images d → OldOrChanged old at value d)
+    → (c : Sectors) → WithOrWithout also_at also images c → OldOrEither old at value also_at also c
+two_changed old images at value also_at also one c h = (h.0, one h.0 h.1, h.2)
+
+-- the first of the two is as it may be after it alone
+pub first_alone : (old : Sectors) (at : ℕ) (value : List ℕ) (also_at : ℕ) (also : List ℕ) (c : Sectors)
+    → OldOrChanged old at value c → OldOrEither old at value also_at also c
+first_alone old at value also_at also c one = (c, one, inl refl)
 
 -- From a device at rest: the first write, and a second one.
 module _ (old : State) (sector_count : ℕ) (laws : IsCoherent sector_count old) (at_rest : IsAtRest old)
     (at : ℕ) (value : List ℕ) where
-  pub during_first : (mid : State) (P : List (List ℕ) → Type 0)
-      → ((c : List (List ℕ)) → OldOrChanged old.reads at value c → P c)
+  pub during_first : (mid : State) (P : Sectors → Type 0)
+      → ((c : Sectors) → OldOrChanged old.reads at value c → P c)
       → Elapses old mid (WithOrWithout at value old.image) → LeavesOnly old mid P
   during_first mid P here time =
       let at_start = started old P (λ c left. here c (inl (at_rest.1 c (laws.only_now c at_rest.0 left)))) in
       goes_on old old mid P (WithOrWithout at value old.image) at_start time
       (λ c now. here c (one_changed old.reads old.image at value at_rest.1 c now))
 
-  after_first : (mid : State) → IsPending at value old mid → (c : List (List ℕ)) → mid.image c
+  after_first : (mid : State) → IsPending at value old mid → (c : Sectors) → mid.image c
       → OldOrChanged old.reads at value c
   after_first mid pending c now =
       one_changed old.reads old.image at value at_rest.1 c ((pending.images c).0 now)
@@ -56,11 +53,18 @@ module _ (old : State) (sector_count : ℕ) (laws : IsCoherent sector_count old)
     during_second mid late time pending time_2 =
         let P = OldOrEither old.reads at value also_at also in
         goes_on old mid late P (WithOrWithout also_at also mid.image)
-        (during_first mid P (λ c one. inl one) time) time_2
+        (during_first mid P (λ c one. first_alone old.reads at value also_at also c one) time) time_2
         (two_changed old.reads mid.image at value also_at also (after_first mid pending))
 
+    pub after_failed_second : (mid late : State) → IsPending at value old mid → MayBePending also_at also mid late
+        → (c : Sectors) → late.image c → OldOrEither old.reads at value also_at also c
+    after_failed_second mid late pending failed c now = elim failed.images [
+      | inl same ↦ first_alone old.reads at value also_at also c (after_first mid pending c ((same c).0 now))
+      | inr more ↦ two_changed old.reads mid.image at value also_at also (after_first mid pending) c ((more c).0 now)
+    ]
+
     after_second : (mid late : State) → IsPending at value old mid → IsPending also_at also mid late
-        → (c : List (List ℕ)) → late.image c → OldOrEither old.reads at value also_at also c
+        → (c : Sectors) → late.image c → OldOrEither old.reads at value also_at also c
     after_second mid late pending pending_2 c now =
         two_changed old.reads mid.image at value also_at also (after_first mid pending) c ((pending_2.images c).0 now)
 

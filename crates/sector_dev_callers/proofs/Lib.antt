@@ -1,1 +1,2 @@
 mod ChangeLemmas
+pub mod WriteLemmas

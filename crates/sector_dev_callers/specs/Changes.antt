@@ -1,11 +1,13 @@
--- Sectors with one or two of them changed.
-use Rattle.std.specs.Prelude.{◌≡◌, ◌⊎◌, ℕ, List, slice_set}
+-- Sectors of which some are changed.
+use Rattle.std.specs.Prelude.{◌+◌, ℕ, List, [], ◌∷◌}
+use Rattle.sector_dev.specs.Image.{Sectors, Write}
+use Rattle.sector_dev.specs.Device.{OldOrChanged}
 
--- these sectors, or with one of them changed
-abbrev pub OldOrChanged : List (List ℕ) → ℕ → List ℕ → List (List ℕ) → Type 0
-OldOrChanged old at value c = (c ≡ old) ⊎ (c ≡ slice_set old at value)
+-- these sectors, the one as it was, written or unreadable, and then the other so
+abbrev pub OldOrEither : Sectors → ℕ → List ℕ → ℕ → List ℕ → Sectors → Type 0
+OldOrEither old at value also_at also c = (d : Sectors) × OldOrChanged old at value d × OldOrChanged d also_at also c
 
--- these sectors, with the one changed, with the other, or with both
-abbrev pub OldOrEither : List (List ℕ) → ℕ → List ℕ → ℕ → List ℕ → List (List ℕ) → Type 0
-OldOrEither old at value also_at also c = OldOrChanged old at value c
-    ⊎ ((c ≡ slice_set old also_at also) ⊎ (c ≡ slice_set (slice_set old at value) also_at also))
+-- the writes of these values, one after the other, from the sector with this number on
+abbrev pub writes_from : ℕ → List (List ℕ) → List Write
+writes_from at [] = []
+writes_from at (value ∷ values) = record { at = at; value = value } ∷ writes_from (at + 1) values

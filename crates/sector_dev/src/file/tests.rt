@@ -1,5 +1,5 @@
 use super::{FileDevice, folder_of};
-use crate::{Device, DeviceFault};
+use crate::{Device, DeviceFault, Got, PositionedFile};
 use std::fs::{File, OpenOptions};
 use std::io::{self, ErrorKind};
 use std::os::fd::AsRawFd;
@@ -25,7 +25,7 @@ fn read_sector<D: Device>(
 ) -> Result<[u8; 512], DeviceFault> {
     assert!(rt; at < device.sectors(), "sector {at}");
     let mut sector = [0xee; 512];
-    device.read(at, &mut sector)?;
+    assert_eq!(rt; device.read(at, &mut sector)?, Got::Whole);
     Ok(sector)
 }
 
@@ -37,6 +37,11 @@ fn write_sector<D: Device>(
 ) -> Result<(), DeviceFault> {
     assert!(rt; at < device.sectors(), "sector {at}");
     device.write(at, value)
+}
+
+// The system's number of the last error.
+fn last_number(device: &FileDevice) -> Option<i32> {
+    device.last_error().and_then(|error| error.raw_os_error())
 }
 
 // How opening failed.
@@ -100,6 +105,28 @@ fn what_is_there_stays(rt: HostRuntime) -> Result<(), Fail> {
     assert_eq!(rt; fs::read(&rt, &path)?.as_slice(), whole.as_slice());
     assert_eq!(rt; FileDevice::create(&rt, &path, 1)?.sectors(), 2);
     assert_eq!(rt; fs::read(&rt, &path)?.as_slice(), whole.as_slice());
+    fs::remove_file(&rt, &path)?;
+    Ok(())
+}
+
+// 50,000 sectors take many writes of zeros; no hole is left in the file.
+#[test]
+fn a_long_file_is_written(rt: HostRuntime) -> Result<(), Fail> {
+    let path = free_path(&rt, "long")?;
+    fs::write(&rt, &path, [7u8; 700].as_slice())?;
+    let mut device = FileDevice::create(&rt, &path, 50_000)?;
+    assert_eq!(rt; device.sectors(), 50_000);
+    assert_eq!(rt; read_sector(&rt, &mut device, 0), Ok([7; 512]));
+    for at in [2, 31, 32, 33, 49_999] {
+        assert_eq!(rt;
+            read_sector(&rt, &mut device, at),
+            Ok([0; 512]),
+            "sector {at}"
+        );
+    }
+    let bytes = fs::read(&rt, &path)?;
+    assert_eq!(rt; bytes.len(), 25_600_000);
+    assert!(rt; bytes.iter().skip(700).all(|byte| *byte == 0));
     fs::remove_file(&rt, &path)?;
     Ok(())
 }
@@ -216,19 +243,107 @@ fn a_write_and_a_sync_that_the_system_refuses_fail(rt: HostRuntime) -> Result<()
         sectors: 2,
         failures: 0,
         sync_failed: false,
+        last_error: None,
     };
+    assert!(rt; device.last_error().is_none());
     assert_eq!(rt;
         write_sector(&rt, &mut device, 1, &[3; 512]),
         Err(DeviceFault)
     );
     assert_eq!(rt; device.failures, 1);
+    // EBADF
+    assert_eq!(rt; last_number(&device), Some(9));
     assert_eq!(rt; device.sync(), Err(DeviceFault));
     assert_eq!(rt; device.failures, 2);
+    // EINVAL
+    assert_eq!(rt; last_number(&device), Some(22));
     // A file that can be synced does not mend it.
     let path = free_path(&rt, "synced")?;
     device.file = File::create_new(&rt, &path)?;
     assert_eq!(rt; device.sync(), Err(DeviceFault));
     assert_eq!(rt; device.failures, 3);
+    assert_eq!(rt; last_number(&device), Some(22));
     fs::remove_file(&rt, &path)?;
     Ok(())
+}
+
+// A file that notes where it was last read or written, and fails where it is told to.
+#[derive(Drop)]
+struct FakeFile {
+    offset: u64,
+    fails: bool,
+}
+
+impl FakeFile {
+    fn outcome(&self) -> io::Result<()> {
+        if self.fails {
+            return Err(io::Error::from(ErrorKind::StorageFull));
+        }
+        Ok(())
+    }
+}
+
+impl PositionedFile for FakeFile {
+    ghost use Rattle.sector_dev.specs.Unknown.{unknown, unknown_is_coherent};
+
+    ghost state = { λ _. unknown };
+
+    ghost sector_count = { λ _. 0 };
+
+    ghost coherent = { λ _. unknown_is_coherent 0 };
+
+    fn read_at(&mut self, into: &mut [u8; 512], offset: u64) -> io::Result<()> {
+        self.offset = offset;
+        *into = [6; 512];
+        self.outcome()
+    }
+
+    fn write_at(&mut self, _from: &[u8; 512], offset: u64) -> io::Result<()> {
+        self.offset = offset;
+        self.outcome()
+    }
+
+    fn sync(&mut self) -> io::Result<()> {
+        self.outcome()
+    }
+}
+
+fn on_fake(file: FakeFile) -> FileDevice<FakeFile> {
+    FileDevice {
+        file,
+        sectors: u32::MAX,
+        failures: 0,
+        sync_failed: false,
+        last_error: None,
+    }
+}
+
+#[test]
+fn the_last_sector_stands_before_two_tebibytes(rt: HostRuntime) -> Result<(), Fail> {
+    let file = FakeFile {
+        offset: 0,
+        fails: false,
+    };
+    let mut device = on_fake(file);
+    write_sector(&rt, &mut device, 4_294_967_294, &[1; 512])?;
+    assert_eq!(rt; device.file.offset, 2_199_023_254_528);
+    assert_eq!(rt; read_sector(&rt, &mut device, 8_388_608), Ok([6; 512]));
+    assert_eq!(rt; device.file.offset, 4_294_967_296);
+    Ok(())
+}
+
+#[test]
+fn a_sync_that_failed_is_final(rt: HostRuntime) {
+    let file = FakeFile {
+        offset: 0,
+        fails: true,
+    };
+    let mut device = on_fake(file);
+    assert_eq!(rt; device.sync(), Err(DeviceFault));
+    let kind = device.last_error().map(|error| error.kind());
+    assert_eq!(rt; kind, Some(ErrorKind::StorageFull));
+    device.file.fails = false;
+    assert_eq!(rt; device.sync(), Err(DeviceFault));
+    assert_eq!(rt; device.failures, 2);
+    assert_eq!(rt; read_sector(&rt, &mut device, 0), Ok([6; 512]));
 }

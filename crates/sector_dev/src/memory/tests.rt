@@ -1,12 +1,15 @@
 //! Crashes, limited calls and want of memory, as a caller of the traits sees them.
 
-use crate::{CrashDevice, Device, DeviceFault, MemoryDevice};
+use crate::{CrashDevice, Device, DeviceFault, Fate, Got, MemoryDevice};
 use std::alloc::{AllocError, Global};
 use std::process::Abort;
 use std::test::Fail;
 
 // What each of three sectors is filled with.
 type Bytes = [u8; 3];
+
+// What a sector that is unreadable counts as. No test fills a sector with it.
+const NOTHING: u8 = 250;
 
 // Distinct, and no byte that a test writes over them.
 const STABLE: Bytes = [101, 102, 103];
@@ -25,13 +28,17 @@ fn byte_at<D: Device>(rt: &impl Abort, device: &mut D, at: u32) -> Result<u8, De
         return Err(DeviceFault);
     }
     let mut sector = [255; 512];
-    device.read(at, &mut sector)?;
+    let got = device.read(at, &mut sector)?;
     let byte = sector[0];
     assert!(rt;
         sector == [byte; 512],
         "sector {at} is not filled with one byte"
     );
-    Ok(byte)
+    if got == Got::Whole {
+        return Ok(byte);
+    }
+    assert_eq!(rt; byte, 0, "sector {at} is unreadable");
+    Ok(NOTHING)
 }
 
 // What the first three sectors are filled with.
@@ -67,13 +74,34 @@ fn left(writes: &[Filling], keep: &[bool]) -> Bytes {
     left
 }
 
-// The bytes that a crash may leave in a sector: the stable one, and that of each write to it.
+// What a crash with these fates leaves in a sector: the last write to it that is not lost decides.
+fn left_at(writes: &[Filling], fates: &[Fate], at: u32) -> u8 {
+    for (place, (sector, byte)) in writes.iter().enumerate().rev() {
+        if *sector == at {
+            match fates.get(place) {
+                Some(Fate::Kept) => return *byte,
+                Some(Fate::Unreadable) => return NOTHING,
+                _ => {}
+            }
+        }
+    }
+    STABLE.get(at as usize).copied().unwrap_or(NOTHING)
+}
+
+fn left_as(writes: &[Filling], fates: &[Fate]) -> Bytes {
+    [0, 1, 2].map(|at| left_at(writes, fates, at))
+}
+
+// What a crash may leave in a sector: the stable byte, that of each write to it, and nothing where there is one.
 fn choices(alloc: Global, writes: &[Filling], at: u32, stable: u8) -> Result<Vec<u8>, AllocError> {
     let mut choices = vec![in alloc; stable]?;
     for (sector, byte) in writes {
         if *sector == at {
             choices.push(*byte)?;
         }
+    }
+    if choices.len() > 1 {
+        choices.push(NOTHING)?;
     }
     Ok(choices)
 }
@@ -91,12 +119,26 @@ fn images(alloc: Global, writes: &[Filling]) -> Result<Vec<Bytes>, AllocError> {
     Ok(images)
 }
 
+// How a crash is played.
+#[derive(Clone, Copy, Debug)]
+enum Crash<'a> {
+    Keep(&'a [bool]),
+    As(&'a [Fate]),
+}
+
+fn play<D: CrashDevice>(device: &mut D, crash: Crash<'_>) {
+    match crash {
+        Crash::Keep(keep) => device.crash(keep),
+        Crash::As(fates) => device.crash_as(fates),
+    }
+}
+
 // What a crash after these writes leaves, which later crashes don't change.
 fn crashed<D: CrashDevice>(
     rt: &impl Abort,
     device: &mut D,
     writes: &[Filling],
-    keep: &[bool],
+    crash: Crash<'_>,
 ) -> Result<Bytes, DeviceFault> {
     settle(device, STABLE)?;
     for (at, byte) in writes {
@@ -107,24 +149,43 @@ fn crashed<D: CrashDevice>(
         left(writes, &[true; 4]),
         "before the crash, {writes:?}"
     );
-    device.crash(keep);
+    play(device, crash);
     let outcome = bytes(rt, device)?;
-    device.crash(&[true; 8]);
+    device.crash_as(&[Fate::Unreadable; 8]);
     assert_eq!(rt;
         bytes(rt, device)?,
         outcome,
-        "nothing is pending, {writes:?} {keep:?}"
+        "nothing is pending, {writes:?} {crash:?}"
     );
     device.crash(&[]);
     assert_eq!(rt;
         bytes(rt, device)?,
         outcome,
-        "the kept is stable, {writes:?} {keep:?}"
+        "what was left is stable, {writes:?} {crash:?}"
     );
     Ok(outcome)
 }
 
-// Plays a crash after these writes for each subset of them.
+// The fate with this number, of three.
+fn fate_with(number: u8) -> Fate {
+    match number % 3 {
+        0 => Fate::Lost,
+        1 => Fate::Kept,
+        _ => Fate::Unreadable,
+    }
+}
+
+// The fates of four writes with this number, of 81.
+fn fates_with(number: u8) -> [Fate; 4] {
+    [
+        fate_with(number),
+        fate_with(number / 3),
+        fate_with(number / 9),
+        fate_with(number / 27),
+    ]
+}
+
+// Plays a crash after these writes for each list of fates, and for each subset that is kept.
 fn check_crashes<D: CrashDevice>(
     rt: &impl Abort,
     alloc: Global,
@@ -132,18 +193,25 @@ fn check_crashes<D: CrashDevice>(
     writes: &[Filling],
 ) -> Result<(), Fail> {
     let images = images(alloc, writes)?;
-    let subsets = [1u8, 2, 4, 8, 16].get(writes.len()).copied();
+    let lists = [1u8, 3, 9, 27, 81].get(writes.len()).copied();
     let mut outcomes = Vec::new(alloc);
-    for number in 0..subsets.ok_or("more than four writes")? {
-        let places = [1u8, 2, 4, 8].map(|bit| number & bit != 0);
-        let keep = places.get(..writes.len()).ok_or("more than four writes")?;
-        let outcome = crashed(rt, device, writes, keep)?;
-        assert_eq!(rt; outcome, left(writes, keep), "{writes:?} {keep:?}");
-        assert!(rt; images.contains(&outcome), "{writes:?} {keep:?}");
+    for number in 0..lists.ok_or("more than four writes")? {
+        let fates = fates_with(number);
+        let fates = fates.get(..writes.len()).ok_or("more than four writes")?;
+        let outcome = crashed(rt, device, writes, Crash::As(fates))?;
+        assert_eq!(rt; outcome, left_as(writes, fates), "{writes:?} {fates:?}");
+        assert!(rt; images.contains(&outcome), "{writes:?} {fates:?}");
         outcomes.push(outcome)?;
     }
     for image in &images {
         assert!(rt; outcomes.contains(image), "{writes:?} never left {image:?}");
+    }
+    let subsets = [1u8, 2, 4, 8, 16].get(writes.len()).copied();
+    for number in 0..subsets.ok_or("more than four writes")? {
+        let places = [1u8, 2, 4, 8].map(|bit| number & bit != 0);
+        let keep = places.get(..writes.len()).ok_or("more than four writes")?;
+        let outcome = crashed(rt, device, writes, Crash::Keep(keep))?;
+        assert_eq!(rt; outcome, left(writes, keep), "{writes:?} {keep:?}");
     }
     Ok(())
 }
@@ -166,6 +234,36 @@ fn crashes_leave_the_images(rt: HostRuntime) -> Result<(), Fail> {
     Ok(())
 }
 
+// Makes the first sector unreadable; then it is written and lost, written and kept.
+fn lose_and_write<D: CrashDevice>(rt: &impl Abort, device: &mut D) -> Result<(), DeviceFault> {
+    settle(device, STABLE)?;
+    fill(device, 0, 1)?;
+    device.crash_as(&[Fate::Unreadable]);
+    assert_eq!(rt; bytes(rt, device)?, [NOTHING, 102, 103]);
+    device.sync()?;
+    assert_eq!(rt; byte_at(rt, device, 0)?, NOTHING, "a sync mends nothing");
+    fill(device, 0, 2)?;
+    assert_eq!(rt; byte_at(rt, device, 0)?, 2, "a pending write is read");
+    device.crash_as(&[Fate::Lost]);
+    assert_eq!(rt; byte_at(rt, device, 0)?, NOTHING, "the write was lost");
+    fill(device, 0, 3)?;
+    device.sync()?;
+    device.crash_as(&[Fate::Unreadable]);
+    assert_eq!(rt;
+        bytes(rt, device)?,
+        [3, 102, 103],
+        "a written sector is readable"
+    );
+    Ok(())
+}
+
+#[test]
+fn a_sector_is_unreadable_until_it_is_written_again(rt: HostRuntime) -> Result<(), Fail> {
+    let mut device = MemoryDevice::new(rt.alloc(), 3)?;
+    lose_and_write(&rt, &mut device)?;
+    Ok(())
+}
+
 // A missing place is false, and one too many changes nothing.
 #[test]
 fn places_are_missing_or_too_many(rt: HostRuntime) -> Result<(), Fail> {
@@ -175,7 +273,7 @@ fn places_are_missing_or_too_many(rt: HostRuntime) -> Result<(), Fail> {
         for number in 0..lists {
             let places = [1u8, 2, 4, 8, 16, 32].map(|bit| number & bit != 0);
             let keep = places.get(..length).ok_or("more than six places")?;
-            let outcome = crashed(&rt, &mut device, &writes, keep)?;
+            let outcome = crashed(&rt, &mut device, &writes, Crash::Keep(keep))?;
             assert_eq!(rt; outcome, left(&writes, keep), "{keep:?}");
         }
     }

@@ -1,6 +1,7 @@
-use Rattle.std.proofs.Common.{ℕ, List, subst}
+use Rattle.std.proofs.Common.{subst}
+use Rattle.sector_dev.specs.Image.{Sectors}
 use Rattle.sector_dev.specs.Device.{IsStable}
-use Rattle.sector_dev_callers.specs.Changes.{OldOrChanged}
+use Rattle.sector_dev.specs.Device.{OldOrChanged}
 use Rattle.sector_dev_callers.proofs.ChangeLemmas.{during_first, during_first_sync}
 use Rattle.sector_dev_callers.proofs.write_one.Goals as goal
 
@@ -36,4 +37,4 @@ returns-clause-changed g c =
     λ at_rest.
     let pending = c.in_ok-write.ensures.ok at_rest.0 in
     let stable = c.in_ok-sync.ensures.ok (c.write.ensures.model.1 at_rest.0) in
-    subst (λ (s : List (List ℕ)). IsStable s (g.D.Device.state c.sync.new.self)) pending.reads stable
+    subst (λ (s : Sectors). IsStable s (g.D.Device.state c.sync.new.self)) pending.reads stable

@@ -2,6 +2,7 @@ use Rattle.std.proofs.Common.{length, inr, sym, ◌∙◌, ap, arith, rules}
 use Rattle.std.specs.Prelude.{Bool, ◌||◌}
 use Rattle.sector_dev.specs.declared.memory.Call.TheVariants.{Written}
 use Rattle.sector_dev.proofs.Moments.{recorded, written_shown, written_is_pending, written_elapses, length-shown, at_ok, at_err, at_no_err}
+use Rattle.sector_dev.proofs.Wholes.{bytes_whole, written_whole}
 use Rattle.sector_dev.proofs.memory.MemoryDeviceDevice.write.Goals as goal
 use Rattle.sector_dev.proofs.memory.MemoryDeviceDevice.write.Goals.{else-is_err-via-then-is_err+else-self, else-is_err-via-else-is_err}
 
@@ -62,3 +63,10 @@ returns-clause-failed c =
       | else-is_err-via-else-is_err w ↦
           at_no_err c.take_one-taken.result _ (sym c.is_err.ensures.value ∙ w.if-is_err.false)
     ]
+
+pub invariant_of-self-2-clause-whole_writes : goal.invariant_of-self-2-clause-whole_writes
+invariant_of-self-2-clause-whole_writes c =
+    let m = c.args.self.now in
+    let e = c.put.ensures in
+    written_whole c.put.result m.calls.items c.put.new.calls.items c.args.at c.args.from.now e.calls e.calls_err
+    m.whole_writes (bytes_whole c.args.from.now c.fits-from c.told-from)

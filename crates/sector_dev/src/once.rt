@@ -1,0 +1,169 @@
+// A device of which one call fails.
+ghost use Rattle.std.specs.Prelude.{◌≡◌, ◌≢◌, ◌⊎◌, ◌<◌, ◌+◌, ◌-◌, ◌↔◌, true, false, IsTrue, IsErr, IfOk, OnOk, OnErr};
+ghost use Rattle.sector_dev.specs.Image.{sector_at};
+ghost use Rattle.sector_dev.specs.Device.{IsRead, WithOrWithout, IsUnchanged, IsPending, MayBePending, IsStable, MayBeStable, Elapses, HasRisen, CountsFailure, TakesOne};
+
+use crate::{Device, DeviceFault, Got};
+
+#[cfg(test)]
+mod tests;
+
+/// A device of which one call fails, and later ones go on. All else is the device below: it keeps the model where that
+/// one does.
+#[derive(Drop)]
+pub struct OnceDevice<D> {
+    device: D,
+    /// Which of the coming calls fails, counted from 1; 0 where none does.
+    fails_in: u64,
+    pending: bool,
+    /// How often a call failed here.
+    failures: u64,
+}
+
+impl<D: Device> OnceDevice<D> {
+    /// The device, of which no call fails besides those that fail by themselves.
+    pub fn new(device: D) -> OnceDevice<D>
+        ensures device { result.device ≡ device }
+        ensures fails_in { result.fails_in ≡ 0 }
+        ensures failures { result.failures ≡ 0 }
+    {
+        OnceDevice {
+            device,
+            fails_in: 0,
+            pending: false,
+            failures: 0,
+        }
+    }
+
+    /// Lets that one of the coming calls of `read`, `write` and `sync` fail, counted from 1 (none for 0), and no
+    /// other. A write that fails so is pending where `pending` says so; a sync leaves the pending writes.
+    pub fn fail_at(&mut self, call: u64, pending: bool)
+        ensures device { self.new.device ≡ self.old.device }
+        ensures fails_in { self.new.fails_in ≡ call }
+        ensures pending { self.new.pending ≡ pending }
+        ensures failures { self.new.failures ≡ self.old.failures }
+    {
+        self.fails_in = call;
+        self.pending = pending;
+    }
+
+    /// The device below.
+    pub fn into_device(self) -> D
+        ensures { result ≡ self.device }
+    {
+        self.device
+    }
+}
+
+// Whether this call is the one that fails. It counts down.
+fn is_due(fails_in: &mut u64) -> bool
+    ensures due { IsTrue result ↔ (fails_in.old ≡ 1) }
+    ensures left { fails_in.new ≡ fails_in.old - 1 }
+{
+    let due = *fails_in == 1;
+    *fails_in = fails_in.saturating_sub(1);
+    due
+}
+
+impl<D: Device> Device for OnceDevice<D> {
+    ghost state = { λ once. D.state once.device };
+
+    ghost sector_count = { λ once. D.sector_count once.device };
+
+    ghost failures = { λ once. D.failures once.device + once.failures };
+
+    ghost calls_left = { λ once. D.calls_left once.device };
+
+    ghost coherent = { λ once. D.coherent once.device };
+
+    fn sectors(&self) -> u32 {
+        self.device.sectors()
+    }
+
+    fn read(&mut self, at: u32, into: &mut [u8; 512]) -> Result<Got, DeviceFault>
+        requires { at < D.sector_count self.old.device }
+        ensures sectors { D.sector_count self.new.device ≡ D.sector_count self.old.device }
+        ensures model { (D.state self.new.device).keeps_model ↔ (D.state self.old.device).keeps_model }
+        ensures value { (D.state self.old.device).keeps_model
+            → IfOk result (λ got. IsRead (sector_at (D.state self.old.device).reads at) got into.new) }
+        ensures unchanged { (D.state self.old.device).keeps_model
+            → IsUnchanged (D.state self.old.device) (D.state self.new.device) }
+        ensures time { (D.state self.old.device).keeps_model
+            → Elapses (D.state self.old.device) (D.state self.new.device) (D.state self.old.device).image }
+        ensures cause { CountsFailure result (D.failures self.old.device + self.old.failures)
+            (D.failures self.new.device + self.new.failures) }
+        ensures calls_left { TakesOne result (D.calls_left self.old.device) (D.calls_left self.new.device) }
+        ensures counted { self.new.fails_in ≡ self.old.fails_in - 1 }
+        ensures pending { self.new.pending ≡ self.old.pending }
+        ensures fails { self.old.fails_in ≡ 1 → IsErr result × (self.new.device ≡ self.old.device) }
+        // Any other call fails only where the device below does.
+        ensures passes { self.old.fails_in ≢ 1
+            → CountsFailure result (D.failures self.old.device) (D.failures self.new.device) }
+    {
+        if is_due(&mut self.fails_in) {
+            self.failures = self.failures.saturating_add(1);
+            return Err(DeviceFault);
+        }
+        self.device.read(at, into)
+    }
+
+    fn write(&mut self, at: u32, from: &[u8; 512]) -> Result<(), DeviceFault>
+        requires { at < D.sector_count self.old.device }
+        ensures sectors { D.sector_count self.new.device ≡ D.sector_count self.old.device }
+        ensures model { (D.state self.new.device).keeps_model ↔ (D.state self.old.device).keeps_model }
+        ensures ok { (D.state self.old.device).keeps_model
+            → OnOk result (IsPending at from.now (D.state self.old.device) (D.state self.new.device)) }
+        ensures err { (D.state self.old.device).keeps_model
+            → OnErr result (MayBePending at from.now (D.state self.old.device) (D.state self.new.device)) }
+        ensures time { (D.state self.old.device).keeps_model
+            → Elapses (D.state self.old.device) (D.state self.new.device)
+            (WithOrWithout at from.now (D.state self.old.device).image) }
+        ensures cause { CountsFailure result (D.failures self.old.device + self.old.failures)
+            (D.failures self.new.device + self.new.failures) }
+        ensures calls_left { TakesOne result (D.calls_left self.old.device) (D.calls_left self.new.device) }
+        ensures counted { self.new.fails_in ≡ self.old.fails_in - 1 }
+        ensures pending { self.new.pending ≡ self.old.pending }
+        ensures fails { self.old.fails_in ≡ 1 → IsErr result }
+        ensures not_pending { self.old.fails_in ≡ 1 → self.old.pending ≡ false → self.new.device ≡ self.old.device }
+        // It is pending, unless the device below failed besides.
+        ensures is_pending { self.old.fails_in ≡ 1 → self.old.pending ≡ true → (D.state self.old.device).keeps_model
+            → IsPending at from.now (D.state self.old.device) (D.state self.new.device)
+            ⊎ HasRisen (D.failures self.old.device) (D.failures self.new.device) }
+        ensures passes { self.old.fails_in ≢ 1
+            → CountsFailure result (D.failures self.old.device) (D.failures self.new.device) }
+    {
+        if !is_due(&mut self.fails_in) {
+            return self.device.write(at, from);
+        }
+        self.failures = self.failures.saturating_add(1);
+        if self.pending {
+            self.device.write(at, from)?;
+        }
+        Err(DeviceFault)
+    }
+
+    fn sync(&mut self) -> Result<(), DeviceFault>
+        ensures sectors { D.sector_count self.new.device ≡ D.sector_count self.old.device }
+        ensures model { (D.state self.new.device).keeps_model ↔ (D.state self.old.device).keeps_model }
+        ensures ok { (D.state self.old.device).keeps_model
+            → OnOk result (IsStable (D.state self.old.device).reads (D.state self.new.device)) }
+        ensures err { (D.state self.old.device).keeps_model
+            → OnErr result (MayBeStable (D.state self.old.device) (D.state self.new.device)) }
+        ensures time { (D.state self.old.device).keeps_model
+            → Elapses (D.state self.old.device) (D.state self.new.device) (D.state self.old.device).image }
+        ensures cause { CountsFailure result (D.failures self.old.device + self.old.failures)
+            (D.failures self.new.device + self.new.failures) }
+        ensures calls_left { TakesOne result (D.calls_left self.old.device) (D.calls_left self.new.device) }
+        ensures counted { self.new.fails_in ≡ self.old.fails_in - 1 }
+        ensures pending { self.new.pending ≡ self.old.pending }
+        ensures fails { self.old.fails_in ≡ 1 → IsErr result × (self.new.device ≡ self.old.device) }
+        ensures passes { self.old.fails_in ≢ 1
+            → CountsFailure result (D.failures self.old.device) (D.failures self.new.device) }
+    {
+        if is_due(&mut self.fails_in) {
+            self.failures = self.failures.saturating_add(1);
+            return Err(DeviceFault);
+        }
+        self.device.sync()
+    }
+}

@@ -1,0 +1,71 @@
+-- Writes of a list of sectors, one after the other.
+use Rattle.std.proofs.Common.{◌≡◌, ◌≤◌, ◌<◌, ◌+◌, ◌++◌, ◌∷◌, [], refl, sym, ◌∙◌, ap, subst, ℕ, List, length, take, drop, get_or, arith, length-take-le}
+use Rattle.std.specs.Prelude.{Result, Ok, Err, IsErr}
+use Rattle.std.proofs.lemmas.Bool.{false≢true}
+use Rattle.std.proofs.lemmas.List.{take_more, take-append-drop}
+use Rattle.sector_dev.specs.Image.{Sectors, Write}
+use Rattle.sector_dev.specs.Device.{State, IsCoherent, WithOrWithout, IsPending, MayBePending, HasRisen, CountsFailure}
+use Rattle.sector_dev.specs.Runs.{WithWrites, ArePending}
+use Rattle.sector_dev.proofs.Runs.{with_more, during_more, more_pending, more_failed}
+use Rattle.sector_dev_callers.specs.Changes.{writes_from}
+
+writes_from-append : (at : ℕ) (xs ys : List (List ℕ))
+    → writes_from at (xs ++ ys) ≡ writes_from at xs ++ writes_from (at + length xs) ys
+writes_from-append at [] ys =
+    let same : at ≡ at + length {A = List ℕ} [] = omega arith in
+    ap (λ (n : ℕ). writes_from n ys) same
+writes_from-append at (x ∷ xs) ys =
+    let same : (at + 1) + length xs ≡ at + length (x ∷ xs) = omega arith in
+    ap (λ (ws : List Write). record { at = at; value = x } ∷ ws)
+    (writes_from-append (at + 1) xs ys ∙ ap (λ (n : ℕ). writes_from (at + 1) xs ++ writes_from n ys) same)
+
+-- a call that failed has counted it
+pub failed_counted : {T E : Type 0} (r : Result T E) (old new : ℕ) → IsErr r → HasRisen old new × (old ≤ new)
+    → CountsFailure r old new
+failed_counted (Ok x) old new err risen = absurd (false≢true err)
+failed_counted (Err e) old new err risen = risen
+
+-- One write more, at place `i` of the list.
+module _ (old mid : State) (count : ℕ) (laws : IsCoherent count old) (model : old.keeps_model)
+    (from : ℕ) (sectors : List (List ℕ)) (fit : from + length sectors ≤ count)
+    (i at : ℕ) (lt : i < length sectors) (is_at : at ≡ from + i)
+    (pending : ArePending (writes_from from (take i sectors)) old mid) where
+  abbrev here : Write
+  here = record { at = at; value = get_or sectors i [] }
+
+  within : (d : Sectors) → old.image d → at < length d
+  within d was = omega (arith, laws.image_size d model was, fit, lt, is_at)
+
+  next : writes_from from (take (i + 1) sectors) ≡ writes_from from (take i sectors) ++ here ∷ []
+  next =
+      let same : from + length (take i sectors) ≡ at =
+      omega (arith, length-take-le i sectors (omega (arith, lt)), is_at) in
+      ap (writes_from from) (take_more sectors i [] lt)
+      ∙ (writes_from-append from (take i sectors) (get_or sectors i [] ∷ [])
+      ∙ ap (λ (n : ℕ). writes_from from (take i sectors) ++ record { at = n; value = get_or sectors i [] } ∷ []) same)
+
+  among_all : (c : Sectors) → WithWrites (writes_from from (take i sectors) ++ here ∷ []) old.image c
+      → WithWrites (writes_from from sectors) old.image c
+  among_all c h =
+      let split = writes_from-append from (take (i + 1) sectors) (drop (i + 1) sectors) in
+      subst (λ (xs : List (List ℕ)). WithWrites (writes_from from xs) old.image c) (take-append-drop (i + 1) sectors)
+      (subst (λ (ws : List Write). WithWrites ws old.image c) (sym split)
+      (with_more (writes_from from (take (i + 1) sectors))
+      (writes_from (from + length (take (i + 1) sectors)) (drop (i + 1) sectors)) old.image c
+      (subst (λ (ws : List Write). WithWrites ws old.image c) (sym next) h)))
+
+  pub during_one : (c : Sectors) → WithOrWithout at (get_or sectors i []) mid.image c
+      → WithWrites (writes_from from sectors) old.image c
+  during_one c h =
+      among_all c (during_more old mid mid (writes_from from (take i sectors)) here pending within c h)
+
+  pub one_pending : (new : State) → IsPending at (get_or sectors i []) mid new
+      → ArePending (writes_from from (take (i + 1) sectors)) old new
+  one_pending new last =
+      subst (λ (ws : List Write). ArePending ws old new) (sym next)
+      (more_pending old mid new (writes_from from (take i sectors)) here pending within last)
+
+  pub one_failed : (new : State) → MayBePending at (get_or sectors i []) mid new → (c : Sectors) → new.image c
+      → WithWrites (writes_from from sectors) old.image c
+  one_failed new failed c now =
+      among_all c (more_failed old mid new (writes_from from (take i sectors)) here pending within failed c now)
