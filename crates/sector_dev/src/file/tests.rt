@@ -340,7 +340,7 @@ fn a_sync_that_failed_is_final(rt: HostRuntime) {
     };
     let mut device = on_fake(file);
     assert_eq!(rt; device.sync(), Err(DeviceFault));
-    let kind = device.last_error().map(|error| error.kind());
+    let kind = device.last_error.as_ref().map(|error| error.kind());
     assert_eq!(rt; kind, Some(ErrorKind::StorageFull));
     device.file.fails = false;
     assert_eq!(rt; device.sync(), Err(DeviceFault));
