@@ -174,9 +174,8 @@ fn en_passant_does_not_uncover_the_king(rt: HostRuntime) -> Result<(), Fail> {
     Ok(())
 }
 
-// 4k3/8/8/8/8/8/1r6/R3K3 w Q - 0 1: an attack on b1 does not prevent castling.
-#[test]
-fn castles_past_an_attack_on_b1(rt: HostRuntime) -> Result<(), Fail> {
+// 4k3/8/8/8/8/8/1r6/R3K3 w Q - 0 1, or with other rights.
+fn rook_attacks_b1(rights: CastlingRights) -> Result<Board, BadBoard> {
     let empty = b"........";
     let diagram = [
         b"....k...",
@@ -188,11 +187,21 @@ fn castles_past_an_attack_on_b1(rt: HostRuntime) -> Result<(), Fail> {
         b".r......",
         b"R...K...",
     ];
-    let castling = move_of(Square::at(5, 1), Square::at(3, 1), None);
-    let board = board_of(diagram, CastlingRights::of(false, true, false, false), None)?;
-    assert!(rt; legal(&board, castling));
-    let board = board_of(diagram, no_rights(), None)?;
-    assert!(rt; !legal(&board, castling));
+    board_of(diagram, rights, None)
+}
+
+// An attack on b1 does not prevent castling.
+#[test]
+fn castles_past_an_attack_on_b1(rt: HostRuntime) -> Result<(), Fail> {
+    let may_castle = rook_attacks_b1(CastlingRights::of(false, true, false, false))?;
+    assert!(rt;
+        legal(
+            &may_castle,
+            move_of(Square::at(5, 1), Square::at(3, 1), None)
+        )
+    );
+    let may_not = rook_attacks_b1(no_rights())?;
+    assert!(rt; !legal(&may_not, move_of(Square::at(5, 1), Square::at(3, 1), None)));
     Ok(())
 }
 
