@@ -1,5 +1,5 @@
 -- No valid position has more than 512 legal moves: at most 16 men, and at most 32 moves of each.
-use Rattle.std.specs.Prelude.{ℕ, ◌≡◌, ◌⊎◌, ◌+◌, ◌*◌, ◌≤◌, Bool, true, false, cond, ◌||◌, ◌==◌, nat_le, List, [], ◌∷◌, length, filter, flat_map, Contains, Some, None}
+use Rattle.std.specs.Prelude.{ℕ, ◌≡◌, ◌⊎◌, ◌+◌, ◌*◌, ◌≤◌, Bool, true, false, cond, ◌||◌, ◌==◌, nat_le, List, [], length, filter, Some}
 use Rattle.std.specs.Bool.{Decides}
 use Rattle.std.specs.List.{list_all}
 use Rattle.std.proofs.Common.{arith, refl, sym, ap, ◌∙◌, inl, inr}
@@ -12,7 +12,7 @@ use Rattle.chess_bits.specs.declared.men.Kind.TheVariants.{Pawn, Knight, Bishop,
 use Rattle.chess_bits.specs.Square.{Square, IsOnBoard, is_square, squares}
 use Rattle.chess_bits.specs.Man.{other, is_of, holds}
 use Rattle.chess_bits.specs.Table.{has, members}
-use Rattle.chess_bits.specs.Attack.{along, north, east, south, west, north_east, south_east, south_west, north_west, forward, straight, diagonal, adjoining, knight_steps, pawn_attacks, Reaches, SlidesAlong, Slides, reaches}
+use Rattle.chess_bits.specs.Attack.{along, north, east, south, west, north_east, south_east, south_west, north_west, forward, straight, diagonal, adjoining, knight_steps, pawn_attacks, Reaches, Slides, reaches}
 use Rattle.chess_bits.proofs.TableLemmas.{Decides-is_square}
 use Rattle.chess_bits.proofs.Deciding.{or_decides, Decides-reaches, Decides-each_square}
 use Rattle.chess_bits.proofs.MemberLemmas.{length-members_map}
@@ -22,7 +22,6 @@ use Rattle.chess_board.specs.declared.moves.Move.{Move}
 use Rattle.chess_board.specs.Occupancy.{squares_with}
 use Rattle.chess_board.specs.Position.{Position, man_at, occupied_of, home_rank, king_home, IsValid}
 use Rattle.chess_board.specs.Next.{castled_king}
-use Rattle.chess_board.specs.Legal.{Castles}
 use Rattle.chess_board.specs.Computing.{is_legal, advances, advances_two, pawn_takes, takes_en_passant, is_piece_move, castles, moves_between, legal_moves_of}
 use Rattle.chess_board.proofs.Candidates.{IsOnBoard-from_man}
 use Rattle.chess_board.proofs.Deciding.{Decides-advances, Decides-advances_two, Decides-pawn_takes, Decides-takes_en_passant, Decides-is_piece_move, Decides-castles}

@@ -1,7 +1,6 @@
 -- The legal moves from a square, as its targets tell them.
-use Rattle.std.specs.Prelude.{ℕ, ◌≡◌, ◌≢◌, ◌⊎◌, ◌↔◌, ◌<◌, Bool, true, false, cond, ◌&&◌, ◌==◌, not, List, [], ◌∷◌, ◌++◌, length, filter, flat_map, Contains, Option, Some, None, is_none}
+use Rattle.std.specs.Prelude.{◌≡◌, ◌↔◌, ◌<◌, Bool, true, false, cond, ◌&&◌, ◌==◌, not, List, [], ◌∷◌, length, filter, flat_map, Contains, Option, Some, None, is_none}
 use Rattle.std.specs.Bool.{Decides}
-use Rattle.std.specs.List.{range_with_len}
 use Rattle.std.proofs.Common.{arith, refl, sym, ap, subst, ◌∙◌, inl, inr}
 use Rattle.std.proofs.lemmas.Bool.{false≢true, cases_Bool, cases_eq, false_from_ne_true}
 use Rattle.std.proofs.lemmas.List.FromFn.{get_or-map-range_with_len}
@@ -18,7 +17,7 @@ use Rattle.chess_bits.proofs.AlongLemmas.{length-all_squares}
 use Rattle.chess_board.specs.declared.moves.Move.{Move}
 use Rattle.chess_board.specs.Position.{Position, man_at, IsInCheck, is_in_check}
 use Rattle.chess_board.specs.Next.{placement_after}
-use Rattle.chess_board.specs.Legal.{last_rank, IsCandidate, IsLegal}
+use Rattle.chess_board.specs.Legal.{last_rank, IsLegal}
 use Rattle.chess_board.specs.Computing.{holds_colour, is_promotion, is_legal, moves_between, moves_from, legal_moves_of}
 use Rattle.chess_board.proofs.Deciding.{Decides-is_none, Decides-is_promotion, Decides-is_in_check, Decides-is_legal}
 use Rattle.chess_board.specs.Occupancy.{squares_with}

@@ -1,16 +1,16 @@
 -- A move by the rules of a kind is the way that the man goes, and what it becomes.
-use Rattle.std.specs.Prelude.{◌≡◌, ◌⊎◌, ◌↔◌, Bool, true, List, Option, Some, None}
-use Rattle.std.proofs.Common.{inl, inr, ap, sym, ◌∙◌, refl}
+use Rattle.std.specs.Prelude.{◌≡◌, ◌↔◌, Bool, true, List, Some, None}
+use Rattle.std.proofs.Common.{inl, inr, refl}
 use Rattle.chess_bits.specs.declared.men.Kind.{Kind}
 use Rattle.chess_bits.specs.declared.men.Kind.TheVariants.{Pawn, Knight, Bishop, Rook, Queen, King}
-use Rattle.chess_bits.specs.Square.{Square, IsOnBoard}
+use Rattle.chess_bits.specs.Square.{IsOnBoard}
 use Rattle.chess_bits.specs.Table.{has, IsSetOf}
 use Rattle.chess_bits.proofs.ManLemmas.{same_kind}
 use Rattle.chess_board.specs.declared.castling.Wing.{Wing}
 use Rattle.chess_board.specs.declared.castling.Wing.TheVariants as wing
 use Rattle.chess_board.specs.declared.moves.Move.{Move}
 use Rattle.chess_board.specs.Position.{Position, man_at}
-use Rattle.chess_board.specs.Legal.{Advances, AdvancesTwo, PawnTakes, TakesEnPassant, IsPieceMove, Castles, IsMoveOf, IsCandidate}
+use Rattle.chess_board.specs.Legal.{IsPieceMove, Castles, IsMoveOf, IsCandidate}
 use Rattle.chess_moves.specs.Targets.{plain, GoesTo, Becomes}
 
 piece_of : (p : Position) (m : Move) (kind : Kind) → IsPieceMove p (plain m.from m.to) kind → m.promotion ≡ None →

@@ -1,11 +1,11 @@
 -- What a pawn becomes does not matter to the safety of its king.
-use Rattle.std.specs.Prelude.{◌≡◌, ◌≢◌, ◌⊎◌, Bool, true, false, cond, List, length, map, Option, Some, None, is_some}
+use Rattle.std.specs.Prelude.{◌≡◌, ◌≢◌, Bool, cond, List, length, Option, Some, None, is_some}
 use Rattle.std.proofs.Common.{refl, sym, ap, subst, ◌∙◌, inl, inr}
 use Rattle.std.proofs.lemmas.Bool.{cases_Bool}
 use Rattle.std.proofs.lemmas.Option.{same_Some}
 use Rattle.chess_bits.specs.declared.men.Colour.{Colour}
 use Rattle.chess_bits.specs.declared.men.Kind.{Kind}
-use Rattle.chess_bits.specs.declared.men.Kind.TheVariants.{Pawn, Knight, Bishop, Rook, Queen, King}
+use Rattle.chess_bits.specs.declared.men.Kind.TheVariants.{Pawn, King}
 use Rattle.chess_bits.specs.Square.{Square, IsOnBoard, is_square}
 use Rattle.chess_bits.specs.Man.{Man, other}
 use Rattle.chess_bits.specs.Table.{put}
@@ -14,11 +14,11 @@ use Rattle.chess_bits.proofs.TableLemmas.{length-put, at-put, map-put}
 use Rattle.chess_bits.proofs.ManLemmas.{other-differs}
 use Rattle.chess_board.specs.declared.castling.Wing.TheVariants as wing
 use Rattle.chess_board.specs.declared.moves.Move.{Move}
-use Rattle.chess_board.specs.Position.{Position, man_at, occupied_of, IsAttacker, IsAttacked, IsInCheck}
-use Rattle.chess_board.specs.Next.{without_taken, with_rook, became, castles_to, placement_after}
+use Rattle.chess_board.specs.Position.{Position, man_at, occupied_of, IsInCheck}
+use Rattle.chess_board.specs.Next.{without_taken, became, placement_after}
 use Rattle.chess_board.specs.Legal.{IsPromotionKind}
 use Rattle.chess_board.proofs.PlacementAfter.{length-without_taken}
-use Rattle.chess_board.proofs.Candidates.{no_castling, promotion_kinds}
+use Rattle.chess_board.proofs.Candidates.{no_castling}
 use Rattle.chess_moves.specs.Targets.{plain}
 use Rattle.chess_moves.specs.Listing.{promoted}
 

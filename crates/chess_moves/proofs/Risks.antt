@@ -1,8 +1,8 @@
 -- Where the king is safe without a look at the move: a man that the king does not see may go anywhere.
-use Rattle.std.specs.Prelude.{ℕ, ◌≡◌, ◌≢◌, ◌⊎◌, ◌+◌, ◌-◌, ◌<◌, ◌≤◌, Bool, true, false, cond, ◌||◌, List, [], ◌∷◌, length, Option, Some, None, is_some}
+use Rattle.std.specs.Prelude.{ℕ, ◌≡◌, ◌≢◌, ◌⊎◌, ◌-◌, ◌<◌, ◌≤◌, Bool, true, false, cond, ◌||◌, List, Option, Some, None, is_some}
 use Rattle.std.specs.List.{list_any, range_with_len}
 use Rattle.std.proofs.Common.{arith, refl, sym, ap, subst, ◌∙◌, inl, inr}
-use Rattle.std.proofs.lemmas.Bool.{false≢true, cases_Bool, cases_eq, false_from_ne_true}
+use Rattle.std.proofs.lemmas.Bool.{false≢true, cases_Bool, false_from_ne_true}
 use Rattle.std.proofs.lemmas.Option.{same_Some}
 use Rattle.chess_bits.specs.declared.men.Colour.{Colour}
 use Rattle.chess_bits.specs.declared.men.Kind.{Kind}
@@ -12,16 +12,15 @@ use Rattle.chess_bits.specs.Square.{Square, IsOnBoard, is_square}
 use Rattle.chess_bits.specs.Man.{Man, other, is_man, is_of, is_kind, holds}
 use Rattle.chess_bits.specs.Table.{has, union, IsSetOf}
 use Rattle.chess_bits.specs.Attack.{along, north, east, south, west, north_east, south_east, south_west, north_west, straight, diagonal, adjoining, SlidesAlong, Slides, Attacks}
-use Rattle.chess_bits.proofs.TableLemmas.{same_square, at-map, is_square-true, is_square-same, is_square-other, same_from_count_by}
-use Rattle.chess_bits.proofs.ManLemmas.{other-differs, holds-is_man_same, same_colour, same_kind}
+use Rattle.chess_bits.proofs.TableLemmas.{same_square, at-map, is_square-true, same_from_count_by}
+use Rattle.chess_bits.proofs.ManLemmas.{other-differs, holds-is_man_same}
 use Rattle.chess_bits.proofs.SetLemmas.{has-union}
 use Rattle.chess_bits.proofs.AlongLemmas.{along-between}
 use Rattle.chess_bits.proofs.Deciding.{Decides-some_from}
 use Rattle.chess_board.specs.declared.castling.Wing.TheVariants as wing
-use Rattle.chess_board.specs.declared.moves.Move.{Move}
 use Rattle.chess_board.specs.Occupancy.{squares_with}
-use Rattle.chess_board.specs.Position.{Position, man_at, occupied_of, IsAttacker, IsAttacked, IsInCheck, IsValid}
-use Rattle.chess_board.specs.Next.{is_target, became, placement_after}
+use Rattle.chess_board.specs.Position.{Position, man_at, occupied_of, IsInCheck, IsValid}
+use Rattle.chess_board.specs.Next.{is_target, placement_after}
 use Rattle.chess_board.proofs.ManAfter.{man_at-after_plain}
 use Rattle.chess_board.proofs.Candidates.{IsOnBoard-from_man, no_castling, no_target_is_plain, is_target-true}
 use Rattle.chess_board.proofs.AttackLemmas.{has-own}

@@ -1,22 +1,21 @@
 -- The sets of squares that the targets of a man are made of.
 use Rattle.std.specs.Prelude.{◌≡◌, ◌⊎◌, ◌↔◌, Bool, true, false, cond, not, ◌&&◌, List, length, Option, Some, None}
 use Rattle.std.proofs.Common.{refl, sym, ap, ◌∙◌, inl, inr}
-use Rattle.std.proofs.lemmas.Bool.{false≢true, cases_Bool, and_parts, and_from, false_from_ne_true}
+use Rattle.std.proofs.lemmas.Bool.{false≢true, and_parts, and_from}
 use Rattle.std.proofs.lemmas.List.{length-map}
 use Rattle.chess_bits.specs.declared.men.Colour.{Colour}
 use Rattle.chess_bits.specs.declared.men.Kind.{Kind}
 use Rattle.chess_bits.specs.declared.men.Kind.TheVariants.{Pawn}
 use Rattle.chess_bits.specs.Square.{Square, IsOnBoard, is_square}
-use Rattle.chess_bits.specs.Man.{Man, other, is_of, holds}
+use Rattle.chess_bits.specs.Man.{other, is_of, holds}
 use Rattle.chess_bits.specs.Table.{has, put, empty, union, meet, without, IsSetOf}
 use Rattle.chess_bits.specs.Attack.{along, forward, pawn_attacks, Reaches, Attacks}
 use Rattle.chess_bits.proofs.TableLemmas.{length-put, at-put, is_square-true, is_square-same}
 use Rattle.chess_bits.proofs.WordLemmas.{length-each}
-use Rattle.chess_bits.proofs.SetLemmas.{has-meet, has-union, has-without, length-without, IsSetOf-union, IsSetOf-like}
+use Rattle.chess_bits.proofs.SetLemmas.{has-meet, has-without, length-without, IsSetOf-union, IsSetOf-like}
 use Rattle.chess_bits.proofs.AlongLemmas.{along-next}
 use Rattle.chess_attacks.proofs.Listed.{length-empty, has-empty}
 use Rattle.chess_board.specs.declared.castling.Wing.{Wing}
-use Rattle.chess_board.specs.declared.moves.Move.{Move}
 use Rattle.chess_board.specs.Occupancy.{squares_with}
 use Rattle.chess_board.specs.Position.{Position, man_at, occupied_of}
 use Rattle.chess_board.specs.Next.{castled_king}

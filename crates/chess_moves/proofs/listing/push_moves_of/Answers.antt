@@ -2,7 +2,6 @@ use Rattle.std.proofs.Common.{◌≡◌, ◌∙◌, ◌++◌, ◌≤◌, List, l
 use Rattle.std.specs.Prelude.{flat_map}
 use Rattle.std.proofs.lemmas.Bool.{false≢true}
 use Rattle.chess_bits.specs.declared.men.Colour.{Colour}
-use Rattle.chess_bits.specs.Square.{Square}
 use Rattle.chess_bits.specs.Table.{members}
 use Rattle.chess_bits.specs.SquaresOf.{squares_left}
 use Rattle.chess_board.specs.declared.moves.Move.{Move}

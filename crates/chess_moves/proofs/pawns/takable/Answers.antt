@@ -1,5 +1,4 @@
 use Rattle.std.proofs.Common.{sym}
-use Rattle.chess_bits.specs.Man.{other}
 use Rattle.chess_moves.proofs.SetForms.{takable_set, takable_set_none}
 use Rattle.chess_moves.proofs.pawns.takable.Goals as goal
 

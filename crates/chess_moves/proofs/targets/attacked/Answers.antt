@@ -1,4 +1,3 @@
-use Rattle.std.specs.Prelude.{List, Bool}
 use Rattle.chess_bits.specs.Table.{empty}
 use Rattle.chess_moves.proofs.targets.attacked.Goals as goal
 
