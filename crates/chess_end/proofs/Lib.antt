@@ -1,0 +1,3 @@
+pub mod Dead
+pub mod EachManLemmas
+pub mod Shades
