@@ -1,4 +1,4 @@
-use Rattle.std.specs.Prelude.{ℕ, Bool, true, false, ◌&&◌, ◌||◌, ◌==◌, not, nat_le, if◌then◌else◌, List, [], ◌∷◌, Option, Some, None}
+use Rattle.std.specs.Prelude.{Bool, true, false, ◌&&◌, ◌||◌, not, List, [], ◌∷◌, Option, Some, None}
 use Rattle.std.specs.List.{list_any, list_all}
 use Rattle.chess_bits.specs.declared.men.Colour.{Colour}
 use Rattle.chess_bits.specs.declared.men.Kind.TheVariants.{Knight, Bishop, King}
@@ -7,11 +7,9 @@ use Rattle.chess_bits.specs.Man.{Man, is_of, is_kind, holds}
 use Rattle.chess_bits.specs.Placement.{Placement, man_at}
 use Rattle.chess_board.specs.Position.{Position, is_in_check}
 use Rattle.chess_board.specs.Computing.{legal_moves_of}
-use Rattle.chess_end.specs.declared.ending.Article.{Article}
-use Rattle.chess_end.specs.declared.ending.Article.TheVariants.{A511, A521, A522, A961, A962}
 use Rattle.chess_end.specs.Material.{is_dark}
 
--- The relations of `Material` and `Ending` as tests, which compute.
+-- The relations of `Material`, checkmate and stalemate as tests, which compute.
 
 -- a man other than a king
 abbrev pub is_other : Man → Bool
@@ -60,12 +58,3 @@ is_checkmate p = is_in_check p.placement p.side && is_stuck_of (legal_moves_of p
 
 abbrev pub is_stalemate : Position → Bool
 is_stalemate p = not (is_in_check p.placement p.side) && is_stuck_of (legal_moves_of p)
-
-abbrev pub ending_of : Position → ℕ → ℕ → Option Article
-ending_of p times quiet =
-    if is_checkmate p then Some A511
-    else if is_stalemate p then Some A521
-    else if is_listed_dead p.placement then Some A522
-    else if nat_le 5 times then Some A961
-    else if nat_le 150 quiet then Some A962
-    else None
