@@ -44,8 +44,11 @@ fn board_of(side: Colour, diagram: [&[u8; 8]; 8]) -> Result<Board, BadBoard> {
     })
 }
 
-fn ended(result: GameResult, article: Article) -> Option<Ending> {
-    Some(Ending { result, article })
+fn ended(given: GameResult, article: Article) -> Option<Ending> {
+    Some(Ending {
+        result: given,
+        article,
+    })
 }
 
 // From 7k/8/6K1/8/8/8/8/R7 w - - 149 90: Ra8 is mate, and Kf6 the 150th quiet move.
