@@ -1,0 +1,5 @@
+pub mod Dead
+pub mod Deciding
+pub mod EachManLemmas
+mod Examples
+pub mod Shades
