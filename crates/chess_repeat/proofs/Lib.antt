@@ -1,0 +1,4 @@
+pub mod Takers
+pub mod LiveTargets
+pub mod KeyBytes
+pub mod SameKeys

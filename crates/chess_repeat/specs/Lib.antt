@@ -1,0 +1,2 @@
+pub mod SamePosition
+pub mod Key
