@@ -2,3 +2,5 @@ pub mod Takers
 pub mod LiveTargets
 pub mod KeyBytes
 pub mod SameKeys
+pub mod Counting
+mod Examples
