@@ -1,5 +1,5 @@
 -- Counting members of a list by their keys.
-use Rattle.std.proofs.Common.{ℕ, ◌≡◌, ◌≢◌, ◌+◌, ◌<◌, ◌≤◌, ◌↔◌, ◌⊎◌, inl, inr, Bool, true, false, cond, List, [], ◌∷◌, ◌++◌, length, map, Option, None, Some, zero-add, refl, ap, sym, subst, ◌∙◌, arith}
+use Rattle.std.proofs.Common.{ℕ, ◌≡◌, ◌+◌, ◌<◌, ◌≤◌, inl, inr, Bool, true, false, cond, List, [], ◌∷◌, ◌++◌, length, map, Option, Some, zero-add, refl, ap, sym, subst, ◌∙◌, arith}
 use Rattle.std.specs.Prelude.{count_by}
 use Rattle.std.specs.Option.{unwrap_or}
 use Rattle.std.specs.Map.{lookup}
@@ -37,16 +37,16 @@ counted_times p (q ∷ qs) valid_p valid =
     let first = count_by-first (λ x. is_key (key_of x) (key_of p)) q qs in
     elim (cases_Bool (is_key (key_of q) (key_of p))) [
       | inl same ↦
-        let one : cond (is_key (key_of q) (key_of p)) 1 0 + n ≡ 1 + n =
-        ap (λ (b : Bool). let x : ℕ = cond b 1 0 in x + n) same in
-        let turned : 1 + n ≡ n + 1 = omega arith in
-        inl (keys.0 (sym (bytes.0 same)), (n, first ∙ one ∙ turned, rest))
+          let one : cond (is_key (key_of q) (key_of p)) 1 0 + n ≡ 1 + n =
+          ap (λ (b : Bool). let x : ℕ = cond b 1 0 in x + n) same in
+          let turned : 1 + n ≡ n + 1 = omega arith in
+          inl (keys.0 (sym (bytes.0 same)), (n, first ∙ one ∙ turned, rest))
       | inr other ↦
-        let none : cond (is_key (key_of q) (key_of p)) 1 0 + n ≡ 0 + n =
-        ap (λ (b : Bool). let x : ℕ = cond b 1 0 in x + n) other in
-        let nothing : n ≡ 0 + n = omega arith in
-        let Count : ℕ → Type 0 = IsCount (IsSamePosition p) qs in
-        inr ((λ same. false≢true (sym other ∙ bytes.1 (sym (keys.1 same)))), subst Count (nothing ∙ sym none ∙ sym first) rest)
+          let none : cond (is_key (key_of q) (key_of p)) 1 0 + n ≡ 0 + n =
+          ap (λ (b : Bool). let x : ℕ = cond b 1 0 in x + n) other in
+          let nothing : n ≡ 0 + n = omega arith in
+          let Count : ℕ → Type 0 = IsCount (IsSamePosition p) qs in
+          inr ((λ same. false≢true (sym other ∙ bytes.1 (sym (keys.1 same)))), subst Count (nothing ∙ sym none ∙ sym first) rest)
     ]
 
 pub EachOf-push : (list : List Position) (p : Position) → EachOf IsValid list → IsValid p →
@@ -69,19 +69,19 @@ pub counts_one_more : (key : List ℕ) (old new : List (List ℕ × ℕ)) (n : �
 counts_one_more key old new n counted updates = record {
   one_more = λ other. elim (cases_Bool (is_key key other)) [
     | inl same ↦
-      let here : lookup (is_key other) new ≡ Some (n + 1) =
-      updates other ∙ ap (λ (b : Bool). cond b (Some (n + 1)) (lookup (is_key other) old)) same in
-      let found : count_in new other ≡ n + 1 = ap (λ (o : Option ℕ). unwrap_or o 0) here in
-      let before : count_in old key ≡ count_in old other = ap (count_in old) ((bytes_decides key other).0 same) in
-      let one : cond (is_key key other) 1 0 ≡ 1 = ap (λ (b : Bool). let x : ℕ = cond b 1 0 in x) same in
-      found ∙ ap (λ (k : ℕ). k + 1) (counted ∙ before) ∙ ap (λ (k : ℕ). count_in old other + k) (sym one)
+        let here : lookup (is_key other) new ≡ Some (n + 1) =
+        updates other ∙ ap (λ (b : Bool). cond b (Some (n + 1)) (lookup (is_key other) old)) same in
+        let found : count_in new other ≡ n + 1 = ap (λ (o : Option ℕ). unwrap_or o 0) here in
+        let before : count_in old key ≡ count_in old other = ap (count_in old) ((bytes_decides key other).0 same) in
+        let one : cond (is_key key other) 1 0 ≡ 1 = ap (λ (b : Bool). let x : ℕ = cond b 1 0 in x) same in
+        found ∙ ap (λ (k : ℕ). k + 1) (counted ∙ before) ∙ ap (λ (k : ℕ). count_in old other + k) (sym one)
     | inr apart ↦
-      let here : lookup (is_key other) new ≡ lookup (is_key other) old =
-      updates other ∙ ap (λ (b : Bool). cond b (Some (n + 1)) (lookup (is_key other) old)) apart in
-      let found : count_in new other ≡ count_in old other = ap (λ (o : Option ℕ). unwrap_or o 0) here in
-      let none : cond (is_key key other) 1 0 ≡ 0 = ap (λ (b : Bool). let x : ℕ = cond b 1 0 in x) apart in
-      let nothing : count_in old other ≡ count_in old other + 0 = omega arith in
-      found ∙ nothing ∙ ap (λ (k : ℕ). count_in old other + k) (sym none)
+        let here : lookup (is_key other) new ≡ lookup (is_key other) old =
+        updates other ∙ ap (λ (b : Bool). cond b (Some (n + 1)) (lookup (is_key other) old)) apart in
+        let found : count_in new other ≡ count_in old other = ap (λ (o : Option ℕ). unwrap_or o 0) here in
+        let none : cond (is_key key other) 1 0 ≡ 0 = ap (λ (b : Bool). let x : ℕ = cond b 1 0 in x) apart in
+        let nothing : count_in old other ≡ count_in old other + 0 = omega arith in
+        found ∙ nothing ∙ ap (λ (k : ℕ). count_in old other + k) (sym none)
   ];
 }
 

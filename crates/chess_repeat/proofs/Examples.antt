@@ -1,5 +1,5 @@
 -- Keys of worked positions, computed.
-use Rattle.std.proofs.Common.{ℕ, ◌≡◌, false, List, Option, None, Some, replicate, refl}
+use Rattle.std.proofs.Common.{◌≡◌, false, List, Option, None, Some, replicate, refl}
 use Rattle.chess_bits.specs.declared.men.Colour.TheVariants.{White, Black}
 use Rattle.chess_bits.specs.declared.men.Kind.TheVariants.{Pawn, King}
 use Rattle.chess_bits.specs.Square.{square, squares}

@@ -1,6 +1,5 @@
 -- The bytes of a key tell each field of it.
-use Rattle.std.proofs.Common.{ℕ, ◌≡◌, ◌≢◌, ◌+◌, ◌-◌, ◌*◌, ◌/◌, ◌%◌, ◌<◌, ◌≤◌, Bool, true, false, cond, if◌then◌else◌, ◌==◌, nat_lt, ◌⊎◌, inl, inr, List, [], ◌∷◌, ◌++◌, length, get_or, set, Option, None, Some, refl, ap, sym, ◌∙◌, arith}
-use Rattle.std.specs.List.{range_with_len}
+use Rattle.std.proofs.Common.{ℕ, ◌≡◌, ◌≢◌, ◌+◌, ◌-◌, ◌*◌, ◌/◌, ◌%◌, ◌<◌, ◌≤◌, Bool, true, false, cond, if◌then◌else◌, ◌==◌, nat_lt, ◌⊎◌, inl, inr, List, [], ◌∷◌, length, get_or, set, Option, None, Some, refl, ap, sym, ◌∙◌, arith}
 use Rattle.std.proofs.lemmas.List.{ext_get_or, get_or_append_left, get_or-set_other, length-set}
 use Rattle.std.proofs.lemmas.Grind.{get_or-set_at}
 use Rattle.std.proofs.lemmas.Bool.{cases_eq}
@@ -76,22 +75,22 @@ code_at-same a b n below e =
     let here : (t : Placement) (j : ℕ) → code_at t j < 16 = λ t j. here_code-below (man_at t (square_at j)) in
     elim (halves n) [
       | inl even ↦
-        rw even (low_same (code_at a (2 * (n / 2))) (code_at a (2 * (n / 2) + 1)) (code_at b (2 * (n / 2)))
-        (code_at b (2 * (n / 2) + 1)) (here a (2 * (n / 2))) (here b (2 * (n / 2))) e)
+          rw even (low_same (code_at a (2 * (n / 2))) (code_at a (2 * (n / 2) + 1)) (code_at b (2 * (n / 2)))
+          (code_at b (2 * (n / 2) + 1)) (here a (2 * (n / 2))) (here b (2 * (n / 2))) e)
       | inr odd ↦
-        rw odd (high_same (code_at a (2 * (n / 2))) (code_at a (2 * (n / 2) + 1)) (code_at b (2 * (n / 2)))
-        (code_at b (2 * (n / 2) + 1)) (here a (2 * (n / 2))) (here b (2 * (n / 2))) e)
+          rw odd (high_same (code_at a (2 * (n / 2))) (code_at a (2 * (n / 2) + 1)) (code_at b (2 * (n / 2)))
+          (code_at b (2 * (n / 2) + 1)) (here a (2 * (n / 2))) (here b (2 * (n / 2))) e)
     ]
 
 pub placement-same : (a b : Placement) → length a ≡ 64 → length b ≡ 64 →
     ((k : ℕ) → k < 32 → men_byte a k ≡ men_byte b k) → a ≡ b
 placement-same a b whole_a whole_b bytes =
     ext_get_or None a b (whole_a ∙ sym whole_b) (λ n h.
-      let below : n < 64 = omega arith in
-      let half : n / 2 < 32 = omega arith in
-      sym (at-square_at None a n below)
-      ∙ here_code-same (man_at a (square_at n)) (man_at b (square_at n)) (code_at-same a b n below (bytes (n / 2) half))
-      ∙ at-square_at None b n below)
+    let below : n < 64 = omega arith in
+    let half : n / 2 < 32 = omega arith in
+    sym (at-square_at None a n below)
+    ∙ here_code-same (man_at a (square_at n)) (man_at b (square_at n)) (code_at-same a b n below (bytes (n / 2) half))
+    ∙ at-square_at None b n below)
 
 -- Bits.
 bit_below : (b : Bool) → cond b 1 0 ≤ 1
@@ -197,22 +196,22 @@ key_of-written p bytes s t whole men state target =
     let first : length (set bytes 32 s) ≡ 34 = length-set bytes 32 s ∙ whole in
     let both : length (set (set bytes 32 s) 33 t) ≡ 34 = length-set (set bytes 32 s) 33 t ∙ first in
     ext_get_or 0 (set (set bytes 32 s) 33 t) (key_of p) (both ∙ sym (length-key_of p)) (λ k h.
-      let below : k < 34 = omega (arith, both, h) in
-      elim (cases_eq k 33) [
-        | inl last ↦
+    let below : k < 34 = omega (arith, both, h) in
+    elim (cases_eq k 33) [
+      | inl last ↦
           get_or-set_at (set bytes 32 s) 33 k t 0 last (omega (arith, first)) ∙ target ∙ sym (key_of-target p)
           ∙ ap (λ (n : ℕ). get_or (key_of p) n 0) (sym last)
-        | inr not_last ↦ elim (cases_eq k 32) [
-          | inl state_there ↦
+      | inr not_last ↦ elim (cases_eq k 32) [
+        | inl state_there ↦
             other (set bytes 32 s) 33 k t not_last
             ∙ get_or-set_at bytes 32 k s 0 state_there (omega (arith, whole)) ∙ state ∙ sym (key_of-state p)
             ∙ ap (λ (n : ℕ). get_or (key_of p) n 0) (sym state_there)
-          | inr not_state ↦
+        | inr not_state ↦
             let man : k < 32 = omega arith in
             other (set bytes 32 s) 33 k t not_last ∙ other bytes 32 k s not_state ∙ men k man
             ∙ sym (key_of-men p k man)
-        ]
-      ])
+      ]
+    ])
   where
     other : (xs : List ℕ) (i k x : ℕ) → k ≢ i → get_or (set xs i x) k 0 ≡ get_or xs k 0
     other xs i k x ne = rw get_or-set_other refl

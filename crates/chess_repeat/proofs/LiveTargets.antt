@@ -17,14 +17,14 @@ use Rattle.chess_bits.proofs.Deciding.{Decides-reaches, and_decides, Decides-som
 use Rattle.chess_bits.proofs.ManLemmas.{Decides-holds_is_man}
 use Rattle.chess_board.specs.declared.moves.Move.{Move}
 use Rattle.chess_board.specs.Position.{Position, IsValid, man_at, target_rank}
-use Rattle.chess_board.specs.Legal.{IsLegal, IsCandidate, IsMoveOf, IsPawnMove, IsPromotion, last_rank}
+use Rattle.chess_board.specs.Legal.{IsLegal, IsPromotion, last_rank}
 use Rattle.chess_board.specs.Computing.{is_legal}
 use Rattle.chess_board.proofs.Deciding.{Decides-is_legal}
 use Rattle.chess_board.proofs.Candidates.{IsOnBoard-from_man}
 use Rattle.chess_moves.specs.Targets.{plain}
 use Rattle.chess_moves.proofs.Parts.{candidate_kind}
 use Rattle.chess_repeat.specs.SamePosition.{IsLegalEnPassant, HasLegalEnPassant}
-use Rattle.chess_repeat.specs.Key.{takers, is_live, target_code, target_byte}
+use Rattle.chess_repeat.specs.Key.{is_live, target_code, target_byte}
 
 -- a test that a call of `legal` has told
 pub told_legal : (p : Position) (m : Move) (b : Bool) → (b ≡ true) ↔ IsLegal p m → is_legal p m ≡ b
@@ -81,8 +81,11 @@ capture_plain p m valid capture =
 pub live_from : (p : Position) (m : Move) → IsValid p → IsLegalEnPassant p m → is_live p m.to ≡ true
 live_from p m valid capture =
     let Legal : Move → Type 0 = IsLegal p in
-    (Decides-live p m.to).1 (m.from, IsOnBoard-from_man p.placement m.from (p.side, Pawn) capture.pawn,
-    ((capture.pawn, capture.takes.attacked), subst Legal (capture_plain p m valid capture) capture.legal))
+    (Decides-live p m.to).1 (
+      m.from,
+      IsOnBoard-from_man p.placement m.from (p.side, Pawn) capture.pawn,
+      ((capture.pawn, capture.takes.attacked), subst Legal (capture_plain p m valid capture) capture.legal),
+    )
 
 pub live_to : (p : Position) (t : Square) → p.target ≡ Some t → is_live p t ≡ true → HasLegalEnPassant p
 live_to p t e live =

@@ -1,16 +1,15 @@
 -- Keys are equal exactly for the same positions.
-use Rattle.std.proofs.Common.{ℕ, ◌≡◌, ◌≢◌, ◌<◌, ◌↔◌, ◌⊎◌, inl, inr, Bool, true, List, [], ◌∷◌, ◌++◌, get_or, Option, Some, refl, ap, sym, ◌∙◌, arith}
+use Rattle.std.proofs.Common.{ℕ, ◌≡◌, ◌≢◌, ◌↔◌, inl, inr, List, [], ◌∷◌, ◌++◌, get_or, Option, Some, ap, sym, ◌∙◌, arith}
 use Rattle.chess_bits.specs.declared.men.Colour.{Colour}
 use Rattle.chess_bits.specs.Square.{Square, IsOnBoard, number_of}
 use Rattle.chess_bits.proofs.TableLemmas.{number_of-injective}
 use Rattle.chess_board.specs.declared.moves.Move.{Move}
-use Rattle.chess_board.specs.Position.{Position, Placement, Rights, IsValid, IsInCheck, man_at}
+use Rattle.chess_board.specs.Position.{Position, Placement, Rights, IsValid}
 use Rattle.chess_board.specs.Next.{placement_after}
-use Rattle.chess_board.specs.Legal.{IsLegal}
 use Rattle.chess_board.specs.Computing.{is_legal}
 use Rattle.chess_board.proofs.Deciding.{Decides-is_legal}
-use Rattle.chess_repeat.specs.SamePosition.{IsLegalEnPassant, HasLegalEnPassant, IsSamePosition}
-use Rattle.chess_repeat.specs.Key.{men_bytes, men_byte, state_byte, target_byte, key_of}
+use Rattle.chess_repeat.specs.SamePosition.{IsLegalEnPassant, IsSamePosition}
+use Rattle.chess_repeat.specs.Key.{men_bytes, state_byte, target_byte, key_of}
 use Rattle.chess_repeat.proofs.LiveTargets.{cases_live, target_byte-live, target_byte-dead}
 use Rattle.chess_repeat.proofs.KeyBytes.{placement-same, state-side, state-rights, key_of-men, key_of-state, key_of-target}
 
@@ -67,7 +66,7 @@ pub same_from_keys : (p q : Position) → IsValid p → IsValid q → key_of p �
 same_from_keys p q valid_p valid_q e =
     let placement : p.placement ≡ q.placement =
     placement-same p.placement q.placement valid_p.whole valid_q.whole (λ k below.
-      sym (key_of-men p k below) ∙ ap (λ (bytes : List ℕ). get_or bytes k 0) e ∙ key_of-men q k below) in
+    sym (key_of-men p k below) ∙ ap (λ (bytes : List ℕ). get_or bytes k 0) e ∙ key_of-men q k below) in
     let state : state_byte p.side p.rights ≡ state_byte q.side q.rights =
     sym (key_of-state p) ∙ ap (λ (bytes : List ℕ). get_or bytes 32 0) e ∙ key_of-state q in
     let target : target_byte p ≡ target_byte q =

@@ -1,14 +1,13 @@
 -- The pawns that attack a target are those that a pawn on the target would attack.
-use Rattle.std.proofs.Common.{ℕ, ◌≡◌, ◌+◌, ◌<◌, ◌≤◌, Bool, true, false, ◌&&◌, List, replicate, ap, sym, ◌∙◌, filter, map, arith}
+use Rattle.std.proofs.Common.{◌≡◌, Bool, true, false, ◌&&◌, List, replicate, ap, sym, ◌∙◌, filter, map, arith}
 use Rattle.std.specs.List.{range_with_len}
 use Rattle.std.specs.Cmp.{both_ways}
 use Rattle.chess_bits.specs.declared.men.Colour.{Colour}
-use Rattle.chess_bits.specs.declared.men.Colour.TheVariants.{White, Black}
 use Rattle.chess_bits.specs.declared.men.Kind.TheVariants.{Pawn}
 use Rattle.chess_bits.specs.Square.{Square, IsOnBoard, squares, square_at}
-use Rattle.chess_bits.specs.Man.{Man, other, is_man, holds}
+use Rattle.chess_bits.specs.Man.{other, is_man, holds}
 use Rattle.chess_bits.specs.Table.{has, meet, members, IsSetOf}
-use Rattle.chess_bits.specs.Attack.{Attacks, Reaches, pawn_attacks, reaches}
+use Rattle.chess_bits.specs.Attack.{Reaches, pawn_attacks, reaches}
 use Rattle.chess_bits.proofs.Deciding.{Decides-reaches}
 use Rattle.chess_bits.proofs.ManLemmas.{other-other}
 use Rattle.chess_bits.proofs.MemberLemmas.{filter_range-same, filter-map}
@@ -42,8 +41,8 @@ pub attacked_from : (side : Colour) (set : List Bool) (t s : Square) → IsOnBoa
 attacked_from side set t s on_t on_s of =
     both_ways (has set s) (reaches (pawn_attacks side) s t)
     (λ here. (Decides-reaches (pawn_attacks side) s t).1
-      (let back = pawn_attacks-back (other side) t s on_s ((of.exact s on_s).0 here) in
-       rw other-other at back))
+    (let back = pawn_attacks-back (other side) t s on_s ((of.exact s on_s).0 here) in
+    rw other-other at back))
     (λ here. (of.exact s on_s).1 (pawn_attacks-back side s t on_t ((Decides-reaches (pawn_attacks side) s t).0 here)))
 
 pub members-takers : (p : Position) (t : Square) (set : List Bool) → IsOnBoard t →
@@ -54,10 +53,10 @@ members-takers p t set on of =
     filter_squares-same (has (meet set (squares_with (is_man (p.side, Pawn)) p.placement)))
     (λ from. holds (is_man (p.side, Pawn)) (man_at p.placement from) && reaches (pawn_attacks p.side) from t)
     (λ s on_s. has-meet set (squares_with (is_man (p.side, Pawn)) p.placement) s
-      ∙ ap (λ (b : Bool). b && has (squares_with (is_man (p.side, Pawn)) p.placement) s)
-        (attacked_from p.side set t s on on_s of)
-      ∙ ap (λ (b : Bool). reaches (pawn_attacks p.side) s t && b) (has-squares_with (is_man (p.side, Pawn)) p.placement s)
-      ∙ swap (reaches (pawn_attacks p.side) s t) (holds (is_man (p.side, Pawn)) (man_at p.placement s)))
+    ∙ ap (λ (b : Bool). b && has (squares_with (is_man (p.side, Pawn)) p.placement) s)
+    (attacked_from p.side set t s on on_s of)
+    ∙ ap (λ (b : Bool). reaches (pawn_attacks p.side) s t && b) (has-squares_with (is_man (p.side, Pawn)) p.placement s)
+    ∙ swap (reaches (pawn_attacks p.side) s t) (holds (is_man (p.side, Pawn)) (man_at p.placement s)))
   where
     swap : (a b : Bool) → (a && b) ≡ (b && a)
     swap true true = λ i. true

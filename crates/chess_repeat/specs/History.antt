@@ -1,5 +1,5 @@
 -- What a history of a game keeps, and the positions that it stands for.
-use Rattle.std.specs.Prelude.{ℕ, ◌≡◌, ◌≤◌, Bool, List, [], ◌∷◌, length, map, count_by, nat_eq}
+use Rattle.std.specs.Prelude.{ℕ, ◌≡◌, ◌≤◌, Bool, List, length, map, count_by, nat_eq}
 use Rattle.std.specs.Option.{unwrap_or}
 use Rattle.std.specs.Map.{lookup}
 use Rattle.std.specs.Cmp.Lexicographic.{pointwise}

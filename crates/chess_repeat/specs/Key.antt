@@ -8,7 +8,6 @@ use Rattle.chess_bits.specs.declared.men.Kind.TheVariants.{Pawn, Knight, Bishop,
 use Rattle.chess_bits.specs.Square.{Square, squares, square_at, number_of}
 use Rattle.chess_bits.specs.Man.{Man, is_man, holds}
 use Rattle.chess_bits.specs.Attack.{pawn_attacks, reaches}
-use Rattle.chess_board.specs.declared.moves.Move.{Move}
 use Rattle.chess_board.specs.Position.{Position, Placement, Rights, man_at}
 use Rattle.chess_board.specs.Computing.{is_legal}
 use Rattle.chess_moves.specs.Targets.{plain}

@@ -1,4 +1,4 @@
-use Rattle.std.proofs.Common.{◌≡◌, ◌∙◌, ◌<◌, inl, inr, ap, sym, arith}
+use Rattle.std.proofs.Common.{◌∙◌, inl, inr, ap, sym, arith}
 use Rattle.std.proofs.lemmas.Bool.{cases_eq}
 use Rattle.std.proofs.lemmas.Grind.{get_or-set_at}
 use Rattle.std.proofs.lemmas.List.{get_or-set_other, length-set}
@@ -23,11 +23,11 @@ loop-pair-preserved c =
       whole = length-set bytes i x ∙ c.loop-pair.invariant.whole;
       written = λ k h. elim (cases_eq k i) [
         | inl e ↦
-          get_or-set_at bytes i k x 0 e
-          (omega (arith, c.from.ensures, c.loop-pair-test.true, c.loop-pair.invariant.whole))
-          ∙ c.men_byte.ensures ∙ ap (men_byte placement) (sym (e ∙ c.from.ensures))
+            get_or-set_at bytes i k x 0 e
+            (omega (arith, c.from.ensures, c.loop-pair-test.true, c.loop-pair.invariant.whole))
+            ∙ c.men_byte.ensures ∙ ap (men_byte placement) (sym (e ∙ c.from.ensures))
         | inr ne ↦
-          get_or-set_other bytes i k x 0 ne
-          ∙ c.loop-pair.invariant.written k (omega (arith, h, c.from.ensures, ne))
+            get_or-set_other bytes i k x 0 ne
+            ∙ c.loop-pair.invariant.written k (omega (arith, h, c.from.ensures, ne))
       ];
     }
