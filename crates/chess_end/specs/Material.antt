@@ -6,7 +6,7 @@ use Rattle.chess_bits.specs.Square.{Square}
 use Rattle.chess_bits.specs.Man.{Man}
 use Rattle.chess_bits.specs.Placement.{Placement, man_at}
 
--- The squares are alternately light and dark, and a1 is dark (FIDE articles 2.1 and 2.2).
+-- The squares are alternately light and dark, and a1 is dark (FIDE article 2.1).
 abbrev pub is_dark : Square → Bool
 is_dark s = (s.file + s.rank) % 2 == 0
 

@@ -1,0 +1,6 @@
+pub mod Takers
+pub mod LiveTargets
+pub mod KeyBytes
+pub mod SameKeys
+pub mod Counting
+mod Examples

@@ -1,0 +1,3 @@
+pub mod SamePosition
+pub mod Key
+pub mod History

@@ -1,0 +1,90 @@
+ghost use Rattle.std.specs.Prelude.{◌≡◌, ◌+◌, ◌-◌, ◌<◌, [], ◌∷◌, ◌++◌, List, length, slice_index, IfOk, OnOk, OnErr};
+ghost use Rattle.chess_board.specs.Position.{Position};
+ghost use Rattle.chess_repeat.specs.Key.{key_of};
+ghost use Rattle.chess_repeat.specs.SamePosition.{IsTimes};
+ghost use Rattle.chess_repeat.specs.History.{count_in, IsHistoryOf};
+
+use crate::keys::key;
+use chess_board::Board;
+use indexmap::IndexMap;
+use std::alloc::{AllocError, Global};
+use std::marker::Model;
+
+/// The positions of a game in their order: of each its halfmove clock, and how often its key stood.
+#[derive(Drop)]
+pub struct History {
+    clocks: Vec<u16>,
+    counts: IndexMap<[u8; 34], u32>,
+}
+
+impl Model for History {
+    ghost use Rattle.chess_repeat.specs.History.{HistoryState, IsBounded};
+
+    ghost Value = { HistoryState };
+
+    ghost view = { λ h. record { clocks = h.clocks.items; counts = h.counts.entries } };
+
+    ghost invariant = { λ h. IsBounded h.clocks.items h.counts.entries };
+}
+
+impl History {
+    /// The history of one position. It fails where memory is refused.
+    pub fn new(alloc: Global, board: &Board) -> Result<History, AllocError>
+        ensures { IfOk result (λ history. IsHistoryOf history (board.now ∷ [])) }
+    {
+        let _valid = board.rights();
+        let mut clocks = Vec::new(alloc);
+        clocks.push(board.halfmove())?;
+        let mut counts = IndexMap::new(alloc);
+        counts.insert(key(board), 1)?;
+        Ok(History { clocks, counts })
+    }
+
+    /// How many positions there are, 1 to 65,535.
+    pub fn len(&self) -> u32
+        ensures { result ≡ length self.now.clocks }
+    {
+        self.clocks.len() as u32
+    }
+
+    /// Appends a position. It fails where memory is refused, and then all is as it was.
+    pub fn push(&mut self, board: &Board) -> Result<(), AllocError>
+        requires { length self.old.clocks < 65535 }
+        ensures clocks { OnOk result (self.new.clocks ≡ self.old.clocks ++ board.now.halfmove ∷ []) }
+        ensures pushed { (list : List Position) → IsHistoryOf self.old list →
+            OnOk result (IsHistoryOf self.new (list ++ board.now ∷ [])) }
+        ensures refused { OnErr result (self.new ≡ self.old) }
+    {
+        let _valid = board.rights();
+        let key = key(board);
+        let count = self.count(&key);
+        self.clocks.reserve(1)?;
+        self.counts.insert(key, count + 1)?;
+        self.clocks.push(board.halfmove()).unwrap();
+        Ok(())
+    }
+
+    /// How many members of the history are the same position (FIDE articles 9.2 and 9.6.1). It is one look-up, and takes no
+    /// memory.
+    pub fn times(&self, board: &Board) -> u32
+        ensures count { result ≡ count_in self.now.counts (key_of board.now) }
+        ensures times { (list : List Position) → IsHistoryOf self.now list → IsTimes board.now list result }
+    {
+        let _valid = board.rights();
+        self.count(&key(board))
+    }
+
+    /// The halfmove clock of the last position, 0 to 65,535 (FIDE articles 9.3 and 9.6.2).
+    pub fn quiet(&self) -> u32
+        ensures { result ≡ slice_index self.now.clocks (length self.now.clocks - 1) }
+    {
+        u32::from(self.clocks[self.clocks.len() - 1])
+    }
+
+    // How often a key stood.
+    fn count(&self, key: &[u8; 34]) -> u32
+        ensures { result ≡ count_in self.now.counts key.now }
+    {
+        self.counts.get(key).copied().unwrap_or(0)
+    }
+}

@@ -1,0 +1,133 @@
+//! Games in which positions come again.
+use crate::{History, is_same, key};
+use chess_bits::{Colour, Kind, Square};
+use chess_board::{Board, CastlingRights, Move, Parts};
+use chess_moves::legal;
+use std::test::Fail;
+
+// The board after a legal move.
+fn applied(board: &Board, mv: &Move) -> Option<Board> {
+    if legal(board, *mv) && board.halfmove() < u16::MAX && board.fullmove() < u16::MAX {
+        Some(board.apply(*mv))
+    } else {
+        None
+    }
+}
+
+// The same by the numbers of the squares left and reached (a1 is 0, h1 is 7, h8 is 63).
+fn after(board: &Board, from: u8, to: u8) -> Option<Board> {
+    if from >= 64 || to >= 64 {
+        return None;
+    }
+    applied(
+        board,
+        &Move {
+            from: Square::new(from),
+            to: Square::new(to),
+            promotion: None,
+        },
+    )
+}
+
+// The board after legal moves.
+fn played(start: &Board, moves: &[(u8, u8)]) -> Option<Board> {
+    let mut board = *start;
+    for (from, to) in moves {
+        let next = after(&board, *from, *to)?;
+        board = next;
+    }
+    Some(board)
+}
+
+// e2-e4.
+const KINGS_PAWN: (u8, u8) = (12, 28);
+
+// Ng8-f6, Ng1-f3, Nf6-g8, Nf3-g1.
+const KNIGHTS_OUT_AND_BACK: [(u8, u8); 4] = [(62, 45), (6, 21), (45, 62), (21, 6)];
+
+// Ke8-e7, Ke1-e2, Ke7-e8, Ke2-e1.
+const KINGS_OUT_AND_BACK: [(u8, u8); 4] = [(60, 52), (4, 12), (52, 60), (12, 4)];
+
+// After e4 no pawn can take on e3, so that the position is the same as after the knights have come back.
+#[test]
+fn a_target_without_a_capture_does_not_count(rt: HostRuntime) -> Result<(), Fail> {
+    let first = played(&Board::initial(), &[KINGS_PAWN]).ok_or("legal")?;
+    let fifth = played(&first, &KNIGHTS_OUT_AND_BACK).ok_or("legal")?;
+    let ninth = played(&fifth, &KNIGHTS_OUT_AND_BACK).ok_or("legal")?;
+    assert!(rt; first.target().is_some());
+    assert!(rt; fifth.target().is_none());
+    assert!(rt; key(&first) == key(&fifth));
+    assert!(rt; key(&first) == key(&ninth));
+    assert!(rt; is_same(&first, &ninth));
+    assert!(rt; !is_same(&first, &Board::initial()));
+    let mut history = History::new(rt.alloc(), &Board::initial())?;
+    history.push(&first)?;
+    history.push(&fifth)?;
+    history.push(&ninth)?;
+    assert_eq!(rt; history.times(&ninth), 3);
+    assert_eq!(rt; history.times(&Board::initial()), 1);
+    assert_eq!(rt; history.len(), 4);
+    assert_eq!(rt; history.quiet(), 8);
+    Ok(())
+}
+
+// From 4k3/8/8/8/3p4/8/4P3/4K3 w - - 0 1: after e4 Black could take on e3, and after the kings have come back no more.
+#[test]
+fn a_target_with_a_capture_counts(rt: HostRuntime) -> Result<(), Fail> {
+    let mut men = [None; 64];
+    men[4] = Some((Colour::White, Kind::King));
+    men[12] = Some((Colour::White, Kind::Pawn));
+    men[27] = Some((Colour::Black, Kind::Pawn));
+    men[60] = Some((Colour::Black, Kind::King));
+    let Ok(start) = Board::try_new(Parts {
+        men,
+        side: Colour::White,
+        rights: CastlingRights::of(false, false, false, false),
+        target: None,
+        halfmove: 0,
+        fullmove: 1,
+    }) else {
+        return Err("valid".into());
+    };
+    let first = played(&start, &[KINGS_PAWN]).ok_or("legal")?;
+    let fifth = played(&first, &KINGS_OUT_AND_BACK).ok_or("legal")?;
+    let ninth = played(&fifth, &KINGS_OUT_AND_BACK).ok_or("legal")?;
+    assert_eq!(rt; key(&first)[33], 20);
+    assert_eq!(rt; key(&fifth)[33], 64);
+    assert!(rt; !is_same(&first, &fifth));
+    assert!(rt; is_same(&fifth, &ninth));
+    Ok(())
+}
+
+// The knights go out and back four times: the start stands five times. A push that is refused memory changes nothing.
+#[test]
+fn the_fifth_time_or_nothing_changed(rt: HostRuntime) -> Result<(), Fail> {
+    let start = Board::initial();
+    let mut history = History::new(rt.alloc(), &start)?;
+    let mut board = start;
+    for turn in 0..16_u32 {
+        let white = turn % 4 == 0 || turn % 4 == 2;
+        let mv = match (white, turn % 4 < 2) {
+            (true, true) => (6, 21),
+            (false, true) => (62, 45),
+            (true, false) => (21, 6),
+            (false, false) => (45, 62),
+        };
+        board = after(&board, mv.0, mv.1).ok_or("legal")?;
+        let (len, times, quiet) = (history.len(), history.times(&board), history.quiet());
+        if len >= 65_535 {
+            return Err("long".into());
+        }
+        let pushed = history.push(&board);
+        if let Err(refused) = pushed {
+            assert_eq!(rt; history.len(), len);
+            assert_eq!(rt; history.times(&board), times);
+            assert_eq!(rt; history.quiet(), quiet);
+            return Err(refused.into());
+        }
+    }
+    assert_eq!(rt; history.times(&start), 5);
+    assert_eq!(rt; history.len(), 17);
+    assert_eq!(rt; history.quiet(), 16);
+    Ok(())
+}
