@@ -38,4 +38,4 @@ returns-clause-pushed c list is =
     let Seen : HistoryState → Type 0 = λ h. CountsOneMore (key_of p) h.counts new in
     let now : HistoryState = record { clocks = c.push.new.self.items; counts = new } in
     history-push c.args.self.now now list p c.rights-valid.ensures.valid is clocks
-    (subst Seen c.self.view_is (subst More c.key-key.ensures more))
+    (subst Seen c.self.view_is (subst More c.key-key.ensures.key more))
