@@ -3,7 +3,7 @@ use crate::{History, is_same, key};
 use chess_bits::{Colour, Kind, Square};
 use chess_board::{Board, CastlingRights, Move, Parts};
 use chess_moves::legal;
-use std::alloc::Global;
+use std::alloc::{AllocError, Global};
 use std::test::Fail;
 
 // The board after a legal move.
@@ -148,31 +148,32 @@ fn the_key_of_the_initial_position(rt: HostRuntime) {
     assert_eq!(rt; key(&Board::initial()), bytes);
 }
 
-// The knights go out and back four times: the start stands five times. A push that is refused memory changes nothing.
+// The knights go out and back four times: the start stands five times. A position whose push was refused memory is pushed
+// again, so that the test passes whichever allocation is refused. `bench/refused-memory` refuses them in turn; else none is.
 #[test]
-fn the_fifth_time_or_nothing_changed(rt: HostRuntime) -> Result<(), Fail> {
+fn refused_memory(rt: HostRuntime) -> Result<(), Fail> {
     let start = Board::initial();
-    let mut history = History::new(rt.alloc(), &start)?;
+    let mut history = match History::new(rt.alloc(), &start) {
+        Ok(history) => history,
+        Err(AllocError) => History::new(rt.alloc(), &start)?,
+    };
     let mut board = start;
-    for turn in 0..16_u32 {
-        let white = turn % 4 == 0 || turn % 4 == 2;
-        let mv = match (white, turn % 4 < 2) {
-            (true, true) => (6, 21),
-            (false, true) => (62, 45),
-            (true, false) => (21, 6),
-            (false, false) => (45, 62),
-        };
-        board = after(&board, mv.0, mv.1).ok_or("legal")?;
-        let (len, times, quiet) = (history.len(), history.times(&board), history.quiet());
-        if len >= 65_535 {
-            return Err("long".into());
-        }
-        let pushed = history.push(&board);
-        if let Err(refused) = pushed {
-            assert_eq!(rt; history.len(), len);
-            assert_eq!(rt; history.times(&board), times);
-            assert_eq!(rt; history.quiet(), quiet);
-            return Err(refused.into());
+    for _ in 0..4 {
+        for (from, to) in [(6, 21), (62, 45), (21, 6), (45, 62)] {
+            board = after(&board, from, to).ok_or("legal")?;
+            let before = (history.len(), history.quiet());
+            let times = (history.times(&board), history.times(&start));
+            if before.0 >= 65_535 {
+                return Err("long".into());
+            }
+            if history.push(&board).is_err() {
+                assert_eq!(rt; (history.len(), history.quiet()), before);
+                assert_eq!(rt; (history.times(&board), history.times(&start)), times);
+                history.push(&board)?;
+            }
+            assert_eq!(rt; u64::from(history.len()), u64::from(before.0) + 1);
+            assert_eq!(rt; u64::from(history.times(&board)), u64::from(times.0) + 1);
+            assert_eq!(rt; history.quiet(), u32::from(board.halfmove()));
         }
     }
     assert_eq!(rt; history.times(&start), 5);
