@@ -4,6 +4,7 @@ use chess_bits::{Colour, Kind, Square};
 use chess_board::{Board, CastlingRights, Move, Parts};
 use chess_moves::legal;
 use std::alloc::{AllocError, Global};
+use std::process::Abort;
 use std::test::Fail;
 
 // The board after a legal move.
@@ -148,8 +149,26 @@ fn the_key_of_the_initial_position(rt: HostRuntime) {
     assert_eq!(rt; key(&Board::initial()), bytes);
 }
 
-// The knights go out and back four times: the start stands five times. A position whose push was refused memory is pushed
-// again, so that the test passes whichever allocation is refused. `bench/refused-memory` refuses them in turn; else none is.
+// Pushes a position, and once more where memory was refused: then all was as before.
+fn push_again(rt: &impl Abort, history: &mut History, board: &Board) -> Result<(), Fail> {
+    let (len, times, quiet) = (history.len(), history.times(board), history.quiet());
+    if len >= 65_535 {
+        return Err("long".into());
+    }
+    if history.push(board).is_err() {
+        assert_eq!(rt; history.len(), len);
+        assert_eq!(rt; history.times(board), times);
+        assert_eq!(rt; history.quiet(), quiet);
+        history.push(board)?;
+    }
+    assert_eq!(rt; u64::from(history.len()), u64::from(len) + 1);
+    assert_eq!(rt; u64::from(history.times(board)), u64::from(times) + 1);
+    assert_eq!(rt; history.quiet(), u32::from(board.halfmove()));
+    Ok(())
+}
+
+// The knights go out and back four times, so that the start stands five times; then each pawn goes one square, and no
+// position comes again. It passes whichever allocation is refused: `bench/refused-memory` refuses each in turn.
 #[test]
 fn refused_memory(rt: HostRuntime) -> Result<(), Fail> {
     let start = Board::initial();
@@ -161,23 +180,20 @@ fn refused_memory(rt: HostRuntime) -> Result<(), Fail> {
     for _ in 0..4 {
         for (from, to) in [(6, 21), (62, 45), (21, 6), (45, 62)] {
             board = after(&board, from, to).ok_or("legal")?;
-            let before = (history.len(), history.quiet());
-            let times = (history.times(&board), history.times(&start));
-            if before.0 >= 65_535 {
-                return Err("long".into());
-            }
-            if history.push(&board).is_err() {
-                assert_eq!(rt; (history.len(), history.quiet()), before);
-                assert_eq!(rt; (history.times(&board), history.times(&start)), times);
-                history.push(&board)?;
-            }
-            assert_eq!(rt; u64::from(history.len()), u64::from(before.0) + 1);
-            assert_eq!(rt; u64::from(history.times(&board)), u64::from(times.0) + 1);
-            assert_eq!(rt; history.quiet(), u32::from(board.halfmove()));
+            push_again(&rt, &mut history, &board)?;
         }
     }
     assert_eq!(rt; history.times(&start), 5);
     assert_eq!(rt; history.len(), 17);
     assert_eq!(rt; history.quiet(), 16);
+    for file in 0..8_u8 {
+        for (from, to) in [(8 + file, 16 + file), (48 + file, 40 + file)] {
+            board = after(&board, from, to).ok_or("legal")?;
+            push_again(&rt, &mut history, &board)?;
+        }
+    }
+    assert_eq!(rt; history.times(&start), 5);
+    assert_eq!(rt; history.times(&board), 1);
+    assert_eq!(rt; history.len(), 33);
     Ok(())
 }
