@@ -56,8 +56,8 @@ abbrev pub won_by : Colour → GameResult
 won_by side.White = White
 won_by side.Black = Black
 
--- What such an ending gives: the side that has given checkmate wins, and the others are draws. No ending after a move is by
--- another article, so that those have no result here.
+-- What such an ending gives: the side that has given checkmate wins, and the others are draws. No ending after a move
+-- is by another article, so that those have no result here.
 abbrev pub IsResultAfter : Position → Article → GameResult → Type 0
 IsResultAfter p A511 result = result ≡ won_by (other p.side)
 IsResultAfter p A521 result = result ≡ Draw

@@ -150,7 +150,8 @@ fn a_flag_against_the_king_alone_draws(rt: HostRuntime) -> Result<(), Fail> {
     Ok(())
 }
 
-// From 7k/8/8/8/8/8/1p6/K7 w - - 0 1, Kxb2 leaves the kings alone. From 7k/8/8/5Q2/8/8/8/K7 w - - 0 1, Qf7 is stalemate.
+// From 7k/8/8/8/8/8/1p6/K7 w - - 0 1, Kxb2 leaves the kings alone, and from 7k/8/8/5Q2/8/8/8/K7 w - - 0 1, Qf7 is
+// stalemate.
 #[test]
 fn dead_positions_and_stalemate_draw(rt: HostRuntime) -> Result<(), Fail> {
     let pawn = board_of(

@@ -104,7 +104,8 @@ counts_at_most key old new n most few updates below other = elim (cases_Bool (is
 ]
 
 pub bounded-push : (clocks : List ℕ) (old new : List (List ℕ × ℕ)) → IsBounded clocks old → length clocks < 65535 →
-    (((other : List ℕ) → count_in old other ≤ length clocks) → (other : List ℕ) → count_in new other ≤ length clocks + 1) →
+    (((other : List ℕ) → count_in old other ≤ length clocks) →
+    (other : List ℕ) → count_in new other ≤ length clocks + 1) →
     (clocks' : List ℕ) → length clocks' ≡ length clocks + 1 → IsBounded clocks' new
 bounded-push clocks old new bounded room more clocks' longer = record {
   some = omega arith;

@@ -2,8 +2,8 @@
 use Rattle.std.specs.Prelude.{ℕ, List, [], ◌∷◌}
 use Rattle.chess_board.specs.Position.{Position}
 
--- The halfmove clock of the last position of a list (FIDE articles 9.3 and 9.6.2). A list without a position has none, and
--- then it is 0.
+-- The halfmove clock of the last position of a list (FIDE articles 9.3 and 9.6.2). A list without a position has none,
+-- and then it is 0.
 abbrev pub quiet_run : List Position → ℕ
 quiet_run [] = 0
 quiet_run (p ∷ []) = p.halfmove

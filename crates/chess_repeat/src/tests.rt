@@ -106,8 +106,8 @@ fn a_target_without_a_capture_does_not_count(rt: HostRuntime) -> Result<(), Fail
     Ok(())
 }
 
-// From 4k3/8/8/8/3p4/8/4P3/4K3 w - - 0 1: after e4 Black could take on e3, and after the kings have come back no more. So
-// that position stands a second time after 9 moves, and a third time after 13.
+// From 4k3/8/8/8/3p4/8/4P3/4K3 w - - 0 1: after e4 Black could take on e3, and after the kings have come back no more.
+// So that position stands a second time after 9 moves, and a third time after 13.
 #[test]
 fn a_target_with_a_capture_counts(rt: HostRuntime) -> Result<(), Fail> {
     let mut men = [None; 64];

@@ -11,8 +11,10 @@ invariant_of-self-2 c =
     let inside = c.self.inside.clocks.items in
     let old = c.self.inside.counts.entries in
     let new = c.insert.new.self.entries in
-    let seen : length inside ≡ length c.args.self.now.clocks = ap (λ (h : HistoryState). length h.clocks) c.self.view_is in
-    let longer : length c.push.new.self.items ≡ length inside + 1 = first_of (search rules, grind (arith, common_steps)) in
+    let seen : length inside ≡ length c.args.self.now.clocks =
+    ap (λ (h : HistoryState). length h.clocks) c.self.view_is in
+    let longer : length c.push.new.self.items ≡ length inside + 1 =
+    first_of (search rules, grind (arith, common_steps)) in
     let counted : c.count-count.result ≡ count_in old key =
     c.count-count.ensures ∙ ap (λ (h : HistoryState). count_in h.counts key) (sym c.self.view_is) in
     bounded-push inside old new c.self.invariant (omega (arith, seen, c.requires))
