@@ -54,20 +54,28 @@ fn board_of(side: Colour, diagram: [&[u8; 8]; 8]) -> Result<Board, BadBoard> {
     board_after(side, diagram, 0, 1)
 }
 
-// The board after a legal move by the numbers of its squares (a1 is 0, h1 is 7, h8 is 63).
-fn played(board: &Board, from: u8, to: u8) -> Result<Board, Fail> {
+// The board after a legal move.
+fn applied(board: &Board, mv: &Move) -> Option<Board> {
+    if legal(board, *mv) && board.halfmove() < u16::MAX && board.fullmove() < u16::MAX {
+        Some(board.apply(*mv))
+    } else {
+        None
+    }
+}
+
+// The same by the numbers of the squares left and reached (a1 is 0, h1 is 7, h8 is 63).
+fn played(board: &Board, from: u8, to: u8) -> Option<Board> {
     if from >= 64 || to >= 64 {
-        return Err("no square".into());
+        return None;
     }
-    let mv = Move {
-        from: Square::new(from),
-        to: Square::new(to),
-        promotion: None,
-    };
-    if !legal(board, mv) || board.halfmove() == u16::MAX || board.fullmove() == u16::MAX {
-        return Err("not legal".into());
-    }
-    Ok(board.apply(mv))
+    applied(
+        board,
+        &Move {
+            from: Square::new(from),
+            to: Square::new(to),
+            promotion: None,
+        },
+    )
 }
 
 // What `after_move` says of a position that has come so often.
@@ -101,10 +109,10 @@ fn mate_goes_before_seventy_five_moves(rt: HostRuntime) -> Result<(), Fail> {
         90,
     )?;
     assert_eq!(rt; ending_of(&start, 1), None);
-    let mate = played(&start, 0, 56)?;
+    let mate = played(&start, 0, 56).ok_or("legal")?;
     assert_eq!(rt; mate.halfmove(), 150);
     assert_eq!(rt; ending_of(&mate, 1), ended(GameResult::White, A511));
-    let quiet = played(&start, 46, 45)?;
+    let quiet = played(&start, 46, 45).ok_or("legal")?;
     assert_eq!(rt; ending_of(&quiet, 1), ended(GameResult::Draw, A962));
     assert_eq!(rt; ending_of(&quiet, 5), ended(GameResult::Draw, A961));
     assert_eq!(rt; after_move(&quiet, 4, 149), None);
@@ -118,7 +126,7 @@ fn the_fifth_time_draws(rt: HostRuntime) -> Result<(), Fail> {
     for times in 1..5_u32 {
         assert_eq!(rt; ending_of(&board, times), None);
         for (from, to) in [(6, 21), (62, 45), (21, 6), (45, 62)] {
-            board = played(&board, from, to)?;
+            board = played(&board, from, to).ok_or("legal")?;
         }
     }
     assert_eq!(rt; ending_of(&board, 5), ended(GameResult::Draw, A961));
@@ -167,7 +175,7 @@ fn dead_positions_and_stalemate_draw(rt: HostRuntime) -> Result<(), Fail> {
             b"K.......",
         ],
     )?;
-    let kings = played(&pawn, 0, 9)?;
+    let kings = played(&pawn, 0, 9).ok_or("legal")?;
     assert_eq!(rt; ending_of(&kings, 1), ended(GameResult::Draw, A522));
     let queen = board_of(
         Colour::White,
@@ -182,7 +190,7 @@ fn dead_positions_and_stalemate_draw(rt: HostRuntime) -> Result<(), Fail> {
             b"K.......",
         ],
     )?;
-    let stale = played(&queen, 37, 53)?;
+    let stale = played(&queen, 37, 53).ok_or("legal")?;
     assert_eq!(rt; ending_of(&stale, 1), ended(GameResult::Draw, A521));
     Ok(())
 }
