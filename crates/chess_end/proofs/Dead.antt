@@ -1,6 +1,5 @@
 -- When the listed material is left.
-use Rattle.std.specs.Prelude.{ℕ, ◌≡◌, ◌≢◌, ◌+◌, ◌≤◌, ◌<◌, ◌⊎◌, ◌↔◌, Bool, true, false, cond, not, ◌&&◌, List, [], length, Option, Some, None, count_by}
-use Rattle.std.specs.Bool.{Decides}
+use Rattle.std.specs.Prelude.{ℕ, ◌≡◌, ◌+◌, ◌≤◌, ◌⊎◌, ◌↔◌, Bool, true, false, cond, not, ◌&&◌, List, [], length, Option, Some, None, count_by}
 use Rattle.std.proofs.Common.{refl, sym, ap, ◌∙◌, inl, inr, arith}
 use Rattle.std.proofs.lemmas.Bool.{false≢true, cases_Bool, cases_lt}
 use Rattle.std.proofs.lemmas.List.{length-map}
@@ -20,7 +19,7 @@ use Rattle.chess_bits.proofs.Deciding.{and_decides}
 use Rattle.chess_board.specs.Occupancy.{squares_with, is_a}
 use Rattle.chess_board.proofs.AttackLemmas.{has-squares_with}
 use Rattle.chess_board.proofs.Deciding.{man_at-on_board}
-use Rattle.chess_end.specs.Material.{is_dark, EachMan, AreKingsAlone, AreKingsAndKnight, IsBishopOn, AreBishopsOn, AreKingsAndBishops, IsListedDead}
+use Rattle.chess_end.specs.Material.{is_dark, EachMan, AreKingsAndKnight, IsBishopOn, AreBishopsOn, AreKingsAndBishops, IsListedDead}
 use Rattle.chess_end.specs.Computing.{is_other, is_shade}
 use Rattle.chess_end.proofs.EachManLemmas.{each_man-empty, Decides-kind, either, without-squares_with}
 use Rattle.chess_end.proofs.Shades.{Decides-is_shade}

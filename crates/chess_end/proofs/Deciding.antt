@@ -14,7 +14,7 @@ use Rattle.chess_bits.proofs.ManLemmas.{same_man, is_kind-true}
 use Rattle.chess_bits.proofs.TableLemmas.{Decides-is_square}
 use Rattle.chess_bits.proofs.Deciding.{and_decides, or_decides, not_decides, like_decides, Decides-some_square, Decides-each_square}
 use Rattle.chess_board.specs.declared.moves.Move.{Move}
-use Rattle.chess_board.specs.Position.{Position, is_in_check}
+use Rattle.chess_board.specs.Position.{Position}
 use Rattle.chess_board.specs.Legal.{IsLegal}
 use Rattle.chess_board.specs.Computing.{legal_moves_of}
 use Rattle.chess_board.proofs.Deciding.{man_at-on_board, Decides-is_in_check}

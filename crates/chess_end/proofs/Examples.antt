@@ -1,5 +1,5 @@
 -- Worked positions, computed.
-use Rattle.std.specs.Prelude.{◌≡◌, Bool, true, false, List, [], ◌∷◌, replicate, Option, Some, None, refl}
+use Rattle.std.specs.Prelude.{◌≡◌, Bool, true, false, List, [], ◌∷◌, replicate, Some, None, refl}
 use Rattle.chess_bits.specs.declared.men.Colour.{Colour}
 use Rattle.chess_bits.specs.declared.men.Colour.TheVariants.{White, Black}
 use Rattle.chess_bits.specs.declared.men.Kind.TheVariants.{Pawn, Knight, Bishop, Rook, Queen, King}
@@ -9,7 +9,7 @@ use Rattle.chess_bits.specs.Table.{at, put}
 use Rattle.chess_bits.specs.Placement.{Placement}
 use Rattle.chess_board.specs.Position.{Position}
 use Rattle.chess_board.specs.Next.{placement_after, rights_after, target_after, halfmove_after}
-use Rattle.chess_end.specs.Computing.{are_kings_alone, is_listed_dead, has_king_alone, is_checkmate, is_stalemate}
+use Rattle.chess_end.specs.Computing.{is_listed_dead, has_king_alone, is_checkmate, is_stalemate}
 
 men : List (Square × Man) → Placement
 men [] = replicate 64 None

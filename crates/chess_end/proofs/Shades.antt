@@ -1,8 +1,8 @@
 -- The words of the dark and of the light squares, computed.
-use Rattle.std.specs.Prelude.{◌≡◌, ◌↔◌, Bool, true, false, not, List, length}
+use Rattle.std.specs.Prelude.{◌≡◌, Bool, true, false, not, List, length}
 use Rattle.std.specs.Bool.{Decides}
 use Rattle.std.specs.List.{list_all}
-use Rattle.std.proofs.Common.{refl, sym, ap, ◌∙◌}
+use Rattle.std.proofs.Common.{refl, sym, ◌∙◌}
 use Rattle.std.proofs.lemmas.Bool.{false≢true}
 use Rattle.chess_bits.specs.Square.{Square, IsOnBoard, squares}
 use Rattle.chess_bits.specs.Table.{at, has, IsSetOf}

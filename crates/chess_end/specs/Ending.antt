@@ -56,15 +56,24 @@ abbrev pub won_by : Colour → GameResult
 won_by side.White = White
 won_by side.Black = Black
 
--- What an article gives after a move: the side that has given checkmate wins, and every other ending is a draw.
-abbrev pub result_of : Position → Article → GameResult
-result_of p A511 = won_by (other p.side)
-result_of p _ = Draw
+-- What such an ending gives: the side that has given checkmate wins, and the others are draws. No ending after a move
+-- is by another article, so that those have no result here.
+abbrev pub IsResultAfter : Position → Article → GameResult → Type 0
+IsResultAfter p A511 result = result ≡ won_by (other p.side)
+IsResultAfter p A521 result = result ≡ Draw
+IsResultAfter p A522 result = result ≡ Draw
+IsResultAfter p A961 result = result ≡ Draw
+IsResultAfter p A962 result = result ≡ Draw
+IsResultAfter p A512 result = ⊥
+IsResultAfter p A523 result = ⊥
+IsResultAfter p A69 result = ⊥
+IsResultAfter p A92 result = ⊥
+IsResultAfter p A93 result = ⊥
 
 -- the ending of a game after a move
 pub record IsEnding (p : Position) (times quiet : ℕ) (ending : Ending) : Type 0 where
   pub article : IsEndedBy p times quiet ending.article
-  pub result : ending.result ≡ result_of p ending.article
+  pub result : IsResultAfter p ending.article ending.result
 
 -- What a fallen flag gives (FIDE article 6.9): a draw just where the opponent has the king alone, else the opponent wins.
 -- The article asks whether the opponent can checkmate by any series of legal moves; this is the project's reduction of it.

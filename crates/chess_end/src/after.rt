@@ -1,5 +1,6 @@
 ghost use Rattle.std.specs.Prelude.{◌≡◌, ◌≤◌, ◌↔◌, IsTrue, IfSome, IfNone};
-ghost use Rattle.chess_end.specs.Ending.{IsEndedBy, IsRunning, IsEnding, result_of as result_by};
+ghost use Rattle.chess_end.specs.declared.ending.GameResult.TheVariants as results;
+ghost use Rattle.chess_end.specs.Ending.{IsRunning, IsEnding};
 
 use crate::ending::{Article, Ending, GameResult};
 use crate::flag::won_by;
@@ -7,35 +8,14 @@ use crate::material::is_listed_dead;
 use chess_board::Board;
 use chess_moves::has_legal;
 
-// The article that ends a game after a move, or `None` where it goes on.
-fn article_after(board: &Board, times: u32, quiet: u32) -> Option<Article>
-    ensures some { IfSome result (IsEndedBy board.now times quiet) }
-    ensures none { IfNone result (IsRunning board.now times quiet) }
+// A draw by an article.
+fn drawn_by(article: Article) -> Ending
+    ensures result { result.result ≡ results.Draw }
+    ensures article { result.article ≡ article }
 {
-    if !has_legal(board) {
-        Some(if board.in_check() {
-            Article::A511
-        } else {
-            Article::A521
-        })
-    } else if is_listed_dead(board) {
-        Some(Article::A522)
-    } else if times >= 5 {
-        Some(Article::A961)
-    } else if quiet >= 150 {
-        Some(Article::A962)
-    } else {
-        None
-    }
-}
-
-// What an article gives after a move.
-fn result_of(board: &Board, article: Article) -> GameResult
-    ensures { result ≡ result_by board.now article }
-{
-    match article {
-        Article::A511 => won_by(board.side().other()),
-        _ => GameResult::Draw,
+    Ending {
+        result: GameResult::Draw,
+        article,
     }
 }
 
@@ -47,9 +27,24 @@ pub fn after_move(board: &Board, times: u32, quiet: u32) -> Option<Ending>
     ensures some { IfSome result (IsEnding board.now times quiet) }
     ensures none { IfNone result (IsRunning board.now times quiet) }
 {
-    let article = article_after(board, times, quiet)?;
-    let result = result_of(board, article);
-    Some(Ending { result, article })
+    if !has_legal(board) {
+        Some(if board.in_check() {
+            Ending {
+                result: won_by(board.side().other()),
+                article: Article::A511,
+            }
+        } else {
+            drawn_by(Article::A521)
+        })
+    } else if is_listed_dead(board) {
+        Some(drawn_by(Article::A522))
+    } else if times >= 5 {
+        Some(drawn_by(Article::A961))
+    } else if quiet >= 150 {
+        Some(drawn_by(Article::A962))
+    } else {
+        None
+    }
 }
 
 /// Whether a player may claim a draw since the position has come `times` times (FIDE article 9.2): at least three times.

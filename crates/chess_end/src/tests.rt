@@ -3,8 +3,9 @@ use crate::Article::{A69, A511, A521, A522, A961, A962};
 use crate::{
     Article, Ending, GameResult, after_move, claim_fifty, claim_three, flag_result, is_listed_dead,
 };
-use chess_bits::{Colour, Kind};
-use chess_board::{BadBoard, Board, CastlingRights, Parts};
+use chess_bits::{Colour, Kind, Square};
+use chess_board::{BadBoard, Board, CastlingRights, Move, Parts};
+use chess_moves::legal;
 use std::test::Fail;
 
 // The man that a letter of a diagram stands for: capitals are White's.
@@ -28,8 +29,13 @@ fn man_of(letter: u8) -> Option<(Colour, Kind)> {
 
 const EMPTY: &[u8; 8] = b"........";
 
-// The board of a diagram, from rank 8 to rank 1.
-fn board_of(side: Colour, diagram: [&[u8; 8]; 8]) -> Result<Board, BadBoard> {
+// The board of a diagram, from rank 8 to rank 1, after so many quiet moves.
+fn board_after(
+    side: Colour,
+    diagram: [&[u8; 8]; 8],
+    halfmove: u16,
+    fullmove: u16,
+) -> Result<Board, BadBoard> {
     let mut men = [None; 64];
     for i in 0..64 {
         men[56 - i / 8 * 8 + i % 8] = man_of(diagram[i / 8][i % 8]);
@@ -39,9 +45,42 @@ fn board_of(side: Colour, diagram: [&[u8; 8]; 8]) -> Result<Board, BadBoard> {
         side,
         rights: CastlingRights::of(false, false, false, false),
         target: None,
-        halfmove: 0,
-        fullmove: 1,
+        halfmove,
+        fullmove,
     })
+}
+
+fn board_of(side: Colour, diagram: [&[u8; 8]; 8]) -> Result<Board, BadBoard> {
+    board_after(side, diagram, 0, 1)
+}
+
+// The board after a legal move.
+fn applied(board: &Board, mv: &Move) -> Option<Board> {
+    if legal(board, *mv) && board.halfmove() < u16::MAX && board.fullmove() < u16::MAX {
+        Some(board.apply(*mv))
+    } else {
+        None
+    }
+}
+
+// The same by the numbers of the squares left and reached (a1 is 0, h1 is 7, h8 is 63).
+fn played(board: &Board, from: u8, to: u8) -> Option<Board> {
+    if from >= 64 || to >= 64 {
+        return None;
+    }
+    applied(
+        board,
+        &Move {
+            from: Square::new(from),
+            to: Square::new(to),
+            promotion: None,
+        },
+    )
+}
+
+// What `after_move` says of a position that has come so often.
+fn ending_of(board: &Board, times: u32) -> Option<Ending> {
+    after_move(board, times, u32::from(board.halfmove()))
 }
 
 fn ended(given: GameResult, article: Article) -> Option<Ending> {
@@ -54,37 +93,43 @@ fn ended(given: GameResult, article: Article) -> Option<Ending> {
 // From 7k/8/6K1/8/8/8/8/R7 w - - 149 90: Ra8 is mate, and Kf6 the 150th quiet move.
 #[test]
 fn mate_goes_before_seventy_five_moves(rt: HostRuntime) -> Result<(), Fail> {
-    let mate = board_of(
-        Colour::Black,
+    let start = board_after(
+        Colour::White,
         [
-            b"R......k",
+            b".......k",
             EMPTY,
             b"......K.",
             EMPTY,
             EMPTY,
             EMPTY,
             EMPTY,
-            EMPTY,
-        ],
-    )?;
-    assert_eq!(rt; after_move(&mate, 1, 150), ended(GameResult::White, A511));
-    let quiet = board_of(
-        Colour::Black,
-        [
-            b".......k",
-            EMPTY,
-            b".....K..",
-            EMPTY,
-            EMPTY,
-            EMPTY,
-            EMPTY,
             b"R.......",
         ],
+        149,
+        90,
     )?;
-    assert_eq!(rt; after_move(&quiet, 1, 150), ended(GameResult::Draw, A962));
-    assert_eq!(rt; after_move(&quiet, 1, 149), None);
+    assert_eq!(rt; ending_of(&start, 1), None);
+    let mate = played(&start, 0, 56).ok_or("legal")?;
+    assert_eq!(rt; mate.halfmove(), 150);
+    assert_eq!(rt; ending_of(&mate, 1), ended(GameResult::White, A511));
+    let quiet = played(&start, 46, 45).ok_or("legal")?;
+    assert_eq!(rt; ending_of(&quiet, 1), ended(GameResult::Draw, A962));
+    assert_eq!(rt; ending_of(&quiet, 5), ended(GameResult::Draw, A961));
     assert_eq!(rt; after_move(&quiet, 4, 149), None);
-    assert_eq!(rt; after_move(&quiet, 5, 150), ended(GameResult::Draw, A961));
+    Ok(())
+}
+
+// Nf3 Nf6 Ng1 Ng8 four times: the initial position comes a fifth time.
+#[test]
+fn the_fifth_time_draws(rt: HostRuntime) -> Result<(), Fail> {
+    let mut board = Board::initial();
+    for times in 1..5_u32 {
+        assert_eq!(rt; ending_of(&board, times), None);
+        for (from, to) in [(6, 21), (62, 45), (21, 6), (45, 62)] {
+            board = played(&board, from, to).ok_or("legal")?;
+        }
+    }
+    assert_eq!(rt; ending_of(&board, 5), ended(GameResult::Draw, A961));
     Ok(())
 }
 
@@ -113,11 +158,12 @@ fn a_flag_against_the_king_alone_draws(rt: HostRuntime) -> Result<(), Fail> {
     Ok(())
 }
 
-// After Kxb2 the kings are alone, and 7k/5Q2/8/8/8/8/8/K7 b - - 1 1 is stalemate.
+// From 7k/8/8/8/8/8/1p6/K7 w - - 0 1, Kxb2 leaves the kings alone, and from 7k/8/8/5Q2/8/8/8/K7 w - - 0 1, Qf7 is
+// stalemate.
 #[test]
 fn dead_positions_and_stalemate_draw(rt: HostRuntime) -> Result<(), Fail> {
-    let kings = board_of(
-        Colour::Black,
+    let pawn = board_of(
+        Colour::White,
         [
             b".......k",
             EMPTY,
@@ -125,25 +171,27 @@ fn dead_positions_and_stalemate_draw(rt: HostRuntime) -> Result<(), Fail> {
             EMPTY,
             EMPTY,
             EMPTY,
-            b".K......",
-            EMPTY,
+            b".p......",
+            b"K.......",
         ],
     )?;
-    assert_eq!(rt; after_move(&kings, 1, 0), ended(GameResult::Draw, A522));
-    let stale = board_of(
-        Colour::Black,
+    let kings = played(&pawn, 0, 9).ok_or("legal")?;
+    assert_eq!(rt; ending_of(&kings, 1), ended(GameResult::Draw, A522));
+    let queen = board_of(
+        Colour::White,
         [
             b".......k",
+            EMPTY,
+            EMPTY,
             b".....Q..",
-            EMPTY,
-            EMPTY,
             EMPTY,
             EMPTY,
             EMPTY,
             b"K.......",
         ],
     )?;
-    assert_eq!(rt; after_move(&stale, 1, 1), ended(GameResult::Draw, A521));
+    let stale = played(&queen, 37, 53).ok_or("legal")?;
+    assert_eq!(rt; ending_of(&stale, 1), ended(GameResult::Draw, A521));
     Ok(())
 }
 

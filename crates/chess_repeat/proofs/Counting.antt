@@ -1,5 +1,5 @@
 -- Counting members of a list by their keys.
-use Rattle.std.proofs.Common.{ℕ, ◌≡◌, ◌+◌, ◌<◌, ◌≤◌, inl, inr, Bool, true, false, cond, List, [], ◌∷◌, ◌++◌, length, map, Option, Some, zero-add, refl, ap, sym, subst, ◌∙◌, arith}
+use Rattle.std.proofs.Common.{ℕ, ◌≡◌, ◌+◌, ◌<◌, ◌≤◌, inl, inr, Bool, cond, List, [], ◌∷◌, ◌++◌, length, map, Option, Some, zero-add, add-zero, refl, ap, sym, subst, ◌∙◌, arith}
 use Rattle.std.specs.Prelude.{count_by}
 use Rattle.std.specs.Option.{unwrap_or}
 use Rattle.std.specs.Map.{lookup}
@@ -80,22 +80,37 @@ counts_one_more key old new n counted updates = record {
         updates other ∙ ap (λ (b : Bool). cond b (Some (n + 1)) (lookup (is_key other) old)) apart in
         let found : count_in new other ≡ count_in old other = ap (λ (o : Option ℕ). unwrap_or o 0) here in
         let none : cond (is_key key other) 1 0 ≡ 0 = ap (λ (b : Bool). let x : ℕ = cond b 1 0 in x) apart in
-        let nothing : count_in old other ≡ count_in old other + 0 = omega arith in
+        let nothing : count_in old other ≡ count_in old other + 0 = sym (add-zero (count_in old other)) in
         found ∙ nothing ∙ ap (λ (k : ℕ). count_in old other + k) (sym none)
   ];
 }
 
-bit_below : (b : Bool) → cond b 1 0 ≤ 1
-bit_below true = omega arith
-bit_below false = omega arith
+-- A key that is given a count of at most one more is counted at most once more.
+pub counts_at_most : (key : List ℕ) (old new : List (List ℕ × ℕ)) (n most : ℕ) → n ≤ count_in old key + 1 →
+    ((other : List ℕ) → lookup (is_key other) new ≡
+    cond (is_key key other) (Some n) (lookup (is_key other) old)) →
+    ((other : List ℕ) → count_in old other ≤ most) → (other : List ℕ) → count_in new other ≤ most + 1
+counts_at_most key old new n most few updates below other = elim (cases_Bool (is_key key other)) [
+  | inl same ↦
+      let here : lookup (is_key other) new ≡ Some n =
+      updates other ∙ ap (λ (b : Bool). cond b (Some n) (lookup (is_key other) old)) same in
+      let found : count_in new other ≡ n = ap (λ (o : Option ℕ). unwrap_or o 0) here in
+      omega (arith, found, few, below key)
+  | inr apart ↦
+      let here : lookup (is_key other) new ≡ lookup (is_key other) old =
+      updates other ∙ ap (λ (b : Bool). cond b (Some n) (lookup (is_key other) old)) apart in
+      let found : count_in new other ≡ count_in old other = ap (λ (o : Option ℕ). unwrap_or o 0) here in
+      omega (arith, found, below other)
+]
 
-pub bounded-push : (clocks : List ℕ) (key : List ℕ) (old new : List (List ℕ × ℕ)) →
-    IsBounded clocks old → length clocks < 65535 → CountsOneMore key old new →
+pub bounded-push : (clocks : List ℕ) (old new : List (List ℕ × ℕ)) → IsBounded clocks old → length clocks < 65535 →
+    (((other : List ℕ) → count_in old other ≤ length clocks) →
+    (other : List ℕ) → count_in new other ≤ length clocks + 1) →
     (clocks' : List ℕ) → length clocks' ≡ length clocks + 1 → IsBounded clocks' new
-bounded-push clocks key old new bounded room more clocks' longer = record {
+bounded-push clocks old new bounded room more clocks' longer = record {
   some = omega arith;
   most = omega arith;
-  each = λ other. omega (arith, more.one_more other, bounded.each other, bit_below (is_key key other));
+  each = λ other. omega (arith, more bounded.each other);
 }
 
 pub history-push : (old new : HistoryState) (list : List Position) (p : Position) → IsValid p →

@@ -3,4 +3,5 @@ pub mod LiveTargets
 pub mod KeyBytes
 pub mod SameKeys
 pub mod Counting
+pub mod QuietRuns
 mod Examples

@@ -60,7 +60,7 @@ Decides-live p t =
 no_promotion : (side : Colour) (to : Square) (promotion : Option Kind) → to.rank ≢ last_rank side →
     IsPromotion side to promotion → promotion ≡ None
 no_promotion side to None inside is = refl
-no_promotion side to (Some kind) inside is = absurd (inside is.0)
+no_promotion side to (Some piece) inside is = absurd (inside is.0)
 
 target_inside : (side : Colour) (rank : ℕ) → rank ≡ target_rank side → rank ≢ last_rank side
 target_inside White rank at_target at_last = absurd (omega arith)

@@ -1,3 +1,4 @@
 pub mod SamePosition
 pub mod Key
+pub mod QuietRun
 pub mod History

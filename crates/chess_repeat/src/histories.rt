@@ -2,6 +2,7 @@ ghost use Rattle.std.specs.Prelude.{◌≡◌, ◌+◌, ◌-◌, ◌<◌, [], �
 ghost use Rattle.chess_board.specs.Position.{Position};
 ghost use Rattle.chess_repeat.specs.Key.{key_of};
 ghost use Rattle.chess_repeat.specs.SamePosition.{IsTimes};
+ghost use Rattle.chess_repeat.specs.QuietRun.{quiet_run};
 ghost use Rattle.chess_repeat.specs.History.{count_in, IsHistoryOf};
 
 use crate::keys::key;
@@ -42,7 +43,8 @@ impl History {
 
     /// How many positions there are, 1 to 65,535.
     pub fn len(&self) -> u32
-        ensures { result ≡ length self.now.clocks }
+        ensures clocks { result ≡ length self.now.clocks }
+        ensures len { (list : List Position) → IsHistoryOf self.now list → result ≡ length list }
     {
         self.clocks.len() as u32
     }
@@ -74,9 +76,10 @@ impl History {
         self.count(&key(board))
     }
 
-    /// The halfmove clock of the last position, 0 to 65,535 (FIDE articles 9.3 and 9.6.2).
+    /// The quiet run: the halfmove clock of the last position, 0 to 65,535 (FIDE articles 9.3 and 9.6.2).
     pub fn quiet(&self) -> u32
-        ensures { result ≡ slice_index self.now.clocks (length self.now.clocks - 1) }
+        ensures clock { result ≡ slice_index self.now.clocks (length self.now.clocks - 1) }
+        ensures quiet { (list : List Position) → IsHistoryOf self.now list → result ≡ quiet_run list }
     {
         u32::from(self.clocks[self.clocks.len() - 1])
     }

@@ -1,8 +1,9 @@
-ghost use Rattle.std.specs.Prelude.{◌≡◌, ◌+◌, ◌*◌, ◌<◌, ◌↔◌, IsTrue, Some};
+ghost use Rattle.std.specs.Prelude.{◌≡◌, ◌+◌, ◌*◌, ◌<◌, ◌↔◌, IsTrue, Some, slice_index};
 ghost use Rattle.chess_bits.specs.declared.men.Kind.TheVariants as kinds;
-ghost use Rattle.chess_bits.specs.Square.{square_at};
+ghost use Rattle.chess_bits.specs.Square.{square_at, number_of};
 ghost use Rattle.chess_bits.specs.Table.{IsSetOf};
 ghost use Rattle.chess_bits.specs.Attack.{Reaches, pawn_attacks};
+ghost use Rattle.chess_board.specs.declared.moves.Move.{Move};
 ghost use Rattle.chess_board.specs.Position.{man_at, IsValid};
 ghost use Rattle.chess_moves.specs.Targets.{plain as plain_move};
 ghost use Rattle.chess_repeat.specs.SamePosition.{IsLegalEnPassant, HasLegalEnPassant, IsSamePosition};
@@ -102,8 +103,11 @@ fn target_byte(board: &Board) -> u8
 /// queen and king, and 9 to 14 the black ones. Byte 32 has bit 0 for Black to move and bits 1 to 4 for the rights K, Q, k
 /// and q. Byte 33 is the number of the en passant target where a capture there is legal, and else 64.
 pub fn key(board: &Board) -> [u8; 34]
-    ensures { result ≡ key_of board.now }
+    ensures key { result ≡ key_of board.now }
+    ensures live_target { (m : Move) → IsLegalEnPassant board.now m → slice_index result 33 ≡ number_of m.to }
+    ensures dead_target { ¬ HasLegalEnPassant board.now → slice_index result 33 ≡ 64 }
 {
+    let _valid = board.rights();
     let mut bytes = [0; 34];
     for pair in 0..32_u8 {
         bytes[usize::from(pair)] = men_byte(board, pair);
@@ -114,9 +118,10 @@ pub fn key(board: &Board) -> [u8; 34]
 }
 
 /// Whether two positions are the same (FIDE article 9.2.3): equal sides to move, men, castling rights and legal captures en
-/// passant. It compares their keys.
+/// passant. It compares their keys, which are equal exactly for the same positions.
 pub fn is_same(first: &Board, second: &Board) -> bool
-    ensures { IsTrue result ↔ IsSamePosition first.now second.now }
+    ensures same { IsTrue result ↔ IsSamePosition first.now second.now }
+    ensures keys { (key_of first.now ≡ key_of second.now) ↔ IsSamePosition first.now second.now }
 {
     let _valid = (first.rights(), second.rights());
     key(first) == key(second)

@@ -3,6 +3,8 @@ use crate::{History, is_same, key};
 use chess_bits::{Colour, Kind, Square};
 use chess_board::{Board, CastlingRights, Move, Parts};
 use chess_moves::legal;
+use std::alloc::{AllocError, Global};
+use std::process::Abort;
 use std::test::Fail;
 
 // The board after a legal move.
@@ -39,39 +41,73 @@ fn played(start: &Board, moves: &[(u8, u8)]) -> Option<Board> {
     Some(board)
 }
 
-// e2-e4.
-const KINGS_PAWN: (u8, u8) = (12, 28);
+// The history of a game, and its last board.
+fn recorded(alloc: Global, start: &Board, moves: &[(u8, u8)]) -> Result<(History, Board), Fail> {
+    let mut history = History::new(alloc, start)?;
+    let mut board = *start;
+    for (from, to) in moves {
+        board = after(&board, *from, *to).ok_or("legal")?;
+        if history.len() >= 65_535 {
+            return Err("long".into());
+        }
+        history.push(&board)?;
+    }
+    Ok((history, board))
+}
 
-// Ng8-f6, Ng1-f3, Nf6-g8, Nf3-g1.
-const KNIGHTS_OUT_AND_BACK: [(u8, u8); 4] = [(62, 45), (6, 21), (45, 62), (21, 6)];
+// 1. e4 Nf6 2. Nf3 Ng8 3. Ng1 Nf6 4. Nf3 Ng8 5. Ng1.
+const PAWN_AND_KNIGHTS: [(u8, u8); 9] = [
+    (12, 28),
+    (62, 45),
+    (6, 21),
+    (45, 62),
+    (21, 6),
+    (62, 45),
+    (6, 21),
+    (45, 62),
+    (21, 6),
+];
 
-// Ke8-e7, Ke1-e2, Ke7-e8, Ke2-e1.
-const KINGS_OUT_AND_BACK: [(u8, u8); 4] = [(60, 52), (4, 12), (52, 60), (12, 4)];
+// 1. e4 Ke7 2. Ke2 Ke8 3. Ke1 Ke7 4. Ke2 Ke8 5. Ke1 Ke7 6. Ke2 Ke8 7. Ke1.
+const PAWN_AND_KINGS: [(u8, u8); 13] = [
+    (12, 28),
+    (60, 52),
+    (4, 12),
+    (52, 60),
+    (12, 4),
+    (60, 52),
+    (4, 12),
+    (52, 60),
+    (12, 4),
+    (60, 52),
+    (4, 12),
+    (52, 60),
+    (12, 4),
+];
 
-// After e4 no pawn can take on e3, so that the position is the same as after the knights have come back.
+// After e4 no pawn can take on e3, so that the position is the same as each time that the knights have come back.
 #[test]
 fn a_target_without_a_capture_does_not_count(rt: HostRuntime) -> Result<(), Fail> {
-    let first = played(&Board::initial(), &[KINGS_PAWN]).ok_or("legal")?;
-    let fifth = played(&first, &KNIGHTS_OUT_AND_BACK).ok_or("legal")?;
-    let ninth = played(&fifth, &KNIGHTS_OUT_AND_BACK).ok_or("legal")?;
+    let start = Board::initial();
+    let first = played(&start, &PAWN_AND_KNIGHTS[..1]).ok_or("legal")?;
+    let fifth = played(&start, &PAWN_AND_KNIGHTS[..5]).ok_or("legal")?;
+    let (history, ninth) = recorded(rt.alloc(), &start, &PAWN_AND_KNIGHTS)?;
     assert!(rt; first.target().is_some());
     assert!(rt; fifth.target().is_none());
+    assert!(rt; ninth.target().is_none());
     assert!(rt; key(&first) == key(&fifth));
     assert!(rt; key(&first) == key(&ninth));
     assert!(rt; is_same(&first, &ninth));
-    assert!(rt; !is_same(&first, &Board::initial()));
-    let mut history = History::new(rt.alloc(), &Board::initial())?;
-    history.push(&first)?;
-    history.push(&fifth)?;
-    history.push(&ninth)?;
+    assert!(rt; !is_same(&first, &start));
     assert_eq!(rt; history.times(&ninth), 3);
-    assert_eq!(rt; history.times(&Board::initial()), 1);
-    assert_eq!(rt; history.len(), 4);
+    assert_eq!(rt; history.times(&start), 1);
+    assert_eq!(rt; history.len(), 10);
     assert_eq!(rt; history.quiet(), 8);
     Ok(())
 }
 
 // From 4k3/8/8/8/3p4/8/4P3/4K3 w - - 0 1: after e4 Black could take on e3, and after the kings have come back no more.
+// So that position stands a second time after 9 moves, and a third time after 13.
 #[test]
 fn a_target_with_a_capture_counts(rt: HostRuntime) -> Result<(), Fail> {
     let mut men = [None; 64];
@@ -89,45 +125,75 @@ fn a_target_with_a_capture_counts(rt: HostRuntime) -> Result<(), Fail> {
     }) else {
         return Err("valid".into());
     };
-    let first = played(&start, &[KINGS_PAWN]).ok_or("legal")?;
-    let fifth = played(&first, &KINGS_OUT_AND_BACK).ok_or("legal")?;
-    let ninth = played(&fifth, &KINGS_OUT_AND_BACK).ok_or("legal")?;
+    let first = played(&start, &PAWN_AND_KINGS[..1]).ok_or("legal")?;
+    let fifth = played(&start, &PAWN_AND_KINGS[..5]).ok_or("legal")?;
     assert_eq!(rt; key(&first)[33], 20);
     assert_eq!(rt; key(&fifth)[33], 64);
     assert!(rt; !is_same(&first, &fifth));
+    let (history, ninth) = recorded(rt.alloc(), &start, &PAWN_AND_KINGS[..9])?;
     assert!(rt; is_same(&fifth, &ninth));
+    assert_eq!(rt; history.times(&ninth), 2);
+    let (history, last) = recorded(rt.alloc(), &start, &PAWN_AND_KINGS)?;
+    assert_eq!(rt; history.times(&last), 3);
+    assert_eq!(rt; history.times(&first), 1);
+    assert_eq!(rt; history.quiet(), 12);
     Ok(())
 }
 
-// The knights go out and back four times: the start stands five times. A push that is refused memory changes nothing.
+// A rook, a knight and so on from a1, low four bits first; all four rights with White to move; and no target.
 #[test]
-fn the_fifth_time_or_nothing_changed(rt: HostRuntime) -> Result<(), Fail> {
+fn the_key_of_the_initial_position(rt: HostRuntime) {
+    let mut bytes = [0; 34];
+    bytes[..8].copy_from_slice(&[0x24, 0x53, 0x36, 0x42, 0x11, 0x11, 0x11, 0x11]);
+    bytes[24..].copy_from_slice(&[0x99, 0x99, 0x99, 0x99, 0xac, 0xdb, 0xbe, 0xca, 0x1e, 0x40]);
+    assert_eq!(rt; key(&Board::initial()), bytes);
+}
+
+// Pushes a position, and once more where memory was refused: then all was as before.
+fn push_again(rt: &impl Abort, history: &mut History, board: &Board) -> Result<(), Fail> {
+    let (len, times, quiet) = (history.len(), history.times(board), history.quiet());
+    if len >= 65_535 {
+        return Err("long".into());
+    }
+    if history.push(board).is_err() {
+        assert_eq!(rt; history.len(), len);
+        assert_eq!(rt; history.times(board), times);
+        assert_eq!(rt; history.quiet(), quiet);
+        history.push(board)?;
+    }
+    assert_eq!(rt; u64::from(history.len()), u64::from(len) + 1);
+    assert_eq!(rt; u64::from(history.times(board)), u64::from(times) + 1);
+    assert_eq!(rt; history.quiet(), u32::from(board.halfmove()));
+    Ok(())
+}
+
+// The knights go out and back four times, so that the start stands five times; then each pawn goes one square, and no
+// position comes again. It passes whichever allocation is refused: `bench/refused-memory` refuses each in turn.
+#[test]
+fn refused_memory(rt: HostRuntime) -> Result<(), Fail> {
     let start = Board::initial();
-    let mut history = History::new(rt.alloc(), &start)?;
+    let mut history = match History::new(rt.alloc(), &start) {
+        Ok(history) => history,
+        Err(AllocError) => History::new(rt.alloc(), &start)?,
+    };
     let mut board = start;
-    for turn in 0..16_u32 {
-        let white = turn % 4 == 0 || turn % 4 == 2;
-        let mv = match (white, turn % 4 < 2) {
-            (true, true) => (6, 21),
-            (false, true) => (62, 45),
-            (true, false) => (21, 6),
-            (false, false) => (45, 62),
-        };
-        board = after(&board, mv.0, mv.1).ok_or("legal")?;
-        let (len, times, quiet) = (history.len(), history.times(&board), history.quiet());
-        if len >= 65_535 {
-            return Err("long".into());
-        }
-        let pushed = history.push(&board);
-        if let Err(refused) = pushed {
-            assert_eq!(rt; history.len(), len);
-            assert_eq!(rt; history.times(&board), times);
-            assert_eq!(rt; history.quiet(), quiet);
-            return Err(refused.into());
+    for _ in 0..4 {
+        for (from, to) in [(6, 21), (62, 45), (21, 6), (45, 62)] {
+            board = after(&board, from, to).ok_or("legal")?;
+            push_again(&rt, &mut history, &board)?;
         }
     }
     assert_eq!(rt; history.times(&start), 5);
     assert_eq!(rt; history.len(), 17);
     assert_eq!(rt; history.quiet(), 16);
+    for file in 0..8_u8 {
+        for (from, to) in [(8 + file, 16 + file), (48 + file, 40 + file)] {
+            board = after(&board, from, to).ok_or("legal")?;
+            push_again(&rt, &mut history, &board)?;
+        }
+    }
+    assert_eq!(rt; history.times(&start), 5);
+    assert_eq!(rt; history.times(&board), 1);
+    assert_eq!(rt; history.len(), 33);
     Ok(())
 }

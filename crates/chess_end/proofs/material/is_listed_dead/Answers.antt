@@ -1,4 +1,3 @@
-use Rattle.std.proofs.Common.{◌∙◌, sym}
 use Rattle.chess_end.proofs.Dead.{dead-then, dead-else}
 use Rattle.chess_end.proofs.material.is_listed_dead.Goals as goal
 

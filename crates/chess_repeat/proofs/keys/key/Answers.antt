@@ -1,13 +1,14 @@
-use Rattle.std.proofs.Common.{◌∙◌, inl, inr, ap, sym, arith}
+use Rattle.std.proofs.Common.{◌∙◌, inl, inr, set, refl, ap, sym, arith}
 use Rattle.std.proofs.lemmas.Bool.{cases_eq}
 use Rattle.std.proofs.lemmas.Grind.{get_or-set_at}
 use Rattle.std.proofs.lemmas.List.{get_or-set_other, length-set}
 use Rattle.chess_repeat.specs.Key.{men_byte}
 use Rattle.chess_repeat.proofs.KeyBytes.{key_of-written}
+use Rattle.chess_repeat.proofs.LiveTargets.{target_byte-live, target_byte-dead}
 use Rattle.chess_repeat.proofs.keys.key.Goals as goal
 
-pub returns : goal.returns
-returns c =
+pub returns-clause-key : goal.returns-clause-key
+returns-clause-key c =
     key_of-written c.args.board.now c.loop-pair.bytes c.state_byte.result c.target_byte.result
     c.loop-pair.invariant.whole
     (λ k h. c.loop-pair.invariant.written k (omega (arith, c.loop-pair-test.false, h)))
@@ -31,3 +32,17 @@ loop-pair-preserved c =
             ∙ c.loop-pair.invariant.written k (omega (arith, h, c.from.ensures, ne))
       ];
     }
+
+pub returns-clause-live_target : goal.returns-clause-live_target
+returns-clause-live_target c m capture =
+    let bytes = c.loop-pair.bytes in
+    get_or-set_at (set bytes 32 c.state_byte.result) 33 33 c.target_byte.result 0 refl
+    (omega (arith, length-set bytes 32 c.state_byte.result, c.loop-pair.invariant.whole))
+    ∙ c.target_byte.ensures ∙ target_byte-live c.args.board.now m c.rights-valid.ensures.valid capture
+
+pub returns-clause-dead_target : goal.returns-clause-dead_target
+returns-clause-dead_target c none =
+    let bytes = c.loop-pair.bytes in
+    get_or-set_at (set bytes 32 c.state_byte.result) 33 33 c.target_byte.result 0 refl
+    (omega (arith, length-set bytes 32 c.state_byte.result, c.loop-pair.invariant.whole))
+    ∙ c.target_byte.ensures ∙ target_byte-dead c.args.board.now none
