@@ -1,5 +1,5 @@
 -- Worked bytes, computed by the definitions alone.
-use Rattle.std.proofs.Common.{◌≡◌, ℕ, true, List, [], ◌∷◌, ◌++◌, take, drop, replicate, Option, Some, None, refl}
+use Rattle.std.proofs.Common.{arith, ◌≡◌, ℕ, true, List, [], ◌∷◌, ◌++◌, take, drop, replicate, Option, Some, None, refl}
 use Rattle.std.specs.Prelude.{codes}
 use Rattle.chess_bits.specs.declared.men.Colour.TheVariants.{Black}
 use Rattle.chess_bits.specs.declared.men.Kind.TheVariants.{Queen}
@@ -19,7 +19,7 @@ use Rattle.rec_codec.specs.Limits.{snapshot_records, snapshot_sectors, journal_s
 use Rattle.rec_codec.specs.Moves.{move_code}
 use Rattle.rec_codec.specs.Position.{position_bytes}
 use Rattle.rec_codec.specs.Records.{entry, record_bytes}
-use Rattle.rec_codec.specs.Header.{header_bytes}
+use Rattle.rec_codec.specs.Header.{header_bytes, IsValidIn}
 
 -- The sizes of a device: the most records of a snapshot, its sectors, the journal's at least, a half's, all.
 abbrev sizes : ℕ → ℕ → List ℕ
@@ -32,6 +32,9 @@ one_game = refl
 
 four_games : sizes 4 60 ≡ 9 ∷ 3 ∷ 102 ∷ 105 ∷ 212 ∷ []
 four_games = refl
+
+eight_games : sizes 8 60 ≡ 17 ∷ 5 ∷ 102 ∷ 107 ∷ 216 ∷ []
+eight_games = refl
 
 many_games : sizes 256 1024 ≡ 4865 ∷ 1217 ∷ 748 ∷ 1965 ∷ 3932 ∷ []
 many_games = refl
@@ -144,3 +147,39 @@ bytes_of_header : header_bytes first_header ≡
     (replicate 12 0 ++ (4 ∷ 0 ∷ 0 ∷ 0 ∷ 60 ∷ replicate 471 0))
 unfolding over
 bytes_of_header = refl
+
+first_is_valid : IsValidIn 1 first_header
+first_is_valid = record {
+  limits = record { some_game = omega arith; few_games = omega arith; some_ply = omega arith; few_plies = omega arith };
+  sectors = refl;
+  first = omega arith;
+  own_slot = refl;
+  room = (omega arith, omega arith);
+}
+
+-- A header of version 1 in slot 0: its counts are of records, and the half of 105 sectors is full with 3 and 102.
+abbrev old_header : Header
+old_header = record {
+  version = version.One;
+  sectors = 212;
+  seq = 2;
+  half = half.One;
+  snapshot = 9;
+  journal = 408;
+  limits = record { games = 4; plies = 60 };
+}
+
+bytes_of_old : header_bytes old_header ≡
+    70 ∷ 73 ∷ 68 ∷ 69 ∷ 74 ∷ 82 ∷ 78 ∷ 49 ∷ 1 ∷ 0 ∷ 0 ∷ 0 ∷ 212 ∷ 0 ∷ 0 ∷ 0 ∷ 2 ∷ 0 ∷ 0 ∷ 0 ∷ 0 ∷ 0 ∷ 0 ∷ 0 ∷
+    1 ∷ 0 ∷ 0 ∷ 0 ∷ 9 ∷ 0 ∷ 0 ∷ 0 ∷ 152 ∷ 1 ∷ 0 ∷ 0 ∷ 4 ∷ 0 ∷ 0 ∷ 0 ∷ 60 ∷ replicate 471 0
+unfolding over
+bytes_of_old = refl
+
+old_is_valid : IsValidIn 0 old_header
+old_is_valid = record {
+  limits = record { some_game = omega arith; few_games = omega arith; some_ply = omega arith; few_plies = omega arith };
+  sectors = refl;
+  first = omega arith;
+  own_slot = refl;
+  room = (omega arith, omega arith);
+}

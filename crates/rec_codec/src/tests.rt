@@ -60,6 +60,47 @@ fn a_header_is_read_in_its_slot(rt: HostRuntime) {
     assert_eq!(rt; read_header(&[0; 512], 1), None);
 }
 
+// A header sector that starts with these bytes, and then has zeros.
+fn header_sector(front: [u8; 44]) -> [u8; 512] {
+    let mut bytes = [0; 512];
+    bytes[..44].copy_from_slice(&front);
+    bytes
+}
+
+// In version 1 the counts are of records: 9 and 408 are 3 and 102 sectors, which fill the half of 105.
+#[test]
+fn a_header_of_version_one_is_read(rt: HostRuntime) {
+    let first = header_sector([
+        0x46, 0x49, 0x44, 0x45, 0x4a, 0x52, 0x4e, 0x31, 1, 0, 0, 0, 0xd4, 0, 0, 0, 1, 0, 0, 0, 0,
+        0, 0, 0, 0, 0, 0, 0, 0, 0, 0, 0, 0, 0, 0, 0, 4, 0, 0, 0, 60, 0, 0, 0,
+    ]);
+    let header = Header {
+        version: Version::One,
+        ..first_header()
+    };
+    assert_eq!(rt; read_header(&first, 1), Some(header));
+    assert_eq!(rt; read_header(&first, 0), None);
+    let full = Header {
+        seq: 2,
+        half: Half::One,
+        snapshot: 9,
+        journal: 408,
+        ..header
+    };
+    let mut bytes = header_sector([
+        0x46, 0x49, 0x44, 0x45, 0x4a, 0x52, 0x4e, 0x31, 1, 0, 0, 0, 0xd4, 0, 0, 0, 2, 0, 0, 0, 0,
+        0, 0, 0, 1, 0, 0, 0, 9, 0, 0, 0, 0x98, 1, 0, 0, 4, 0, 0, 0, 60, 0, 0, 0,
+    ]);
+    assert_eq!(rt; read_header(&bytes, 0), Some(full));
+    assert_eq!(rt; read_header(&bytes, 1), None);
+    // One record more; then the same counts in version 2, where they are sectors.
+    bytes[32] = 0x99;
+    assert_eq!(rt; read_header(&bytes, 0), None);
+    bytes[32] = 0x98;
+    bytes[8] = 2;
+    assert_eq!(rt; read_header(&bytes, 0), None);
+}
+
 #[test]
 fn a_record_is_read_again(rt: HostRuntime) {
     let mut bytes = write_record(&first_move());

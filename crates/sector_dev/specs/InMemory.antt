@@ -1,5 +1,5 @@
 -- A device in memory as its clauses see it.
-use Rattle.std.specs.Prelude.{◌≡◌, ◌≤◌, ◌+◌, ◌-◌, ◌^◌, min, ℕ, List, Some, None, false, true, length, replicate}
+use Rattle.std.specs.Prelude.{◌≡◌, ◌⊎◌, ◌≤◌, ◌+◌, ◌-◌, ◌^◌, min, ℕ, List, Some, None, false, true, length, replicate, vec_len, vec_capacity}
 use Rattle.sector_dev.specs.Device.{State, IsStable}
 use Rattle.sector_dev.specs.declared.device.Sector.TheVariants.{Bytes}
 use Rattle.sector_dev.specs.Image.{Sectors}
@@ -19,6 +19,14 @@ sector_count_of m = length m.base.items
 -- what is known of it; it keeps the model always
 abbrev pub state_of : MemoryDevice → State
 state_of m = recorded_state m.base.items m.calls.items
+
+-- for how many more writes and syncs it has memory
+abbrev pub room_of : MemoryDevice → ℕ
+room_of m = vec_capacity m.calls - vec_len m.calls
+
+-- no call is left, or there is no memory for one
+abbrev pub IsStopped : MemoryDevice → Type 0
+IsStopped m = (m.calls_left ≡ Some 0) ⊎ (room_of m ≡ 0)
 
 -- sectors of zeros
 abbrev pub zeros : ℕ → Sectors
@@ -40,9 +48,10 @@ pub record KeepsDisk (old new : MemoryDevice) : Type 0 where
   pub failed_pending : new.failed_pending ≡ old.failed_pending
 
 -- A write that fails has changed nothing. Where it is the first that fails since the device was armed, that is because
--- memory was refused too, which counts as one more failure.
+-- memory was refused too, which counts as one more failure: there was none for one more call.
 pub record IsRefused (old new : MemoryDevice) : Type 0 where
   pub kept : KeepsDisk old new
+  pub cause : (room_of old ≡ 0) ⊎ ((old.calls_left ≡ Some 0) × (old.failed_pending ≡ true))
   pub counted : old.calls_left ≡ Some 0 → old.failed_pending ≡ false
       → min (old.failures + 2) (2 ^ 64 - 1) ≤ new.failures
 

@@ -6,9 +6,11 @@ mod file;
 mod memory;
 mod once;
 mod positioned;
+mod sector_file;
 
 pub use device::{CrashDevice, Device, DeviceFault, Fate, Got, Sector};
 pub use file::FileDevice;
 pub use memory::MemoryDevice;
 pub use once::OnceDevice;
 pub use positioned::PositionedFile;
+pub use sector_file::SectorFile;

@@ -1,5 +1,5 @@
 // A device in memory: the values that were stable when its record began, and the record of the calls since.
-ghost use Rattle.std.specs.Prelude.{◌≡◌, ◌⊎◌, ◌<◌, ◌^◌, ◌++◌, ◌∷◌, ◌↔◌, [], true, false, map, length, slice_set, Some, None, IsErr, IfOk, OnOk, OnErr};
+ghost use Rattle.std.specs.Prelude.{◌≡◌, ◌⊎◌, ◌<◌, ◌^◌, ◌++◌, ◌∷◌, ◌↔◌, [], true, false, map, length, slice_set, Some, None, IsErr, IfOk, OnOk, OnErr, vec_len, vec_capacity, ◌≤◌, ◌+◌};
 ghost use Rattle.sector_dev.specs.declared.device.Sector.TheVariants.{Bytes};
 ghost use Rattle.sector_dev.specs.Device.{IsRead, WithOrWithout, IsUnchanged, IsPending, MayBePending, IsStable, MayBeStable, Elapses, CountsFailure, TakesOne, one_less};
 ghost use Rattle.sector_dev.specs.Whole.{AreWhole, AreWholeWrites};
@@ -43,7 +43,7 @@ pub struct MemoryDevice {
 }
 
 impl MemoryDevice {
-    ghost use Rattle.sector_dev.specs.InMemory.{IsZeroed};
+    ghost use Rattle.sector_dev.specs.InMemory.{IsZeroed, state_of, sector_count_of, room_of, KeepsDisk};
 
     /// A device of zeros, all of them stable, whose calls are not limited. `AllocError` where memory for twice its
     /// sectors is refused.
@@ -62,6 +62,20 @@ impl MemoryDevice {
             failed_pending: false,
             failures: 0,
         })
+    }
+
+    /// Takes memory for so many writes and syncs: of as many, none fails for want of it. Nothing else changes.
+    /// `AllocError` where it is refused.
+    pub fn reserve(&mut self, calls: usize) -> Result<(), AllocError>
+        ensures room { OnOk result (calls ≤ room_of self.new) }
+        ensures sectors { sector_count_of self.new ≡ sector_count_of self.old }
+        ensures unchanged { IsUnchanged (state_of self.old) (state_of self.new) }
+        ensures time { Elapses (state_of self.old) (state_of self.new) (state_of self.old).image }
+        ensures disk { KeepsDisk self.old self.new }
+        ensures calls_left { self.new.calls_left ≡ self.old.calls_left }
+        ensures failures { self.new.failures ≡ self.old.failures }
+    {
+        self.calls.reserve(calls)
     }
 }
 
@@ -89,6 +103,8 @@ fn take_one(calls_left: &mut Option<u64>, failures: &mut u64) -> Result<(), Devi
 fn note(calls: &mut Vec<Call>, call: Call, failures: &mut u64) -> Result<(), DeviceFault>
     ensures ok { OnOk result (calls.new.items ≡ calls.old.items ++ call ∷ []) }
     ensures err { OnErr result (calls.new.items ≡ calls.old.items) }
+    ensures full { OnErr result (vec_capacity calls.old ≤ vec_len calls.old) }
+    ensures room { vec_capacity calls.old + vec_len calls.new ≤ vec_capacity calls.new + vec_len calls.old + 1 }
     ensures cause { CountsFailure result failures.old failures.new }
 {
     if calls.push(call).is_err() {
@@ -111,6 +127,8 @@ fn put(
     ensures seen { OnOk result (seen.new.items ≡ slice_set seen.old.items at (Bytes from.now)) }
     ensures calls_err { OnErr result (calls.new.items ≡ calls.old.items) }
     ensures seen_err { OnErr result (seen.new.items ≡ seen.old.items) }
+    ensures full { OnErr result (vec_capacity calls.old ≤ vec_len calls.old) }
+    ensures room { vec_capacity calls.old + vec_len calls.new ≤ vec_capacity calls.new + vec_len calls.old + 1 }
     ensures cause { CountsFailure result failures.old failures.new }
 {
     note(calls, Call::Written(at, *from), failures)?;
@@ -119,7 +137,7 @@ fn put(
 }
 
 impl Device for MemoryDevice {
-    ghost use Rattle.sector_dev.specs.InMemory.{disk_of, sector_count_of, state_of, KeepsDisk, IsRefused, Pends, IsFirstFailed};
+    ghost use Rattle.sector_dev.specs.InMemory.{disk_of, sector_count_of, state_of, room_of, IsStopped, KeepsDisk, IsRefused, Pends, IsFirstFailed};
     ghost use Rattle.sector_dev.specs.Memory.{step};
     ghost use Rattle.sector_dev.specs.declared.memory.Call.TheVariants.{Synced};
 
@@ -153,6 +171,7 @@ impl Device for MemoryDevice {
         ensures taken { self.new.calls_left ≡ one_less self.old.calls_left }
         ensures disk { KeepsDisk self.old self.new }
         ensures fails { IsErr result ↔ (self.old.calls_left ≡ Some 0) }
+        ensures room { room_of self.new ≡ room_of self.old }
     {
         take_one(&mut self.calls_left, &mut self.failures)?;
         match &self.seen[at as usize] {
@@ -168,7 +187,7 @@ impl Device for MemoryDevice {
     }
 
     /// Of the writes that fail because the device is armed, the first for which there is memory is pending, and the
-    /// others are not. One that fails for want of memory is not pending.
+    /// others are not. One that fails for want of memory is not pending. It fails for no other reason.
     fn write(&mut self, at: u32, from: &[u8; 512]) -> Result<(), DeviceFault>
         requires { at < sector_count_of self.old }
         ensures sectors { sector_count_of self.new ≡ sector_count_of self.old }
@@ -185,6 +204,8 @@ impl Device for MemoryDevice {
         ensures pending { OnOk result (Pends at from.now self.old self.new) }
         ensures failed_pending { OnOk result (self.new.failed_pending ≡ self.old.failed_pending) }
         ensures failed { OnErr result (IsRefused self.old self.new ⊎ IsFirstFailed at from.now self.old self.new) }
+        ensures served { OnErr result (IsStopped self.old) }
+        ensures room { room_of self.old ≤ room_of self.new + 1 }
     {
         let taken = take_one(&mut self.calls_left, &mut self.failures);
         if taken.is_err() && self.failed_pending {
@@ -201,7 +222,7 @@ impl Device for MemoryDevice {
         taken
     }
 
-    /// One that fails leaves the pending writes as they are.
+    /// One that fails leaves the pending writes as they are. It fails only where no call is left or memory is refused.
     fn sync(&mut self) -> Result<(), DeviceFault>
         ensures sectors { sector_count_of self.new ≡ sector_count_of self.old }
         ensures model { (state_of self.new).keeps_model ↔ (state_of self.old).keeps_model }
@@ -217,6 +238,8 @@ impl Device for MemoryDevice {
         ensures settled { OnOk result (disk_of self.new ≡ step (disk_of self.old) Synced) }
         ensures failed_pending { OnOk result (self.new.failed_pending ≡ self.old.failed_pending) }
         ensures failed { OnErr result (KeepsDisk self.old self.new) }
+        ensures served { OnErr result (IsStopped self.old) }
+        ensures room { room_of self.old ≤ room_of self.new + 1 }
     {
         take_one(&mut self.calls_left, &mut self.failures)?;
         note(&mut self.calls, Call::Synced, &mut self.failures)?;
@@ -310,7 +333,7 @@ fn play<F: TellsFate>(sectors: &mut [Sector], calls: &[Call], fates: &[F])
 }
 
 impl MemoryDevice {
-    ghost use Rattle.sector_dev.specs.InMemory.{disk_of, sector_count_of, state_of};
+    ghost use Rattle.sector_dev.specs.InMemory.{disk_of, sector_count_of, state_of, room_of};
 
     // A crash: what these fates leave is stable, and nothing is pending.
     fn crash_by<F: TellsFate>(&mut self, fates: &[F])
@@ -324,6 +347,7 @@ impl MemoryDevice {
         ensures calls_left { self.new.calls_left ≡ None }
         ensures failures { self.new.failures ≡ self.old.failures }
         ensures failed_pending { self.new.failed_pending ≡ false }
+        ensures room { room_of self.old ≤ room_of self.new }
     {
         play(&mut self.base, &self.calls, fates);
         self.seen.copy_from_slice(&self.base);
@@ -335,7 +359,7 @@ impl MemoryDevice {
 
 impl CrashDevice for MemoryDevice {
     ghost use Rattle.std.specs.Prelude.{refl};
-    ghost use Rattle.sector_dev.specs.InMemory.{disk_of, sector_count_of, state_of};
+    ghost use Rattle.sector_dev.specs.InMemory.{disk_of, sector_count_of, state_of, room_of};
 
     ghost stable = { λ m. (disk_of m).stable };
 
@@ -357,6 +381,7 @@ impl CrashDevice for MemoryDevice {
         ensures pending { (state_of self.old).keeps_model
             → (disk_of self.new).pending ≡ (disk_of self.old).pending }
         ensures failed_pending { self.new.failed_pending ≡ false }
+        ensures room { room_of self.new ≡ room_of self.old }
     {
         self.calls_left = Some(calls);
         self.failed_pending = false;
@@ -374,6 +399,7 @@ impl CrashDevice for MemoryDevice {
             → (disk_of self.new).stable ≡ left_by (disk_of self.old).stable (disk_of self.old).pending fates.now }
         ensures pending { (state_of self.old).keeps_model → (disk_of self.new).pending ≡ [] }
         ensures failed_pending { self.new.failed_pending ≡ false }
+        ensures room { room_of self.old ≤ room_of self.new }
     {
         self.crash_by(fates);
     }
@@ -392,6 +418,7 @@ impl CrashDevice for MemoryDevice {
             ≡ left_by (disk_of self.old).stable (disk_of self.old).pending (fates_of keep.now) }
         ensures pending { (state_of self.old).keeps_model → (disk_of self.new).pending ≡ [] }
         ensures failed_pending { self.new.failed_pending ≡ false }
+        ensures room { room_of self.old ≤ room_of self.new }
     {
         self.crash_by(keep);
     }

@@ -1,9 +1,11 @@
 -- Writes of a list of sectors, one after the other.
-use Rattle.std.proofs.Common.{◌≡◌, ◌≤◌, ◌<◌, ◌+◌, ◌++◌, ◌∷◌, [], refl, sym, ◌∙◌, ap, subst, ℕ, List, length, take, drop, get_or, arith, length-take-le}
+use Rattle.std.proofs.Common.{◌≡◌, ◌≤◌, ◌<◌, ◌+◌, ◌++◌, ◌∷◌, [], sym, ◌∙◌, ap, subst, ℕ, List, length, take, drop, get_or, arith, length-take-le}
 use Rattle.std.specs.Prelude.{Result, Ok, Err, IsErr}
 use Rattle.std.proofs.lemmas.Bool.{false≢true}
 use Rattle.std.proofs.lemmas.List.{take_more, take-append-drop}
+use Rattle.sector_dev.specs.declared.memory.Call.TheVariants.{Written}
 use Rattle.sector_dev.specs.Image.{Sectors, Write}
+use Rattle.sector_dev.specs.Memory.{Disk, step}
 use Rattle.sector_dev.specs.Device.{State, IsCoherent, WithOrWithout, IsPending, MayBePending, HasRisen, CountsFailure}
 use Rattle.sector_dev.specs.Runs.{WithWrites, ArePending}
 use Rattle.sector_dev.proofs.Runs.{with_more, during_more, more_pending, more_failed}
@@ -18,6 +20,27 @@ writes_from-append at (x ∷ xs) ys =
     let same : (at + 1) + length xs ≡ at + length (x ∷ xs) = omega arith in
     ap (λ (ws : List Write). record { at = at; value = x } ∷ ws)
     (writes_from-append (at + 1) xs ys ∙ ap (λ (n : ℕ). writes_from (at + 1) xs ++ writes_from n ys) same)
+
+-- the writes of one more of these values
+pub writes_more : (from : ℕ) (values : List (List ℕ)) (i at : ℕ) → i < length values → at ≡ from + i
+    → writes_from from (take (i + 1) values)
+    ≡ writes_from from (take i values) ++ record { at = at; value = get_or values i [] } ∷ []
+writes_more from values i at lt is_at =
+    let same : from + length (take i values) ≡ at =
+    omega (arith, length-take-le i values (omega (arith, lt)), is_at) in
+    ap (writes_from from) (take_more values i [] lt)
+    ∙ (writes_from-append from (take i values) (get_or values i [] ∷ [])
+    ∙ ap (λ (n : ℕ). writes_from from (take i values) ++ record { at = n; value = get_or values i [] } ∷ []) same)
+
+-- a device in memory after one write more
+pub one_noted : (d : Disk) (stable : Sectors) (values : List (List ℕ)) (i at : ℕ) → i < length values → at ≡ i
+    → d ≡ record { stable = stable; pending = writes_from 0 (take i values) }
+    → step d (Written at (get_or values i []))
+    ≡ record { stable = stable; pending = writes_from 0 (take (i + 1) values) }
+one_noted d stable values i at lt is_at is =
+    ap (λ (e : Disk). step e (Written at (get_or values i []))) is
+    ∙ ap (λ (ws : List Write). let e : Disk = record { stable = stable; pending = ws } in e)
+    (sym (writes_more 0 values i at lt (omega (arith, is_at))))
 
 -- a call that failed has counted it
 pub failed_counted : {T E : Type 0} (r : Result T E) (old new : ℕ) → IsErr r → HasRisen old new × (old ≤ new)
@@ -37,12 +60,7 @@ module _ (old mid : State) (count : ℕ) (laws : IsCoherent count old) (model : 
   within d was = omega (arith, laws.image_size d model was, fit, lt, is_at)
 
   next : writes_from from (take (i + 1) sectors) ≡ writes_from from (take i sectors) ++ here ∷ []
-  next =
-      let same : from + length (take i sectors) ≡ at =
-      omega (arith, length-take-le i sectors (omega (arith, lt)), is_at) in
-      ap (writes_from from) (take_more sectors i [] lt)
-      ∙ (writes_from-append from (take i sectors) (get_or sectors i [] ∷ [])
-      ∙ ap (λ (n : ℕ). writes_from from (take i sectors) ++ record { at = n; value = get_or sectors i [] } ∷ []) same)
+  next = writes_more from sectors i at lt is_at
 
   among_all : (c : Sectors) → WithWrites (writes_from from (take i sectors) ++ here ∷ []) old.image c
       → WithWrites (writes_from from sectors) old.image c

@@ -1,5 +1,8 @@
 use super::{FileDevice, folder_of};
-use crate::{Device, DeviceFault, Got, PositionedFile};
+use crate::{
+    CrashDevice, Device, DeviceFault, Fate, Got, MemoryDevice, OnceDevice, PositionedFile,
+    SectorFile,
+};
 use std::fs::{File, OpenOptions};
 use std::io::{self, ErrorKind};
 use std::os::fd::AsRawFd;
@@ -267,20 +270,10 @@ fn a_write_and_a_sync_that_the_system_refuses_fail(rt: HostRuntime) -> Result<()
     Ok(())
 }
 
-// A file that notes where it was last read or written, and fails where it is told to.
+// A file that notes where it was last read or written.
 #[derive(Drop)]
 struct FakeFile {
     offset: u64,
-    fails: bool,
-}
-
-impl FakeFile {
-    fn outcome(&self) -> io::Result<()> {
-        if self.fails {
-            return Err(io::Error::from(ErrorKind::StorageFull));
-        }
-        Ok(())
-    }
 }
 
 impl PositionedFile for FakeFile {
@@ -295,36 +288,22 @@ impl PositionedFile for FakeFile {
     fn read_at(&mut self, into: &mut [u8; 512], offset: u64) -> io::Result<()> {
         self.offset = offset;
         *into = [6; 512];
-        self.outcome()
+        Ok(())
     }
 
     fn write_at(&mut self, _from: &[u8; 512], offset: u64) -> io::Result<()> {
         self.offset = offset;
-        self.outcome()
+        Ok(())
     }
 
     fn sync(&mut self) -> io::Result<()> {
-        self.outcome()
-    }
-}
-
-fn on_fake(file: FakeFile) -> FileDevice<FakeFile> {
-    FileDevice {
-        file,
-        sectors: u32::MAX,
-        failures: 0,
-        sync_failed: false,
-        last_error: None,
+        Ok(())
     }
 }
 
 #[test]
 fn the_last_sector_stands_before_two_tebibytes(rt: HostRuntime) -> Result<(), Fail> {
-    let file = FakeFile {
-        offset: 0,
-        fails: false,
-    };
-    let mut device = on_fake(file);
+    let mut device = FileDevice::over(FakeFile { offset: 0 }, u32::MAX);
     write_sector(&rt, &mut device, 4_294_967_294, &[1; 512])?;
     assert_eq!(rt; device.file.offset, 2_199_023_254_528);
     assert_eq!(rt; read_sector(&rt, &mut device, 8_388_608), Ok([6; 512]));
@@ -332,18 +311,93 @@ fn the_last_sector_stands_before_two_tebibytes(rt: HostRuntime) -> Result<(), Fa
     Ok(())
 }
 
+// A device on a file whose bytes are the sectors of this device.
+fn on_sectors<D: Device>(device: D) -> FileDevice<SectorFile<D>> {
+    let sectors = device.sectors();
+    FileDevice::over(SectorFile::new(device), sectors)
+}
+
+// Of four calls one fails. It is counted, its error is kept, and the calls after it are served, but for a sync after
+// a sync that failed.
 #[test]
-fn a_sync_that_failed_is_final(rt: HostRuntime) {
-    let file = FakeFile {
-        offset: 0,
-        fails: true,
-    };
-    let mut device = on_fake(file);
-    assert_eq!(rt; device.sync(), Err(DeviceFault));
-    let kind = device.last_error.as_ref().map(|error| error.kind());
-    assert_eq!(rt; kind, Some(ErrorKind::StorageFull));
-    device.file.fails = false;
-    assert_eq!(rt; device.sync(), Err(DeviceFault));
-    assert_eq!(rt; device.failures, 2);
-    assert_eq!(rt; read_sector(&rt, &mut device, 0), Ok([6; 512]));
+fn one_call_of_the_file_fails(rt: HostRuntime) -> Result<(), Fail> {
+    for (call, seen, left) in [
+        (1, [0, 2], [0, 2]),
+        (2, [1, 0], [1, 0]),
+        (3, [1, 2], [1, 2]),
+        (4, [1, 2], [0, 0]),
+    ] {
+        let mut once = OnceDevice::new(MemoryDevice::new(rt.alloc(), 2)?);
+        once.fail_at(call, false);
+        let mut device = on_sectors(once);
+        let failed = [
+            write_sector(&rt, &mut device, 0, &[1; 512]).is_err(),
+            write_sector(&rt, &mut device, 1, &[2; 512]).is_err(),
+            read_sector(&rt, &mut device, 0).is_err(),
+            device.sync().is_err(),
+        ];
+        assert_eq!(rt; failed, [call == 1, call == 2, call == 3, call == 4]);
+        assert_eq!(rt; device.failures, 1, "call {call}");
+        let kind = device.last_error().map(|error| error.kind());
+        assert_eq!(rt; kind, Some(ErrorKind::Other), "call {call}");
+        assert_eq!(rt; device.sync().is_err(), call == 4, "call {call}");
+        assert_eq!(rt;
+            read_sector(&rt, &mut device, 0)?,
+            [seen[0]; 512],
+            "call {call}"
+        );
+        assert_eq!(rt;
+            read_sector(&rt, &mut device, 1)?,
+            [seen[1]; 512],
+            "call {call}"
+        );
+        let mut memory = device.into_file().into_device().into_device();
+        memory.crash(&[]);
+        assert_eq!(rt;
+            read_sector(&rt, &mut memory, 0)?,
+            [left[0]; 512],
+            "call {call}"
+        );
+        assert_eq!(rt;
+            read_sector(&rt, &mut memory, 1)?,
+            [left[1]; 512],
+            "call {call}"
+        );
+    }
+    Ok(())
+}
+
+// What a file cannot read is a failure of its device, and no sector without bytes.
+#[test]
+fn a_sector_that_the_file_lost_is_a_failure(rt: HostRuntime) -> Result<(), Fail> {
+    let mut memory = MemoryDevice::new(rt.alloc(), 2)?;
+    write_sector(&rt, &mut memory, 1, &[3; 512])?;
+    memory.crash_as(&[Fate::Unreadable]);
+    let mut device = on_sectors(memory);
+    assert_eq!(rt; read_sector(&rt, &mut device, 1), Err(DeviceFault));
+    assert_eq!(rt; read_sector(&rt, &mut device, 0), Ok([0; 512]));
+    write_sector(&rt, &mut device, 1, &[4; 512])?;
+    assert_eq!(rt; read_sector(&rt, &mut device, 1), Ok([4; 512]));
+    assert_eq!(rt; device.failures, 1);
+    Ok(())
+}
+
+// A call past the sectors, or between two of them, is refused.
+#[test]
+fn a_file_of_sectors_has_no_other_bytes(rt: HostRuntime) -> Result<(), Fail> {
+    let mut file = SectorFile::new(MemoryDevice::new(rt.alloc(), 2)?);
+    for offset in [1, 511, 513, 1024, 2_199_023_255_552] {
+        let mut into = [0; 512];
+        let read = file.read_at(&mut into, offset);
+        assert_eq!(rt;
+            read.err().map(|error| error.kind()),
+            Some(ErrorKind::UnexpectedEof)
+        );
+        let written = file.write_at(&[1; 512], offset);
+        assert_eq!(rt;
+            written.err().map(|error| error.kind()),
+            Some(ErrorKind::UnexpectedEof)
+        );
+    }
+    Ok(())
 }

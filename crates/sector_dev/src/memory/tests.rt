@@ -468,6 +468,24 @@ fn refused_memory(rt: HostRuntime) {
     }
 }
 
+// A device for whose calls memory was taken serves them; one for which it was refused is as before.
+#[test]
+fn reserved_calls(rt: HostRuntime) -> Result<(), Fail> {
+    let mut device = MemoryDevice::new(rt.alloc(), 3)?;
+    assert!(rt; device.reserve(usize::MAX).is_err());
+    device.reserve(3)?;
+    device.arm(4);
+    assert_eq!(rt; fill(&mut device, 0, 1), Ok(()));
+    assert_eq!(rt; device.sync(), Ok(()));
+    assert_eq!(rt; fill(&mut device, 1, 2), Ok(()));
+    device.reserve(1)?;
+    assert_eq!(rt; byte_at(&rt, &mut device, 1), Ok(2));
+    assert_eq!(rt; device.sync(), Err(DeviceFault));
+    device.crash(&[]);
+    assert_eq!(rt; bytes(&rt, &mut device), Ok([1, 0, 0]));
+    Ok(())
+}
+
 // Writes and syncs 20,000 times, and then loses a write to each sector.
 fn run_long<D: CrashDevice>(rt: &impl Abort, device: &mut D) -> Result<(), DeviceFault> {
     for number in 0..20_000u32 {

@@ -54,4 +54,5 @@ returns g c =
       calls_left = refl;
       failures = refl;
       failed_pending = refl;
+      room = omega (arith, c.clear.ensures.len, c.clear.ensures.capacity);
     }
