@@ -1,0 +1,6 @@
+pub mod SourceLemmas
+pub mod Counters
+pub mod OneText
+pub mod Shapes
+pub mod Endings
+pub mod OneMove
