@@ -4,3 +4,4 @@ pub mod OneText
 pub mod Shapes
 pub mod Endings
 pub mod OneMove
+pub mod Comparing

@@ -108,7 +108,7 @@ IsPawnWay p m =
     ((is_capture p m ≡ true) × Reaches (pawn_attacks p.side) m.from m.to)
     ⊎ ((is_capture p m ≡ false) × (Advances p m ⊎ AdvancesTwo p m))
 
-straight_file : (side : Colour) (n : ℕ) (a b : Square) → b ≡ along n (forward side) a → a.file ≡ b.file
+pub straight_file : (side : Colour) (n : ℕ) (a b : Square) → b ≡ along n (forward side) a → a.file ≡ b.file
 straight_file White n a b e = omega (arith, ap (λ (s : Square). s.file) e)
 straight_file Black n a b e = omega (arith, ap (λ (s : Square). s.file) e)
 
@@ -117,7 +117,7 @@ no_capture : (p : Position) (m : Move) → man_at p.placement m.to ≡ None → 
 no_capture p m empty same =
     ap (λ (o : Option Man). is_some o || is_en_passant p m) empty ∙ straight_is_plain p m same
 
-pawn_way : (p : Position) (m : Move) → man_at p.placement m.from ≡ Some (p.side, Pawn) → IsOnBoard m.to →
+pub pawn_way : (p : Position) (m : Move) → man_at p.placement m.from ≡ Some (p.side, Pawn) → IsOnBoard m.to →
     IsPawnMove p m → IsPawnWay p m
 pawn_way p m own on_to move = elim move.way [
   | inl one ↦ inr (no_capture p m one.empty (straight_file p.side 1 m.from m.to one.there), inl one)

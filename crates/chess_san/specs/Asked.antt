@@ -1,4 +1,4 @@
-use Rattle.std.specs.Prelude.{ℕ, ◌+◌, ◌-◌, ◌==◌, Bool, ◌||◌, ◌&&◌, nat_le, if◌then◌else◌, List, reverse, Option, Some, None, slice_index, option_and_then, unwrap_or}
+use Rattle.std.specs.Prelude.{ℕ, ◌+◌, ◌-◌, ◌==◌, Bool, true, ◌||◌, ◌&&◌, nat_le, if◌then◌else◌, List, reverse, Option, Some, None, slice_index, option_and_then, unwrap_or}
 use Rattle.std.specs.Option.{option_map}
 use Rattle.chess_bits.specs.declared.men.Colour.{Colour}
 use Rattle.chess_bits.specs.declared.men.Kind.{Kind}
@@ -6,6 +6,7 @@ use Rattle.chess_bits.specs.declared.men.Kind.TheVariants.{Pawn, Knight, Bishop,
 use Rattle.chess_bits.specs.Square.{Square}
 use Rattle.chess_board.specs.declared.castling.Wing.{Wing}
 use Rattle.chess_board.specs.declared.castling.Wing.TheVariants as wing
+use Rattle.chess_board.specs.declared.moves.Move.{Move}
 use Rattle.chess_board.specs.Next.{castled_king}
 use Rattle.chess_san.specs.declared.parsing.Asked.{Asked}
 use Rattle.chess_san.specs.declared.parsing.Ending.{Ending}
@@ -69,3 +70,17 @@ asked_of side text =
     if slice_index text 0 == 79
     then Some (asked_castling side text)
     else option_map (asked_by (unwrap_or (piece_named (slice_index text 0)) Pawn)) (ending_of (reverse text))
+
+-- The second byte of a piece's text: `x`, or what is told of the square left, or the file of the square reached.
+abbrev pub is_second : ℕ → Move → Bool
+is_second second m =
+    (second == 120) || (second == 96 + m.from.file) || (second == 48 + m.from.rank) || (second == 96 + m.to.file)
+
+-- whether a text's beginning allows the square left
+unfoldable pub may_leave : List ℕ → Kind → Move → Bool
+may_leave text Pawn m = slice_index text 0 == 96 + m.from.file
+may_leave text Knight m = is_second (slice_index text 1) m
+may_leave text Bishop m = is_second (slice_index text 1) m
+may_leave text Rook m = is_second (slice_index text 1) m
+may_leave text Queen m = is_second (slice_index text 1) m
+may_leave text King m = true

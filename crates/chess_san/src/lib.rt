@@ -3,7 +3,12 @@
 
 mod origin;
 mod parsing;
+mod reading;
 mod threat;
 mod writing;
 
+pub use reading::read;
 pub use writing::write;
+
+#[cfg(test)]
+mod tests;

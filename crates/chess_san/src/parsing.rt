@@ -1,8 +1,10 @@
-ghost use Rattle.std.specs.Prelude.{◌≡◌, ◌<◌, reverse, slice_index};
+ghost use Rattle.std.specs.Prelude.{◌≡◌, ◌≢◌, ◌<◌, [], ◌∷◌, reverse, slice_index, IfSome, IfNone};
+ghost use Rattle.chess_bits.specs.Square.{Square, IsOnBoard};
+ghost use Rattle.chess_san.specs.Name.{square_name};
 ghost use Rattle.chess_san.specs.Asked as asks;
 
 use chess_bits::{Colour, Kind, Square};
-use chess_board::{Wing, castled_king};
+use chess_board::{Move, Wing, castled_king};
 
 /// What a text asks for: a man of the kind to the square, which becomes that.
 #[derive(Clone, Copy, Debug)]
@@ -40,7 +42,10 @@ fn byte_from_end(text: &[u8], back: usize) -> u8
 /// The square that a letter and a digit name.
 #[tactic(auto, unfolding(crate::specs::Asked::square_named))]
 pub fn square_named(file: u8, rank: u8) -> Option<Square>
-    ensures { result ≡ asks.square_named file rank }
+    ensures named { result ≡ asks.square_named file rank }
+    ensures found { IfSome result (λ s. file ∷ rank ∷ [] ≡ square_name s) }
+    ensures on_board { IfSome result IsOnBoard }
+    ensures none { IfNone result ((s : Square) → IsOnBoard s → file ∷ rank ∷ [] ≢ square_name s) }
 {
     match (file, rank) {
         (b'a'..=b'h', b'1'..=b'8') => Some(Square::at(file - b'`', rank - b'0')),
@@ -147,4 +152,29 @@ pub fn asked_of(side: Colour, text: &[u8]) -> Option<Asked>
         to: end.to,
         promotion: end.promotion,
     })
+}
+
+// Whether a byte can be the second of a piece's text: `x`, or of the square left, or the file of the square reached.
+fn is_second(second: u8, mv: &Move) -> bool
+    ensures { result ≡ asks.is_second second mv.now }
+{
+    let from = mv.from;
+    let to = mv.to;
+    second == b'x'
+        || second == b'`' + from.file()
+        || second == b'0' + from.rank()
+        || second == b'`' + to.file()
+}
+
+/// Whether a text's beginning allows the square that a move of a man of the kind leaves. It is so of the move's SAN.
+#[tactic(auto, unfolding(crate::specs::Asked::may_leave))]
+pub fn may_leave(text: &[u8], kind: Kind, mv: &Move) -> bool
+    ensures { result ≡ asks.may_leave text.now kind mv.now }
+{
+    let from = mv.from;
+    match kind {
+        Kind::Pawn => byte_at(text, 0) == b'`' + from.file(),
+        Kind::King => true,
+        Kind::Knight | Kind::Bishop | Kind::Rook | Kind::Queen => is_second(byte_at(text, 1), mv),
+    }
 }
