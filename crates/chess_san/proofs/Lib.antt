@@ -5,3 +5,5 @@ pub mod Shapes
 pub mod Endings
 pub mod OneMove
 pub mod Comparing
+pub mod Computed
+mod Examples

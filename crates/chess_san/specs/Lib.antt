@@ -4,3 +4,4 @@ pub mod Coordinate
 pub mod Reading
 pub mod Asked
 pub mod Boards
+pub mod Computing

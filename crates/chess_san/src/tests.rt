@@ -2,7 +2,7 @@
 
 use crate::{read, write};
 use chess_bits::{Colour, Kind, Square};
-use chess_board::{Board, CastlingRights, Move, Parts};
+use chess_board::{BadBoard, Board, CastlingRights, Move, Parts};
 use chess_moves::legal;
 use std::process::Abort;
 use std::test::Fail;
@@ -26,70 +26,74 @@ fn man_of(letter: u8) -> Option<(Colour, Kind)> {
     Some((colour, kind))
 }
 
-// The parts of a diagram, from rank 8 to rank 1.
-fn parts_of(diagram: [&[u8; 8]; 8], side: Colour) -> Parts {
+// The board of a diagram, from rank 8 to rank 1, with both counters at a number.
+fn board_with(
+    diagram: [&[u8; 8]; 8],
+    side: Colour,
+    rights: CastlingRights,
+    target: Option<Square>,
+    counters: u16,
+) -> Result<Board, BadBoard> {
     let mut men = [None; 64];
     for i in 0..64 {
         men[56 - i / 8 * 8 + i % 8] = man_of(diagram[i / 8][i % 8]);
     }
-    Parts {
+    Board::try_new(Parts {
         men,
         side,
-        rights: CastlingRights::of(false, false, false, false),
-        target: None,
-        halfmove: 0,
-        fullmove: 1,
-    }
+        rights,
+        target,
+        halfmove: counters,
+        fullmove: counters,
+    })
 }
 
-// Whether the board is one, and a move's SAN is the text, and the text names the move.
-fn expect_text(
-    rt: &impl Abort,
-    parts: Parts,
-    from: Square,
-    to: Square,
-    promotion: Option<Kind>,
-    text: &str,
-) -> Result<(), Fail> {
-    let board = Board::try_new(parts).map_err(|_| "a broken board")?;
-    let mv = Move {
+fn no_rights() -> CastlingRights {
+    CastlingRights::of(false, false, false, false)
+}
+
+fn board_of(diagram: [&[u8; 8]; 8], side: Colour) -> Result<Board, BadBoard> {
+    board_with(diagram, side, no_rights(), None, 1)
+}
+
+fn move_of(from: Square, to: Square, promotion: Option<Kind>) -> Move {
+    Move {
         from,
         to,
         promotion,
-    };
-    assert!(rt; legal(&board, mv), "at {text}");
-    assert_eq!(rt; write(&board, mv).as_str(), text);
-    assert_eq!(rt; read(&board, text), Some(mv), "at {text}");
-    Ok(())
+    }
 }
 
-fn expect_none(rt: &impl Abort, parts: Parts, text: &str) -> Result<(), Fail> {
-    let board = Board::try_new(parts).map_err(|_| "a broken board")?;
-    assert_eq!(rt; read(&board, text), None, "at {text}");
-    Ok(())
+// A legal move's SAN is the text, and the text names the move.
+fn expect_text(rt: &impl Abort, board: &Board, mv: &Move, text: &str) {
+    assert!(rt; legal(board, *mv), "at {text}");
+    assert_eq!(rt; write(board, *mv).as_str(), text);
+    assert_eq!(rt; read(board, text), Some(*mv), "at {text}");
 }
 
-const PINNED: [&[u8; 8]; 8] = [
-    b"....k...",
-    b"........",
-    b"........",
-    b"........",
-    b".b......",
-    b"..N.....",
-    b"........",
-    b"....K.N.",
-];
+fn expect_none(rt: &impl Abort, board: &Board, text: &str) {
+    assert_eq!(rt; read(board, text), None, "at {text}");
+}
 
 #[test]
 fn a_pinned_knight_is_no_rival(rt: HostRuntime) -> Result<(), Fail> {
-    let (g1, e2) = (Square::at(7, 1), Square::at(5, 2));
-    expect_text(&rt, parts_of(PINNED, Colour::White), g1, e2, None, "Ne2")?;
-    expect_none(&rt, parts_of(PINNED, Colour::White), "Nge2")?;
-    expect_none(&rt, parts_of(PINNED, Colour::White), "N1e2")?;
-    expect_none(&rt, parts_of(PINNED, Colour::White), "Ng1e2")?;
-    expect_none(&rt, parts_of(PINNED, Colour::White), "Nce2")?;
-    expect_none(&rt, parts_of(PINNED, Colour::White), "Ne2+")?;
-    expect_none(&rt, parts_of(PINNED, Colour::White), "Nxe2")
+    let diagram = [
+        b"....k...",
+        b"........",
+        b"........",
+        b"........",
+        b".b......",
+        b"..N.....",
+        b"........",
+        b"....K.N.",
+    ];
+    let board = board_of(diagram, Colour::White)?;
+    let mv = move_of(Square::at(7, 1), Square::at(5, 2), None);
+    expect_text(&rt, &board, &mv, "Ne2");
+    for text in ["Nge2", "N1e2", "Ng1e2", "Nce2", "Ne2+", "Nxe2"] {
+        expect_none(&rt, &board, text);
+    }
+    Ok(())
 }
 
 const QUEENS: [&[u8; 8]; 8] = [
@@ -105,15 +109,15 @@ const QUEENS: [&[u8; 8]; 8] = [
 
 #[test]
 fn three_queens_are_told_apart(rt: HostRuntime) -> Result<(), Fail> {
+    let board = board_of(QUEENS, Colour::White)?;
     let e1 = Square::at(5, 1);
-    let (e4, h4, h1) = (Square::at(5, 4), Square::at(8, 4), Square::at(8, 1));
-    expect_text(&rt, parts_of(QUEENS, Colour::White), e4, e1, None, "Qee1")?;
-    expect_text(&rt, parts_of(QUEENS, Colour::White), h1, e1, None, "Q1e1")?;
-    expect_text(&rt, parts_of(QUEENS, Colour::White), h4, e1, None, "Qh4e1")?;
-    expect_none(&rt, parts_of(QUEENS, Colour::White), "Qe1")?;
-    expect_none(&rt, parts_of(QUEENS, Colour::White), "Qhe1")?;
-    expect_none(&rt, parts_of(QUEENS, Colour::White), "Q4e1")?;
-    expect_none(&rt, parts_of(QUEENS, Colour::White), "Qe4e1")
+    expect_text(&rt, &board, &move_of(Square::at(5, 4), e1, None), "Qee1");
+    expect_text(&rt, &board, &move_of(Square::at(8, 1), e1, None), "Q1e1");
+    expect_text(&rt, &board, &move_of(Square::at(8, 4), e1, None), "Qh4e1");
+    for text in ["Qe1", "Qhe1", "Q4e1", "Qe4e1", "Q1e1+", "Qexe1"] {
+        expect_none(&rt, &board, text);
+    }
+    Ok(())
 }
 
 #[test]
@@ -128,18 +132,14 @@ fn fools_mate(rt: HostRuntime) -> Result<(), Fail> {
         b"PPPPP..P",
         b"RNBQKBNR",
     ];
-    let (d8, h4) = (Square::at(4, 8), Square::at(8, 4));
-    expect_text(&rt, parts_of(diagram, Colour::Black), d8, h4, None, "Qh4#")?;
-    let board = Board::try_new(parts_of(diagram, Colour::Black)).map_err(|_| "a broken board")?;
-    let mate = Some(Move {
-        from: d8,
-        to: h4,
-        promotion: None,
-    });
-    assert_eq!(rt; read(&board, "Qh4"), mate);
-    assert_eq!(rt; read(&board, "d8h4"), mate);
-    expect_none(&rt, parts_of(diagram, Colour::Black), "Qh4+")?;
-    expect_none(&rt, parts_of(diagram, Colour::Black), "qh4#")
+    let board = board_of(diagram, Colour::Black)?;
+    let mv = move_of(Square::at(4, 8), Square::at(8, 4), None);
+    expect_text(&rt, &board, &mv, "Qh4#");
+    assert_eq!(rt; read(&board, "Qh4"), Some(mv));
+    assert_eq!(rt; read(&board, "d8h4"), Some(mv));
+    expect_none(&rt, &board, "Qh4+");
+    expect_none(&rt, &board, "qh4#");
+    Ok(())
 }
 
 #[test]
@@ -154,32 +154,20 @@ fn a_pawn_takes_and_mates_as_a_queen(rt: HostRuntime) -> Result<(), Fail> {
         b"........",
         b"........",
     ];
-    let (a7, b8, a8) = (Square::at(1, 7), Square::at(2, 8), Square::at(1, 8));
-    let (queen, knight) = (Some(Kind::Queen), Some(Kind::Knight));
-    expect_text(
-        &rt,
-        parts_of(diagram, Colour::White),
-        a7,
-        b8,
-        queen,
-        "axb8=Q#",
-    )?;
-    expect_text(
-        &rt,
-        parts_of(diagram, Colour::White),
-        a7,
-        a8,
-        knight,
-        "a8=N",
-    )?;
-    expect_none(&rt, parts_of(diagram, Colour::White), "a8")?;
-    expect_none(&rt, parts_of(diagram, Colour::White), "a8=K")?;
-    expect_none(&rt, parts_of(diagram, Colour::White), "xb8=Q#")?;
-    expect_none(&rt, parts_of(diagram, Colour::White), "ab8=Q#")
+    let board = board_of(diagram, Colour::White)?;
+    let a7 = Square::at(1, 7);
+    let takes = move_of(a7, Square::at(2, 8), Some(Kind::Queen));
+    expect_text(&rt, &board, &takes, "axb8=Q#");
+    let advances = move_of(a7, Square::at(1, 8), Some(Kind::Knight));
+    expect_text(&rt, &board, &advances, "a8=N");
+    for text in ["a8", "a8=K", "a8N", "xb8=Q#", "ab8=Q#", "b8=Q#", "axb8=Q+"] {
+        expect_none(&rt, &board, text);
+    }
+    Ok(())
 }
 
 #[test]
-fn castling_gives_no_check(rt: HostRuntime) -> Result<(), Fail> {
+fn castling_to_the_queens_wing(rt: HostRuntime) -> Result<(), Fail> {
     let diagram = [
         b"....k...",
         b"........",
@@ -190,13 +178,15 @@ fn castling_gives_no_check(rt: HostRuntime) -> Result<(), Fail> {
         b".r......",
         b"R...K...",
     ];
-    let mut parts = parts_of(diagram, Colour::White);
-    parts.rights = CastlingRights::of(false, true, false, false);
-    let (e1, c1) = (Square::at(5, 1), Square::at(3, 1));
-    expect_text(&rt, parts, e1, c1, None, "O-O-O")?;
-    expect_none(&rt, parts, "O-O")?;
-    expect_none(&rt, parts, "0-0-0")?;
-    expect_none(&rt, parts, "Kc1")
+    let rights = CastlingRights::of(false, true, false, false);
+    let board = board_with(diagram, Colour::White, rights, None, 1)?;
+    let mv = move_of(Square::at(5, 1), Square::at(3, 1), None);
+    expect_text(&rt, &board, &mv, "O-O-O");
+    assert_eq!(rt; read(&board, "e1c1"), Some(mv));
+    for text in ["O-O", "0-0-0", "o-o-o", "Kc1", "O-O-O+", "e1a1"] {
+        expect_none(&rt, &board, text);
+    }
+    Ok(())
 }
 
 #[test]
@@ -211,20 +201,25 @@ fn a_pawn_takes_en_passant(rt: HostRuntime) -> Result<(), Fail> {
         b"........",
         b"....K...",
     ];
-    let mut parts = parts_of(diagram, Colour::White);
-    let (e5, d6) = (Square::at(5, 5), Square::at(4, 6));
-    parts.target = Some(d6);
-    expect_text(&rt, parts, e5, d6, None, "exd6")?;
-    expect_none(&rt, parts, "d6")
+    let target = Square::at(4, 6);
+    let board = board_with(diagram, Colour::White, no_rights(), Some(target), 1)?;
+    expect_text(
+        &rt,
+        &board,
+        &move_of(Square::at(5, 5), target, None),
+        "exd6",
+    );
+    expect_none(&rt, &board, "d6");
+    expect_none(&rt, &board, "ed6");
+    Ok(())
 }
 
 #[test]
 fn counters_at_their_end_change_no_text(rt: HostRuntime) -> Result<(), Fail> {
-    let mut parts = parts_of(QUEENS, Colour::White);
-    parts.halfmove = 65_535;
-    parts.fullmove = 65_535;
-    let (e4, e8) = (Square::at(5, 4), Square::at(5, 8));
-    expect_text(&rt, parts, e4, e8, None, "Qe8+")
+    let board = board_with(QUEENS, Colour::White, no_rights(), None, 65_535)?;
+    let checks = move_of(Square::at(5, 4), Square::at(5, 8), None);
+    expect_text(&rt, &board, &checks, "Qe8+");
+    Ok(())
 }
 
 #[test]
