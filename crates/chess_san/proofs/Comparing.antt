@@ -1,6 +1,6 @@
 -- What is found by comparing a text with a move's own.
 use Rattle.std.proofs.Common.{ℕ, ◌≡◌, ◌≢◌, ◌+◌, ◌∙◌, Bool, true, false, ◌||◌, eqb, List, [], ◌∷◌, ◌++◌, length, take, drop, get_or, Option, Some, None, ap, sym, subst, refl, inl, inr, arith, length-append}
-use Rattle.std.specs.Prelude.{◌⊎◌, ◌==◌, ◌↔◌, IsTrue, IfSome, IfNone}
+use Rattle.std.specs.Prelude.{◌⊎◌, ◌==◌, ◌↔◌, IfSome, IfNone}
 use Rattle.std.specs.Cmp.Lexicographic.{pointwise}
 use Rattle.std.proofs.lemmas.Bool.{false≢true, eq-eqb}
 use Rattle.std.proofs.lemmas.Bool.Decides.{Decides-eqb}
@@ -25,7 +25,7 @@ use Rattle.chess_san.specs.Coordinate.{IsCoordinateOf}
 use Rattle.chess_san.specs.Reading.{IsSanOrBody, Names}
 use Rattle.chess_san.specs.Asked.{may_leave, is_second, asked_of}
 use Rattle.chess_san.proofs.OneText.{IsBody-one, IsSan-one}
-use Rattle.chess_san.proofs.Shapes.{IsSpelled-from, IsPieceShape, IsPawnShape, IsShape, IsShape-spelled}
+use Rattle.chess_san.proofs.Shapes.{IsSpelled-from, IsPawnShape, IsShape, IsShape-spelled}
 use Rattle.chess_san.proofs.Endings.{asked_for, kind_of, own-shape, asked-shape}
 use Rattle.chess_san.proofs.OneMove.{IsPawnWay, pawn_way, straight_file}
 

@@ -1,5 +1,5 @@
 -- The SAN that is computed is the SAN.
-use Rattle.std.proofs.Common.{ℕ, ◌≡◌, ◌≢◌, ◌∙◌, Bool, true, false, List, [], ◌∷◌, ◌++◌, length, Option, Some, None, ap, sym, subst, refl, inl, inr, arith, Decides}
+use Rattle.std.proofs.Common.{◌≡◌, ◌≢◌, ◌∙◌, Bool, true, false, List, [], ◌∷◌, ◌++◌, Option, Some, None, ap, sym, refl, arith, Decides}
 use Rattle.std.specs.Prelude.{Contains}
 use Rattle.std.proofs.lemmas.Bool.{false≢true}
 use Rattle.std.proofs.lemmas.Bool.Decides.{Decides-eqb, Decides-and, Decides-not}
@@ -7,7 +7,7 @@ use Rattle.std.proofs.lemmas.List.Folds.{Any-from_list_any, list_any-from_Any}
 use Rattle.chess_bits.specs.declared.men.Kind.{Kind}
 use Rattle.chess_bits.specs.declared.men.Kind.TheVariants.{Pawn, Knight, Bishop, Rook, Queen, King}
 use Rattle.chess_bits.specs.Square.{Square, is_square}
-use Rattle.chess_bits.specs.Man.{Man, is_man, holds}
+use Rattle.chess_bits.specs.Man.{Man}
 use Rattle.chess_bits.proofs.TableLemmas.{Decides-is_square}
 use Rattle.chess_bits.proofs.ManLemmas.{Decides-holds_is_man}
 use Rattle.chess_board.specs.declared.castling.Wing.{Wing}
@@ -21,7 +21,7 @@ use Rattle.chess_board.proofs.LegalMoves.{legal_moves_of-legal, legal_moves_of-e
 use Rattle.chess_moves.specs.Moves.{HasLegal}
 use Rattle.chess_san.specs.declared.origin.Line.{Line}
 use Rattle.chess_san.specs.declared.origin.Line.TheVariants as line
-use Rattle.chess_san.specs.San.{IsRival, IsOn, HasRival, Tells, IsPieceText, IsKingText, IsManText, IsBody, GivesCheck, Threatens, IsSan, threat_text, castled_wing}
+use Rattle.chess_san.specs.San.{IsOn, HasRival, Tells, IsKingText, IsManText, GivesCheck, Threatens, IsSan, threat_text, castled_wing}
 use Rattle.chess_san.specs.Computing.{is_on, is_rival, has_rival, origin_by, origin_told, king_text, man_text, body_of, has_some, threat_by, threat_told, san_of}
 
 Decides-is_on : (along : Line) (a b : Square) → Decides (is_on along a b) (IsOn along a b)

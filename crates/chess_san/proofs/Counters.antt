@@ -1,5 +1,5 @@
 -- Positions that differ in their counters alone have the same legal moves.
-use Rattle.std.proofs.Common.{ℕ, ◌≡◌, ◌<◌, ◌∙◌, length, get_or, Bool, List, Option, None, ap, sym, subst, refl, inl, inr, arith}
+use Rattle.std.proofs.Common.{ℕ, ◌≡◌, ◌<◌, ◌∙◌, length, get_or, Option, None, ap, sym, subst, refl, inl, inr, arith}
 use Rattle.std.proofs.lemmas.List.{ext_get_or}
 use Rattle.std.specs.Prelude.{◌↔◌, ◌⊎◌}
 use Rattle.chess_bits.specs.declared.men.Colour.{Colour}
@@ -11,10 +11,10 @@ use Rattle.chess_board.specs.declared.castling.Wing.TheVariants as wing
 use Rattle.chess_board.specs.declared.moves.Move.{Move}
 use Rattle.chess_board.specs.declared.parts.BadBoard.{BadBoard}
 use Rattle.chess_board.specs.declared.parts.BadBoard.TheVariants as broken
-use Rattle.chess_board.specs.Position.{Position, Placement, Rights, HasCounters, IsTarget, IsValid, IsInCheck}
+use Rattle.chess_board.specs.Position.{Position, Placement, Rights, HasCounters, IsValid, IsInCheck}
 use Rattle.chess_board.specs.Next.{next, placement_after, rights_after, target_after}
 use Rattle.chess_board.specs.Parts.{IsFirstBroken}
-use Rattle.chess_board.specs.Legal.{Advances, AdvancesTwo, PawnTakes, TakesEnPassant, IsPawnMove, IsPieceMove, Castles, IsMoveOf, IsLegal}
+use Rattle.chess_board.specs.Legal.{Advances, AdvancesTwo, PawnTakes, TakesEnPassant, IsPieceMove, Castles, IsMoveOf, IsLegal}
 use Rattle.chess_moves.specs.Moves.{HasLegal}
 use Rattle.chess_san.specs.Boards.{DiffersInCounters, rewound}
 

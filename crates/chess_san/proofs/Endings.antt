@@ -1,10 +1,8 @@
 -- A legal move's text asks for what the move does.
-use Rattle.std.proofs.Common.{ℕ, ◌≡◌, ◌≢◌, ◌+◌, ◌-◌, ◌<◌, ◌≤◌, ◌∙◌, Bool, true, false, cond, eqb, leb, ◌||◌, ◌&&◌, List, [], ◌∷◌, ◌++◌, append_assoc, reverse, length, get_or, Option, Some, None, ap, sym, subst, refl, inl, inr, arith}
+use Rattle.std.proofs.Common.{ℕ, ◌≡◌, ◌≢◌, ◌+◌, ◌-◌, ◌<◌, ◌∙◌, Bool, true, false, List, ◌∷◌, ◌++◌, append_assoc, reverse, get_or, Option, Some, None, ap, sym, subst, refl, inl, inr, arith}
 use Rattle.std.specs.Prelude.{◌⊎◌, unwrap_or}
-use Rattle.std.specs.Option.{option_map}
 use Rattle.std.proofs.lemmas.List.{reverse-append}
 use Rattle.std.proofs.lemmas.Bool.{ne_eqb, le-leb}
-use Rattle.std.proofs.lemmas.Bool.Decides.{nat_tests}
 use Rattle.chess_bits.specs.declared.men.Colour.{Colour}
 use Rattle.chess_bits.specs.declared.men.Kind.{Kind}
 use Rattle.chess_bits.specs.declared.men.Kind.TheVariants.{Pawn, Knight, Bishop, Rook, Queen, King}
@@ -15,17 +13,16 @@ use Rattle.chess_board.specs.declared.castling.Wing.TheVariants as wing
 use Rattle.chess_board.specs.declared.moves.Move.{Move}
 use Rattle.chess_board.specs.Position.{Position, man_at}
 use Rattle.chess_board.specs.Next.{castled_king}
-use Rattle.chess_board.specs.Legal.{IsLegal, IsPromotion, IsPromotionKind}
+use Rattle.chess_board.specs.Legal.{IsPromotion}
 use Rattle.chess_board.proofs.PlacementAfter.{castles_to-true}
 use Rattle.chess_board.proofs.Candidates.{IsOnBoard-from_man}
 use Rattle.chess_moves.proofs.Parts.{candidate_kind, becomes_of_move}
 use Rattle.chess_san.specs.declared.parsing.Asked.{Asked}
-use Rattle.chess_san.specs.declared.parsing.Ending.{Ending}
 use Rattle.chess_san.specs.declared.threat.Threat.{Threat}
 use Rattle.chess_san.specs.declared.threat.Threat.TheVariants as threat
 use Rattle.chess_san.specs.Name.{square_name, capital_of, promotion_text}
 use Rattle.chess_san.specs.San.{threat_text, origin_text, capture_text, is_capture, pawn_origin, castling_text}
-use Rattle.chess_san.specs.Asked.{square_named, piece_named, suffix_len, ended, promoted_ending, plain_ending, ending_of, asked_castling, asked_by, asked_of}
+use Rattle.chess_san.specs.Asked.{square_named, piece_named, suffix_len, ended, promoted_ending, plain_ending, ending_of, asked_castling, asked_of}
 use Rattle.chess_san.proofs.SourceLemmas.{no_promotion}
 use Rattle.chess_san.proofs.Shapes.{IsCastlingShape, IsPieceShape, IsPawnShape, IsShape}
 

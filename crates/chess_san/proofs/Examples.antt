@@ -1,6 +1,6 @@
 -- SAN that is computed on positions.
 use Prim.Native.String.{String as Text}
-use Rattle.std.specs.Prelude.{ℕ, ◌≡◌, ◌-◌, Bool, true, false, List, [], ◌∷◌, replicate, codes, slice_index, slice_set, Option, Some, None}
+use Rattle.std.specs.Prelude.{◌≡◌, ◌-◌, Bool, true, false, List, [], ◌∷◌, replicate, codes, slice_index, slice_set, Option, Some, None}
 use Rattle.std.proofs.Common.{refl}
 use Rattle.chess_bits.specs.declared.men.Colour.{Colour}
 use Rattle.chess_bits.specs.declared.men.Colour.TheVariants.{White, Black}

@@ -1,5 +1,5 @@
 -- No text names two legal moves.
-use Rattle.std.proofs.Common.{ℕ, ◌≡◌, ◌≢◌, ◌+◌, ◌<◌, ◌≤◌, ◌∙◌, Bool, true, false, ◌||◌, ◌&&◌, not, eqb, List, [], ◌∷◌, ◌++◌, get_or, Option, Some, None, is_some, ap, sym, subst, refl, inl, inr, arith}
+use Rattle.std.proofs.Common.{ℕ, ◌≡◌, ◌≢◌, ◌+◌, ◌≤◌, ◌∙◌, Bool, true, false, ◌||◌, ◌&&◌, not, List, ◌∷◌, ◌++◌, get_or, Option, Some, None, is_some, ap, sym, refl, inl, inr, arith}
 use Rattle.std.specs.Prelude.{◌⊎◌, ◌==◌, if◌then◌else◌, drop}
 use Rattle.std.proofs.lemmas.Option.{same_Some}
 use Rattle.std.proofs.lemmas.Bool.{cases_Bool, false≢true, and_from, ne_eqb, not_from_false}
@@ -14,25 +14,23 @@ use Rattle.chess_bits.proofs.TableLemmas.{same_square, is_square-true, is_square
 use Rattle.chess_board.specs.declared.moves.Move.{Move}
 use Rattle.chess_board.specs.declared.castling.Wing.{Wing}
 use Rattle.chess_board.specs.declared.castling.Wing.TheVariants as wing
-use Rattle.chess_board.specs.Position.{Position, man_at, king_home}
+use Rattle.chess_board.specs.Position.{Position, man_at}
 use Rattle.chess_board.specs.Next.{is_en_passant, moves_kind, is_target}
-use Rattle.chess_board.specs.Legal.{IsLegal, IsPawnMove, Advances, AdvancesTwo, PawnTakes, TakesEnPassant, HoldsColour}
+use Rattle.chess_board.specs.Legal.{IsPawnMove, Advances, AdvancesTwo}
 use Rattle.chess_board.proofs.PlacementAfter.{castles_to-true}
 use Rattle.chess_board.proofs.Candidates.{IsOnBoard-from_man, attacks_from, straight_is_plain, moves_kind-own}
 use Rattle.chess_moves.proofs.Parts.{candidate_kind}
-use Rattle.chess_san.specs.declared.origin.Line.TheVariants as line
 use Rattle.chess_san.specs.declared.origin.Origin.{Origin}
 use Rattle.chess_san.specs.declared.origin.Origin.TheVariants as origin
 use Rattle.chess_san.specs.declared.parsing.Asked.{Asked}
 use Rattle.chess_san.specs.declared.threat.Threat.{Threat}
 use Rattle.chess_san.specs.declared.threat.Threat.TheVariants as threat
 use Rattle.chess_san.specs.Name.{square_name, capital_of, promotion_text}
-use Rattle.chess_san.specs.San.{IsRival, HasRival, Tells, IsBody, IsSan, origin_text, is_capture, pawn_origin, castling_text, threat_text}
+use Rattle.chess_san.specs.San.{IsRival, Tells, origin_text, is_capture, pawn_origin, castling_text, threat_text}
 use Rattle.chess_san.specs.Coordinate.{IsPromotionText, IsCoordinateOf}
 use Rattle.chess_san.specs.Reading.{IsSanOrBody, Names}
-use Rattle.chess_san.specs.Asked.{asked_of}
 use Rattle.chess_san.proofs.SourceLemmas.{same_move}
-use Rattle.chess_san.proofs.Shapes.{IsSpelled, IsSpelled-from, IsCastlingShape, IsPieceShape, IsPawnShape, IsShape, IsShape-spelled}
+use Rattle.chess_san.proofs.Shapes.{IsSpelled-from, IsCastlingShape, IsPieceShape, IsPawnShape, IsShape, IsShape-spelled}
 use Rattle.chess_san.proofs.Endings.{capital_no_stroke, asked_for, kind_of, asked-shape}
 
 -- ---- pieces

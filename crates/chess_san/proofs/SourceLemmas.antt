@@ -4,9 +4,9 @@ use Rattle.std.proofs.lemmas.Bool.{and_parts, and_from}
 use Rattle.chess_bits.specs.declared.men.Colour.{Colour}
 use Rattle.chess_bits.specs.declared.men.Kind.{Kind}
 use Rattle.chess_bits.specs.declared.men.Kind.TheVariants.{Pawn, Knight, Bishop, Rook, Queen, King}
-use Rattle.chess_bits.specs.Square.{Square, IsOnBoard}
-use Rattle.chess_bits.specs.Man.{Man, is_man}
-use Rattle.chess_bits.specs.Table.{has, meet, members, IsSetOf}
+use Rattle.chess_bits.specs.Square.{Square}
+use Rattle.chess_bits.specs.Man.{is_man}
+use Rattle.chess_bits.specs.Table.{has, meet, IsSetOf}
 use Rattle.chess_bits.specs.Attack.{Attacks}
 use Rattle.chess_bits.proofs.SetLemmas.{has-meet}
 use Rattle.chess_bits.proofs.Reversal.{facing, Attacks-back}

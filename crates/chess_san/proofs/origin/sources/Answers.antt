@@ -1,4 +1,4 @@
-use Rattle.std.proofs.Common.{◌≡◌, ◌∙◌, List, Bool, ap, sym, subst, refl}
+use Rattle.std.proofs.Common.{◌∙◌, List, Bool, ap, subst, refl}
 use Rattle.chess_bits.specs.declared.men.Kind.TheVariants as kinds
 use Rattle.chess_bits.specs.Table.{IsSetOf}
 use Rattle.chess_bits.specs.Attack.{Attacks}

@@ -1,4 +1,4 @@
-use Rattle.std.proofs.Common.{◌≡◌, ◌∙◌, ap, sym}
+use Rattle.std.proofs.Common.{◌∙◌, ap, sym}
 use Rattle.chess_bits.specs.declared.men.Colour.{Colour}
 use Rattle.chess_san.specs.Asked.{asked_of}
 use Rattle.chess_san.proofs.Comparing.{IfNone-any, IfNone-map, nothing_asked, none_asked}

@@ -1,4 +1,4 @@
-use Rattle.std.proofs.Common.{◌≡◌, ◌∙◌, ap, sym, refl, arith}
+use Rattle.std.proofs.Common.{◌∙◌, sym, refl}
 use Rattle.std.proofs.lemmas.Bool.{false≢true}
 use Rattle.chess_san.proofs.Comparing.{not_started, started, whole_body, compared}
 use Rattle.chess_san.proofs.reading.is_spelled.Goals as goal

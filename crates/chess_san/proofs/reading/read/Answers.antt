@@ -1,4 +1,4 @@
-use Rattle.std.proofs.Common.{ℕ, ◌≡◌, List, sym, subst}
+use Rattle.std.proofs.Common.{ℕ, List, sym, subst}
 use Rattle.chess_san.specs.Reading.{Names}
 use Rattle.chess_san.proofs.OneMove.{Names-one}
 use Rattle.chess_san.proofs.Comparing.{IfNone-map, IfSome-map, names_none}

@@ -1,4 +1,4 @@
-use Rattle.std.proofs.Common.{◌≡◌, ◌∙◌, sym}
+use Rattle.std.proofs.Common.{◌∙◌, sym}
 use Rattle.std.proofs.lemmas.Bool.{false≢true}
 use Rattle.chess_san.proofs.Comparing.{legal_of, may_leave-told}
 use Rattle.chess_san.proofs.reading.spells.Goals as goal

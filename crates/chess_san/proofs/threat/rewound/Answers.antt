@@ -1,10 +1,10 @@
-use Rattle.std.proofs.Common.{ℕ, ◌≡◌, ◌<◌, ◌∙◌, List, Option, None, ap, sym, subst, set, get_or, lit≤, inl, inr, arith}
+use Rattle.std.proofs.Common.{ℕ, ◌≡◌, ◌<◌, ◌∙◌, List, Option, None, ap, sym, set, get_or, lit≤, inl, inr, arith}
 use Rattle.std.proofs.lemmas.Bool.{cases_eq}
 use Rattle.std.proofs.lemmas.List.{length-set, get_or-set_same, get_or-set_other}
 use Rattle.chess_bits.specs.Man.{Man}
 use Rattle.chess_bits.specs.Square.{Square}
 use Rattle.chess_bits.proofs.TableLemmas.{at-square_at}
-use Rattle.chess_board.specs.Position.{Position, man_at, IsValid}
+use Rattle.chess_board.specs.Position.{Position, man_at}
 use Rattle.chess_bits.specs.declared.men.Colour.{Colour}
 use Rattle.chess_board.specs.declared.castling.CastlingRights.{CastlingRights}
 use Rattle.chess_board.specs.RightsOf.{rights_of}
