@@ -1,0 +1,9 @@
+pub mod SourceLemmas
+pub mod Counters
+pub mod OneText
+pub mod Shapes
+pub mod Endings
+pub mod OneMove
+pub mod Comparing
+pub mod Computed
+mod Examples

@@ -1,0 +1,27 @@
+use Rattle.std.proofs.Common.{inl}
+use Rattle.chess_san.specs.San.{IsSan}
+use Rattle.chess_san.proofs.OneText.{IsSan-one}
+use Rattle.chess_san.proofs.OneMove.{spelled_one}
+use Rattle.chess_san.proofs.writing.write.Goals as goal
+
+pub returns-clause-one_text : goal.returns-clause-one_text
+returns-clause-one_text c = λ text is.
+    let own : IsSan c.args.board.now c.args.mv c.push_threat.new.text.bytes = record {
+      body = c.body-text.result.bytes;
+      is_body = c.body-text.ensures.text;
+      threat = c.threat_of.result;
+      threatens = c.threat_of.ensures;
+      joined = c.push_threat.ensures.bytes;
+    } in
+    IsSan-one c.args.board.now c.args.mv text c.push_threat.new.text.bytes is own
+
+pub returns-clause-one_move : goal.returns-clause-one_move
+returns-clause-one_move c = λ other is.
+    let own : IsSan c.args.board.now c.args.mv c.push_threat.new.text.bytes = record {
+      body = c.body-text.result.bytes;
+      is_body = c.body-text.ensures.text;
+      threat = c.threat_of.result;
+      threatens = c.threat_of.ensures;
+      joined = c.push_threat.ensures.bytes;
+    } in
+    spelled_one c.args.board.now other c.args.mv c.push_threat.new.text.bytes (inl is) (inl own)

@@ -1,0 +1,14 @@
+//! Moves in standard algebraic notation (PGN Standard, section 8.2.3), both ways.
+#![tactic(auto)]
+
+mod origin;
+mod parsing;
+mod reading;
+mod threat;
+mod writing;
+
+pub use reading::read;
+pub use writing::write;
+
+#[cfg(test)]
+mod tests;

@@ -1,0 +1,109 @@
+ghost use Rattle.std.specs.Prelude.{◌≡◌, ◌≢◌, ◌↔◌, IsTrue, Some, None, true};
+ghost use Rattle.chess_bits.specs.declared.men.Kind.TheVariants as kinds;
+ghost use Rattle.chess_bits.specs.Square.{Square, IsOnBoard};
+ghost use Rattle.chess_bits.specs.Table.{has};
+ghost use Rattle.chess_board.specs.declared.moves.Move.{Move};
+ghost use Rattle.chess_board.specs.Position.{man_at};
+ghost use Rattle.chess_board.specs.Legal.{IsLegal};
+ghost use Rattle.chess_moves.specs.Targets.{plain};
+ghost use Rattle.chess_san.specs.San.{IsRival, IsOn, HasRival, Tells};
+
+use chess_attacks::{bishop, knight, queen, rook};
+use chess_bits::{Bits, Kind, Square};
+use chess_board::{Board, Move};
+use chess_moves::legal;
+
+/// Where a man that may go to the same square is looked for: on the board, or on the file or the rank of another man.
+#[derive(Clone, Copy, Debug, PartialEq, Eq)]
+pub enum Line {
+    Board,
+    File,
+    Rank,
+}
+
+/// What a text tells of the square that a piece leaves (PGN Standard, section 8.2.3.4).
+#[derive(Clone, Copy, Debug, PartialEq, Eq)]
+pub enum Origin {
+    Nothing,
+    File,
+    Rank,
+    Square,
+}
+
+/// Squares with men of the side to move and the kind, among them all from which a legal move goes to the square. It looks
+/// outward from that square: a piece attacks it from where a piece of that kind on it would attack.
+pub fn sources(board: &Board, kind: Kind, to: Square) -> Bits
+    ensures own { (s : Square) → has result s ≡ true →
+        man_at board.now.placement s ≡ Some (board.now.side, kind) }
+    ensures all { (m : Move) → IsLegal board.now m →
+        man_at board.now.placement m.from ≡ Some (board.now.side, kind) → m.to ≡ to →
+        has result m.from ≡ true }
+{
+    let _on_board = to.number();
+    let own = board.men().of_man(board.side(), kind);
+    let occupied = board.men().occupied();
+    match kind {
+        Kind::Pawn | Kind::King => own,
+        Kind::Knight => own.meet(knight(to)),
+        Kind::Bishop => own.meet(bishop(to, occupied)),
+        Kind::Rook => own.meet(rook(to, occupied)),
+        Kind::Queen => own.meet(queen(to, occupied)),
+    }
+}
+
+// Whether the second square is on that line of the first.
+fn is_on(line: Line, a: Square, b: Square) -> bool
+    ensures { IsTrue result ↔ IsOn line a b }
+{
+    match line {
+        Line::Board => true,
+        Line::File => b.file() == a.file(),
+        Line::Rank => b.rank() == a.rank(),
+    }
+}
+
+// Whether a man of the moving piece's kind, on a square of that line, may go where the piece goes.
+fn is_rival(board: &Board, mv: &Move, line: Line, from: Square) -> bool
+    requires { man_at board.now.placement from ≡ man_at board.now.placement mv.now.from }
+    ensures { IsTrue result ↔
+        (IsRival board.now mv.now (plain from mv.now.to) × IsOn line mv.now.from from) }
+{
+    let left = mv.from;
+    let rival = Move {
+        from,
+        to: mv.to,
+        promotion: None,
+    };
+    from.number() != left.number() && is_on(line, left, from) && legal(board, rival)
+}
+
+// Whether another piece of the kind, on that line of the square left, may go to the same square.
+fn has_rival(board: &Board, mv: &Move, kind: Kind, line: Line) -> bool
+    requires piece { kind ≢ kinds.Pawn }
+    requires own { man_at board.now.placement mv.now.from ≡ Some (board.now.side, kind) }
+    ensures { IsTrue result ↔ HasRival board.now mv.now line }
+{
+    for from in sources(board, kind, mv.to).iter() {
+        if is_rival(board, mv, line, from) {
+            return true;
+        }
+    }
+    false
+}
+
+/// What tells a piece's move from those of other pieces of its kind to the same square (PGN Standard, section 8.2.3.4).
+pub fn origin_of(board: &Board, mv: &Move, kind: Kind) -> Origin
+    requires piece { kind ≢ kinds.Pawn }
+    requires own { man_at board.now.placement mv.now.from ≡ Some (board.now.side, kind) }
+    ensures { Tells board.now mv.now result }
+{
+    if !has_rival(board, mv, kind, Line::Board) {
+        Origin::Nothing
+    } else if !has_rival(board, mv, kind, Line::File) {
+        Origin::File
+    } else if !has_rival(board, mv, kind, Line::Rank) {
+        Origin::Rank
+    } else {
+        Origin::Square
+    }
+}
