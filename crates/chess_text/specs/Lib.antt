@@ -1,3 +1,4 @@
 pub mod Name
 pub mod Fen
 pub mod Coordinate
+pub mod Reading
