@@ -10,3 +10,4 @@ pub mod LetterLemmas
 pub mod FieldLemmas
 pub mod Faults
 pub mod Told
+pub mod Lines

@@ -15,8 +15,8 @@ use itoa::Buffer;
 /// Room for a FEN, which has at most 93 bytes: 64 men, 7 strokes, 17 bytes of other fields and 5 spaces.
 pub type Text = ArrayString<96>;
 
-// Appends an ASCII character.
-fn push(text: &mut Text, character: char)
+/// Appends an ASCII character.
+pub fn push(text: &mut Text, character: char)
     requires ascii { character < 128 }
     requires room { array_string_len text.old < 96 }
     ensures bytes { text.new.bytes ≡ text.old.bytes ++ character ∷ [] }

@@ -5,8 +5,10 @@ mod fen;
 mod fields;
 mod letters;
 mod moves;
+mod movetext;
 mod reading;
 mod squares;
+mod tags;
 #[cfg(test)]
 mod tests;
 
