@@ -109,3 +109,12 @@ read_again text (Err e) fen sound fault p valid h = absurd (no_fault text e p fa
 pub written_again : (text : List ℕ) (r : Result Position FenError) → IfOk r (IsFenOf text) → IfOk r IsValid →
     IfErr r (IsFenFault text) → (p : Position) → IsValid p → text ≡ fen_of p → r ≡ Ok p
 written_again text r fen sound fault p valid e = read_again text r fen sound fault p valid (fen_of-IsFenOf text p e)
+
+-- valid positions with one FEN are one
+pub fen_of-injective : (p q : Position) → IsValid p → IsValid q → fen_of p ≡ fen_of q → p ≡ q
+fen_of-injective p q valid others e =
+    let h = valid.counters in
+    let k = others.counters in
+    IsFenOf-one_position (fen_of p) p q (fen_of-IsFenOf (fen_of p) p refl) (fen_of-IsFenOf (fen_of p) q e)
+    (record { whole = valid.whole; halfmove = omega (arith, h.0); fullmove = omega (arith, h.2) })
+    (record { whole = others.whole; halfmove = omega (arith, k.0); fullmove = omega (arith, k.2) })

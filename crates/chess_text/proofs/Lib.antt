@@ -11,3 +11,4 @@ pub mod FieldLemmas
 pub mod Faults
 pub mod Told
 pub mod Lines
+pub mod TagLemmas

@@ -257,16 +257,25 @@ pub record Ended (front : List ℕ) (tokens : List (List ℕ)) (text : List ℕ)
   pub written : text ++ (10 ∷ []) ≡ front ++ movetext
 
 pub ended : (front : List ℕ) (tokens : List (List ℕ)) (text : List ℕ) (width : ℕ) → IsUnderWay front tokens text width →
-    width ≢ 0 → Ended front tokens text
-ended front tokens text width h some = go h.lines h.laid h.same h.written h.last
+    tokens ≢ [] → Ended front tokens text
+ended front tokens text width h some = go h.lines h.laid h.same h.written
   where
     go : (lines : List (List (List ℕ))) → AreLines lines → tokens_of lines ≡ tokens →
-        text ≡ front ++ joined_lines lines → width ≡ last_width lines → Ended front tokens text
-    go [] laid same written last = absurd (some last)
-    go (line ∷ lines) laid same written last = record {
+        text ≡ front ++ joined_lines lines → Ended front tokens text
+    go [] laid same written = absurd (some (sym same))
+    go (line ∷ lines) laid same written = record {
       movetext = lines_text (line ∷ lines);
       is_movetext = record { lines = line ∷ lines; laid = laid; same = same; written = refl };
       written = ap (λ t. t ++ (10 ∷ [])) written
           ∙ (append_assoc front (joined_lines (line ∷ lines)) (10 ∷ [])
           ∙ ap (λ t. front ++ t) (sym (lines_text-joined line lines)));
     }
+
+-- Before the first token there is no line.
+pub not_begun : (front : List ℕ) → IsUnderWay front [] front 0
+not_begun front =
+    record { lines = []; laid = tt; same = refl; written = sym (append-nil front); last = refl; none = λ _. refl }
+
+pub pushed_filled : (tokens : List (List ℕ)) (token : List ℕ) → tokens ++ (token ∷ []) ≢ []
+pushed_filled [] token = λ e. cc
+pushed_filled (first ∷ tokens) token = λ e. cc

@@ -1,6 +1,11 @@
 use Rattle.std.specs.Prelude.{ℕ, ◌≡◌, ◌≢◌, ◌≤◌, ◌<◌, List, [], ◌∷◌, ◌++◌, length}
 use Rattle.std.specs.List.{join_with_byte}
 
+-- a token is not empty, and fits into a line
+pub record IsToken (token : List ℕ) : Type 0 where
+  pub filled : 0 < length token
+  pub short : length token ≤ 79
+
 -- the text of a line of tokens, with one space between each two (PGN Standard, section 8.2.1)
 abbrev pub line_text : List (List ℕ) → List ℕ
 line_text tokens = join_with_byte 32 tokens
@@ -57,3 +62,9 @@ pub record IsUnderWay (front : List ℕ) (tokens : List (List ℕ)) (text : List
   pub written : text ≡ front ++ joined_lines lines
   pub last : width ≡ last_width lines
   pub none : width ≡ 0 → lines ≡ []
+
+-- the new text is the old one with the tokens in lines
+pub record PutsMovetext (old new : List ℕ) (tokens : List (List ℕ)) : Type 0 where
+  pub movetext : List ℕ
+  pub is_movetext : IsMovetext movetext tokens
+  pub put : new ≡ old ++ movetext

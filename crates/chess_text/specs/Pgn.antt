@@ -104,3 +104,40 @@ pub record PutsSetUp (old new : List ℕ) (start : Position) : Type 0 where
   pub tags : List Tag
   pub are : AreSetUpTags start tags
   pub written : new ≡ old ++ tags_text tags
+
+-- what the tags of a game tell
+pub record Heading : Type 0 where
+  pub white : Option (List ℕ)
+  pub black : Option (List ℕ)
+  pub start : Position
+  pub ending : Option Ending
+  pub control : List ℕ
+
+abbrev pub heading : Option (List ℕ) → Option (List ℕ) → Position → Option Ending → ℕ → ℕ → Option (ℕ × ℕ) → Heading
+heading white black start ending initial increment period = record {
+  white = white;
+  black = black;
+  start = start;
+  ending = ending;
+  control = time_control_text initial increment period;
+}
+
+-- the seven tags of the roster first, and then the others in ASCII order (PGN Standard, section 8.1.1)
+abbrev pub game_tags : Heading → List Tag → List Tag
+game_tags h set_up = roster h.white h.black h.ending ++ (article_tags h.ending ++ (set_up ++
+    (tag (codes "Termination") (termination_text h.ending) ∷ tag (codes "TimeControl") h.control ∷ [])))
+
+-- the new text is the old one with the tags of a game
+pub record PutsTags (old new : List ℕ) (h : Heading) : Type 0 where
+  pub set_up : List Tag
+  pub are : AreSetUpTags h.start set_up
+  pub put : new ≡ old ++ tags_text (game_tags h set_up)
+
+-- The PGN of a game (PGN Standard, section 8): the tags, an empty line, the tokens of the moves and then the result in
+-- lines, an empty line.
+pub record IsPgnOf (text : List ℕ) (h : Heading) (tokens : List (List ℕ)) : Type 0 where
+  pub set_up : List Tag
+  pub are : AreSetUpTags h.start set_up
+  pub movetext : List ℕ
+  pub is_movetext : IsMovetext movetext (tokens ++ (result_text h.ending ∷ []))
+  pub joined : text ≡ tags_text (game_tags h set_up) ++ (10 ∷ (movetext ++ (10 ∷ [])))

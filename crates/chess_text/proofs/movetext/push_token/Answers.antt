@@ -24,7 +24,7 @@ returns-clause-under_way c = λ front tokens h.
       | then-width-eq0 w ↦
           at token (length token) (ap (λ b. b.0.now ++ token) w.before-is)
           (ap (λ b. b.1 + length token) w.before-is ∙ zero-add (length token))
-          (first_token front tokens old width token h w.if-width-eq0.true c.requires.filled c.requires.short)
+          (first_token front tokens old width token h w.if-width-eq0.true c.requires.token.filled c.requires.token.short)
       | else-width-eq0+then-width-len-le-WIDEST w ↦
           at (32 ∷ token) (width + 1 + length token) (ap (λ b. b.0.now ++ token) w.before-is)
           (ap (λ b. b.1 + length token) w.before-is)
@@ -32,6 +32,6 @@ returns-clause-under_way c = λ front tokens h.
       | else-width-eq0+else-width-len-le-WIDEST w ↦
           at (10 ∷ token) (length token) (ap (λ b. b.0.now ++ token) w.before-is)
           (ap (λ b. b.1 + length token) w.before-is ∙ zero-add (length token))
-          (next_line front tokens old width token h w.if-width-eq0.false w.if-width-len-le-WIDEST.false c.requires.filled
-          c.requires.short)
+          (next_line front tokens old width token h w.if-width-eq0.false w.if-width-len-le-WIDEST.false c.requires.token.filled
+          c.requires.token.short)
     ]
