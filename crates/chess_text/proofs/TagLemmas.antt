@@ -4,7 +4,7 @@ use Rattle.std.specs.Str.{bytes_eq}
 use Rattle.std.proofs.lemmas.Bool.{cases_Bool, false≢true}
 use Rattle.std.proofs.lemmas.Slice.Eq.{bytes_eq-Decides}
 use Rattle.chess_board.specs.Initial.{initial}
-use Rattle.chess_text.specs.Pgn.{Tag, tag_text, tags_text, result_text, Heading, game_tags, AreSetUpTags, IsPgnOf}
+use Rattle.chess_text.specs.Pgn.{Tag, tag_text, tags_text, result_text, Heading, game_tags, IsPgnOf}
 use Rattle.chess_text.proofs.Lines.{IsMovetext-unique}
 
 tags_text-append : (a b : List Tag) → tags_text (a ++ b) ≡ tags_text a ++ tags_text b

@@ -1,10 +1,17 @@
-use Rattle.std.specs.Prelude.{ℕ, ◌≡◌, ◌≢◌, ◌≤◌, ◌<◌, List, [], ◌∷◌, ◌++◌, length}
-use Rattle.std.specs.List.{join_with_byte}
+use Rattle.std.specs.Prelude.{ℕ, Bool, ◌&&◌, nat_lt, nat_le, ◌≡◌, ◌≢◌, ◌≤◌, ◌<◌, List, [], ◌∷◌, ◌++◌, length}
+use Rattle.std.specs.List.{join_with_byte, list_all}
 
 -- a token is not empty, and fits into a line
 pub record IsToken (token : List ℕ) : Type 0 where
   pub filled : 0 < length token
   pub short : length token ≤ 79
+
+-- the same as a test
+abbrev pub is_token : List ℕ → Bool
+is_token token = nat_lt 0 (length token) && nat_le (length token) 79
+
+abbrev pub are_tokens : List (List ℕ) → Bool
+are_tokens tokens = list_all is_token tokens
 
 -- the text of a line of tokens, with one space between each two (PGN Standard, section 8.2.1)
 abbrev pub line_text : List (List ℕ) → List ℕ

@@ -1,7 +1,7 @@
-ghost use Rattle.std.specs.Prelude.{◌≡◌, ◌++◌, ℕ, List, [], map, All, OnOk, IfOk};
+ghost use Rattle.std.specs.Prelude.{◌≡◌, ◌++◌, ℕ, List, [], map, IsTrue, OnOk, IfOk};
 ghost use Rattle.std.specs.Option.{option_copied};
 ghost use Rattle.std.specs.String.{string_bytes};
-ghost use Rattle.chess_text.specs.Movetext.{IsToken};
+ghost use Rattle.chess_text.specs.Movetext.{are_tokens};
 ghost use Rattle.chess_text.specs.Pgn.{player_text, roster, tags_text, heading, PutsTags, IsPgnOf};
 
 use crate::movetext::push_movetext;
@@ -76,7 +76,7 @@ fn push_tags(text: &mut String, game: &GameText<'_>) -> Result<(), AllocError>
 
 /// The PGN of a game whose moves are written as these tokens. It fails where memory is refused.
 pub fn pgn_of(alloc: Global, game: &GameText<'_>, tokens: &[&str]) -> Result<String, AllocError>
-    requires { All (λ token. IsToken token.now) tokens.now }
+    requires { IsTrue (are_tokens (map (λ token. token.now) tokens.now)) }
     ensures pgn { IfOk result (λ text. IsPgnOf (string_bytes text)
         (heading (option_copied game.now.white) (option_copied game.now.black) game.now.start game.now.ending
         game.now.initial game.now.increment game.now.period) (map (λ token. token.now) tokens.now)) }

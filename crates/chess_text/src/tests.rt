@@ -1,8 +1,11 @@
 //! Texts and moves as other sources give them.
 
-use super::{FenError, coordinate, fen_read, fen_write};
+use super::{FenError, GameText, coordinate, fen_read, fen_write};
+use crate::pgn::pgn_of;
+use crate::tags::time_control;
 use chess_bits::{Kind, Square};
 use chess_board::{BadBoard, Board, Move};
+use chess_end::{Article, Ending, GameResult};
 use std::test::Fail;
 
 #[test]
@@ -133,4 +136,87 @@ fn reads_what_it_writes(rt: HostRuntime) -> Result<(), Fail> {
         assert_eq!(rt; fen_write(&fen_read(text)?).as_str(), text);
     }
     Ok(())
+}
+
+#[test]
+fn writes_a_finished_game(rt: HostRuntime) -> Result<(), Fail> {
+    let game = GameText {
+        white: Some("ann"),
+        black: Some("bob"),
+        start: Board::initial(),
+        moves: &[],
+        ending: Some(Ending {
+            result: GameResult::Black,
+            article: Article::A511,
+        }),
+        initial: 300,
+        increment: 2,
+        period: None,
+    };
+    let text = pgn_of(rt.alloc(), &game, &["1.", "f3", "e5", "2.", "g4", "Qh4#"])?;
+    assert_eq!(rt;
+        text.as_str(),
+        "[Event \"?\"]\n[Site \"?\"]\n[Date \"????.??.??\"]\n[Round \"?\"]\n[White \"ann\"]\n[Black \"bob\"]\n[Result \"0-1\"]\n[Article \"5.1.1\"]\n[Termination \"normal\"]\n[TimeControl \"300+2\"]\n\n1. f3 e5 2. g4 Qh4# 0-1\n\n"
+    );
+    Ok(())
+}
+
+#[test]
+fn writes_a_game_from_another_position(rt: HostRuntime) -> Result<(), Fail> {
+    let game = GameText {
+        white: Some("ann"),
+        black: None,
+        start: fen_read("4k3/8/8/8/8/8/4P3/4K3 b - - 0 12")?,
+        moves: &[],
+        ending: None,
+        initial: 60,
+        increment: 0,
+        period: None,
+    };
+    let text = pgn_of(rt.alloc(), &game, &["12...", "Kd7", "13.", "e4"])?;
+    assert_eq!(rt;
+        text.as_str(),
+        "[Event \"?\"]\n[Site \"?\"]\n[Date \"????.??.??\"]\n[Round \"?\"]\n[White \"ann\"]\n[Black \"?\"]\n[Result \"*\"]\n[FEN \"4k3/8/8/8/8/8/4P3/4K3 b - - 0 12\"]\n[SetUp \"1\"]\n[Termination \"unterminated\"]\n[TimeControl \"60\"]\n\n12... Kd7 13. e4 *\n\n"
+    );
+    Ok(())
+}
+
+#[test]
+fn writes_full_lines(rt: HostRuntime) -> Result<(), Fail> {
+    let game = GameText {
+        white: None,
+        black: None,
+        start: Board::initial(),
+        moves: &[],
+        ending: Some(Ending {
+            result: GameResult::Draw,
+            article: Article::A961,
+        }),
+        initial: 60,
+        increment: 0,
+        period: Some((40, 30)),
+    };
+    let tokens = [
+        "1.", "Nf3", "Nf6", "2.", "Ng1", "Ng8", "3.", "Nf3", "Nf6", "4.", "Ng1", "Ng8", "5.",
+        "Nf3", "Nf6", "6.", "Ng1", "Ng8", "7.", "Nf3", "Nf6", "8.", "Ng1", "Ng8",
+    ];
+    let text = pgn_of(rt.alloc(), &game, &tokens)?;
+    assert!(rt;
+        text.as_str().ends_with(
+            "[TimeControl \"40/60:30\"]\n\n1. Nf3 Nf6 2. Ng1 Ng8 3. Nf3 Nf6 4. Ng1 Ng8 5. Nf3 Nf6 6. Ng1 Ng8 7. Nf3 Nf6 8.\nNg1 Ng8 1/2-1/2\n\n"
+        )
+    );
+    Ok(())
+}
+
+#[test]
+fn writes_times(rt: HostRuntime) {
+    for (increment, period, text) in [
+        (0, None, "5400"),
+        (30, None, "5400+30"),
+        (30, Some((40, 1800)), "40/5400+30:1800+30"),
+        (0, Some((40, 1800)), "40/5400:1800"),
+    ] {
+        assert_eq!(rt; time_control(5400, increment, period).as_str(), text);
+    }
 }

@@ -2,7 +2,7 @@ use Rattle.std.proofs.Common.{◌≡◌, ◌∙◌, ◌++◌, ◌∷◌, [], ◌
 use Rattle.std.specs.String.{string_bytes}
 use Rattle.std.proofs.lemmas.List.{take_all, take_more, get_or-map, length-map}
 use Rattle.chess_text.specs.Movetext.{IsUnderWay, IsMovetext}
-use Rattle.chess_text.proofs.Lines.{not_begun, ended, pushed_filled}
+use Rattle.chess_text.proofs.Lines.{ended, pushed_filled}
 use Rattle.chess_text.proofs.movetext.push_movetext.Goals as goal
 
 pub loop-token-preserved : goal.loop-token-preserved

@@ -1,4 +1,4 @@
-use Rattle.std.proofs.Common.{◌≡◌, ◌≢◌, ◌∙◌, ◌+◌, ◌<◌, ◌≤◌, ℕ, List, [], ◌∷◌, ◌++◌, length, ap, sym, subst, arith, zero-add, append_assoc}
+use Rattle.std.proofs.Common.{◌≡◌, ◌∙◌, ◌+◌, ℕ, List, [], ◌∷◌, ◌++◌, length, ap, sym, subst, zero-add, append_assoc}
 use Rattle.std.specs.String.{string_bytes}
 use Rattle.chess_text.specs.Movetext.{IsUnderWay}
 use Rattle.chess_text.proofs.Lines.{first_token, same_line, next_line}
