@@ -1,4 +1,4 @@
-use Rattle.std.proofs.Common.{◌≡◌, ◌∙◌, ◌+◌, ℕ, List, [], ◌∷◌, ◌++◌, length, ap, sym, subst, zero-add, append_assoc}
+use Rattle.std.proofs.Common.{◌≡◌, ◌∙◌, ◌+◌, ℕ, List, [], ◌∷◌, ◌++◌, length, ap, sym, subst, zero-add, append_assoc, arith}
 use Rattle.std.specs.String.{string_bytes}
 use Rattle.chess_text.specs.Movetext.{IsUnderWay}
 use Rattle.chess_text.proofs.Lines.{first_token, same_line, next_line}
@@ -28,10 +28,10 @@ returns-clause-under_way c = λ front tokens h.
       | else-width-eq0+then-width-len-le-WIDEST w ↦
           at (32 ∷ token) (width + 1 + length token) (ap (λ b. b.0.now ++ token) w.before-is)
           (ap (λ b. b.1 + length token) w.before-is)
-          (same_line front tokens old width token h w.if-width-eq0.false w.if-width-len-le-WIDEST.true)
+          (same_line front tokens old width token h w.if-width-eq0.false (omega arith))
       | else-width-eq0+else-width-len-le-WIDEST w ↦
           at (10 ∷ token) (length token) (ap (λ b. b.0.now ++ token) w.before-is)
           (ap (λ b. b.1 + length token) w.before-is ∙ zero-add (length token))
-          (next_line front tokens old width token h w.if-width-eq0.false w.if-width-len-le-WIDEST.false c.requires.token.filled
+          (next_line front tokens old width token h w.if-width-eq0.false (omega arith) c.requires.token.filled
           c.requires.token.short)
     ]
