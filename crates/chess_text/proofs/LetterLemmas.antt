@@ -1,17 +1,14 @@
 -- The letters of the men by the numbers of their squares.
-use Rattle.std.proofs.Common.{ℕ, ◌≡◌, ◌≢◌, ◌<◌, Bool, true, false, cond, ◌||◌, List, [], ◌∷◌, length, get_or, set, Option, Some, None, refl, ap, sym, ◌∙◌, inl, inr, arith, min}
+use Rattle.std.proofs.Common.{ℕ, ◌≡◌, ◌≢◌, ◌<◌, Bool, true, false, cond, ◌||◌, List, ◌∷◌, length, get_or, set, Option, Some, None, refl, ap, sym, ◌∙◌, inl, inr, arith, min}
 use Rattle.std.specs.List.{list_any}
 use Rattle.std.proofs.lemmas.Bool.{cases_Bool, false≢true}
 use Rattle.std.proofs.lemmas.List.{get_or-set_same, get_or-set_other}
-use Rattle.chess_bits.specs.declared.men.Colour.{Colour}
 use Rattle.chess_bits.specs.declared.men.Colour.TheVariants.{White, Black}
-use Rattle.chess_bits.specs.declared.men.Kind.{Kind}
 use Rattle.chess_bits.specs.declared.men.Kind.TheVariants.{Pawn, Knight, Bishop, Rook, Queen, King}
 use Rattle.chess_bits.specs.Square.{Square, IsOnBoard, is_square, number_of}
 use Rattle.chess_bits.specs.Man.{Man, is_man, holds}
 use Rattle.chess_bits.specs.Table.{has, members}
-use Rattle.chess_bits.specs.Attack.{SomeOf}
-use Rattle.chess_bits.proofs.TableLemmas.{Decides-is_square, is_square-true, is_square-false, is_square-same, number_of-injective, number_of-below}
+use Rattle.chess_bits.proofs.TableLemmas.{Decides-is_square, is_square-true, is_square-false, number_of-injective, number_of-below}
 use Rattle.chess_bits.proofs.Deciding.{Decides-some_of, each_decides}
 use Rattle.chess_bits.proofs.AlongLemmas.{SomeOf-members}
 use Rattle.chess_board.specs.Occupancy.{squares_with}

@@ -7,3 +7,8 @@ pub mod Joined
 pub mod OnePosition
 pub mod Rights
 pub mod LetterLemmas
+pub mod FieldLemmas
+pub mod Faults
+pub mod Told
+pub mod Lines
+pub mod TagLemmas

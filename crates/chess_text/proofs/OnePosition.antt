@@ -115,11 +115,11 @@ join-above (text ∷ text' ∷ texts) h =
     AllAbove-append 32 text (47 ∷ join_with_byte 47 (text' ∷ texts)) (AllAbove-less text h.0)
     (omega arith, join-above (text' ∷ texts) h.1)
 
-IsPlacementText-above : (text : List ℕ) (p : List (Option Man)) → IsPlacementText text p → AllAbove 32 text
+pub IsPlacementText-above : (text : List ℕ) (p : List (Option Man)) → IsPlacementText text p → AllAbove 32 text
 IsPlacementText-above text p h =
     subst (AllAbove 32) (sym h.joined) (join-above h.texts (AreRowTexts-above h.texts (ranks_of p) h.ranks))
 
-side_letter-above : (side : Colour) → AllAbove 32 (side_letter side ∷ [])
+pub side_letter-above : (side : Colour) → AllAbove 32 (side_letter side ∷ [])
 side_letter-above White = (omega arith, tt)
 side_letter-above Black = (omega arith, tt)
 
@@ -131,18 +131,18 @@ or_dash-above : (text : List ℕ) → AllAbove 32 text → AllAbove 32 (or_dash 
 or_dash-above [] h = (omega arith, tt)
 or_dash-above (c ∷ text) h = h
 
-rights_text-above : (rights : Rights) → AllAbove 32 (rights_text rights)
+pub rights_text-above : (rights : Rights) → AllAbove 32 (rights_text rights)
 rights_text-above rights =
     or_dash-above _ (AllAbove-append 32 _ _ (letter_if-above rights.white_king 75 (omega arith))
     (AllAbove-append 32 _ _ (letter_if-above rights.white_queen 81 (omega arith))
     (AllAbove-append 32 _ _ (letter_if-above rights.black_king 107 (omega arith))
     (letter_if-above rights.black_queen 113 (omega arith)))))
 
-target_text-above : (target : Option Square) → AllAbove 32 (target_text target)
+pub target_text-above : (target : Option Square) → AllAbove 32 (target_text target)
 target_text-above None = (omega arith, tt)
 target_text-above (Some square) = (omega arith, (omega arith, tt))
 
-decimal-above : (n : ℕ) → n < 2 ^ 64 → AllAbove 32 (decimal n)
+pub decimal-above : (n : ℕ) → n < 2 ^ 64 → AllAbove 32 (decimal n)
 decimal-above n h =
     decimal_by_steps (λ _ text. AllAbove 32 text) (λ n low. (omega arith, tt))
     (λ n text high above. AllAbove-append 32 text ((48 + n % 10) ∷ []) above (omega arith, tt)) n h

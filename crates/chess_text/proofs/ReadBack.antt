@@ -24,14 +24,14 @@ man_in : ℕ → Man
 man_in letter = if nat_le letter 90 then (White, kind_in letter) else (Black, kind_in (letter - 32))
 
 -- the squares that a character of a row's text stands for
-squares_in : ℕ → List (Option Man)
+pub squares_in : ℕ → List (Option Man)
 squares_in character = if nat_le character 56 then replicate (character - 48) None else Some (man_in character) ∷ []
 
 pub row_in : List ℕ → List (Option Man)
 row_in [] = []
 row_in (character ∷ text) = squares_in character ++ row_in text
 
-squares_in-letter_of : (man : Man) → squares_in (letter_of man) ≡ Some man ∷ []
+pub squares_in-letter_of : (man : Man) → squares_in (letter_of man) ≡ Some man ∷ []
 unfolding squares_in man_in kind_in
 squares_in-letter_of (White, Pawn) = refl
 squares_in-letter_of (White, Knight) = refl
@@ -66,7 +66,7 @@ IsRowText-row_in (run_then {text} {row} n rest low high e begins h) =
     ∙ ap (λ squares. squares ++ row_in text) (sym (squares_in-digit n high)))
 
 -- Letters and digits stand above the signs that part ranks and fields.
-47<letter_of : (man : Man) → 47 < letter_of man
+pub 47<letter_of : (man : Man) → 47 < letter_of man
 47<letter_of (White, Pawn) = omega arith
 47<letter_of (White, Knight) = omega arith
 47<letter_of (White, Bishop) = omega arith

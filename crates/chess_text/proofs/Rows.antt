@@ -75,7 +75,7 @@ unfolding rank_of squares_from
 rank_of-squares_from placement rank = refl
 
 -- the square on a file, and those after it
-squares_from-next : (placement : List (Option Man)) (rank file : ℕ) → file < 9 →
+pub squares_from-next : (placement : List (Option Man)) (rank file : ℕ) → file < 9 →
     squares_from placement rank file (9 - file) ≡
     man_at placement (record { file = file; rank = rank }) ∷ squares_from placement rank (file + 1) (9 - (file + 1))
 unfolding squares_from

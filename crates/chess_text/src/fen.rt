@@ -13,10 +13,10 @@ use chess_board::{Board, CastlingRights, Men};
 use itoa::Buffer;
 
 /// Room for a FEN, which has at most 93 bytes: 64 men, 7 strokes, 17 bytes of other fields and 5 spaces.
-type Text = ArrayString<96>;
+pub type Text = ArrayString<96>;
 
-// Appends an ASCII character.
-fn push(text: &mut Text, character: char)
+/// Appends an ASCII character.
+pub fn push(text: &mut Text, character: char)
     requires ascii { character < 128 }
     requires room { array_string_len text.old < 96 }
     ensures bytes { text.new.bytes ≡ text.old.bytes ++ character ∷ [] }
@@ -63,8 +63,8 @@ fn push_rank(text: &mut Text, _men: &Men, letters: &[u8; 64], rank: u8)
     push_run(text, empty);
 }
 
-// The text of the ranks from 8 down to 1.
-fn placement(men: &Men) -> Text
+/// The text of the ranks from 8 down to 1.
+pub fn placement(men: &Men) -> Text
     ensures bytes { result.bytes ≡ placement_text men.now }
     ensures len { array_string_len result ≤ 71 }
 {
@@ -102,8 +102,8 @@ fn push_right(text: &mut Text, right: bool, letter: char)
     }
 }
 
-// Appends the letters of the rights that are left, or `-`.
-fn push_rights(text: &mut Text, rights: CastlingRights)
+/// Appends the letters of the rights that are left, or `-`.
+pub fn push_rights(text: &mut Text, rights: CastlingRights)
     requires room { array_string_len text.old + 4 ≤ 96 }
     ensures bytes { text.new.bytes ≡ text.old.bytes ++ rights_text (rights_of rights) }
     ensures len { array_string_len text.new ≤ array_string_len text.old + 4 }

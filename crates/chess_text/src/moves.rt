@@ -8,8 +8,8 @@ ghost use Rattle.chess_text.specs.Coordinate.{IsPromotionText, IsCoordinateOf, N
 use chess_bits::{Kind, Square};
 use chess_board::Move;
 
-// The square that a letter and a digit name.
-fn square_named(file: u8, rank: u8) -> Option<Square>
+/// The square that a letter and a digit name.
+pub fn square_named(file: u8, rank: u8) -> Option<Square>
     ensures found { IfSome result (λ s. file ∷ rank ∷ [] ≡ square_name s) }
     ensures on_board { IfSome result IsOnBoard }
     ensures none { IfNone result ((s : Square) → IsOnBoard s → file ∷ rank ∷ [] ≢ square_name s) }

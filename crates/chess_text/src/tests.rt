@@ -1,8 +1,12 @@
 //! Texts and moves as other sources give them.
 
-use super::{coordinate, fen_write};
+use super::{FenError, GameText, coordinate, fen_read, fen_write};
+use crate::pgn::pgn_of;
+use crate::tags::time_control;
 use chess_bits::{Kind, Square};
-use chess_board::{Board, Move};
+use chess_board::{BadBoard, Board, Move};
+use chess_end::{Article, Ending, GameResult};
+use std::test::Fail;
 
 #[test]
 fn writes_the_initial_position(rt: HostRuntime) {
@@ -59,5 +63,160 @@ fn refuses_other_texts(rt: HostRuntime) {
         " e2e4", "e7e8qq", "e2-e4", "0000", "é2e4", "O-O",
     ] {
         assert_eq!(rt; coordinate(text), None, "at {text}");
+    }
+}
+
+#[test]
+fn tells_the_first_fault_of_a_text(rt: HostRuntime) {
+    for (text, fault) in [
+        ("", FenError::Shape),
+        ("8/8/8/8/8/8/8/8 w -", FenError::Shape),
+        ("8/8/44/8/8/8/8/8 w - - 0 1", FenError::Placement),
+        (
+            "rnbqkbnr/pppppppp/8/8/8/8/PPPPPPPP/RNBQKBNR x KQkq - 0 1",
+            FenError::Side,
+        ),
+        (
+            "rnbqkbnr/pppppppp/8/8/8/8/PPPPPPPP/RNBQKBNR w QK - 0 1",
+            FenError::Castling,
+        ),
+        (
+            "rnbqkbnr/pppppppp/8/8/8/8/PPPPPPPP/RNBQKBNR w KQkq e9 0 1",
+            FenError::Target,
+        ),
+        (
+            "rnbqkbnr/pppppppp/8/8/8/8/PPPPPPPP/RNBQKBNR w KQkq - 00 1",
+            FenError::Counter,
+        ),
+        (
+            "rnbqkbnr/pppppppp/8/8/8/8/PPPPPPPP/RNBQKBNR w KQkq - 0 0",
+            FenError::Counter,
+        ),
+        (
+            "rnbqkbnr/pppppppp/8/8/8/8/PPPPPPPP/RNBQKBNR w KQkq - 65536 1",
+            FenError::Counter,
+        ),
+        (
+            "8/8/8/8/8/8/8/8 w - - 0 1",
+            FenError::Board(BadBoard::Kings),
+        ),
+        (
+            "4k3/8/8/8/8/P7/PPPPPPPP/RNBQKBNR w - - 0 1",
+            FenError::Board(BadBoard::Pieces),
+        ),
+        (
+            "4k3/8/8/8/8/8/8/4K2P w - - 0 1",
+            FenError::Board(BadBoard::Pawns),
+        ),
+        (
+            "4k3/8/8/8/8/8/4R3/4K3 w - - 0 1",
+            FenError::Board(BadBoard::Check),
+        ),
+        (
+            "4k3/8/8/8/8/8/8/4K3 w K - 0 1",
+            FenError::Board(BadBoard::Rights),
+        ),
+        (
+            "rnbqkbnr/pppppppp/8/8/8/8/PPPPPPPP/RNBQKBNR w KQkq e6 0 1",
+            FenError::Board(BadBoard::Target),
+        ),
+    ] {
+        assert_eq!(rt; fen_read(text).err(), Some(fault), "at {text}");
+    }
+}
+
+#[test]
+fn reads_what_it_writes(rt: HostRuntime) -> Result<(), Fail> {
+    for text in [
+        "rnbqkbnr/pppppppp/8/8/8/8/PPPPPPPP/RNBQKBNR w KQkq - 0 1",
+        "rnbqkbnr/pppppppp/8/8/4P3/8/PPPP1PPP/RNBQKBNR b KQkq e3 0 1",
+        "r3k2r/p1ppqpb1/bn2pnp1/3PN3/1p2P3/2N2Q1p/PPPBBPPP/R3K2R w Kq - 65535 65535",
+        "8/2p5/3p4/KP5r/1R3p1k/8/4P1P1/8 w - - 0 1",
+    ] {
+        assert_eq!(rt; fen_write(&fen_read(text)?).as_str(), text);
+    }
+    Ok(())
+}
+
+#[test]
+fn writes_a_finished_game(rt: HostRuntime) -> Result<(), Fail> {
+    let game = GameText {
+        white: Some("ann"),
+        black: Some("bob"),
+        start: Board::initial(),
+        moves: &[],
+        ending: Some(Ending {
+            result: GameResult::Black,
+            article: Article::A511,
+        }),
+        initial: 300,
+        increment: 2,
+        period: None,
+    };
+    let text = pgn_of(rt.alloc(), &game, &["1.", "f3", "e5", "2.", "g4", "Qh4#"])?;
+    assert_eq!(rt;
+        text.as_str(),
+        "[Event \"?\"]\n[Site \"?\"]\n[Date \"????.??.??\"]\n[Round \"?\"]\n[White \"ann\"]\n[Black \"bob\"]\n[Result \"0-1\"]\n[Article \"5.1.1\"]\n[Termination \"normal\"]\n[TimeControl \"300+2\"]\n\n1. f3 e5 2. g4 Qh4# 0-1\n\n"
+    );
+    Ok(())
+}
+
+#[test]
+fn writes_a_game_from_another_position(rt: HostRuntime) -> Result<(), Fail> {
+    let game = GameText {
+        white: Some("ann"),
+        black: None,
+        start: fen_read("4k3/8/8/8/8/8/4P3/4K3 b - - 0 12")?,
+        moves: &[],
+        ending: None,
+        initial: 60,
+        increment: 0,
+        period: None,
+    };
+    let text = pgn_of(rt.alloc(), &game, &["12...", "Kd7", "13.", "e4"])?;
+    assert_eq!(rt;
+        text.as_str(),
+        "[Event \"?\"]\n[Site \"?\"]\n[Date \"????.??.??\"]\n[Round \"?\"]\n[White \"ann\"]\n[Black \"?\"]\n[Result \"*\"]\n[FEN \"4k3/8/8/8/8/8/4P3/4K3 b - - 0 12\"]\n[SetUp \"1\"]\n[Termination \"unterminated\"]\n[TimeControl \"60\"]\n\n12... Kd7 13. e4 *\n\n"
+    );
+    Ok(())
+}
+
+#[test]
+fn writes_full_lines(rt: HostRuntime) -> Result<(), Fail> {
+    let game = GameText {
+        white: None,
+        black: None,
+        start: Board::initial(),
+        moves: &[],
+        ending: Some(Ending {
+            result: GameResult::Draw,
+            article: Article::A961,
+        }),
+        initial: 60,
+        increment: 0,
+        period: Some((40, 30)),
+    };
+    let tokens = [
+        "1.", "Nf3", "Nf6", "2.", "Ng1", "Ng8", "3.", "Nf3", "Nf6", "4.", "Ng1", "Ng8", "5.",
+        "Nf3", "Nf6", "6.", "Ng1", "Ng8", "7.", "Nf3", "Nf6", "8.", "Ng1", "Ng8",
+    ];
+    let text = pgn_of(rt.alloc(), &game, &tokens)?;
+    assert!(rt;
+        text.as_str().ends_with(
+            "[TimeControl \"40/60:30\"]\n\n1. Nf3 Nf6 2. Ng1 Ng8 3. Nf3 Nf6 4. Ng1 Ng8 5. Nf3 Nf6 6. Ng1 Ng8 7. Nf3 Nf6 8.\nNg1 Ng8 1/2-1/2\n\n"
+        )
+    );
+    Ok(())
+}
+
+#[test]
+fn writes_times(rt: HostRuntime) {
+    for (increment, period, text) in [
+        (0, None, "5400"),
+        (30, None, "5400+30"),
+        (30, Some((40, 1800)), "40/5400+30:1800+30"),
+        (0, Some((40, 1800)), "40/5400:1800"),
+    ] {
+        assert_eq!(rt; time_control(5400, increment, period).as_str(), text);
     }
 }

@@ -1,4 +1,4 @@
-use Rattle.std.proofs.Common.{◌≡◌, ◌+◌, ◌-◌, [], ◌∷◌, ◌++◌, Some, None, ap, sym, ◌∙◌, arith}
+use Rattle.std.proofs.Common.{◌≡◌, ◌+◌, ◌-◌, [], ◌∷◌, ◌++◌, None, ap, sym, ◌∙◌, arith}
 use Rattle.arrayvec.specs.ArrayString.{array_string_len}
 use Rattle.std.specs.Prelude.{slice_index}
 use Rattle.chess_bits.specs.Square.{Square, square}
