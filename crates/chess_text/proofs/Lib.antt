@@ -12,3 +12,4 @@ pub mod Faults
 pub mod Told
 pub mod Lines
 pub mod TagLemmas
+mod GameLemmas

@@ -4,3 +4,4 @@ pub mod Coordinate
 pub mod Reading
 pub mod Movetext
 pub mod Pgn
+pub mod Game

@@ -28,20 +28,3 @@ pub fn push_token(text: &mut String, width: usize, token: &str) -> Result<usize,
     text.push_str(token)?;
     Ok(before + len)
 }
-
-/// Writes tokens and at last the result in lines that each take as many tokens as fit, each with a line feed at its end
-/// (PGN Standard, section 8.2.1). It fails where memory is refused.
-pub fn push_movetext(text: &mut String, tokens: &[&str], last: &str) -> Result<(), AllocError>
-    requires tokens { All (λ token. IsToken token.now) tokens.now }
-    requires last { IsToken last.now }
-    ensures { OnOk result (PutsMovetext (string_bytes text.old) (string_bytes text.new)
-        (map (λ token. token.now) tokens.now ++ last.now ∷ [])) }
-{
-    let mut width = 0;
-    for token in tokens {
-        width = push_token(text, width, token)?;
-    }
-    push_token(text, width, last)?;
-    text.push('\n')?;
-    Ok(())
-}

@@ -1,8 +1,8 @@
 //! Texts and moves as other sources give them.
 
-use super::{FenError, GameText, coordinate, fen_read, fen_write};
-use crate::pgn::pgn_of;
+use super::{FenError, GameText, coordinate, fen_read, fen_write, is_playable, pgn};
 use crate::tags::time_control;
+use arrayvec::ArrayVec;
 use chess_bits::{Kind, Square};
 use chess_board::{BadBoard, Board, Move};
 use chess_end::{Article, Ending, GameResult};
@@ -138,13 +138,34 @@ fn reads_what_it_writes(rt: HostRuntime) -> Result<(), Fail> {
     Ok(())
 }
 
+// The moves of coordinate texts with one space between.
+fn moves_of(texts: &str) -> Option<ArrayVec<Move, 64>> {
+    let mut moves = ArrayVec::new();
+    for text in texts.split(' ') {
+        if moves.len() < 64 {
+            moves.push(coordinate(text)?);
+        }
+    }
+    Some(moves)
+}
+
+// The PGN of a game whose moves can be played.
+fn pgn_of(rt: &HostRuntime, game: &GameText<'_>) -> Result<String, Fail> {
+    if is_playable(&game.start, game.moves) {
+        Ok(pgn(rt.alloc(), game)?)
+    } else {
+        Err(Fail::new("a move is not legal"))
+    }
+}
+
 #[test]
 fn writes_a_finished_game(rt: HostRuntime) -> Result<(), Fail> {
+    let moves = moves_of("f2f3 e7e5 g2g4 d8h4").unwrap_or_default();
     let game = GameText {
         white: Some("ann"),
         black: Some("bob"),
         start: Board::initial(),
-        moves: &[],
+        moves: moves.as_slice(),
         ending: Some(Ending {
             result: GameResult::Black,
             article: Article::A511,
@@ -153,7 +174,7 @@ fn writes_a_finished_game(rt: HostRuntime) -> Result<(), Fail> {
         increment: 2,
         period: None,
     };
-    let text = pgn_of(rt.alloc(), &game, &["1.", "f3", "e5", "2.", "g4", "Qh4#"])?;
+    let text = pgn_of(&rt, &game)?;
     assert_eq!(rt;
         text.as_str(),
         "[Event \"?\"]\n[Site \"?\"]\n[Date \"????.??.??\"]\n[Round \"?\"]\n[White \"ann\"]\n[Black \"bob\"]\n[Result \"0-1\"]\n[Article \"5.1.1\"]\n[Termination \"normal\"]\n[TimeControl \"300+2\"]\n\n1. f3 e5 2. g4 Qh4# 0-1\n\n"
@@ -163,31 +184,38 @@ fn writes_a_finished_game(rt: HostRuntime) -> Result<(), Fail> {
 
 #[test]
 fn writes_a_game_from_another_position(rt: HostRuntime) -> Result<(), Fail> {
+    let moves = moves_of("e8d7 e2e4").unwrap_or_default();
     let game = GameText {
         white: Some("ann"),
         black: None,
         start: fen_read("4k3/8/8/8/8/8/4P3/4K3 b - - 0 12")?,
-        moves: &[],
-        ending: None,
+        moves: moves.as_slice(),
+        ending: Some(Ending {
+            result: GameResult::White,
+            article: Article::A512,
+        }),
         initial: 60,
         increment: 0,
         period: None,
     };
-    let text = pgn_of(rt.alloc(), &game, &["12...", "Kd7", "13.", "e4"])?;
+    let text = pgn_of(&rt, &game)?;
     assert_eq!(rt;
         text.as_str(),
-        "[Event \"?\"]\n[Site \"?\"]\n[Date \"????.??.??\"]\n[Round \"?\"]\n[White \"ann\"]\n[Black \"?\"]\n[Result \"*\"]\n[FEN \"4k3/8/8/8/8/8/4P3/4K3 b - - 0 12\"]\n[SetUp \"1\"]\n[Termination \"unterminated\"]\n[TimeControl \"60\"]\n\n12... Kd7 13. e4 *\n\n"
+        "[Event \"?\"]\n[Site \"?\"]\n[Date \"????.??.??\"]\n[Round \"?\"]\n[White \"ann\"]\n[Black \"?\"]\n[Result \"1-0\"]\n[Article \"5.1.2\"]\n[FEN \"4k3/8/8/8/8/8/4P3/4K3 b - - 0 12\"]\n[SetUp \"1\"]\n[Termination \"normal\"]\n[TimeControl \"60\"]\n\n12... Kd7 13. e4 1-0\n\n"
     );
     Ok(())
 }
 
 #[test]
 fn writes_full_lines(rt: HostRuntime) -> Result<(), Fail> {
+    let moves = moves_of(
+        "g1f3 g8f6 f3g1 f6g8 g1f3 g8f6 f3g1 f6g8 g1f3 g8f6 f3g1 f6g8 g1f3 g8f6 f3g1 f6g8",
+    ).unwrap_or_default();
     let game = GameText {
         white: None,
         black: None,
         start: Board::initial(),
-        moves: &[],
+        moves: moves.as_slice(),
         ending: Some(Ending {
             result: GameResult::Draw,
             article: Article::A961,
@@ -196,15 +224,33 @@ fn writes_full_lines(rt: HostRuntime) -> Result<(), Fail> {
         increment: 0,
         period: Some((40, 30)),
     };
-    let tokens = [
-        "1.", "Nf3", "Nf6", "2.", "Ng1", "Ng8", "3.", "Nf3", "Nf6", "4.", "Ng1", "Ng8", "5.",
-        "Nf3", "Nf6", "6.", "Ng1", "Ng8", "7.", "Nf3", "Nf6", "8.", "Ng1", "Ng8",
-    ];
-    let text = pgn_of(rt.alloc(), &game, &tokens)?;
+    let text = pgn_of(&rt, &game)?;
     assert!(rt;
         text.as_str().ends_with(
             "[TimeControl \"40/60:30\"]\n\n1. Nf3 Nf6 2. Ng1 Ng8 3. Nf3 Nf6 4. Ng1 Ng8 5. Nf3 Nf6 6. Ng1 Ng8 7. Nf3 Nf6 8.\nNg1 Ng8 1/2-1/2\n\n"
         )
+    );
+    Ok(())
+}
+
+#[test]
+fn writes_a_game_that_goes_on(rt: HostRuntime) -> Result<(), Fail> {
+    let moves = moves_of("e2e5").unwrap_or_default();
+    let mut game = GameText {
+        white: Some("ann"),
+        black: Some("bob"),
+        start: Board::initial(),
+        moves: moves.as_slice(),
+        ending: None,
+        initial: 60,
+        increment: 0,
+        period: None,
+    };
+    assert!(rt; !is_playable(&game.start, game.moves));
+    game.moves = &[];
+    let text = pgn_of(&rt, &game)?;
+    assert!(rt;
+        text.as_str().ends_with("[Termination \"unterminated\"]\n[TimeControl \"60\"]\n\n*\n\n")
     );
     Ok(())
 }

@@ -1,10 +1,12 @@
-ghost use Rattle.std.specs.Prelude.{◌≡◌, ◌++◌, ℕ, List, [], map, IsTrue, OnOk, IfOk};
+ghost use Rattle.std.specs.Prelude.{◌≡◌, ◌++◌, ℕ, List, OnOk, IfOk};
 ghost use Rattle.std.specs.Option.{option_copied};
 ghost use Rattle.std.specs.String.{string_bytes};
-ghost use Rattle.chess_text.specs.Movetext.{are_tokens};
-ghost use Rattle.chess_text.specs.Pgn.{player_text, roster, tags_text, heading, PutsTags, IsPgnOf};
+ghost use Rattle.chess_board.specs.Line.{IsLegalLine};
+ghost use Rattle.chess_text.specs.Game.{HasRoom, IsGameText, PutsMoves};
+ghost use Rattle.chess_text.specs.Pgn.{player_text, roster, tags_text, heading, result_text, PutsTags};
 
-use crate::movetext::push_movetext;
+use crate::game::push_moves;
+use crate::movetext::push_token;
 use crate::tags::{push_article, push_set_up, push_tag, result_code, termination, time_control};
 use chess_board::{Board, Move};
 use chess_end::Ending;
@@ -74,21 +76,37 @@ fn push_tags(text: &mut String, game: &GameText<'_>) -> Result<(), AllocError>
     push_tag(text, "TimeControl", control.as_str())
 }
 
-/// The PGN of a game whose moves are written as these tokens. It fails where memory is refused.
-pub fn pgn_of(alloc: Global, game: &GameText<'_>, tokens: &[&str]) -> Result<String, AllocError>
-    requires { IsTrue (are_tokens (map (λ token. token.now) tokens.now)) }
-    ensures pgn { IfOk result (λ text. IsPgnOf (string_bytes text)
+// Writes the moves and at last the result in lines (PGN Standard, section 8.2). It fails where memory is refused.
+fn push_movetext(text: &mut String, game: &GameText<'_>) -> Result<(), AllocError>
+    requires legal { IsLegalLine game.now.start game.now.moves.now }
+    requires room { HasRoom game.now.start game.now.moves.now }
+    ensures { OnOk result (PutsMoves (string_bytes text.old) (string_bytes text.new) game.now.start game.now.moves.now
+        (result_text game.now.ending)) }
+{
+    let width = push_moves(text, &game.start, game.moves)?;
+    push_token(text, width, result_code(game.ending))?;
+    text.push('\n')?;
+    Ok(())
+}
+
+/// The PGN of a game (PGN Standard, section 8): tags, an empty line, the moves in SAN and the result in lines of at most
+/// 79 characters, an empty line. For a game there is one. The moves are legal, one after the other from the start, and
+/// before each both counters are below 65,535. It fails where memory is refused.
+pub fn pgn(alloc: Global, game: &GameText<'_>) -> Result<String, AllocError>
+    requires legal { IsLegalLine game.now.start game.now.moves.now }
+    requires room { HasRoom game.now.start game.now.moves.now }
+    ensures pgn { IfOk result (λ text. IsGameText (string_bytes text)
         (heading (option_copied game.now.white) (option_copied game.now.black) game.now.start game.now.ending
-        game.now.initial game.now.increment game.now.period) (map (λ token. token.now) tokens.now)) }
-    ensures one { IfOk result (λ text. (other : List ℕ) → IsPgnOf other
+        game.now.initial game.now.increment game.now.period) game.now.moves.now) }
+    ensures one { IfOk result (λ text. (other : List ℕ) → IsGameText other
         (heading (option_copied game.now.white) (option_copied game.now.black) game.now.start game.now.ending
-        game.now.initial game.now.increment game.now.period) (map (λ token. token.now) tokens.now) →
+        game.now.initial game.now.increment game.now.period) game.now.moves.now →
         other ≡ string_bytes text) }
 {
     let mut text = String::new(alloc);
     push_tags(&mut text, game)?;
     text.push('\n')?;
-    push_movetext(&mut text, tokens, result_code(game.ending))?;
+    push_movetext(&mut text, game)?;
     text.push('\n')?;
     Ok(text)
 }

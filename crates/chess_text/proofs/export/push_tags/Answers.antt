@@ -5,7 +5,7 @@ use Rattle.std.specs.String.{string_bytes}
 use Rattle.std.proofs.lemmas.Result.{on_ok_weaker}
 use Rattle.chess_text.specs.Pgn.{Tag, tag, tag_text, tags_text, roster, article_tags, termination_text, time_control_text}
 use Rattle.chess_text.proofs.TagLemmas.{tag_then, tags_then, regroup_two}
-use Rattle.chess_text.proofs.pgn.push_tags.Goals as goal
+use Rattle.chess_text.proofs.export.push_tags.Goals as goal
 
 pub returns : goal.returns
 returns c =

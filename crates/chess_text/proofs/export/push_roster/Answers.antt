@@ -5,7 +5,7 @@ use Rattle.std.specs.String.{string_bytes}
 use Rattle.std.proofs.lemmas.Result.{on_ok_weaker}
 use Rattle.chess_text.specs.Pgn.{Tag, tag, tag_text, player_text, result_text}
 use Rattle.chess_text.proofs.TagLemmas.{no_tags, tag_then}
-use Rattle.chess_text.proofs.pgn.push_roster.Goals as goal
+use Rattle.chess_text.proofs.export.push_roster.Goals as goal
 
 pub returns : goal.returns
 returns c =
