@@ -1,0 +1,3 @@
+mod Asked
+mod Counters
+mod Through

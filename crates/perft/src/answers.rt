@@ -1,0 +1,100 @@
+//! The answer to a line.
+ghost use Rattle.std.specs.Prelude.{ℕ, ◌≡◌, ◌≢◌, ◌≤◌, decimal, IfOk, IfErr, IfSome, IfNone};
+ghost use Rattle.perft.specs.Answers.{IsCountFrom, IsFault, IsAnswer, IsRefusal};
+
+use crate::lines::count_lines;
+use chess_board::BadBoard;
+use chess_text::{FenError, fen_read};
+use itoa::Buffer;
+
+/// Why there is no count.
+#[derive(Clone, Copy, Debug, PartialEq, Eq)]
+pub enum Fault {
+    /// The line is not a depth from 0 to 255, a space and a FEN.
+    Line,
+    /// The FEN has a fault.
+    Fen(FenError),
+    /// A counter of the position would pass 65,535.
+    Counter,
+}
+
+/// The count of the legal lines of `depth` moves from the position of a FEN. `Fen`: the text is the FEN of no valid
+/// position. `Counter`: a counter of its position has no room for so many moves.
+pub fn count_from(fen: &str, depth: u8) -> Result<u64, Fault>
+    ensures ok { IfOk result (IsCountFrom fen.now depth) }
+    ensures fault { IfErr result (IsFault fen.now depth) }
+{
+    let board = match fen_read(fen) {
+        Ok(board) => board,
+        Err(fault) => return Err(Fault::Fen(fault)),
+    };
+    let last = u32::from(board.halfmove().max(board.fullmove())) + u32::from(depth);
+    if last > 65_535 {
+        return Err(Fault::Counter);
+    }
+    Ok(count_lines(&board, depth))
+}
+
+// The depth that digits name, in their one spelling.
+fn depth_named(digits: &str) -> Option<u8>
+    ensures named { IfSome result (λ depth. digits.now ≡ decimal depth) }
+    ensures none { IfNone result ((depth : ℕ) → depth ≤ 255 → digits.now ≢ decimal depth) }
+{
+    let Ok(depth) = digits.parse::<u8>() else {
+        return None;
+    };
+    let mut buffer = Buffer::new();
+    if buffer.format(depth) == digits {
+        Some(depth)
+    } else {
+        None
+    }
+}
+
+/// The answer to a line `DEPTH FEN`. `Line`: it is not a depth from 0 to 255 without leading zeros, a space and a text;
+/// else as `count_from`.
+pub fn answer(line: &str) -> Result<u64, Fault>
+    ensures ok { IfOk result (IsAnswer line.now) }
+    ensures fault { IfErr result (IsRefusal line.now) }
+{
+    let Some((digits, fen)) = line.split_once(' ') else {
+        return Err(Fault::Line);
+    };
+    match depth_named(digits) {
+        Some(depth) => count_from(fen, depth),
+        None => Err(Fault::Line),
+    }
+}
+
+/// The name of a fault, that of its innermost part.
+pub fn name(fault: Fault) -> &'static str {
+    match fault {
+        Fault::Line => "Line",
+        Fault::Fen(fault) => fen_fault(fault),
+        Fault::Counter => "Counter",
+    }
+}
+
+fn fen_fault(fault: FenError) -> &'static str {
+    match fault {
+        FenError::Shape => "Shape",
+        FenError::Placement => "Placement",
+        FenError::Side => "Side",
+        FenError::Castling => "Castling",
+        FenError::Target => "Target",
+        FenError::Counter => "Counter",
+        FenError::Board(fault) => board_fault(fault),
+    }
+}
+
+fn board_fault(fault: BadBoard) -> &'static str {
+    match fault {
+        BadBoard::Kings => "Kings",
+        BadBoard::Pieces => "Pieces",
+        BadBoard::Pawns => "Pawns",
+        BadBoard::Check => "Check",
+        BadBoard::Rights => "Rights",
+        BadBoard::Target => "Target",
+        BadBoard::Counter => "Counter",
+    }
+}

@@ -1,0 +1,28 @@
+//! The number of legal lines.
+ghost use Rattle.std.specs.Prelude.{◌+◌, ◌≤◌};
+ghost use Rattle.perft.specs.Lines.{IsCount};
+
+use chess_board::Board;
+use chess_moves::legal_moves;
+
+/// How many legal lines of `depth` moves begin at the board's position (FIDE articles 3.1 to 3.10); 2^64 - 1 where
+/// there are more. The last move of a line is counted and not made. Neither counter of the board may come to pass
+/// 65,535 on the way.
+pub fn count_lines(board: &Board, depth: u8) -> u64
+    requires halfmove { board.now.halfmove + depth ≤ 65535 }
+    requires fullmove { board.now.fullmove + depth ≤ 65535 }
+    ensures { IsCount board.now depth result }
+{
+    if depth == 0 {
+        return 1;
+    }
+    let moves = legal_moves(board);
+    if depth == 1 {
+        return moves.len() as u64;
+    }
+    let mut count = 0u64;
+    for mv in moves.as_slice() {
+        count = count.saturating_add(count_lines(&board.apply(*mv), depth - 1));
+    }
+    count
+}
