@@ -1,6 +1,6 @@
 -- The tokens of a game's moves, one move after the other.
-use Rattle.std.specs.Prelude.{ℕ, Bool, true, false, ◌≡◌, ◌<◌, ◌+◌, List, [], ◌∷◌, ◌++◌, length, take, get_or}
-use Rattle.std.proofs.Common.{arith, refl, ap, sym, ◌∙◌, zero, suc, append_assoc, length-append}
+use Rattle.std.specs.Prelude.{ℕ, Bool, true, false, ◌≡◌, ◌<◌, List, [], ◌∷◌, ◌++◌, length, take, get_or}
+use Rattle.std.proofs.Common.{arith, refl, ap, sym, ◌∙◌, zero, suc, append_assoc}
 use Rattle.chess_board.specs.declared.moves.Move.{Move}
 use Rattle.chess_board.specs.Position.{Position}
 use Rattle.chess_board.specs.Next.{next}
@@ -8,8 +8,8 @@ use Rattle.chess_board.specs.Legal.{IsLegal}
 use Rattle.chess_board.specs.Line.{IsLegalLine}
 use Rattle.chess_san.specs.San.{IsSan}
 use Rattle.chess_san.proofs.OneText.{IsSan-one}
-use Rattle.chess_text.specs.Game.{numbers_before, BeginWithMove, AreMoveTokens, HasRoom, IsGameText}
-use Rattle.chess_text.specs.Pgn.{Heading, IsPgnOf}
+use Rattle.chess_text.specs.Game.{numbers_before, AreMoveTokens, HasRoom, IsGameText}
+use Rattle.chess_text.specs.Pgn.{Heading}
 use Rattle.chess_text.proofs.TagLemmas.{IsPgnOf-unique}
 
 -- the position after moves

@@ -8,8 +8,8 @@ use Rattle.chess_san.specs.San.{IsSan}
 use Rattle.chess_text.specs.Movetext.{IsMovetext, IsUnderWay}
 use Rattle.chess_text.specs.Pgn.{Heading, IsPgnOf}
 
--- The number of the full move, before each move of White and before a first move of Black (PGN Standard, sections
--- 8.2.2.1 and 8.2.2.2).
+-- The number of the full move, before each move of White and before a first move of Black (PGN Standard, section
+-- 8.2.2.2).
 abbrev pub numbers_before : Colour → Bool → ℕ → List (List ℕ)
 numbers_before White is_first n = (decimal n ++ codes ".") ∷ []
 numbers_before Black true n = (decimal n ++ codes "...") ∷ []

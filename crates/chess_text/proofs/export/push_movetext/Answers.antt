@@ -1,4 +1,4 @@
-use Rattle.std.proofs.Common.{◌≡◌, ◌∙◌, ◌++◌, ◌∷◌, [], List, ℕ, ap, sym, arith}
+use Rattle.std.proofs.Common.{◌∙◌, ◌++◌, ◌∷◌, [], List, ℕ, ap, arith}
 use Rattle.std.specs.String.{string_bytes}
 use Rattle.chess_text.specs.Pgn.{result_text}
 use Rattle.chess_text.proofs.Lines.{ended, pushed_filled}

@@ -1,7 +1,6 @@
 use Rattle.std.proofs.Common.{ℕ, ◌≡◌, ◌∙◌, ◌+◌, ◌++◌, ◌∷◌, [], take, ap, sym, suc, arith}
 use Rattle.std.proofs.Math.Seq.{take-suc}
 use Rattle.std.proofs.lemmas.Bool.{false≢true}
-use Rattle.std.proofs.lemmas.List.{take_all}
 use Rattle.chess_board.specs.declared.moves.Move.{Move}
 use Rattle.chess_board.specs.Legal.{IsLegal}
 use Rattle.chess_board.specs.Next.{next}
@@ -12,14 +11,14 @@ pub returns-then-not-can_play : goal.returns-then-not-can_play
 returns-then-not-can_play c = (
   λ e. absurd (false≢true e),
   λ both.
-    let p = c.args.start.now in
-    let i = c.loop-mv.mv-index in
-    let below = c.loop-mv-test.true in
-    let legal : IsLegal c.loop-mv.board c.mv-item.result =
-    rw (c.loop-mv.invariant.at, c.mv-item.is) (legal_at p c.args.moves.now i c.mv-item.result both.0 below) in
-    let room = room_at p c.args.moves.now i both.1 below in
-    let yes_it_can = c.can_play.ensures.1 (legal, rw c.loop-mv.invariant.at room.0, rw c.loop-mv.invariant.at room.1) in
-    absurd (false≢true (sym c.if-not-can_play.true ∙ yes_it_can)),
+      let p = c.args.start.now in
+      let i = c.loop-mv.mv-index in
+      let below = c.loop-mv-test.true in
+      let legal : IsLegal c.loop-mv.board c.mv-item.result =
+      rw (c.loop-mv.invariant.at, c.mv-item.is) (legal_at p c.args.moves.now i c.mv-item.result both.0 below) in
+      let room = room_at p c.args.moves.now i both.1 below in
+      let yes_it_can = c.can_play.ensures.1 (legal, rw c.loop-mv.invariant.at room.0, rw c.loop-mv.invariant.at room.1) in
+      absurd (false≢true (sym c.if-not-can_play.true ∙ yes_it_can)),
 )
 
 pub loop-mv-preserved : goal.loop-mv-preserved

@@ -1,8 +1,6 @@
-use Rattle.std.proofs.Common.{◌≡◌, ◌∙◌, ◌++◌, ◌∷◌, [], List, ℕ, ap, sym, append_assoc}
-use Rattle.std.specs.Prelude.{IfOk}
+use Rattle.std.proofs.Common.{◌++◌, ◌∷◌, [], sym, append_assoc}
 use Rattle.std.specs.String.{string_bytes}
 use Rattle.std.proofs.lemmas.Result.{IfOk-weaker}
-use Rattle.chess_text.specs.Movetext.{IsUnderWay}
 use Rattle.chess_text.specs.Game.{numbers_before, AddsMove}
 use Rattle.chess_text.proofs.game.push_move.Goals as goal
 

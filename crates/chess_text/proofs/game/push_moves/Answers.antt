@@ -1,11 +1,9 @@
-use Rattle.std.proofs.Common.{ℕ, ◌≡◌, ◌∙◌, ◌+◌, ◌++◌, ◌∷◌, [], List, true, false, take, ap, sym, suc, arith}
+use Rattle.std.proofs.Common.{ℕ, ◌≡◌, ◌∙◌, ◌+◌, ◌++◌, ◌∷◌, [], true, take, ap, sym, suc, arith}
 use Rattle.std.proofs.Math.Seq.{take-suc}
-use Rattle.std.proofs.lemmas.List.{take_all}
 use Rattle.std.specs.String.{string_bytes}
 use Rattle.chess_board.specs.declared.moves.Move.{Move}
-use Rattle.chess_board.specs.Legal.{IsLegal}
 use Rattle.chess_board.specs.Next.{next}
-use Rattle.chess_text.specs.Game.{numbers_before, AddsMove, AddsMoves}
+use Rattle.chess_text.specs.Game.{numbers_before, AddsMove}
 use Rattle.chess_text.proofs.GameLemmas.{after_moves, is_first_after, is_first_after-more, after_moves-more, legal_at, room_at, tokens_more}
 use Rattle.chess_text.proofs.game.push_moves.Goals as goal
 
@@ -45,14 +43,14 @@ loop-mv-preserved c =
     ap (λ (n : ℕ). take n moves) next_index ∙ take-suc moves i m c.loop-mv-test.true
     ∙ ap (λ (x : Move). take i moves ++ x ∷ []) (sym c.mv-item.is) in
     let added : AddsMove (after_moves p (take i moves)) (is_first_after true (take i moves)) m front before.tokens
-        (string_bytes c.push_move.new.text) c.in_ok-width.width =
+    (string_bytes c.push_move.new.text) c.in_ok-width.width =
     rw (sym at, sym c.loop-mv.invariant.first) (c.in_ok-width.ensures.added front before.tokens before.under_way) in
     rw taken (record {
       at = c.apply-board.ensures.next ∙ (ap (λ q. next q m) at ∙ sym (after_moves-more p (take i moves) m));
       first = sym (is_first_after-more true (take i moves) m);
       added = record {
         tokens = before.tokens ++ (numbers_before (after_moves p (take i moves)).side
-          (is_first_after true (take i moves)) (after_moves p (take i moves)).fullmove ++ added.san ∷ []);
+            (is_first_after true (take i moves)) (after_moves p (take i moves)).fullmove ++ added.san ∷ []);
         are = tokens_more p true (take i moves) before.tokens m added.san before.are added.is_san;
         under_way = added.under_way;
       };
