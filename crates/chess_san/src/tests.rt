@@ -90,6 +90,7 @@ fn a_pinned_knight_is_no_rival(rt: HostRuntime) -> Result<(), Fail> {
     let board = board_of(diagram, Colour::White)?;
     let mv = move_of(Square::at(7, 1), Square::at(5, 2), None);
     expect_text(&rt, &board, &mv, "Ne2");
+    assert_eq!(rt; read(&board, "g1e2"), Some(mv));
     for text in ["Nge2", "N1e2", "Ng1e2", "Nce2", "Ne2+", "Nxe2"] {
         expect_none(&rt, &board, text);
     }

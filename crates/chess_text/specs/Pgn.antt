@@ -25,7 +25,7 @@ abbrev pub tags_text : List Tag → List ℕ
 tags_text [] = []
 tags_text (t ∷ tags) = tag_text t ++ tags_text tags
 
--- a player's name, or `?` for an empty seat (PGN Standard, section 8.1.1.4)
+-- a player's name, or `?` for an empty seat (PGN Standard, sections 8.1.1.5 and 8.1.1.6)
 abbrev pub player_text : Option (List ℕ) → List ℕ
 player_text None = 63 ∷ []
 player_text (Some name) = name

@@ -85,6 +85,10 @@ HasHalfmove f = (number : ℕ) × TellsNumber 0 f.halfmove number
 abbrev pub HasFullmove : FenFields → Type 0
 HasFullmove f = (number : ℕ) × TellsNumber 1 f.fullmove number
 
+-- a target, if there is one, is a square of the board
+abbrev pub IsTargetOnBoard : Option Square → Type 0
+IsTargetOnBoard target = (s : Square) → target ≡ Some s → IsOnBoard s
+
 -- What is wrong with a text that is no FEN of a valid position: the first fault in the order of the fields. A text
 -- whose fields all say something is the FEN of a position, which breaks a condition of a valid one.
 abbrev pub IsFenFault : List ℕ → FenError → Type 0
@@ -97,4 +101,4 @@ IsFenFault text faults.Target = (f : FenFields) × HasFields text f × HasPlacem
 IsFenFault text faults.Counter = (f : FenFields) × HasFields text f × HasPlacement f × HasSide f × HasRights f ×
     HasTarget f × ¬ (HasHalfmove f × HasFullmove f)
 IsFenFault text (faults.Board broken) = (p : Position) × (length p.placement ≡ 64) × HasCounters p × IsFenOf text p ×
-    IsFirstBroken p broken
+    IsFirstBroken p broken × IsTargetOnBoard p.target

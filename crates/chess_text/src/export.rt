@@ -33,7 +33,7 @@ pub struct GameText<'a> {
     pub period: Option<(u32, u32)>,
 }
 
-// A player's name, or `?` for an empty seat (PGN Standard, section 8.1.1.4).
+// A player's name, or `?` for an empty seat (PGN Standard, sections 8.1.1.5 and 8.1.1.6).
 fn player<'a>(name: Option<&'a str>) -> &'a str
     ensures { result.now ≡ player_text (option_copied name.entry) }
 {

@@ -1,4 +1,4 @@
-ghost use Rattle.std.specs.Prelude.{◌≡◌, ℕ, ◌+◌, ◌≤◌, ◌<◌, [], ◌∷◌, ◌++◌, length, decimal};
+ghost use Rattle.std.specs.Prelude.{◌≡◌, ℕ, List, ◌+◌, ◌≤◌, ◌<◌, [], ◌∷◌, ◌++◌, length, decimal};
 ghost use Rattle.arrayvec.specs.ArrayString.{array_string_len};
 ghost use Rattle.chess_bits.specs.Square.{IsOnBoard};
 ghost use Rattle.chess_board.specs.RightsOf.{rights_of};
@@ -148,6 +148,7 @@ fn push_number(text: &mut Text, number: u16)
 pub fn fen_write(board: &Board) -> ArrayString<96>
     ensures fen { IsFenOf result.bytes board.now }
     ensures text { result.bytes ≡ fen_of board.now }
+    ensures one_text { (text : List ℕ) → IsFenOf text board.now → text ≡ result.bytes }
 {
     let mut text = placement(board.men());
     push(&mut text, ' ');

@@ -2,7 +2,7 @@ ghost use Rattle.std.specs.Prelude.{◌≡◌, Ok, IfOk, IfErr, length};
 ghost use Rattle.chess_board.specs.Position.{Position, HasCounters, IsValid};
 ghost use Rattle.chess_board.specs.Parts.{described};
 ghost use Rattle.chess_text.specs.Fen.{IsFenOf, fen_of};
-ghost use Rattle.chess_text.specs.Reading.{IsFenFault};
+ghost use Rattle.chess_text.specs.Reading.{IsFenFault, IsTargetOnBoard};
 
 use crate::fields::{FenError, Fields, number_named, rights_named, side_named, target_named};
 use crate::squares::{by_number, placement_named};
@@ -13,6 +13,7 @@ fn parts_of(text: &str) -> Result<Parts, FenError>
     ensures fen { IfOk result (λ parts. IsFenOf text.now (described parts)) }
     ensures counters { IfOk result (λ parts. HasCounters (described parts)) }
     ensures whole { IfOk result (λ parts. length parts.men ≡ 64) }
+    ensures target { IfOk result (λ parts. IsTargetOnBoard parts.target) }
     ensures fault { IfErr result (IsFenFault text.now) }
 {
     let fields = Fields::of(text)?;

@@ -187,7 +187,7 @@ fn writes_a_game_from_another_position(rt: HostRuntime) -> Result<(), Fail> {
     let moves = moves_of("e8d7 e2e4").unwrap_or_default();
     let game = GameText {
         white: Some("ann"),
-        black: None,
+        black: Some("bob"),
         start: fen_read("4k3/8/8/8/8/8/4P3/4K3 b - - 0 12")?,
         moves: moves.as_slice(),
         ending: Some(Ending {
@@ -201,7 +201,7 @@ fn writes_a_game_from_another_position(rt: HostRuntime) -> Result<(), Fail> {
     let text = pgn_of(&rt, &game)?;
     assert_eq!(rt;
         text.as_str(),
-        "[Event \"?\"]\n[Site \"?\"]\n[Date \"????.??.??\"]\n[Round \"?\"]\n[White \"ann\"]\n[Black \"?\"]\n[Result \"1-0\"]\n[Article \"5.1.2\"]\n[FEN \"4k3/8/8/8/8/8/4P3/4K3 b - - 0 12\"]\n[SetUp \"1\"]\n[Termination \"normal\"]\n[TimeControl \"60\"]\n\n12... Kd7 13. e4 1-0\n\n"
+        "[Event \"?\"]\n[Site \"?\"]\n[Date \"????.??.??\"]\n[Round \"?\"]\n[White \"ann\"]\n[Black \"bob\"]\n[Result \"1-0\"]\n[Article \"5.1.2\"]\n[FEN \"4k3/8/8/8/8/8/4P3/4K3 b - - 0 12\"]\n[SetUp \"1\"]\n[Termination \"normal\"]\n[TimeControl \"60\"]\n\n12... Kd7 13. e4 1-0\n\n"
     );
     Ok(())
 }
@@ -212,23 +212,22 @@ fn writes_full_lines(rt: HostRuntime) -> Result<(), Fail> {
         "g1f3 g8f6 f3g1 f6g8 g1f3 g8f6 f3g1 f6g8 g1f3 g8f6 f3g1 f6g8 g1f3 g8f6 f3g1 f6g8",
     ).unwrap_or_default();
     let game = GameText {
-        white: None,
-        black: None,
+        white: Some("ann"),
+        black: Some("bob"),
         start: Board::initial(),
         moves: moves.as_slice(),
         ending: Some(Ending {
             result: GameResult::Draw,
             article: Article::A961,
         }),
-        initial: 60,
+        initial: 300,
         increment: 0,
-        period: Some((40, 30)),
+        period: None,
     };
     let text = pgn_of(&rt, &game)?;
-    assert!(rt;
-        text.as_str().ends_with(
-            "[TimeControl \"40/60:30\"]\n\n1. Nf3 Nf6 2. Ng1 Ng8 3. Nf3 Nf6 4. Ng1 Ng8 5. Nf3 Nf6 6. Ng1 Ng8 7. Nf3 Nf6 8.\nNg1 Ng8 1/2-1/2\n\n"
-        )
+    assert_eq!(rt;
+        text.as_str(),
+        "[Event \"?\"]\n[Site \"?\"]\n[Date \"????.??.??\"]\n[Round \"?\"]\n[White \"ann\"]\n[Black \"bob\"]\n[Result \"1/2-1/2\"]\n[Article \"9.6.1\"]\n[Termination \"normal\"]\n[TimeControl \"300\"]\n\n1. Nf3 Nf6 2. Ng1 Ng8 3. Nf3 Nf6 4. Ng1 Ng8 5. Nf3 Nf6 6. Ng1 Ng8 7. Nf3 Nf6 8.\nNg1 Ng8 1/2-1/2\n\n"
     );
     Ok(())
 }
@@ -237,8 +236,8 @@ fn writes_full_lines(rt: HostRuntime) -> Result<(), Fail> {
 fn writes_a_game_that_goes_on(rt: HostRuntime) -> Result<(), Fail> {
     let moves = moves_of("e2e5").unwrap_or_default();
     let mut game = GameText {
-        white: Some("ann"),
-        black: Some("bob"),
+        white: None,
+        black: None,
         start: Board::initial(),
         moves: moves.as_slice(),
         ending: None,
@@ -251,6 +250,30 @@ fn writes_a_game_that_goes_on(rt: HostRuntime) -> Result<(), Fail> {
     let text = pgn_of(&rt, &game)?;
     assert!(rt;
         text.as_str().ends_with("[Termination \"unterminated\"]\n[TimeControl \"60\"]\n\n*\n\n")
+    );
+    Ok(())
+}
+
+#[test]
+fn writes_a_game_lost_on_time(rt: HostRuntime) -> Result<(), Fail> {
+    let game = GameText {
+        white: Some("ann"),
+        black: Some("bob"),
+        start: Board::initial(),
+        moves: &[],
+        ending: Some(Ending {
+            result: GameResult::Black,
+            article: Article::A69,
+        }),
+        initial: 5400,
+        increment: 30,
+        period: Some((40, 1800)),
+    };
+    let text = pgn_of(&rt, &game)?;
+    assert!(rt;
+        text.as_str().ends_with(
+            "[Result \"0-1\"]\n[Article \"6.9\"]\n[Termination \"time forfeit\"]\n[TimeControl \"40/5400+30:1800+30\"]\n\n0-1\n\n"
+        )
     );
     Ok(())
 }

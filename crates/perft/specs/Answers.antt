@@ -14,12 +14,13 @@ pub record IsCountFrom (text : List ℕ) (depth count : ℕ) : Type 0 where
   pub fen : IsFenOf text position
   pub counted : IsCount position depth count
 
--- the text is the FEN of a valid position of which a counter has no room for so many moves
+-- The text is the FEN of a valid position of which a counter has no room, up to 65,535, for each move but the last to
+-- raise it by one.
 pub record IsTooLate (text : List ℕ) (depth : ℕ) : Type 0 where
   pub position : Position
   pub valid : IsValid position
   pub fen : IsFenOf text position
-  pub late : (65535 < position.halfmove + depth) ⊎ (65535 < position.fullmove + depth)
+  pub late : (65536 < position.halfmove + depth) ⊎ (65536 < position.fullmove + depth)
 
 -- why there is no count
 abbrev pub IsFault : List ℕ → ℕ → Fault → Type 0

@@ -10,16 +10,16 @@ use itoa::Buffer;
 /// Why there is no count.
 #[derive(Clone, Copy, Debug, PartialEq, Eq)]
 pub enum Fault {
-    /// The line is not a depth from 0 to 255, a space and a FEN.
+    /// The line is not a depth from 0 to 255, a space and a text.
     Line,
     /// The FEN has a fault.
     Fen(FenError),
-    /// A counter of the position would pass 65,535.
+    /// A counter of the position has no room, up to 65,535, for each move but the last to raise it.
     Counter,
 }
 
 /// The count of the legal lines of `depth` moves from the position of a FEN. `Fen`: the text is the FEN of no valid
-/// position. `Counter`: a counter of its position has no room for so many moves.
+/// position. `Counter`: a counter of its position has no room, up to 65,535, for each move but the last to raise it.
 pub fn count_from(fen: &str, depth: u8) -> Result<u64, Fault>
     ensures ok { IfOk result (IsCountFrom fen.now depth) }
     ensures fault { IfErr result (IsFault fen.now depth) }
@@ -29,7 +29,7 @@ pub fn count_from(fen: &str, depth: u8) -> Result<u64, Fault>
         Err(fault) => return Err(Fault::Fen(fault)),
     };
     let last = u32::from(board.halfmove().max(board.fullmove())) + u32::from(depth);
-    if last > 65_535 {
+    if last > 65_536 {
         return Err(Fault::Counter);
     }
     Ok(count_lines(&board, depth))

@@ -6,11 +6,11 @@ use chess_board::Board;
 use chess_moves::legal_moves;
 
 /// How many legal lines of `depth` moves begin at the board's position (FIDE articles 3.1 to 3.10); 2^64 - 1 where
-/// there are more. The last move of a line is counted and not made. Neither counter of the board may come to pass
-/// 65,535 on the way.
+/// there are more. The last move of a line is counted and not made; for each of the others both counters of the board
+/// have room below 65,536.
 pub fn count_lines(board: &Board, depth: u8) -> u64
-    requires halfmove { board.now.halfmove + depth ≤ 65535 }
-    requires fullmove { board.now.fullmove + depth ≤ 65535 }
+    requires halfmove { board.now.halfmove + depth ≤ 65536 }
+    requires fullmove { board.now.fullmove + depth ≤ 65536 }
     ensures { IsCount board.now depth result }
 {
     if depth == 0 {

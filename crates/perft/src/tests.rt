@@ -1,4 +1,4 @@
-//! Tests of what no clause says: how a line is split, and counts that are known from elsewhere.
+//! Tests of what no clause says: the names of faults, and counts that are known from elsewhere.
 use crate::answers::{Fault, answer, name};
 use chess_board::BadBoard;
 use chess_text::FenError;
@@ -41,10 +41,36 @@ fn a_fault_has_its_name(rt: HostRuntime) {
     assert_eq!(rt; name(Fault::Fen(FenError::Board(BadBoard::Kings))), "Kings");
     assert_eq!(rt; answer("1 x"), Err(Fault::Fen(FenError::Shape)));
     assert_eq!(rt; name(Fault::Fen(FenError::Shape)), "Shape");
+    assert_eq!(rt; answer("1 4k3/8/8/8/8/8/8/4K3 w - - 65535 65535"), Ok(5));
     assert_eq!(rt;
-        answer("1 4k3/8/8/8/8/8/8/4K3 w - - 65535 1"),
+        answer("2 4k3/8/8/8/8/8/8/4K3 w - - 65535 1"),
         Err(Fault::Counter)
     );
-    assert_eq!(rt; answer("0 4k3/8/8/8/8/8/8/4K3 w - - 65535 1"), Ok(1));
+    assert_eq!(rt;
+        answer("2 4k3/8/8/8/8/8/8/4K3 w - - 0 65535"),
+        Err(Fault::Counter)
+    );
+}
+
+#[test]
+fn each_fault_has_its_own_name(rt: HostRuntime) {
     assert_eq!(rt; name(Fault::Line), "Line");
+    assert_eq!(rt; name(Fault::Counter), "Counter");
+    for (fault, text) in [
+        (FenError::Shape, "Shape"),
+        (FenError::Placement, "Placement"),
+        (FenError::Side, "Side"),
+        (FenError::Castling, "Castling"),
+        (FenError::Target, "Target"),
+        (FenError::Counter, "Counter"),
+        (FenError::Board(BadBoard::Kings), "Kings"),
+        (FenError::Board(BadBoard::Pieces), "Pieces"),
+        (FenError::Board(BadBoard::Pawns), "Pawns"),
+        (FenError::Board(BadBoard::Check), "Check"),
+        (FenError::Board(BadBoard::Rights), "Rights"),
+        (FenError::Board(BadBoard::Target), "Target"),
+        (FenError::Board(BadBoard::Counter), "Counter"),
+    ] {
+        assert_eq!(rt; name(Fault::Fen(fault)), text);
+    }
 }

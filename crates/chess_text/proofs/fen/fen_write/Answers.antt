@@ -1,6 +1,6 @@
-use Rattle.std.proofs.Common.{◌≡◌, [], ◌∷◌, ◌++◌, decimal, ◌∙◌}
+use Rattle.std.proofs.Common.{◌≡◌, sym, [], ◌∷◌, ◌++◌, decimal, ◌∙◌}
 use Rattle.chess_text.specs.Fen.{placement_text, side_letter, rights_text, target_text, fen_of}
-use Rattle.chess_text.proofs.Positions.{join_six, fen_of-IsFenOf}
+use Rattle.chess_text.proofs.Positions.{join_six, IsFenOf-fen_of, fen_of-IsFenOf}
 use Rattle.chess_text.proofs.fen.fen_write.Goals as goal
 
 pub returns-clause-text : goal.returns-clause-text
@@ -14,3 +14,6 @@ returns-clause-text c =
 
 pub returns-clause-fen : goal.returns-clause-fen
 returns-clause-fen c = fen_of-IsFenOf _ _ (returns-clause-text c)
+
+pub returns-clause-one_text : goal.returns-clause-one_text
+returns-clause-one_text c = λ text is. IsFenOf-fen_of text c.args.board.now is ∙ sym (returns-clause-text c)

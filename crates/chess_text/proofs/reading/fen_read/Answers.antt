@@ -31,12 +31,12 @@ pub returns-in-Err-clause-read : goal.returns-in-Err-clause-read
 returns-in-Err-clause-read c =
     let told = c.in_ok-parts.ensures in
     let fault : IsFenFault c.args.text.now (faults.Board c.in-Err.fault) =
-    (described c.in_ok-parts.parts, told.whole, told.counters, told.fen, c.in-Err.ensures.err) in
+    (described c.in_ok-parts.parts, told.whole, told.counters, told.fen, c.in-Err.ensures.err, told.target) in
     read_again c.args.text.now (Err (faults.Board c.in-Err.fault)) tt tt fault
 
 pub returns-in-Err-clause-written : goal.returns-in-Err-clause-written
 returns-in-Err-clause-written c =
     let told = c.in_ok-parts.ensures in
     let fault : IsFenFault c.args.text.now (faults.Board c.in-Err.fault) =
-    (described c.in_ok-parts.parts, told.whole, told.counters, told.fen, c.in-Err.ensures.err) in
+    (described c.in_ok-parts.parts, told.whole, told.counters, told.fen, c.in-Err.ensures.err, told.target) in
     written_again c.args.text.now (Err (faults.Board c.in-Err.fault)) tt tt fault
