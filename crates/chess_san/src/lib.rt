@@ -8,7 +8,6 @@ mod threat;
 mod writing;
 
 pub use reading::read;
-pub use threat::rewound;
 pub use writing::write;
 
 #[cfg(test)]

@@ -1,4 +1,3 @@
 mod Asked
 mod Counters
-mod Recounting
 mod Through
