@@ -8,6 +8,7 @@ mod threat;
 mod writing;
 
 pub use reading::read;
+pub use threat::rewound;
 pub use writing::write;
 
 #[cfg(test)]

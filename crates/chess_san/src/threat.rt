@@ -16,8 +16,8 @@ pub enum Threat {
     Mate,
 }
 
-// The board with its counters at their start.
-fn rewound(board: &Board) -> Board
+/// The board with its counters at their start, 0 and 1. It has the same legal moves: no rule asks for the counters.
+pub fn rewound(board: &Board) -> Board
     ensures { result ≡ rewound board.now }
 {
     let mut men = [None; 64];

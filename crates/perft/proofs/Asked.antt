@@ -4,7 +4,7 @@ use Rattle.std.proofs.Common.{arith, zero, suc}
 use Rattle.chess_text.proofs.Joined.{AllAbove}
 use Rattle.chess_text.proofs.OnePosition.{decimal-above}
 use Rattle.perft.specs.declared.answers.Fault.{Fault}
-use Rattle.perft.specs.declared.answers.Fault.TheVariants.{Line, Fen, Counter}
+use Rattle.perft.specs.declared.answers.Fault.TheVariants.{Line, Fen}
 use Rattle.perft.specs.Answers.{Asks, IsFault, IsRefusal}
 
 unspaced : (text : List ℕ) → AllAbove 32 text → (i : ℕ) → i < length text → get_or text i 0 ≢ 32
@@ -17,8 +17,7 @@ pub depth_unspaced : (depth : ℕ) → depth ≤ 255 → (i : ℕ) → i < lengt
 depth_unspaced depth short = unspaced (decimal depth) (decimal-above depth (omega arith))
 
 pub refused : (line : List ℕ) (depth : ℕ) (fen : List ℕ) → Asks line depth fen → (fault : Fault) →
-    IsFault fen depth fault → IsRefusal line fault
+    IsFault fen fault → IsRefusal line fault
 refused line depth fen asked (Fen fault) told =
     record { depth = depth; fen = fen; asked = asked; told = told }
-refused line depth fen asked Counter told = record { depth = depth; fen = fen; asked = asked; told = told }
 refused line depth fen asked Line told = absurd told

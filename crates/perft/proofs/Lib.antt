@@ -1,3 +1,4 @@
 mod Asked
 mod Counters
+mod Recounting
 mod Through

@@ -1,10 +1,10 @@
 -- What is answered for a depth and a FEN.
-use Rattle.std.specs.Prelude.{ℕ, ◌≡◌, ◌⊎◌, ◌+◌, ◌<◌, ◌≤◌, List, ◌∷◌, ◌++◌, decimal}
+use Rattle.std.specs.Prelude.{ℕ, ◌≡◌, ◌≤◌, List, ◌∷◌, ◌++◌, decimal}
 use Rattle.chess_board.specs.Position.{Position, IsValid}
 use Rattle.chess_text.specs.Fen.{IsFenOf}
 use Rattle.chess_text.specs.Reading.{IsFenFault}
 use Rattle.perft.specs.declared.answers.Fault.{Fault}
-use Rattle.perft.specs.declared.answers.Fault.TheVariants.{Line, Fen, Counter}
+use Rattle.perft.specs.declared.answers.Fault.TheVariants.{Line, Fen}
 use Rattle.perft.specs.Lines.{IsCount}
 
 -- the count of the legal lines of so many moves from the valid position of which the text is the FEN
@@ -14,19 +14,10 @@ pub record IsCountFrom (text : List ℕ) (depth count : ℕ) : Type 0 where
   pub fen : IsFenOf text position
   pub counted : IsCount position depth count
 
--- The text is the FEN of a valid position of which a counter has no room, up to 65,535, for each move but the last to
--- raise it by one.
-pub record IsTooLate (text : List ℕ) (depth : ℕ) : Type 0 where
-  pub position : Position
-  pub valid : IsValid position
-  pub fen : IsFenOf text position
-  pub late : (65536 < position.halfmove + depth) ⊎ (65536 < position.fullmove + depth)
-
 -- why there is no count
-abbrev pub IsFault : List ℕ → ℕ → Fault → Type 0
-IsFault fen depth (Fen fault) = IsFenFault fen fault
-IsFault fen depth Counter = IsTooLate fen depth
-IsFault fen depth Line = ⊥
+abbrev pub IsFault : List ℕ → Fault → Type 0
+IsFault fen (Fen fault) = IsFenFault fen fault
+IsFault fen Line = ⊥
 
 -- the line is a depth up to 255 in decimal, without leading zeros, a space and this text
 pub record Asks (line : List ℕ) (depth : ℕ) (fen : List ℕ) : Type 0 where
@@ -45,10 +36,9 @@ pub record HasFault (line : List ℕ) (fault : Fault) : Type 0 where
   pub depth : ℕ
   pub fen : List ℕ
   pub asked : Asks line depth fen
-  pub told : IsFault fen depth fault
+  pub told : IsFault fen fault
 
 -- why a line has no answer
 abbrev pub IsRefusal : List ℕ → Fault → Type 0
 IsRefusal line Line = (depth : ℕ) (fen : List ℕ) → ¬ Asks line depth fen
 IsRefusal line (Fen fault) = HasFault line (Fen fault)
-IsRefusal line Counter = HasFault line Counter

@@ -4,6 +4,7 @@ ghost use Rattle.perft.specs.Answers.{IsCountFrom, IsFault, IsAnswer, IsRefusal}
 
 use crate::lines::count_lines;
 use chess_board::BadBoard;
+use chess_san::rewound;
 use chess_text::{FenError, fen_read};
 use itoa::Buffer;
 
@@ -14,25 +15,18 @@ pub enum Fault {
     Line,
     /// The FEN has a fault.
     Fen(FenError),
-    /// A counter of the position has no room, up to 65,535, for each move but the last to raise it.
-    Counter,
 }
 
 /// The count of the legal lines of `depth` moves from the position of a FEN. `Fen`: the text is the FEN of no valid
-/// position. `Counter`: a counter of its position has no room, up to 65,535, for each move but the last to raise it.
+/// position. The counters do not matter to the count, so it is taken from where they have room.
 pub fn count_from(fen: &str, depth: u8) -> Result<u64, Fault>
     ensures ok { IfOk result (IsCountFrom fen.now depth) }
-    ensures fault { IfErr result (IsFault fen.now depth) }
+    ensures fault { IfErr result (IsFault fen.now) }
 {
-    let board = match fen_read(fen) {
-        Ok(board) => board,
-        Err(fault) => return Err(Fault::Fen(fault)),
-    };
-    let last = u32::from(board.halfmove().max(board.fullmove())) + u32::from(depth);
-    if last > 65_536 {
-        return Err(Fault::Counter);
+    match fen_read(fen) {
+        Ok(board) => Ok(count_lines(&rewound(&board), depth)),
+        Err(fault) => Err(Fault::Fen(fault)),
     }
-    Ok(count_lines(&board, depth))
 }
 
 // The depth that digits name, in their one spelling.
@@ -71,7 +65,6 @@ pub fn name(fault: Fault) -> &'static str {
     match fault {
         Fault::Line => "Line",
         Fault::Fen(fault) => fen_fault(fault),
-        Fault::Counter => "Counter",
     }
 }
 

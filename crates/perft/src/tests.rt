@@ -42,20 +42,12 @@ fn a_fault_has_its_name(rt: HostRuntime) {
     assert_eq!(rt; answer("1 x"), Err(Fault::Fen(FenError::Shape)));
     assert_eq!(rt; name(Fault::Fen(FenError::Shape)), "Shape");
     assert_eq!(rt; answer("1 4k3/8/8/8/8/8/8/4K3 w - - 65535 65535"), Ok(5));
-    assert_eq!(rt;
-        answer("2 4k3/8/8/8/8/8/8/4K3 w - - 65535 1"),
-        Err(Fault::Counter)
-    );
-    assert_eq!(rt;
-        answer("2 4k3/8/8/8/8/8/8/4K3 w - - 0 65535"),
-        Err(Fault::Counter)
-    );
+    assert_eq!(rt; answer("2 4k3/8/8/8/8/8/8/4K3 w - - 65535 65535"), Ok(25));
 }
 
 #[test]
 fn each_fault_has_its_own_name(rt: HostRuntime) {
     assert_eq!(rt; name(Fault::Line), "Line");
-    assert_eq!(rt; name(Fault::Counter), "Counter");
     for (fault, text) in [
         (FenError::Shape, "Shape"),
         (FenError::Placement, "Placement"),

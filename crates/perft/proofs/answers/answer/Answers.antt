@@ -21,7 +21,7 @@ returns-in-Some-depth_named-clause-fault c =
       short = omega arith;
       joined = here.0 ∙ ap (λ digits. digits ++ (32 ∷ c.in-Some.fen.now)) named;
     } in
-    IfErr-weaker c.count_from.result (IsFault c.in-Some.fen.now depth) (IsRefusal c.args.line.now)
+    IfErr-weaker c.count_from.result (IsFault c.in-Some.fen.now) (IsRefusal c.args.line.now)
     (refused c.args.line.now depth c.in-Some.fen.now asked) c.count_from.ensures.fault
 
 pub returns-in-None-clause-fault : goal.returns-in-None-clause-fault
