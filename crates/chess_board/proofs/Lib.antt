@@ -1,4 +1,5 @@
 pub mod AttackLemmas
+pub mod Broken
 pub mod Candidates
 pub mod Deciding
 pub mod DistinctMoves

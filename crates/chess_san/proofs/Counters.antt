@@ -9,14 +9,11 @@ use Rattle.chess_bits.specs.Square.{Square}
 use Rattle.chess_board.specs.declared.castling.Wing.{Wing}
 use Rattle.chess_board.specs.declared.castling.Wing.TheVariants as wing
 use Rattle.chess_board.specs.declared.moves.Move.{Move}
-use Rattle.chess_board.specs.declared.parts.BadBoard.{BadBoard}
-use Rattle.chess_board.specs.declared.parts.BadBoard.TheVariants as broken
 use Rattle.chess_board.specs.Position.{Position, Placement, Rights, HasCounters, IsValid, IsInCheck}
 use Rattle.chess_board.specs.Next.{next, placement_after, rights_after, target_after}
-use Rattle.chess_board.specs.Parts.{IsFirstBroken}
 use Rattle.chess_board.specs.Legal.{Advances, AdvancesTwo, PawnTakes, TakesEnPassant, IsPieceMove, Castles, IsMoveOf, IsLegal}
 use Rattle.chess_moves.specs.Moves.{HasLegal}
-use Rattle.chess_san.specs.Boards.{DiffersInCounters, rewound}
+use Rattle.chess_san.specs.Boards.{DiffersInCounters}
 
 -- a position with other counters
 abbrev pub recounted : Position → ℕ → ℕ → Position
@@ -125,19 +122,9 @@ IsValid-recounted p h f valid counters = record {
   counters = counters;
 }
 
--- a valid position breaks no condition
-pub none_broken : (p : Position) (fault : BadBoard) → IsValid p → ¬ IsFirstBroken p fault
-none_broken p broken.Kings valid broke = broke valid.kings
-none_broken p broken.Pieces valid broke = broke.1 valid.men
-none_broken p broken.Pawns valid broke = broke.2 valid.pawns
-none_broken p broken.Check valid broke = broke.3 valid.check
-none_broken p broken.Rights valid broke = broke.4 valid.rights
-none_broken p broken.Target valid broke = broke.5 valid.target
-none_broken p broken.Counter valid broke = broke.6 valid.counters
-
-pub next-rewound : (p : Position) (m : Move) → DiffersInCounters (next p m) (next (rewound p) m)
+pub next-recounted : (p : Position) (m : Move) (h f : ℕ) → DiffersInCounters (next p m) (next (recounted p h f) m)
 unfolding placement_after rights_after target_after
-next-rewound p m = record { placement = refl; side = refl; rights = refl; target = refl }
+next-recounted p m h f = record { placement = refl; side = refl; rights = refl; target = refl }
 
 pub check-like : (a b : Position) → DiffersInCounters a b → IsInCheck a.placement a.side ↔ IsInCheck b.placement b.side
 check-like a b d =

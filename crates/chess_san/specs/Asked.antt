@@ -1,4 +1,4 @@
-use Rattle.std.specs.Prelude.{ℕ, ◌+◌, ◌-◌, ◌==◌, Bool, true, ◌||◌, ◌&&◌, nat_le, if◌then◌else◌, List, reverse, Option, Some, None, slice_index, option_and_then, unwrap_or}
+use Rattle.std.specs.Prelude.{ℕ, ◌+◌, ◌==◌, Bool, true, ◌||◌, if◌then◌else◌, List, reverse, Option, Some, None, slice_index, option_and_then, unwrap_or}
 use Rattle.std.specs.Option.{option_map}
 use Rattle.chess_bits.specs.declared.men.Colour.{Colour}
 use Rattle.chess_bits.specs.declared.men.Kind.{Kind}
@@ -7,18 +7,12 @@ use Rattle.chess_bits.specs.Square.{Square}
 use Rattle.chess_board.specs.declared.castling.Wing.TheVariants as wing
 use Rattle.chess_board.specs.declared.moves.Move.{Move}
 use Rattle.chess_board.specs.Next.{castled_king}
+use Rattle.chess_san.specs.Name.{square_named}
 use Rattle.chess_san.specs.declared.parsing.Asked.{Asked}
 use Rattle.chess_san.specs.declared.parsing.Ending.{Ending}
 
 -- What a text asks for, read from its two ends. No public contract speaks of it: it is a guess that no SAN is missed by,
 -- and the text is then compared with the SAN of the move that is found.
-
--- the square that a letter and a digit name
-unfoldable pub square_named : ℕ → ℕ → Option Square
-square_named file rank =
-    if (nat_le 97 file && nat_le file 104) && (nat_le 49 rank && nat_le rank 56)
-    then Some (record { file = file - 96; rank = rank - 48 })
-    else None
 
 -- the piece that a capital letter names
 unfoldable pub piece_named : ℕ → Option Kind

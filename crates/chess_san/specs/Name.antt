@@ -1,4 +1,4 @@
-use Rattle.std.specs.Prelude.{ℕ, ◌+◌, List, [], ◌∷◌, Option, Some, None}
+use Rattle.std.specs.Prelude.{ℕ, ◌+◌, ◌-◌, ◌&&◌, nat_le, if◌then◌else◌, List, [], ◌∷◌, Option, Some, None}
 use Rattle.chess_bits.specs.declared.men.Kind.{Kind}
 use Rattle.chess_bits.specs.declared.men.Kind.TheVariants.{Pawn, Knight, Bishop, Rook, Queen, King}
 use Rattle.chess_bits.specs.Square.{Square}
@@ -13,7 +13,14 @@ rank_digit s = 48 + s.rank
 abbrev pub square_name : Square → List ℕ
 square_name s = file_letter s ∷ rank_digit s ∷ []
 
--- the letters P, N, B, R, Q and K of the kinds of men (PGN Standard, section 8.2.3.2)
+-- the square that a letter and a digit name
+unfoldable pub square_named : ℕ → ℕ → Option Square
+square_named file rank =
+    if (nat_le 97 file && nat_le file 104) && (nat_le 49 rank && nat_le rank 56)
+    then Some (record { file = file - 96; rank = rank - 48 })
+    else None
+
+-- the letters P, N, B, R, Q and K of the kinds of men (PGN Standard, sections 8.2.3.2 and 16.1.3.1)
 abbrev pub capital_of : Kind → ℕ
 capital_of Pawn = 80
 capital_of Knight = 78

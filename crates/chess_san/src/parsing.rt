@@ -1,8 +1,7 @@
-ghost use Rattle.std.specs.Prelude.{◌≡◌, ◌≢◌, ◌<◌, [], ◌∷◌, reverse, slice_index, IfSome, IfNone};
-ghost use Rattle.chess_bits.specs.Square.{Square, IsOnBoard};
-ghost use Rattle.chess_san.specs.Name.{square_name};
+ghost use Rattle.std.specs.Prelude.{◌≡◌, ◌<◌, reverse, slice_index};
 ghost use Rattle.chess_san.specs.Asked as asks;
 
+use crate::coordinates::square_named;
 use chess_bits::{Colour, Kind, Square};
 use chess_board::{Move, Wing, castled_king};
 
@@ -36,20 +35,6 @@ fn byte_from_end(text: &[u8], back: usize) -> u8
         text[text.len() - 1 - back]
     } else {
         0
-    }
-}
-
-/// The square that a letter and a digit name.
-#[tactic(auto, unfolding(crate::specs::Asked::square_named))]
-pub fn square_named(file: u8, rank: u8) -> Option<Square>
-    ensures named { result ≡ asks.square_named file rank }
-    ensures found { IfSome result (λ s. file ∷ rank ∷ [] ≡ square_name s) }
-    ensures on_board { IfSome result IsOnBoard }
-    ensures none { IfNone result ((s : Square) → IsOnBoard s → file ∷ rank ∷ [] ≢ square_name s) }
-{
-    match (file, rank) {
-        (b'a'..=b'h', b'1'..=b'8') => Some(Square::at(file - b'`', rank - b'0')),
-        _ => None,
     }
 }
 

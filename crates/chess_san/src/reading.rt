@@ -1,63 +1,18 @@
-ghost use Rattle.std.specs.Prelude.{◌≡◌, ◌≢◌, ◌↔◌, IsTrue, Some, [], ◌∷◌, IfSome, IfNone};
-ghost use Rattle.chess_bits.specs.declared.men.Kind.{Kind};
+ghost use Rattle.std.specs.Prelude.{◌≡◌, ◌≢◌, ◌↔◌, IsTrue, Some, IfSome, IfNone};
 ghost use Rattle.chess_board.specs.declared.moves.Move.{Move};
 ghost use Rattle.chess_board.specs.Position.{Position, man_at};
 ghost use Rattle.chess_board.specs.Legal.{IsLegal};
-ghost use Rattle.chess_san.specs.Coordinate.{IsPromotionText, IsCoordinateOf, GoesBetween};
+ghost use Rattle.chess_san.specs.Coordinate.{IsCoordinateOf};
 ghost use Rattle.chess_san.specs.Reading.{IsSanOrBody, Names};
 
+use crate::coordinates::coordinate;
 use crate::origin::sources;
-use crate::parsing::{Asked, asked_of, may_leave, square_named};
+use crate::parsing::{Asked, asked_of, may_leave};
 use crate::threat::threat_of;
 use crate::writing::{body, push_threat};
 use chess_bits::Kind;
 use chess_board::{Board, Move};
 use chess_moves::legal;
-
-// What a pawn becomes, by its small letter.
-fn promotion_named(letter: u8) -> Option<Kind>
-    ensures found { IfSome result (λ kind. IsPromotionText (letter ∷ []) (Some kind)) }
-    ensures none { IfNone result ((kind : Kind) → ¬ IsPromotionText (letter ∷ []) (Some kind)) }
-{
-    match letter {
-        b'q' => Some(Kind::Queen),
-        b'r' => Some(Kind::Rook),
-        b'b' => Some(Kind::Bishop),
-        b'n' => Some(Kind::Knight),
-        _ => None,
-    }
-}
-
-// The move between two named squares.
-fn move_named(from: [u8; 2], to: [u8; 2], promotion: Option<Kind>) -> Option<Move>
-    ensures found { IfSome result (GoesBetween from to promotion) }
-    ensures none { IfNone result ((m : Move) → ¬ GoesBetween from to promotion m) }
-{
-    let [from_file, from_rank] = from;
-    let [to_file, to_rank] = to;
-    Some(Move {
-        from: square_named(from_file, from_rank)?,
-        to: square_named(to_file, to_rank)?,
-        promotion,
-    })
-}
-
-// The move that a coordinate text names; it need not be legal.
-fn coordinate(text: &[u8]) -> Option<Move>
-    ensures found { IfSome result (λ m. IsCoordinateOf text.now m) }
-    ensures none { IfNone result ((m : Move) → ¬ IsCoordinateOf text.now m) }
-{
-    match text {
-        &[from_file, from_rank, to_file, to_rank] => {
-            move_named([from_file, from_rank], [to_file, to_rank], None)
-        }
-        &[from_file, from_rank, to_file, to_rank, letter] => {
-            let kind = promotion_named(letter)?;
-            move_named([from_file, from_rank], [to_file, to_rank], Some(kind))
-        }
-        _ => None,
-    }
-}
 
 // Whether a move is legal.
 fn is_legal(board: &Board, mv: &Move) -> bool
@@ -111,7 +66,7 @@ fn found(board: &Board, asked: &Asked, text: &[u8]) -> Option<Move>
 }
 
 // The legal move of which the text is the coordinate text.
-fn by_coordinates(board: &Board, text: &[u8]) -> Option<Move>
+fn by_coordinates(board: &Board, text: &str) -> Option<Move>
     ensures found { IfSome result (Names board.now text.now) }
     ensures none { IfNone result ((m : Move) → IsLegal board.now m → ¬ IsCoordinateOf text.now m) }
 {
@@ -136,9 +91,8 @@ pub fn read(board: &Board, text: &str) -> Option<Move>
     ensures one { IfSome result (λ m. (other : Move) → Names board.now text.now other → other ≡ m) }
     ensures none { IfNone result ((m : Move) → ¬ Names board.now text.now m) }
 {
-    let bytes = text.as_bytes();
-    match by_coordinates(board, bytes) {
+    match by_coordinates(board, text) {
         Some(mv) => Some(mv),
-        None => by_san(board, bytes),
+        None => by_san(board, text.as_bytes()),
     }
 }

@@ -11,7 +11,7 @@ use Rattle.chess_board.specs.Position.{Position, IsValid}
 use Rattle.chess_board.specs.Initial.{initial}
 use Rattle.chess_board.specs.Next.{next}
 use Rattle.chess_board.specs.Legal.{IsLegal}
-use Rattle.chess_text.specs.Coordinate.{IsCoordinateOf}
+use Rattle.chess_san.specs.Coordinate.{IsCoordinateOf}
 use Rattle.chess_board.proofs.Deciding.{Decides-is_valid}
 use Rattle.chess_board.proofs.ValidNext.{IsValid-next}
 use Rattle.chess_text.specs.Fen.{IsFenOf, fen_of}

@@ -17,8 +17,8 @@ use Rattle.chess_board.specs.Legal.{IsLegal}
 use Rattle.chess_board.specs.Computing.{legal_moves_of}
 use Rattle.chess_board.proofs.Deciding.{man_at-on_board}
 use Rattle.chess_board.proofs.LegalMoves.{legal_moves_of-legal, legal_moves_of-each}
-use Rattle.chess_text.specs.Name.{square_name}
-use Rattle.chess_text.specs.Coordinate.{IsPromotionText, IsCoordinateOf}
+use Rattle.chess_san.specs.Name.{square_name}
+use Rattle.chess_san.specs.Coordinate.{IsPromotionText, IsCoordinateOf}
 use Rattle.chess_server.specs.Answer.{IsMoveText}
 
 -- what a letter promotes to

@@ -4,7 +4,7 @@ use Rattle.chess_board.specs.declared.moves.Move.{Move}
 use Rattle.chess_board.specs.Position.{Position}
 use Rattle.chess_board.specs.Next.{next}
 use Rattle.chess_board.specs.Legal.{IsLegal}
-use Rattle.chess_text.specs.Coordinate.{IsCoordinateOf}
+use Rattle.chess_san.specs.Coordinate.{IsCoordinateOf}
 use Rattle.chess_text.specs.Fen.{IsFenOf}
 use Rattle.chess_server.specs.Field.{AsksMove}
 

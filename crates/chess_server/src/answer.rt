@@ -2,7 +2,7 @@
 ghost use Rattle.std.specs.Prelude.{◌≡◌, ◌<◌, ℕ, List, [], ◌∷◌, ◌++◌, length, codes};
 ghost use Rattle.chess_board.specs.Next.{next};
 ghost use Rattle.chess_board.specs.Legal.{IsLegal};
-ghost use Rattle.chess_text.specs.Coordinate.{IsCoordinateOf};
+ghost use Rattle.chess_san.specs.Coordinate.{IsCoordinateOf};
 ghost use Rattle.chess_text.specs.Fen.{IsFenOf};
 ghost use Rattle.chess_server.specs.Answer.{AnswersText, IsAnswer, IsAtLimit, as_line};
 

@@ -1,15 +1,13 @@
 -- A text that is a valid position's FEN has no fault.
-use Rattle.std.proofs.Common.{◌≡◌, ℕ, ◌^◌, ◌<◌, List, [], ◌∷◌, decimal, Result, Ok, Err, refl, ap, ◌∙◌, subst, arith}
+use Rattle.std.proofs.Common.{◌≡◌, ℕ, List, [], ◌∷◌, length, decimal, Result, Ok, Err, refl, ap, ◌∙◌, subst, arith}
 use Rattle.std.specs.Prelude.{IfOk, IfErr}
 use Rattle.std.specs.List.{join_with_byte}
-use Rattle.chess_board.specs.declared.parts.BadBoard.{BadBoard}
-use Rattle.chess_board.specs.declared.parts.BadBoard.TheVariants as broken
-use Rattle.chess_board.specs.Position.{Position, IsValid}
-use Rattle.chess_board.specs.Parts.{IsFirstBroken}
+use Rattle.chess_board.specs.Position.{Position, IsValid, HasCounters}
+use Rattle.chess_board.proofs.Broken.{none_broken}
 use Rattle.chess_text.specs.declared.fields.FenError.{FenError}
 use Rattle.chess_text.specs.declared.fields.FenError.TheVariants as faults
 use Rattle.chess_text.specs.Fen.{IsFenOf, fen_of, side_letter, rights_text, target_text}
-use Rattle.chess_text.specs.Reading.{FenFields, HasFields, TellsPlacement, TellsSide, TellsRights, TellsTarget, TellsNumber, IsFenFault}
+use Rattle.chess_text.specs.Reading.{FenFields, HasFields, TellsPlacement, TellsSide, TellsRights, TellsTarget, TellsNumber, IsTargetOnBoard, IsFenFault}
 use Rattle.chess_text.proofs.FieldLemmas.{fields_in, IsFenOf-HasFields, HasFields-unique}
 use Rattle.chess_text.proofs.OnePosition.{IsFenOf-one_position}
 use Rattle.chess_text.proofs.Positions.{fen_of-IsFenOf}
@@ -43,39 +41,45 @@ TellsAll-IsFenOf text f p h told =
           told.fullmove.spelled))));
     }
 
--- the fields of a valid position's FEN tell it
-valid_told : (text : List ℕ) (p : Position) (h : IsFenOf text p) → IsValid p → TellsAll (fields_in h.placement p) p
-valid_told text p h valid = record {
-  placement = record { whole = valid.whole; spelled = h.is_placement };
-  side = refl;
-  rights = refl;
-  target = record { on_board = λ s e. (valid.target s e).on_board; spelled = refl };
-  halfmove = record { from = omega arith; to = valid.counters.0; spelled = refl };
-  fullmove = record { from = valid.counters.1; to = valid.counters.2; spelled = refl };
+-- a position that fields can tell, valid or not
+pub record IsTellable (p : Position) : Type 0 where
+  pub whole : length p.placement ≡ 64
+  pub counters : HasCounters p
+  pub target : IsTargetOnBoard p.target
+
+valid_tellable : (p : Position) → IsValid p → IsTellable p
+valid_tellable p valid = record {
+  whole = valid.whole;
+  counters = valid.counters;
+  target = λ s e. (valid.target s e).on_board;
 }
 
-pub fen_told : (text : List ℕ) (f : FenFields) (p : Position) → HasFields text f → IsFenOf text p → IsValid p → TellsAll f p
-fen_told text f p split h valid =
-    let counters = valid.counters in
-    let half : p.halfmove < 2 ^ 64 = omega (arith, counters.0) in
-    let full : p.fullmove < 2 ^ 64 = omega (arith, counters.2) in
-    let fields = IsFenOf-HasFields text p h half full in
-    subst (λ g. TellsAll g p) (HasFields-unique text (fields_in h.placement p) f fields split) (valid_told text p h valid)
+-- its FEN has fields, and they tell it
+pub fen_fields : (text : List ℕ) (p : Position) (h : IsFenOf text p) → IsTellable p →
+    HasFields text (fields_in h.placement p)
+fen_fields text p h ranges =
+    let counters = ranges.counters in
+    IsFenOf-HasFields text p h (omega (arith, counters.0)) (omega (arith, counters.2))
 
--- a valid position breaks nothing
-not_broken : (p : Position) (fault : BadBoard) → IsValid p → IsFirstBroken p fault → ⊥
-not_broken p broken.Kings valid h = h valid.kings
-not_broken p broken.Pieces valid h = h.1 valid.men
-not_broken p broken.Pawns valid h = h.2 valid.pawns
-not_broken p broken.Check valid h = h.3 valid.check
-not_broken p broken.Rights valid h = h.4 valid.rights
-not_broken p broken.Target valid h = h.5 valid.target
-not_broken p broken.Counter valid h = h.6 valid.counters
+pub fields_told : (text : List ℕ) (p : Position) (h : IsFenOf text p) → IsTellable p → TellsAll (fields_in h.placement p) p
+fields_told text p h ranges = record {
+  placement = record { whole = ranges.whole; spelled = h.is_placement };
+  side = refl;
+  rights = refl;
+  target = record { on_board = ranges.target; spelled = refl };
+  halfmove = record { from = omega arith; to = ranges.counters.0; spelled = refl };
+  fullmove = record { from = ranges.counters.1; to = ranges.counters.2; spelled = refl };
+}
+
+fen_told : (text : List ℕ) (f : FenFields) (p : Position) → HasFields text f → IsFenOf text p → IsValid p → TellsAll f p
+fen_told text f p split h valid =
+    let ranges = valid_tellable p valid in
+    subst (λ g. TellsAll g p) (HasFields-unique text (fields_in h.placement p) f (fen_fields text p h ranges) split)
+    (fields_told text p h ranges)
 
 pub no_fault : (text : List ℕ) (fault : FenError) (p : Position) → IsFenFault text fault → IsValid p → IsFenOf text p → ⊥
 no_fault text faults.Shape p h valid fen =
-    let counters = valid.counters in
-    h (fields_in fen.placement p) (IsFenOf-HasFields text p fen (omega (arith, counters.0)) (omega (arith, counters.2)))
+    h (fields_in fen.placement p) (fen_fields text p fen (valid_tellable p valid))
 no_fault text faults.Placement p h valid fen =
     let told = fen_told text h.0 p h.1 fen valid in h.2 (p.placement, told.placement)
 no_fault text faults.Side p h valid fen =
@@ -93,7 +97,7 @@ no_fault text (faults.Board fault) p h valid fen =
     let same : p ≡ h.0 = IsFenOf-one_position text p h.0 fen h.3
     (record { whole = valid.whole; halfmove = omega (arith, counters.0); fullmove = omega (arith, counters.2) })
     (record { whole = h.1; halfmove = omega (arith, others.0); fullmove = omega (arith, others.2) }) in
-    not_broken h.0 fault (subst IsValid same valid) h.4
+    none_broken h.0 fault (subst IsValid same valid) h.4
 
 -- What is read is exactly the one position of which the text is the FEN.
 pub read_again : (text : List ℕ) (r : Result Position FenError) → IfOk r (IsFenOf text) → IfOk r IsValid →

@@ -1,16 +1,13 @@
 -- A text is the FEN of one position only.
-use Rattle.std.proofs.Common.{◌≡◌, ℕ, zero, suc, ◌+◌, ◌-◌, ◌/◌, ◌%◌, ◌^◌, ◌≤◌, ◌<◌, Bool, true, false, List, [], ◌∷◌, length, map, get_or, Option, Some, None, decimal, refl, ap, ◌∙◌, sym, subst, arith}
-use Rattle.std.specs.Prelude.{nat_le, if◌then◌else◌}
+use Rattle.std.proofs.Common.{◌≡◌, ℕ, zero, suc, ◌+◌, ◌-◌, ◌%◌, ◌^◌, ◌≤◌, ◌<◌, Bool, true, false, List, [], ◌∷◌, length, map, get_or, Option, Some, None, decimal, refl, ap, ◌∙◌, sym, subst, arith}
 use Rattle.std.specs.List.{join_with_byte}
-use Rattle.std.proofs.lemmas.Bool.{le-leb}
-use Rattle.std.proofs.lemmas.List.{same_lists, get_or_default}
 use Rattle.std.proofs.lemmas.List.FromFn.{get_or-map-range_with_len}
 use Rattle.std.proofs.lemmas.Fmt.{decimal_by_steps, decimal_injective}
 use Rattle.chess_bits.specs.declared.men.Colour.{Colour}
 use Rattle.chess_bits.specs.declared.men.Colour.TheVariants.{White, Black}
 use Rattle.chess_bits.specs.Man.{Man}
-use Rattle.chess_bits.specs.Square.{Square, on_board, number_of, square_at, number_of-square_at}
-use Rattle.chess_bits.specs.Table.{at}
+use Rattle.chess_bits.specs.Square.{Square}
+use Rattle.chess_bits.proofs.TableLemmas.{same_table}
 use Rattle.chess_board.specs.Position.{Position, Rights, man_at}
 use Rattle.chess_text.specs.Fen.{rank_of, ranks_of, AreRowTexts, IsPlacementText, IsFenOf, fields, side_letter, letter_if, or_dash, rights_text, target_text}
 use Rattle.chess_text.proofs.Joined.{AllAbove, AllAbove-append, EachAbove, join_unique}
@@ -81,27 +78,10 @@ same_man p q e file rank from to low high =
     ∙ (ap (λ row. get_or row (file - 1) None) rows
     ∙ get_or-map-range_with_len (on q) 1 8 (file - 1) file None (omega arith) (omega arith))
 
--- what stands on a square is what the placement has at its number
-at_number : (p : List (Option Man)) (n : ℕ) → n < 64 → man_at p (square_at n) ≡ get_or p n None
-unfolding at
-at_number p n h =
-    let a : nat_le 1 (n % 8 + 1) ≡ true = le-leb 1 (n % 8 + 1) (omega arith) in
-    let b : nat_le (n % 8 + 1) 8 ≡ true = le-leb (n % 8 + 1) 8 (omega arith) in
-    let c : nat_le 1 (n / 8 + 1) ≡ true = le-leb 1 (n / 8 + 1) (omega arith) in
-    let d : nat_le (n / 8 + 1) 8 ≡ true = le-leb (n / 8 + 1) 8 (omega arith) in
-    let whole : on_board (square_at n) ≡ true = rw (a, b, c, d) refl in
-    ap (λ test. if test then get_or p (number_of (square_at n)) None else None) whole
-    ∙ ap (λ m. get_or p m None) (number_of-square_at n)
-
 same_placement : (p q : List (Option Man)) → length p ≡ 64 → length q ≡ 64 → ranks_of p ≡ ranks_of q → p ≡ q
 same_placement p q whole_p whole_q e =
-    same_lists p q (whole_p ∙ sym whole_q) (λ k d h.
-    let low : k < 64 = omega arith in
-    let in_q : k < length q = omega arith in
-    get_or_default p k d None h
-    ∙ (sym (at_number p k low)
-    ∙ (same_man p q e (k % 8 + 1) (k / 8 + 1) (omega arith) (omega arith) (omega arith) (omega arith)
-    ∙ (at_number q k low ∙ get_or_default q k None d in_q))))
+    same_table None p q whole_p whole_q
+    (λ s on. same_man p q e s.file s.rank on.file_from on.file_to on.rank_from on.rank_to)
 
 -- No field has a space.
 AllAbove-less : (text : List ℕ) → AllAbove 47 text → AllAbove 32 text

@@ -5,7 +5,8 @@ use Rattle.chess_bits.specs.declared.men.Colour.TheVariants.{White, Black}
 use Rattle.chess_bits.specs.Man.{Man}
 use Rattle.chess_bits.specs.Square.{Square, IsOnBoard, number_of}
 use Rattle.chess_board.specs.Position.{Position, Placement, Rights, man_at}
-use Rattle.chess_text.specs.Name.{square_name, letter_of}
+use Rattle.chess_san.specs.Name.{square_name}
+use Rattle.chess_text.specs.Name.{letter_of}
 
 -- the squares of a rank, from the a-file on
 unfoldable pub rank_of : Placement → ℕ → List (Option Man)

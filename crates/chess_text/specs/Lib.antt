@@ -1,6 +1,5 @@
 pub mod Name
 pub mod Fen
-pub mod Coordinate
 pub mod Reading
 pub mod Movetext
 pub mod Pgn

@@ -7,10 +7,10 @@ ghost use Rattle.chess_text.specs.declared.fields.FenError.TheVariants as faults
 ghost use Rattle.chess_text.specs.Reading.{IsField, FenFields, fields_of, HasFields, TellsSide, TellsRights, TellsTarget, TellsNumber};
 
 use crate::fen::push_rights;
-use crate::moves::square_named;
 use arrayvec::ArrayString;
 use chess_bits::{Colour, Square};
 use chess_board::{BadBoard, CastlingRights};
+use chess_san::square_named;
 use itoa::Buffer;
 
 /// Why a text is no FEN of a valid position: the first fault, in this order.

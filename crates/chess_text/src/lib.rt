@@ -6,7 +6,6 @@ mod fen;
 mod fields;
 mod game;
 mod letters;
-mod moves;
 mod movetext;
 mod reading;
 mod squares;
@@ -14,9 +13,9 @@ mod tags;
 #[cfg(test)]
 mod tests;
 
+pub use chess_san::coordinate;
 pub use export::{GameText, pgn};
 pub use fen::fen_write;
 pub use fields::FenError;
 pub use game::is_playable;
-pub use moves::coordinate;
 pub use reading::fen_read;

@@ -9,7 +9,8 @@ use Rattle.chess_bits.specs.declared.men.Colour.{Colour}
 use Rattle.chess_board.specs.declared.castling.CastlingRights.{CastlingRights}
 use Rattle.chess_board.specs.RightsOf.{rights_of}
 use Rattle.chess_san.specs.Boards.{DiffersInCounters}
-use Rattle.chess_san.proofs.Counters.{recounted-is, IsValid-like, none_broken, same_men}
+use Rattle.chess_board.proofs.Broken.{none_broken}
+use Rattle.chess_san.proofs.Counters.{recounted-is, IsValid-like, same_men}
 use Rattle.chess_san.proofs.threat.rewound.Goals as goal
 
 pub loop-number-preserved : goal.loop-number-preserved

@@ -1,18 +1,20 @@
-ghost use Rattle.std.specs.Prelude.{◌≡◌, ◌≢◌, Some, [], ◌∷◌, ◌++◌, IfSome, IfNone};
+ghost use Rattle.std.specs.Prelude.{◌≡◌, ◌≢◌, Some, [], ◌∷◌, IfSome, IfNone};
 ghost use Rattle.chess_bits.specs.declared.men.Kind.{Kind};
 ghost use Rattle.chess_bits.specs.Square.{Square, IsOnBoard};
 ghost use Rattle.chess_board.specs.declared.moves.Move.{Move};
-ghost use Rattle.chess_text.specs.Name.{square_name};
-ghost use Rattle.chess_text.specs.Coordinate.{IsPromotionText, IsCoordinateOf, Names};
+ghost use Rattle.chess_san.specs.Name as names;
+ghost use Rattle.chess_san.specs.Coordinate.{IsPromotionText, IsCoordinateOf, GoesBetween};
 
 use chess_bits::{Kind, Square};
 use chess_board::Move;
 
-/// The square that a letter and a digit name.
+/// The square that a letter and a digit name (PGN Standard, section 8.2.3.1); `None` where they name none.
+#[tactic(auto, unfolding(crate::specs::Name::square_named))]
 pub fn square_named(file: u8, rank: u8) -> Option<Square>
-    ensures found { IfSome result (λ s. file ∷ rank ∷ [] ≡ square_name s) }
+    ensures named { result ≡ names.square_named file rank }
+    ensures found { IfSome result (λ s. file ∷ rank ∷ [] ≡ names.square_name s) }
     ensures on_board { IfSome result IsOnBoard }
-    ensures none { IfNone result ((s : Square) → IsOnBoard s → file ∷ rank ∷ [] ≢ square_name s) }
+    ensures none { IfNone result ((s : Square) → IsOnBoard s → file ∷ rank ∷ [] ≢ names.square_name s) }
 {
     match (file, rank) {
         (b'a'..=b'h', b'1'..=b'8') => Some(Square::at(file - b'`', rank - b'0')),
@@ -20,8 +22,8 @@ pub fn square_named(file: u8, rank: u8) -> Option<Square>
     }
 }
 
-// What a pawn becomes, by its letter.
-fn kind_named(letter: u8) -> Option<Kind>
+// What a pawn becomes, by its small letter.
+fn promotion_named(letter: u8) -> Option<Kind>
     ensures found { IfSome result (λ kind. IsPromotionText (letter ∷ []) (Some kind)) }
     ensures none { IfNone result ((kind : Kind) → ¬ IsPromotionText (letter ∷ []) (Some kind)) }
 {
@@ -36,8 +38,8 @@ fn kind_named(letter: u8) -> Option<Kind>
 
 // The move between two named squares.
 fn move_named(from: [u8; 2], to: [u8; 2], promotion: Option<Kind>) -> Option<Move>
-    ensures found { IfSome result (Names from to promotion) }
-    ensures none { IfNone result ((m : Move) → ¬ Names from to promotion m) }
+    ensures found { IfSome result (GoesBetween from to promotion) }
+    ensures none { IfNone result ((m : Move) → ¬ GoesBetween from to promotion m) }
 {
     let [from_file, from_rank] = from;
     let [to_file, to_rank] = to;
@@ -62,7 +64,7 @@ pub fn coordinate(text: &str) -> Option<Move>
             None,
         ),
         &[from_file, from_rank, to_file, to_rank, letter] => {
-            let kind = kind_named(letter)?;
+            let kind = promotion_named(letter)?;
             move_named([from_file, from_rank], [to_file, to_rank], Some(kind))
         }
         _ => None,
