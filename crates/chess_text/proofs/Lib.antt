@@ -9,6 +9,7 @@ pub mod Rights
 pub mod LetterLemmas
 pub mod FieldLemmas
 pub mod Faults
+pub mod OneFault
 pub mod Told
 pub mod Lines
 pub mod TagLemmas

@@ -1,6 +1,7 @@
 ghost use Rattle.std.specs.Prelude.{◌≡◌, Ok, IfOk, IfErr, length};
 ghost use Rattle.chess_board.specs.Position.{Position, HasCounters, IsValid};
 ghost use Rattle.chess_board.specs.Parts.{described};
+ghost use Rattle.chess_text.specs.declared.fields.FenError.{FenError};
 ghost use Rattle.chess_text.specs.Fen.{IsFenOf, fen_of};
 ghost use Rattle.chess_text.specs.Reading.{IsFenFault, IsTargetOnBoard};
 
@@ -40,6 +41,7 @@ pub fn fen_read(text: &str) -> Result<Board, FenError>
     ensures ok { IfOk result (IsFenOf text.now) }
     ensures valid { IfOk result IsValid }
     ensures err { IfErr result (IsFenFault text.now) }
+    ensures one_fault { IfErr result (λ fault. (other : FenError) → IsFenFault text.now other → other ≡ fault) }
     ensures read { (p : Position) → IsValid p → IsFenOf text.now p → result ≡ Ok p }
     ensures written { (p : Position) → IsValid p → text.now ≡ fen_of p → result ≡ Ok p }
 {
