@@ -3,16 +3,12 @@ use Rattle.std.specs.Prelude.{ℕ, List, [], ◌∷◌}
 use Rattle.std.proofs.Common.{sym, subst, refl}
 use Rattle.chess_board.specs.declared.moves.Move.{Move}
 use Rattle.chess_board.specs.Position.{Position}
-use Rattle.chess_board.specs.Next.{next, placement_after, rights_after, target_after}
+use Rattle.chess_board.specs.Next.{next}
 use Rattle.chess_board.specs.Legal.{IsLegal}
 use Rattle.chess_board.specs.Line.{IsLegalLine}
 use Rattle.chess_san.specs.Boards.{DiffersInCounters, rewound}
-use Rattle.chess_san.proofs.Counters.{recounted, recounted-is, IsLegal-recounted}
+use Rattle.chess_san.proofs.Counters.{recounted-is, next-recounted, IsLegal-recounted}
 use Rattle.perft.specs.Lines.{IsNumberOfLines, IsCount}
-
-next-recounted : (p : Position) (m : Move) (h f : ℕ) → DiffersInCounters (next p m) (next (recounted p h f) m)
-unfolding placement_after rights_after target_after
-next-recounted p m h f = record { placement = refl; side = refl; rights = refl; target = refl }
 
 next_like : (a b : Position) (m : Move) → DiffersInCounters a b → DiffersInCounters (next a m) (next b m)
 next_like a b m d =

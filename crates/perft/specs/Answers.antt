@@ -1,6 +1,10 @@
 -- What is answered for a depth and a FEN.
-use Rattle.std.specs.Prelude.{ℕ, ◌≡◌, ◌≤◌, List, ◌∷◌, ◌++◌, decimal}
+use Rattle.std.specs.Prelude.{ℕ, ◌≡◌, ◌≤◌, List, ◌∷◌, ◌++◌, codes, decimal}
+use Rattle.chess_board.specs.declared.parts.BadBoard.{BadBoard}
+use Rattle.chess_board.specs.declared.parts.BadBoard.TheVariants as broken
 use Rattle.chess_board.specs.Position.{Position, IsValid}
+use Rattle.chess_text.specs.declared.fields.FenError.{FenError}
+use Rattle.chess_text.specs.declared.fields.FenError.TheVariants as faults
 use Rattle.chess_text.specs.Fen.{IsFenOf}
 use Rattle.chess_text.specs.Reading.{IsFenFault}
 use Rattle.perft.specs.declared.answers.Fault.{Fault}
@@ -42,3 +46,26 @@ pub record HasFault (line : List ℕ) (fault : Fault) : Type 0 where
 abbrev pub IsRefusal : List ℕ → Fault → Type 0
 IsRefusal line Line = (depth : ℕ) (fen : List ℕ) → ¬ Asks line depth fen
 IsRefusal line (Fen fault) = HasFault line (Fen fault)
+
+-- The name that is printed for a fault: that of its innermost part.
+abbrev pub board_fault_name : BadBoard → List ℕ
+board_fault_name broken.Kings = codes "Kings"
+board_fault_name broken.Pieces = codes "Pieces"
+board_fault_name broken.Pawns = codes "Pawns"
+board_fault_name broken.Check = codes "Check"
+board_fault_name broken.Rights = codes "Rights"
+board_fault_name broken.Target = codes "Target"
+board_fault_name broken.Counter = codes "Counter"
+
+abbrev pub fen_fault_name : FenError → List ℕ
+fen_fault_name faults.Shape = codes "Shape"
+fen_fault_name faults.Placement = codes "Placement"
+fen_fault_name faults.Side = codes "Side"
+fen_fault_name faults.Castling = codes "Castling"
+fen_fault_name faults.Target = codes "Target"
+fen_fault_name faults.Counter = codes "Counter"
+fen_fault_name (faults.Board fault) = board_fault_name fault
+
+abbrev pub fault_name : Fault → List ℕ
+fault_name Line = codes "Line"
+fault_name (Fen fault) = fen_fault_name fault

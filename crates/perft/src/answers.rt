@@ -1,6 +1,6 @@
 //! The answer to a line.
 ghost use Rattle.std.specs.Prelude.{ℕ, ◌≡◌, ◌≢◌, ◌≤◌, decimal, IfOk, IfErr, IfSome, IfNone};
-ghost use Rattle.perft.specs.Answers.{IsCountFrom, IsFault, IsAnswer, IsRefusal};
+ghost use Rattle.perft.specs.Answers.{IsCountFrom, IsFault, IsAnswer, IsRefusal, board_fault_name, fen_fault_name, fault_name};
 
 use crate::lines::count_lines;
 use chess_board::BadBoard;
@@ -61,14 +61,18 @@ pub fn answer(line: &str) -> Result<u64, Fault>
 }
 
 /// The name of a fault, that of its innermost part.
-pub fn name(fault: Fault) -> &'static str {
+pub fn name(fault: Fault) -> &'static str
+    ensures { result.now ≡ fault_name fault }
+{
     match fault {
         Fault::Line => "Line",
         Fault::Fen(fault) => fen_fault(fault),
     }
 }
 
-fn fen_fault(fault: FenError) -> &'static str {
+fn fen_fault(fault: FenError) -> &'static str
+    ensures { result.now ≡ fen_fault_name fault }
+{
     match fault {
         FenError::Shape => "Shape",
         FenError::Placement => "Placement",
@@ -80,7 +84,9 @@ fn fen_fault(fault: FenError) -> &'static str {
     }
 }
 
-fn board_fault(fault: BadBoard) -> &'static str {
+fn board_fault(fault: BadBoard) -> &'static str
+    ensures { result.now ≡ board_fault_name fault }
+{
     match fault {
         BadBoard::Kings => "Kings",
         BadBoard::Pieces => "Pieces",
