@@ -12,6 +12,7 @@ use Rattle.chess_board.specs.Initial.{initial}
 use Rattle.chess_board.specs.Next.{next}
 use Rattle.chess_board.specs.Legal.{IsLegal}
 use Rattle.chess_san.specs.Coordinate.{IsCoordinateOf}
+use Rattle.chess_san.proofs.OneMove.{coordinate_one}
 use Rattle.chess_board.proofs.Deciding.{Decides-is_valid}
 use Rattle.chess_board.proofs.ValidNext.{IsValid-next}
 use Rattle.chess_text.specs.Fen.{IsFenOf, fen_of}
@@ -20,7 +21,7 @@ use Rattle.chess_server.specs.Field.{AsksMove}
 use Rattle.chess_server.specs.Answer.{IsMoveText, IsAtLimit, MakesMove, StopsAtLimit, RefusesMove, AnswersText, IsAnswer, as_line}
 use Rattle.chess_server.proofs.FieldLemmas.{Asks, asks, asked_text}
 use Rattle.chess_server.proofs.FieldLemmas.Asks.{Asks_one, Asks_none}
-use Rattle.chess_server.proofs.MoveTexts.{MovesBy, moves_by, one_coordinate}
+use Rattle.chess_server.proofs.MoveTexts.{MovesBy, moves_by}
 use Rattle.chess_server.proofs.MoveTexts.MovesBy.{Moves_one, Moves_none}
 
 -- an answer, and the position after it
@@ -135,7 +136,7 @@ valid_after before line answer after valid (inr h) = subst IsValid (sym h.stays)
 one_made : (before : Position) (text a : List ℕ) (p : Position) (b : List ℕ) (q : Position) →
     MakesMove before text a p → MakesMove before text b q → (a ≡ b) × (p ≡ q)
 one_made before text a p b q h k =
-    let move = one_coordinate text h.move k.move h.is_text.coordinate k.is_text.coordinate in
+    let move = coordinate_one h.move k.move text h.is_text.coordinate k.is_text.coordinate in
     let same = h.goes ∙ ap (next before) move ∙ sym k.goes in
     let fens = IsFenOf-fen_of h.fen p h.is_fen ∙ ap fen_of same ∙ sym (IsFenOf-fen_of k.fen q k.is_fen) in
     (h.says ∙ ap as_line fens ∙ sym k.says, same)
@@ -194,7 +195,7 @@ text-made p text answer m q legal coordinate made shown stopped = elim (limited 
 pub text-illegal : (p : Position) (text answer : List ℕ) (m : Move) → ¬ IsLegal p m → IsCoordinateOf text m →
     answer ≡ as_line (codes "no 9 BadMove") → AnswersText p text answer p
 text-illegal p text answer m illegal coordinate says = inr (inr (record {
-  illegal = λ n t. illegal (subst (IsLegal p) (one_coordinate text n m t.coordinate coordinate) t.legal);
+  illegal = λ n t. illegal (subst (IsLegal p) (coordinate_one n m text t.coordinate coordinate) t.legal);
   says = says;
   stays = refl;
 }))

@@ -1,6 +1,6 @@
 -- A text is the coordinate text of one legal move, or of none.
-use Rattle.std.proofs.Common.{◌≡◌, ℕ, ◌+◌, Bool, true, false, List, [], ◌∷◌, ◌++◌, Option, Some, None, sym, refl, ap, ◌∙◌, inl, inr, arith}
-use Rattle.std.specs.Prelude.{◌==◌, ◌&&◌, if◌then◌else◌, Contains, suc}
+use Rattle.std.proofs.Common.{◌≡◌, ℕ, Bool, true, false, List, [], ◌∷◌, ◌++◌, Option, Some, None, sym, refl, ap, ◌∙◌, inl, inr, arith}
+use Rattle.std.specs.Prelude.{◌&&◌, Contains, suc}
 use Rattle.std.specs.Bool.{Decides}
 use Rattle.std.specs.Str.{bytes_eq}
 use Rattle.std.specs.List.{All}
@@ -10,7 +10,6 @@ use Rattle.std.proofs.lemmas.List.Elements.{All-nil, All-cons, All-contains}
 use Rattle.std.proofs.lemmas.Slice.Eq.{bytes_eq-Decides}
 use Rattle.chess_bits.specs.declared.men.Kind.{Kind}
 use Rattle.chess_bits.specs.declared.men.Kind.TheVariants.{Pawn, Knight, Bishop, Rook, Queen, King}
-use Rattle.chess_bits.specs.Square.{Square}
 use Rattle.chess_board.specs.declared.moves.Move.{Move}
 use Rattle.chess_board.specs.Position.{Position}
 use Rattle.chess_board.specs.Legal.{IsLegal}
@@ -20,57 +19,6 @@ use Rattle.chess_board.proofs.LegalMoves.{legal_moves_of-legal, legal_moves_of-e
 use Rattle.chess_san.specs.Name.{square_name}
 use Rattle.chess_san.specs.Coordinate.{IsPromotionText, IsCoordinateOf}
 use Rattle.chess_server.specs.Answer.{IsMoveText}
-
--- what a letter promotes to
-kind_read : ℕ → Option Kind
-kind_read b = if b == 113 then Some Queen else
-    (if b == 114 then Some Rook else (if b == 98 then Some Bishop else Some Knight))
-
-read : List ℕ → Option Kind
-read [] = None
-read (b ∷ bytes) = kind_read b
-
-read-promotion : (letter : List ℕ) (promotion : Option Kind) → IsPromotionText letter promotion →
-    read letter ≡ promotion
-unfolding read kind_read
-read-promotion letter None h = ap read h
-read-promotion letter (Some Queen) h = ap read h
-read-promotion letter (Some Rook) h = ap read h
-read-promotion letter (Some Bishop) h = ap read h
-read-promotion letter (Some Knight) h = ap read h
-read-promotion letter (Some King) h = absurd h
-read-promotion letter (Some Pawn) h = absurd h
-
-same_square : (s t : Square) → s.file ≡ t.file → s.rank ≡ t.rank → s ≡ t
-same_square s t f r =
-    let file : s ≡ record { file = t.file; rank = s.rank } = ap (λ x. record { file = x; rank = s.rank }) f in
-    let rank : record { file = t.file; rank = s.rank } ≡ t = ap (λ x. record { file = t.file; rank = x }) r in
-    file ∙ rank
-
-same_move : (m n : Move) → m.from ≡ n.from → m.to ≡ n.to → m.promotion ≡ n.promotion → m ≡ n
-same_move m n f t p =
-    let from : m ≡ record { from = n.from; to = m.to; promotion = m.promotion } = ap
-    (λ x. record { from = x; to = m.to; promotion = m.promotion }) f in
-    let to : record { from = n.from; to = m.to; promotion = m.promotion } ≡ record
-    { from = n.from; to = n.to; promotion = m.promotion } =
-    ap (λ x. record { from = n.from; to = x; promotion = m.promotion }) t in
-    let promotion : record { from = n.from; to = n.to; promotion = m.promotion } ≡ n = ap
-    (λ x. record { from = n.from; to = n.to; promotion = x }) p in
-    from ∙ to ∙ promotion
-
--- a coordinate text is that of one move
-pub one_coordinate : (text : List ℕ) (m n : Move) → IsCoordinateOf text m → IsCoordinateOf text n → m ≡ n
-one_coordinate text m n h k =
-    let e = sym h.joined ∙ k.joined in
-    let ff : 96 + m.from.file ≡ 96 + n.from.file = cc in
-    let fr : 48 + m.from.rank ≡ 48 + n.from.rank = cc in
-    let tf : 96 + m.to.file ≡ 96 + n.to.file = cc in
-    let tr : 48 + m.to.rank ≡ 48 + n.to.rank = cc in
-    let l : h.letter ≡ k.letter = cc in
-    same_move m n (same_square m.from n.from (omega (arith, ff)) (omega (arith, fr)))
-    (same_square m.to n.to (omega (arith, tf)) (omega (arith, tr)))
-    (sym (read-promotion h.letter m.promotion h.promotion) ∙ ap read l
-    ∙ read-promotion k.letter n.promotion k.promotion)
 
 -- the letter of what a pawn becomes, and whether it can become that
 letter_of : Option Kind → List ℕ
