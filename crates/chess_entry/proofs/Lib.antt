@@ -1,0 +1,13 @@
+pub mod OneMore
+pub mod Fields
+pub mod HeldLemmas
+pub mod Shown
+pub mod GameMore
+pub mod Allowed
+pub mod Entering
+pub mod InPlay
+pub mod Sound
+pub mod GameLaw
+pub mod Numbers
+pub mod LawOfFollow
+pub mod Examples

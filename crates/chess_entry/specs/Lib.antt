@@ -1,0 +1,11 @@
+pub mod State
+pub mod Story
+pub mod Outcome
+pub mod GameTimes
+pub mod Standing
+pub mod Games
+pub mod Told
+pub mod Verdict
+pub mod Follow
+pub mod Lawful
+pub mod Bounds

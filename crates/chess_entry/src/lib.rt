@@ -1,0 +1,15 @@
+//! What players ask of the server and what comes to pass: commands, entries, and the rules by which a command becomes an
+//! entry. The rules are definitions in `specs/`: `Games` reads a table off the whole list of its entries, `Verdict` is
+//! the first check that a command meets, and `Follow` is a table with one entry more.
+#![tactic(auto)]
+
+mod commands;
+mod laws;
+mod refusals;
+mod verdicts;
+
+pub use commands::{Act, Command, Text};
+pub use laws::law_of_follow;
+pub use rec_codec::{Claim, Entry, Event, GameNumber, Limits, Made, Name, Opening};
+pub use refusals::Refusal;
+pub use verdicts::Verdict;
