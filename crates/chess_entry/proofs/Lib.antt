@@ -11,3 +11,4 @@ pub mod GameLaw
 pub mod Numbers
 pub mod LawOfFollow
 pub mod Examples
+mod EndingCases

@@ -4,17 +4,19 @@ use Rattle.std.specs.List.{flat_map}
 use Rattle.chess_bits.specs.declared.men.Colour.{Colour}
 use Rattle.chess_bits.specs.Man.{other}
 use Rattle.chess_board.specs.declared.moves.Move.{Move}
-use Rattle.chess_board.specs.Position.{Position}
+use Rattle.chess_board.specs.Position.{Position, IsValid}
+use Rattle.chess_board.specs.Legal.{EachOf}
 use Rattle.chess_board.specs.Line.{positions_of}
 use Rattle.chess_repeat.specs.Key.{key_of}
 use Rattle.chess_repeat.specs.History.{is_key}
+use Rattle.chess_repeat.specs.SamePosition.{IsTimes}
 use Rattle.chess_repeat.specs.QuietRun.{quiet_run}
 use Rattle.chess_end.specs.declared.ending.GameResult.{GameResult}
 use Rattle.chess_end.specs.declared.ending.GameResult.TheVariants as results
 use Rattle.chess_end.specs.declared.ending.Article.{Article}
 use Rattle.chess_end.specs.declared.ending.Article.TheVariants as articles
 use Rattle.chess_end.specs.declared.ending.Ending.{Ending}
-use Rattle.chess_end.specs.Ending.{won_by}
+use Rattle.chess_end.specs.Ending.{won_by, IsRunning, IsEnding, IsFlagResult}
 use Rattle.chess_end.specs.Computing.{is_checkmate, is_stalemate, is_listed_dead, has_king_alone}
 use Rattle.rec_codec.specs.declared.record.Claim.{Claim}
 use Rattle.rec_codec.specs.declared.record.Event.{Event}
@@ -23,10 +25,14 @@ use Rattle.rec_codec.specs.declared.record.Entry.{Entry}
 use Rattle.chess_entry.specs.State.{position_after}
 use Rattle.chess_entry.specs.Story.{Placed, each_placed, first_given, moves_told, move_told, stated}
 
--- How many members of a list are the same position as this one (FIDE article 9.2.3). Keys are equal exactly for the same
--- positions, as `chess_repeat` proves.
+-- How many members of a list are the same position as this one (FIDE article 9.2.3): those with its key, which are
+-- exactly these, by `LawOfTimes`.
 abbrev pub times : Position → List Position → ℕ
 times p list = count_by (λ q. is_key (key_of q) (key_of p)) list
+
+-- In lists of valid positions `times` counts the members that are the same position.
+abbrev pub LawOfTimes : Type 0
+LawOfTimes = (p : Position) (list : List Position) → IsValid p → EachOf IsValid list → IsTimes p list (times p list)
 
 abbrev pub ending : GameResult → Article → Ending
 ending result article = record { result = result; article = article }
@@ -42,6 +48,24 @@ ending_of_line p line =
     else if nat_le 5 (times p line) then Some (ending results.Draw articles.A961)
     else if nat_le 150 (quiet_run line) then Some (ending results.Draw articles.A962)
     else None
+
+-- The flag of the side to move has fallen: drawn just where its opponent has the king alone (FIDE article 6.9, in our
+-- reduction of it).
+abbrev pub flag_result : Position → GameResult
+flag_result p = if has_king_alone p.placement (other p.side) then results.Draw else won_by (other p.side)
+
+-- what an ending after a move is, or that the game goes on, where the position has come n times and the run without a
+-- capture or a pawn move is of q moves
+abbrev pub IsEndingOrNone : Position → ℕ → ℕ → Option Ending → Type 0
+IsEndingOrNone p n q None = IsRunning p n q
+IsEndingOrNone p n q (Some e) = IsEnding p n q e
+
+-- The ending of a line is that of the FIDE articles, for how often its last position has come and its quiet run; that of
+-- a fallen flag is that of article 6.9.
+pub record LawOfEndings : Type 0 where
+  pub line : (p : Position) (line : List Position) →
+      IsEndingOrNone p (times p line) (quiet_run line) (ending_of_line p line)
+  pub flag : (p : Position) → IsFlagResult p.placement p.side (flag_result p)
 
 -- that of the moves from a start, of which there is one at least
 abbrev pub ending_after : Position → List Move → Option Ending
@@ -69,11 +93,7 @@ agreed = ending results.Draw articles.A523
 abbrev pub resigned : Colour → Ending
 resigned by = ending (won_by (other by)) articles.A512
 
--- The flag of the side to move has fallen: drawn just where its opponent has the king alone (FIDE article 6.9, in our
--- reduction of it).
-abbrev pub flag_result : Position → GameResult
-flag_result p = if has_king_alone p.placement (other p.side) then results.Draw else won_by (other p.side)
-
+-- the ending where the flag of the side to move has fallen
 abbrev pub flag_fallen : Position → Ending
 flag_fallen p = ending (flag_result p) articles.A69
 
