@@ -1,7 +1,7 @@
 -- The ending of a line is that of the articles: by the tests that decide them.
-use Rattle.std.specs.Prelude.{ℕ, ◌≡◌, ◌≤◌, Bool, true, false, if◌then◌else◌, List, Option, Some, None, nat_le}
+use Rattle.std.specs.Prelude.{ℕ, ◌≤◌, Bool, true, false, if◌then◌else◌, Some, None, nat_le}
 use Rattle.std.specs.Bool.{Decides}
-use Rattle.std.proofs.Common.{refl, inl, inr, arith}
+use Rattle.std.proofs.Common.{refl, inl, inr}
 use Rattle.std.proofs.lemmas.Bool.{false≢true}
 use Rattle.std.proofs.lemmas.Bool.{leb-true, le-leb}
 use Rattle.chess_bits.specs.Man.{other}
@@ -12,7 +12,7 @@ use Rattle.chess_end.specs.Ending.{won_by, IsCheckmate, IsStalemate, IsFlagResul
 use Rattle.chess_end.specs.Material.{IsListedDead, HasKingAlone}
 use Rattle.chess_end.proofs.Deciding.{Decides-is_checkmate, Decides-is_stalemate, Decides-is_listed_dead, Decides-has_king_alone}
 use Rattle.chess_repeat.specs.QuietRun.{quiet_run}
-use Rattle.chess_entry.specs.Outcome.{times, ending, IsEndingOrNone, LawOfEndings, flag_result}
+use Rattle.chess_entry.specs.Outcome.{times, ending, IsEndingOrNone, LawOfEndings}
 
 by_tests : (p : Position) (n q : ℕ) (mate stale dead five quiet : Bool) → Decides mate (IsCheckmate p)
     → Decides stale (IsStalemate p) → Decides dead (IsListedDead p.placement) → Decides five (5 ≤ n) → Decides quiet (150 ≤ q)
