@@ -1,5 +1,5 @@
 -- Which act a line's fields tell.
-use Rattle.std.proofs.Common.{◌≡◌, ◌≢◌, ℕ, ◌<◌, ◌≤◌, List, [], ◌∷◌, ◌++◌, length, take, decimal, Option, Some, None, refl, ap, ◌∙◌, sym, arith}
+use Rattle.std.proofs.Common.{◌≡◌, ◌≢◌, ℕ, List, [], ◌∷◌, ◌++◌, length, take, decimal, Option, Some, None, refl, ap, ◌∙◌, sym, arith}
 use Rattle.std.specs.Prelude.{codes, Bool, true, false, IfSome}
 use Rattle.std.specs.List.{join_with_byte}
 use Rattle.std.specs.Str.{bytes_eq}
@@ -14,8 +14,8 @@ use Rattle.chess_line.specs.declared.lines.Line.{Line}
 use Rattle.chess_line.specs.declared.lines.Line.TheVariants as lines
 use Rattle.chess_line.specs.Fields.{IsNumber, IsField, IsRest, colour_word, claim_word, times_text, AreTimes, optional}
 use Rattle.chess_line.specs.Cut.{Unspaced, joined}
-use Rattle.chess_line.specs.Line.{act_fields, line_fields, IsSayable, IsSayableLine, IsLineAfter, IsLineOf}
-use Rattle.chess_line.proofs.Cuts.{SameParts, same_parts, no_parts, clear, clear_without, same_number, Without, without_append, without_cons, decimal_without}
+use Rattle.chess_line.specs.Line.{act_fields, IsSayable, IsLineAfter, IsLineOf}
+use Rattle.chess_line.proofs.Cuts.{same_parts, no_parts, clear, clear_without, same_number, Without, without_append, without_cons, decimal_without}
 
 -- a test for the word of a line
 abbrev is_called : List ℕ → List (List ℕ) → Bool

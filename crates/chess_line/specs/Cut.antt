@@ -1,5 +1,5 @@
 -- A text cut at its first space.
-use Rattle.std.specs.Prelude.{ℕ, ◌≢◌, List, ◌∷◌, ◌++◌, Option, Some, None, EachIndex, slice_index, option_map}
+use Rattle.std.specs.Prelude.{ℕ, ◌≢◌, List, ◌∷◌, ◌++◌, Option, Some, None, EachIndex, slice_index}
 use Rattle.std.specs.Borrow.{Bor}
 
 abbrev pub Unspaced : List ℕ → Type 0

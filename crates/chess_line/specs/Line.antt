@@ -1,5 +1,5 @@
 -- The forms of the lines that a client sends.
-use Rattle.std.specs.Prelude.{ℕ, ◌≡◌, List, [], ◌∷◌, ◌++◌, codes, decimal, Option, Some, None, IfSome, option_map}
+use Rattle.std.specs.Prelude.{ℕ, ◌≡◌, List, [], ◌∷◌, ◌++◌, codes, decimal, IfSome, option_map}
 use Rattle.std.specs.List.{join_with_byte}
 use Rattle.rec_codec.specs.Name.{IsName}
 use Rattle.chess_entry.specs.declared.commands.Act.{Act}

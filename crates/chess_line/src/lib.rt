@@ -6,3 +6,6 @@ mod fields;
 mod lines;
 
 pub use lines::{Line, parse};
+
+#[cfg(test)]
+mod tests;

@@ -1,4 +1,4 @@
-use Rattle.std.proofs.Common.{◌≡◌, ℕ, List, [], ◌∷◌, decimal, Some, ap, ◌∙◌, arith}
+use Rattle.std.proofs.Common.{[], ◌∷◌, decimal, Some, ap, ◌∙◌, arith}
 use Rattle.chess_line.proofs.Cases.{is_join, is_offer, is_accept, is_decline, is_resign, is_flag, is_drop, is_show, is_fen, is_pgn}
 use Rattle.chess_line.proofs.acts.game_act.Goals as goal
 

@@ -2,7 +2,7 @@ use Rattle.std.proofs.Common.{◌≡◌, ℕ, Option, Some, None, decimal, ap, s
 use Rattle.std.proofs.lemmas.Str.Pattern.{split_after, split_parts}
 use Rattle.chess_line.specs.Fields.{AreTimes, times_text}
 use Rattle.chess_line.proofs.Cuts.{decimal_without, decimal_without_colon}
-use Rattle.chess_line.proofs.Cases.{Period, period_cut}
+use Rattle.chess_line.proofs.Cases.{period_cut}
 use Rattle.chess_line.proofs.fields.times_named.Goals as goal
 
 -- without a slash there is no second period
