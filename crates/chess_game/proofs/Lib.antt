@@ -1,0 +1,9 @@
+pub mod LineLemmas
+pub mod EndingLemmas
+pub mod TimeLemmas
+pub mod KeptLine
+pub mod LineKept
+pub mod SidesLemmas
+pub mod KeptGame
+pub mod Shown
+pub mod Acts

@@ -1,0 +1,74 @@
+-- One move more of a line.
+use Rattle.std.proofs.Common.{ℕ, ◌≡◌, suc, ◌+◌, ◌≤◌, List, [], ◌∷◌, ◌++◌, length, refl, ap, ◌∙◌, arith}
+use Rattle.std.proofs.lemmas.Bool.Decides.{nat_tests}
+use Rattle.chess_bits.specs.declared.men.Colour.{Colour}
+use Rattle.chess_bits.specs.declared.men.Colour.TheVariants.{White, Black}
+use Rattle.chess_bits.specs.Man.{other}
+use Rattle.chess_board.specs.declared.moves.Move.{Move}
+use Rattle.chess_board.specs.Position.{Position}
+use Rattle.chess_board.specs.Next.{next, halfmove_after, fullmove_after}
+use Rattle.chess_board.specs.Legal.{IsLegal}
+use Rattle.chess_board.specs.Line.{positions_of, IsLegalLine}
+use Rattle.chess_clock.specs.ClockState.{on_move_after}
+use Rattle.chess_repeat.specs.QuietRun.{quiet_run}
+use Rattle.chess_entry.specs.State.{position_after}
+
+pub position_after-push : (p : Position) (moves : List Move) (m : Move)
+    → position_after p (moves ++ m ∷ []) ≡ next (position_after p moves) m
+position_after-push p [] m = refl
+position_after-push p (n ∷ moves) m = position_after-push (next p n) moves m
+
+pub positions_of-push : (p : Position) (moves : List Move) (m : Move)
+    → positions_of p (moves ++ m ∷ []) ≡ positions_of p moves ++ next (position_after p moves) m ∷ []
+positions_of-push p [] m = refl
+positions_of-push p (n ∷ moves) m = ap (λ (ps : List Position). p ∷ ps) (positions_of-push (next p n) moves m)
+
+pub length-positions_of : (p : Position) (moves : List Move) → length (positions_of p moves) ≡ length moves + 1
+length-positions_of p [] = refl
+length-positions_of p (n ∷ moves) = let rest = length-positions_of (next p n) moves in omega arith
+
+pub IsLegalLine-push : (p : Position) (moves : List Move) (m : Move) → IsLegalLine p moves
+    → IsLegal (position_after p moves) m → IsLegalLine p (moves ++ m ∷ [])
+IsLegalLine-push p [] m line legal = (legal, tt)
+IsLegalLine-push p (n ∷ moves) m line legal = (line.0, IsLegalLine-push (next p n) moves m line.1 legal)
+
+pub quiet_run-positions_of : (p : Position) (moves : List Move)
+    → quiet_run (positions_of p moves) ≡ (position_after p moves).halfmove
+quiet_run-positions_of p [] = refl
+quiet_run-positions_of p (n ∷ []) = refl
+quiet_run-positions_of p (n ∷ m ∷ moves) = quiet_run-positions_of (next p n) (m ∷ moves)
+
+-- a move adds at most one to each counter
+halfmove_after-at_most : (p : Position) (m : Move) → halfmove_after p m ≤ p.halfmove + 1
+unfolding halfmove_after
+halfmove_after-at_most p m = grind arith
+
+fullmove_after-at_most : (side : Colour) (n : ℕ) → fullmove_after side n ≤ n + 1
+fullmove_after-at_most White n = omega arith
+fullmove_after-at_most Black n = omega arith
+
+pub halfmove-at_most : (p : Position) (moves : List Move)
+    → (position_after p moves).halfmove ≤ p.halfmove + length moves
+halfmove-at_most p [] = omega arith
+halfmove-at_most p (m ∷ moves) =
+    let one = halfmove_after-at_most p m in
+    let rest = halfmove-at_most (next p m) moves in
+    omega arith
+
+pub fullmove-at_most : (p : Position) (moves : List Move)
+    → (position_after p moves).fullmove ≤ p.fullmove + length moves
+fullmove-at_most p [] = omega arith
+fullmove-at_most p (m ∷ moves) =
+    let one = fullmove_after-at_most p.side p.fullmove in
+    let rest = fullmove-at_most (next p m) moves in
+    omega arith
+
+on_move_after-suc : (side : Colour) (n : ℕ) → on_move_after (other side) n ≡ on_move_after side (suc n)
+on_move_after-suc White n = grind (arith, nat_tests)
+on_move_after-suc Black n = grind (arith, nat_tests)
+
+-- the players alternate
+pub side-position_after : (p : Position) (moves : List Move)
+    → (position_after p moves).side ≡ on_move_after p.side (length moves)
+side-position_after p [] = refl
+side-position_after p (m ∷ moves) = side-position_after (next p m) moves ∙ on_move_after-suc p.side (length moves)

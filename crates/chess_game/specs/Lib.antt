@@ -1,0 +1,6 @@
+pub mod Line
+pub mod LineInside
+pub mod Sides
+pub mod ClockFor
+pub mod GameInside
+pub mod Turn

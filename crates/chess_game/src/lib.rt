@@ -1,0 +1,13 @@
+//! One game of the table: its line, its clock, its offers and claims, and its ending. Each change is one of the entries'
+//! of `chess_entry`, whose definitions the contracts cite.
+#![tactic(auto)]
+
+mod games;
+mod lines;
+mod sides;
+
+pub use games::{Game, Times};
+pub use lines::is_finished;
+
+#[cfg(test)]
+mod tests;

@@ -1,0 +1,129 @@
+ghost use Rattle.std.specs.Prelude.{◌≡◌, ◌<◌, [], ◌∷◌, ◌++◌, List, length, IfOk, OnOk, OnErr};
+ghost use Rattle.chess_board.specs.declared.moves.Move.{Move};
+ghost use Rattle.chess_board.specs.Legal.{IsLegal};
+ghost use Rattle.chess_entry.specs.Outcome.{ending_after, is_granted};
+ghost use Rattle.chess_entry.specs.Verdict.{is_finished_at};
+ghost use Rattle.chess_game.specs.Line.{LineState, last_of, HasRoom, with_move};
+
+use chess_board::{Board, Move};
+use chess_end::{Ending, after_move, claim_fifty, claim_three};
+use chess_repeat::History;
+use std::alloc::{AllocError, Global};
+use std::marker::Model;
+
+/// Whether a game would be over at its start: by checkmate, stalemate, listed dead material, or 75 moves of each side
+/// without a capture or a pawn move (FIDE articles 5.1.1, 5.2.1, 5.2.2 and 9.6.2).
+pub fn is_finished(board: &Board) -> bool
+    ensures { result ≡ is_finished_at board.now }
+{
+    after_move(board, 1, u32::from(board.halfmove())).is_some()
+}
+
+/// The start of a game and the moves made from it, with the position that they lead to and the history of all.
+#[derive(Drop)]
+pub struct Line {
+    start: Board,
+    board: Board,
+    moves: Vec<Move>,
+    history: History,
+}
+
+impl Model for Line {
+    ghost use Rattle.chess_entry.specs.Verdict.{is_finished_at};
+    ghost use Rattle.chess_game.specs.Line.{LineState};
+    ghost use Rattle.chess_entry.specs.Verdict.{is_finished_at};
+    ghost use Rattle.chess_game.specs.LineInside.{line_of, IsSound};
+
+    ghost Value = { LineState };
+
+    ghost view = { line_of };
+
+    ghost invariant = { IsSound };
+}
+
+impl Line {
+    /// The line of a start without a move. It fails where memory is refused.
+    pub fn new(alloc: Global, start: &Board) -> Result<Line, AllocError>
+        ensures { IfOk result (λ line. line ≡ record { start = start.now; moves = [] }) }
+    {
+        Ok(Line {
+            start: *start,
+            board: *start,
+            moves: Vec::new(alloc),
+            history: History::new(alloc, start)?,
+        })
+    }
+
+    /// The position that the line starts from.
+    pub fn start(&self) -> &Board
+        ensures { result.now ≡ self.now.start }
+    {
+        &self.start
+    }
+
+    /// The position after all moves.
+    pub fn board(&self) -> &Board
+        ensures { result.now ≡ last_of self.now }
+    {
+        &self.board
+    }
+
+    /// The moves.
+    pub fn moves(&self) -> &[Move]
+        ensures { result.now ≡ self.now.moves }
+    {
+        &self.moves
+    }
+
+    /// Makes a legal move. It fails where memory is refused, and then all is as it was.
+    pub fn push(&mut self, mv: &Move) -> Result<(), AllocError>
+        requires legal { IsLegal (last_of self.old) mv.now }
+        requires room { HasRoom self.old }
+        ensures pushed { OnOk result (self.new ≡ with_move self.old mv.now) }
+        ensures refused { OnErr result (self.new ≡ self.old) }
+    {
+        let board = self.board.apply(*mv);
+        self.moves.reserve(1)?;
+        self.history.push(&board)?;
+        self.moves.push_reserved(*mv);
+        self.board = board;
+        Ok(())
+    }
+
+    /// The ending that the last move gives, if it gives one.
+    pub fn ending(&self) -> Option<Ending>
+        ensures { result ≡ ending_after self.now.start self.now.moves }
+    {
+        after_move(
+            &self.board,
+            self.history.times(&self.board),
+            u32::from(self.board.halfmove()),
+        )
+    }
+
+    /// Whether a claim for the position that stands is correct: by the fifty-move rule (FIDE article 9.3), or else by a
+    /// third occurrence (9.2).
+    pub fn is_granted(&self, fifty: bool) -> bool
+        ensures { result ≡ is_granted fifty self.now.start self.now.moves }
+    {
+        if fifty {
+            claim_fifty(u32::from(self.board.halfmove()))
+        } else {
+            claim_three(self.history.times(&self.board))
+        }
+    }
+
+    /// Whether a claim is correct for the position that a legal move would bring. The move is not made.
+    pub fn is_granted_with(&self, fifty: bool, mv: Move) -> bool
+        requires legal { IsLegal (last_of self.now) mv }
+        requires room { HasRoom self.now }
+        ensures { result ≡ is_granted fifty self.now.start (self.now.moves ++ mv ∷ []) }
+    {
+        let board = self.board.apply(mv);
+        if fifty {
+            claim_fifty(u32::from(board.halfmove()))
+        } else {
+            claim_three(self.history.times(&board) + 1)
+        }
+    }
+}
