@@ -1,5 +1,5 @@
 -- What holds of a game when an entry of it is made.
-use Rattle.std.specs.Prelude.{ℕ, ◌≡◌, ◌-◌, ◌<◌, Bool, true, false, None}
+use Rattle.std.specs.Prelude.{ℕ, ◌≡◌, ◌-◌, ◌<◌, true, false, None}
 use Rattle.rec_codec.specs.declared.record.Event.{Event}
 use Rattle.rec_codec.specs.declared.record.Event.TheVariants as event
 use Rattle.chess_entry.specs.State.{GameState, position_of, ply_of, seat_of, is_joined}

@@ -1,5 +1,5 @@
 -- What the verdict that enters an entry says of the game it is of.
-use Rattle.std.specs.Prelude.{ℕ, ◌≡◌, ◌⊎◌, ◌-◌, ◌+◌, ◌<◌, ◌==◌, ◌&&◌, ◌||◌, not, nat_le, nat_lt, Bool, true, false, if◌then◌else◌, List, [], ◌∷◌, ◌++◌, length, Option, Some, None, is_some, is_none}
+use Rattle.std.specs.Prelude.{ℕ, ◌≡◌, ◌⊎◌, ◌+◌, ◌==◌, ◌&&◌, not, nat_le, nat_lt, Bool, true, false, if◌then◌else◌, List, [], ◌∷◌, ◌++◌, Option, Some, None, is_some, is_none}
 use Rattle.std.proofs.Common.{ap, sym, subst, ◌∙◌, refl, inl, inr}
 use Rattle.std.proofs.lemmas.Bool.{leb-false, eqb-true, and_parts, not-false, cases_Bool}
 use Rattle.chess_bits.specs.declared.men.Colour.{Colour}
@@ -19,7 +19,7 @@ use Rattle.chess_entry.specs.declared.refusals.Refusal.{Refusal}
 use Rattle.chess_entry.specs.declared.verdicts.Verdict.{Verdict}
 use Rattle.chess_entry.specs.declared.verdicts.Verdict.TheVariants.{Refuse, Enter, Read}
 use Rattle.chess_entry.specs.declared.refusals.Refusal.TheVariants.{OfferStands, NoOffer, TooEarly, AlreadyClaimed, FlagUp}
-use Rattle.chess_entry.specs.State.{SeatState, GameState, TableState, position_of, ply_of, seat_of, is_joined, is_over, find_game}
+use Rattle.chess_entry.specs.State.{GameState, TableState, position_of, ply_of, seat_of, is_joined, is_over, find_game}
 use Rattle.chess_entry.specs.Told.{Told}
 use Rattle.chess_entry.specs.Verdict.{Check, refuse, first_of, is_period, are_times, is_start, is_finished, is_full, is_long, is_on_move, has_offer, has_fallen, in_game, by_side, while_running, in_turn, for_move, for_stated, opened_from, moved, open_verdict, join_verdict, move_verdict, offer_verdict, accept_verdict, decline_verdict, resign_verdict, claim_verdict, flag_verdict, drop_verdict, in_seat, side_of, player_verdict, name_or_none, is_read, effective, verdict}
 use Rattle.chess_entry.proofs.Allowed.{IsPlaying, IsInTime, IsAllowed}

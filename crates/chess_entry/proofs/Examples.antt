@@ -1,22 +1,19 @@
 -- Worked games, computed: what lists of entries mean.
-use Rattle.std.specs.Prelude.{ℕ, ◌≡◌, Bool, true, false, List, [], ◌∷◌, ◌++◌, Option, Some, None, refl}
+use Rattle.std.specs.Prelude.{ℕ, ◌≡◌, true, false, List, [], ◌∷◌, ◌++◌, Option, Some, None, refl}
 use Rattle.chess_bits.specs.declared.men.Colour.TheVariants.{White, Black}
 use Rattle.chess_board.specs.declared.moves.Move.{Move}
 use Rattle.chess_board.specs.Initial.{initial}
-use Rattle.chess_end.specs.declared.ending.Ending.{Ending}
 use Rattle.chess_end.specs.declared.ending.GameResult.TheVariants as results
 use Rattle.chess_end.specs.declared.ending.Article.TheVariants as articles
 use Rattle.chess_clock.specs.Held.{held}
-use Rattle.rec_codec.specs.declared.limits.Limits.{Limits}
 use Rattle.rec_codec.specs.declared.record.Event.TheVariants as event
 use Rattle.rec_codec.specs.declared.record.Entry.{Entry}
 use Rattle.rec_codec.specs.declared.record.Opening.{Opening}
 use Rattle.rec_codec.specs.Records.{entry}
-use Rattle.chess_entry.specs.State.{SeatState}
-use Rattle.chess_entry.specs.Outcome.{ending_in, moves_made}
-use Rattle.chess_entry.specs.GameTimes.{clock_events, turn_start, held_in, moment_in}
+use Rattle.chess_entry.specs.Outcome.{ending_in}
+use Rattle.chess_entry.specs.GameTimes.{clock_events, turn_start, moment_in}
 use Rattle.chess_entry.specs.Standing.{offers_in, claimed_in}
-use Rattle.chess_entry.specs.Games.{control_of, seat_in, game_shown, last_number, games_shown}
+use Rattle.chess_entry.specs.Games.{control_of, seat_in, last_number, games_shown}
 
 -- White is "A" with 60 seconds and 2 a move; a second period, where there is one, is given with the opening.
 opening : Option (ℕ × ℕ) → Opening

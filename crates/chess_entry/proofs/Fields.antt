@@ -1,18 +1,17 @@
 -- What is read off the entries of a game, with one entry more.
-use Rattle.std.specs.Prelude.{ℕ, ◌≡◌, ◌-◌, Bool, true, false, ◌&&◌, ◌||◌, not, if◌then◌else◌, List, [], ◌∷◌, ◌++◌, filter, Option, Some, None, is_some}
+use Rattle.std.specs.Prelude.{ℕ, ◌≡◌, Bool, true, false, ◌&&◌, ◌||◌, not, if◌then◌else◌, List, [], ◌∷◌, ◌++◌, filter, Option, Some, None, is_some}
 use Rattle.std.specs.List.{flat_map, last_or, list_any, after_last}
-use Rattle.std.proofs.Common.{ap, sym, ◌∙◌, refl}
+use Rattle.std.proofs.Common.{ap, ◌∙◌, refl}
 use Rattle.chess_bits.specs.declared.men.Colour.{Colour}
 use Rattle.chess_bits.specs.Man.{other}
 use Rattle.chess_board.specs.declared.moves.Move.{Move}
 use Rattle.chess_board.specs.Position.{Position}
 use Rattle.chess_end.specs.declared.ending.Ending.{Ending}
-use Rattle.chess_clock.specs.declared.events.Event.{Event as ClockEvent}
 use Rattle.rec_codec.specs.declared.record.Event.TheVariants as event
 use Rattle.rec_codec.specs.declared.record.Event.{Event}
 use Rattle.rec_codec.specs.declared.record.Entry.{Entry}
 use Rattle.chess_entry.specs.Story.{Placed, placed, placed_after, each_placed, given_or, first_given, joiner_of, moves_told, move_told, stated, is_claim, tells_move, offers_for, answers_for}
-use Rattle.chess_entry.specs.Outcome.{is_granted, is_correct, is_correct_event, move_made, moves_made, ending_with, ending_by, ending_by_event, ending_in}
+use Rattle.chess_entry.specs.Outcome.{is_granted, is_correct_event, move_made, moves_made, ending_with, ending_by, ending_by_event, ending_in}
 use Rattle.chess_entry.specs.GameTimes.{begins_turn, moment_of, turn_start, clock_events_at, clock_events, end_given, end_in}
 use Rattle.chess_entry.proofs.OneMore.{each_placed-more, first_given-more, flat_map-more, last_passing-more, list_any-more, any_since-more}
 

@@ -1,35 +1,30 @@
 -- The law of `follow` for one game: what its entries mean with one entry more is the game before it, followed.
-use Rattle.std.specs.Prelude.{ℕ, ◌≡◌, ◌-◌, ◌+◌, ◌<◌, Bool, true, false, ◌&&◌, ◌||◌, not, if◌then◌else◌, List, [], ◌∷◌, ◌++◌, length, Option, Some, None, is_some}
-use Rattle.std.proofs.Common.{arith, ap, sym, subst, ◌∙◌, refl, append_assoc, length-append}
+use Rattle.std.specs.Prelude.{ℕ, ◌≡◌, ◌-◌, Bool, true, false, ◌&&◌, ◌||◌, not, if◌then◌else◌, List, [], ◌∷◌, ◌++◌, length, Option, Some, None, is_some}
+use Rattle.std.proofs.Common.{ap, sym, ◌∙◌, refl, append_assoc}
 use Rattle.std.proofs.lemmas.List.{append-nil}
 use Rattle.chess_bits.specs.declared.men.Colour.{Colour}
 use Rattle.chess_bits.specs.declared.men.Colour.TheVariants.{White, Black}
 use Rattle.chess_bits.specs.Man.{is_colour, other}
 use Rattle.chess_board.specs.declared.moves.Move.{Move}
-use Rattle.chess_board.specs.Position.{Position}
-use Rattle.chess_end.specs.declared.ending.Ending.{Ending}
-use Rattle.chess_clock.specs.declared.events.Event.{Event as ClockEvent}
 use Rattle.chess_clock.specs.declared.events.Event.TheVariants as clock
-use Rattle.chess_clock.specs.Held.{held}
 use Rattle.chess_clock.specs.ClockState.{on_move_after}
-use Rattle.rec_codec.specs.declared.record.Claim.{Claim}
 use Rattle.rec_codec.specs.declared.record.Event.{Event}
 use Rattle.rec_codec.specs.declared.record.Event.TheVariants as event
 use Rattle.rec_codec.specs.declared.record.Entry.{Entry}
 use Rattle.rec_codec.specs.declared.record.Opening.{Opening}
 use Rattle.rec_codec.specs.Records.{entry}
-use Rattle.chess_entry.specs.State.{GameState, position_after, position_of, ply_of, seat_of, is_joined}
-use Rattle.chess_entry.specs.Story.{placed, given_or, moves_told, move_told, stated, is_drop}
-use Rattle.chess_entry.specs.Outcome.{is_granted, claimed_draw, ending_after, ending_with, ending_by, ending_in, flag_fallen, agreed, resigned}
-use Rattle.chess_entry.specs.GameTimes.{clock_events, clock_events_at, claimant_turn, turn_start}
+use Rattle.chess_entry.specs.State.{GameState, position_after, position_of}
+use Rattle.chess_entry.specs.Story.{placed, given_or, moves_told, stated, is_drop}
+use Rattle.chess_entry.specs.Outcome.{is_granted, claimed_draw, ending_after, ending_with, ending_by, ending_in, flag_fallen}
+use Rattle.chess_entry.specs.GameTimes.{claimant_turn}
 use Rattle.chess_entry.specs.Games.{control_of, game_in}
-use Rattle.chess_entry.specs.Follow.{follow_game, joined, with_offer, ended, ended_if, turn_ended, moved, moved_if, claimed_wrongly, claim_judged}
+use Rattle.chess_entry.specs.Follow.{follow_game, joined, with_offer, ended, ended_if, turn_ended, moved_if, claimed_wrongly}
 use Rattle.chess_entry.proofs.OneMore.{given_or-none}
-use Rattle.chess_entry.proofs.Fields.{joiner_in, stands, claims}
-use Rattle.chess_entry.proofs.HeldLemmas.{AreTimed, AreTimed-claim, AreTimed-turn, side-after}
-use Rattle.chess_entry.proofs.Shown.{Parts, parts, player, running, and_true, and_false, or_false, or_true, running-joined, running-offered, running-declined, running-moved, after_claim, running-claimed}
+use Rattle.chess_entry.proofs.Fields.{joiner_in}
+use Rattle.chess_entry.proofs.HeldLemmas.{AreTimed, AreTimed-claim}
+use Rattle.chess_entry.proofs.Shown.{Parts, parts, running, and_true, or_false, or_true, running-joined, running-offered, running-declined, running-moved, after_claim, running-claimed}
 use Rattle.chess_entry.proofs.GameMore.{parts-same, parts_of, parts_more, game_in-running, game_in-more}
-use Rattle.chess_entry.proofs.Allowed.{IsPlaying, IsInTime, IsAllowed}
+use Rattle.chess_entry.proofs.Allowed.{IsAllowed}
 use Rattle.chess_entry.proofs.InPlay.{IsSound, is_joined-in, none-not_some, on_move-in, mover-in}
 
 -- ---- single events, by the parts of the game

@@ -1,6 +1,6 @@
 -- The game of a list of entries by its parts, and of a list with one entry more.
-use Rattle.std.specs.Prelude.{ℕ, ◌≡◌, ◌-◌, Bool, true, false, ◌&&◌, ◌||◌, not, if◌then◌else◌, List, [], ◌∷◌, ◌++◌, Option, Some, None, is_some}
-use Rattle.std.proofs.Common.{ap, sym, ◌∙◌, refl}
+use Rattle.std.specs.Prelude.{ℕ, ◌≡◌, Bool, true, false, ◌&&◌, ◌||◌, not, if◌then◌else◌, List, [], ◌∷◌, ◌++◌, Option, Some, None, is_some}
+use Rattle.std.proofs.Common.{ap, ◌∙◌, refl}
 use Rattle.chess_bits.specs.declared.men.Colour.{Colour}
 use Rattle.chess_bits.specs.declared.men.Colour.TheVariants.{White, Black}
 use Rattle.chess_board.specs.declared.moves.Move.{Move}
@@ -10,7 +10,7 @@ use Rattle.chess_clock.specs.declared.events.Event.{Event as ClockEvent}
 use Rattle.chess_clock.specs.Held.{held}
 use Rattle.rec_codec.specs.declared.record.Entry.{Entry}
 use Rattle.rec_codec.specs.declared.record.Opening.{Opening}
-use Rattle.chess_entry.specs.State.{GameState, position_after}
+use Rattle.chess_entry.specs.State.{position_after}
 use Rattle.chess_entry.specs.Story.{placed, given_or, joiner_of, moves_told, is_claim, tells_move, offers_for, answers_for}
 use Rattle.chess_entry.specs.Outcome.{moves_made, move_made, ending_in, ending_by}
 use Rattle.chess_entry.specs.GameTimes.{begins_turn, turn_start, clock_events, clock_events_at, end_in, end_given, shown_held}

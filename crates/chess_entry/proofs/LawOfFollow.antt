@@ -1,5 +1,5 @@
 -- The law of `follow`: the table of a lawful list is the table before its last entry, with that entry more.
-use Rattle.std.specs.Prelude.{ℕ, ◌≡◌, ◌⊎◌, ◌+◌, ◌<◌, ◌≤◌, Bool, true, false, List, [], ◌∷◌, ◌++◌, length, map, max, Option, Some, None}
+use Rattle.std.specs.Prelude.{ℕ, ◌≡◌, ◌⊎◌, ◌+◌, ◌<◌, ◌≤◌, false, List, [], ◌∷◌, ◌++◌, map, Option, Some}
 use Rattle.std.proofs.Common.{arith, ap, sym, subst, ◌∙◌, refl, inl, inr, append_assoc, length-append}
 use Rattle.std.proofs.lemmas.Bool.{cases_eq}
 use Rattle.std.proofs.lemmas.List.{append-nil, map-append}
@@ -12,7 +12,7 @@ use Rattle.rec_codec.specs.Records.{entry}
 use Rattle.chess_entry.specs.State.{GameState, TableState}
 use Rattle.chess_entry.specs.Story.{entries_of, is_open, is_drop}
 use Rattle.chess_entry.specs.Games.{game_in, last_number, games_shown, greatest, table_of}
-use Rattle.chess_entry.specs.Follow.{follow, follow_game, follow_games, last_after}
+use Rattle.chess_entry.specs.Follow.{follow_game, follow_games}
 use Rattle.chess_entry.specs.Lawful.{IsEntered, IsLawful, LawOfFollow}
 use Rattle.chess_entry.proofs.OneMore.{greatest-more}
 use Rattle.chess_entry.proofs.Allowed.{IsAllowed}
@@ -20,7 +20,7 @@ use Rattle.chess_entry.proofs.Entering.{Opens, Acts, verdict-enters}
 use Rattle.chess_entry.proofs.InPlay.{IsSound}
 use Rattle.chess_entry.proofs.Sound.{IsSound-more, IsSound-opened}
 use Rattle.chess_entry.proofs.GameLaw.{law-of_game}
-use Rattle.chess_entry.proofs.Numbers.{dropped_in, opened_in, opened_in-same, entries_of-own, entries_of-other, last_number-more, last_number-same, FollowsIn, games-changed, games-dropped, games-opened, Stands, found-stands}
+use Rattle.chess_entry.proofs.Numbers.{opened_in, opened_in-same, entries_of-own, entries_of-other, last_number-more, last_number-same, FollowsIn, games-changed, games-dropped, games-opened, found-stands}
 
 -- What is true of the entries of a table: none is of a game with a number beyond the last, and those of each game are
 -- sound.

@@ -17,7 +17,7 @@ use Rattle.chess_entry.specs.State.{GameState, find_game}
 use Rattle.chess_entry.specs.Story.{entries_of, first_given, given_or, opening_of, is_open, is_drop}
 use Rattle.chess_entry.specs.Games.{game_in, game_if, game_shown, number_of, last_number, games_shown}
 use Rattle.chess_entry.specs.Verdict.{is_period}
-use Rattle.chess_entry.specs.Follow.{follow_game, follow_if, follow_games, last_after, new_game, fresh_seat}
+use Rattle.chess_entry.specs.Follow.{follow_game, follow_if, last_after, new_game, fresh_seat}
 use Rattle.chess_entry.proofs.OneMore.{filter-more, first_given-more, given_or-none, list_any-more, last_passing-more, flat_map-more, range-more}
 use Rattle.chess_entry.proofs.Shown.{or_false, or_true}
 

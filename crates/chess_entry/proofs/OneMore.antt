@@ -1,10 +1,9 @@
 -- Lists with one element more at their end.
-use Rattle.std.specs.Prelude.{ℕ, ◌≡◌, ◌+◌, ◌-◌, ◌≤◌, Bool, true, false, ◌||◌, not, if◌then◌else◌, List, [], ◌∷◌, ◌++◌, length, filter, reverse, map, max, Option, Some, None}
+use Rattle.std.specs.Prelude.{ℕ, ◌≡◌, ◌+◌, ◌-◌, Bool, true, false, ◌||◌, not, if◌then◌else◌, List, [], ◌∷◌, ◌++◌, length, filter, max, Option, Some, None}
 use Rattle.std.specs.List.{flat_map, last_or, list_any, after_last, prefix_len, suffix_len, range_with_len}
 use Rattle.std.proofs.Common.{arith, ap, sym, ◌∙◌, refl, drop, suc, zero, add-one, append_assoc, length-append}
-use Rattle.std.proofs.Math.Seq.{drop-length}
 use Rattle.std.proofs.Math.ListN.{drop_of_length-le}
-use Rattle.std.proofs.lemmas.List.{append-nil, reverse-append, drop-append-le, map-append}
+use Rattle.std.proofs.lemmas.List.{append-nil, reverse-append, drop-append-le}
 use Rattle.std.proofs.lemmas.List.Elements.{filter-append}
 use Rattle.std.proofs.lemmas.List.Sums.{suffix_len-le-length}
 use Rattle.std.proofs.lemmas.List.Folds.{list_any-append}

@@ -1,7 +1,6 @@
 -- A game by its parts, and what the entries of a game that runs do to them.
-use Rattle.std.specs.Prelude.{ℕ, ◌≡◌, ◌+◌, ◌-◌, ◌<◌, ◌≤◌, Bool, true, false, ◌&&◌, ◌||◌, not, if◌then◌else◌, List, [], ◌∷◌, ◌++◌, length, Option, Some, None, is_some, is_none}
-use Rattle.std.proofs.Common.{arith, ap, sym, ◌∙◌, refl, append_assoc, length-append}
-use Rattle.std.proofs.lemmas.List.{append-nil}
+use Rattle.std.specs.Prelude.{ℕ, ◌≡◌, ◌+◌, ◌-◌, Bool, true, false, ◌&&◌, ◌||◌, not, if◌then◌else◌, List, [], ◌∷◌, ◌++◌, length, Option, Some, None, is_some, is_none}
+use Rattle.std.proofs.Common.{ap, ◌∙◌, refl}
 use Rattle.chess_bits.specs.declared.men.Colour.{Colour}
 use Rattle.chess_bits.specs.declared.men.Colour.TheVariants.{White, Black}
 use Rattle.chess_bits.specs.Man.{is_colour, other}
@@ -11,15 +10,14 @@ use Rattle.chess_end.specs.declared.ending.Ending.{Ending}
 use Rattle.chess_clock.specs.declared.events.Event.{Event as ClockEvent}
 use Rattle.chess_clock.specs.declared.events.Event.TheVariants as clock
 use Rattle.chess_clock.specs.TimeControl.{TimeControl}
-use Rattle.chess_clock.specs.Events.{time_used}
-use Rattle.chess_clock.specs.Held.{held, given}
+use Rattle.chess_clock.specs.Held.{held}
 use Rattle.chess_clock.specs.ClockState.{on_move_after}
 use Rattle.rec_codec.specs.declared.record.Opening.{Opening}
 use Rattle.chess_entry.specs.State.{SeatState, GameState, position_after}
-use Rattle.chess_entry.specs.GameTimes.{left_at, moment_shown, claimant_turn}
+use Rattle.chess_entry.specs.GameTimes.{left_at, moment_shown}
 use Rattle.chess_entry.specs.Games.{control_of}
-use Rattle.chess_entry.specs.Follow.{seated, joined, with_offer, ended, ended_if, turn_ended, claimed_wrongly, seat_after_claim, completed, held_after_turn}
-use Rattle.chess_entry.proofs.HeldLemmas.{AreTimed, IsTimed, side-after, held-own_turn, held-others_turn, held-own_claim, held-others_claim}
+use Rattle.chess_entry.specs.Follow.{seated, joined, with_offer, ended_if, turn_ended, claimed_wrongly, seat_after_claim, completed, held_after_turn}
+use Rattle.chess_entry.proofs.HeldLemmas.{AreTimed, side-after, held-own_turn, held-others_turn, held-own_claim, held-others_claim}
 
 -- who plays a side: who opened the game, or who joined it
 abbrev pub player : Opening → Option (List ℕ) → Colour → Option (List ℕ)

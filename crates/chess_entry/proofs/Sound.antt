@@ -1,11 +1,10 @@
 -- What stays true of a game's entries with one entry more that its game allows.
-use Rattle.std.specs.Prelude.{ℕ, ◌≡◌, ◌-◌, ◌+◌, ◌<◌, Bool, true, false, if◌then◌else◌, List, [], ◌∷◌, ◌++◌, length, Option, Some, None, is_some}
+use Rattle.std.specs.Prelude.{ℕ, ◌≡◌, ◌-◌, ◌<◌, Bool, List, [], ◌∷◌, ◌++◌, length, Option, Some, None, is_some}
 use Rattle.std.proofs.Common.{ap, sym, subst, ◌∙◌, refl, append_assoc, length-append}
 use Rattle.std.proofs.lemmas.List.{append-nil}
 use Rattle.std.proofs.lemmas.Bool.{true≢false}
 use Rattle.chess_bits.specs.declared.men.Colour.{Colour}
 use Rattle.chess_board.specs.declared.moves.Move.{Move}
-use Rattle.chess_board.specs.Position.{Position}
 use Rattle.chess_end.specs.declared.ending.Ending.{Ending}
 use Rattle.chess_clock.specs.declared.events.Event.{Event as ClockEvent}
 use Rattle.chess_clock.specs.declared.events.Event.TheVariants as clock
@@ -17,14 +16,13 @@ use Rattle.rec_codec.specs.declared.record.Event.TheVariants as event
 use Rattle.rec_codec.specs.declared.record.Entry.{Entry}
 use Rattle.rec_codec.specs.declared.record.Opening.{Opening}
 use Rattle.rec_codec.specs.Records.{entry}
-use Rattle.chess_entry.specs.State.{GameState, position_after, position_of, is_joined}
 use Rattle.chess_entry.specs.Story.{placed, given_or, joiner_of, moves_told, move_told, stated}
-use Rattle.chess_entry.specs.Outcome.{ending_by, ending_in, is_correct}
+use Rattle.chess_entry.specs.Outcome.{ending_by, ending_in}
 use Rattle.chess_entry.specs.GameTimes.{clock_event, clock_events, clock_events_at, claimant_turn, turn_start}
 use Rattle.chess_entry.specs.Games.{control_of, game_in}
 use Rattle.chess_entry.proofs.Fields.{joiner_in, joiner_in-more, given_or-parts, ending_in-more, clock_events-more, moves_told-more, is_correct-none}
-use Rattle.chess_entry.proofs.HeldLemmas.{AreTimed, AreTimed-turn, AreTimed-claim, IsTimed, IsTimed-start, side-after, held-own_claim}
-use Rattle.chess_entry.proofs.Allowed.{IsPlaying, IsInTime, IsAllowed}
+use Rattle.chess_entry.proofs.HeldLemmas.{AreTimed, AreTimed-turn, AreTimed-claim, IsTimed-start, side-after, held-own_claim}
+use Rattle.chess_entry.proofs.Allowed.{IsPlaying, IsAllowed}
 use Rattle.chess_entry.proofs.InPlay.{IsSound, is_joined-in, on_move-in, mover-in, up-in}
 
 -- ---- the times

@@ -1,5 +1,5 @@
 -- What holds of every game on a table, also of one that a snapshot names, whoever wrote it.
-use Rattle.std.specs.Prelude.{ℕ, ◌≡◌, ◌≢◌, ◌≤◌, ◌<◌, ◌+◌, ◌*◌, ◌^◌, ◌&&◌, ◌||◌, Bool, true, false, if◌then◌else◌, List, [], ◌∷◌, ◌++◌, length, Option, Some, None, IfSome}
+use Rattle.std.specs.Prelude.{ℕ, ◌≡◌, ◌≢◌, ◌≤◌, ◌<◌, ◌+◌, ◌*◌, ◌^◌, ◌&&◌, ◌||◌, true, false, if◌then◌else◌, List, [], ◌∷◌, ◌++◌, Option, Some, None, IfSome}
 use Rattle.chess_bits.specs.declared.men.Colour.{Colour}
 use Rattle.chess_bits.specs.declared.men.Colour.TheVariants.{White, Black}
 use Rattle.chess_bits.specs.Man.{other, is_colour}
@@ -14,9 +14,9 @@ use Rattle.chess_end.specs.declared.ending.Ending.{Ending}
 use Rattle.chess_clock.specs.TimeControl.{IsTimeControl}
 use Rattle.chess_clock.specs.Held.{given_for}
 use Rattle.rec_codec.specs.Name.{IsName}
-use Rattle.chess_entry.specs.State.{SeatState, GameState, TableState, ply_of, position_of, seat_of, is_joined, is_over}
+use Rattle.chess_entry.specs.State.{GameState, ply_of, position_of, seat_of, is_joined, is_over}
 use Rattle.chess_entry.specs.Outcome.{ending_after}
-use Rattle.chess_entry.specs.Verdict.{is_start, is_finished_at}
+use Rattle.chess_entry.specs.Verdict.{is_finished_at}
 use Rattle.chess_entry.specs.Follow.{completed}
 
 -- a position that a game may start from

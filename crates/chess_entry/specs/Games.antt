@@ -1,5 +1,5 @@
 -- The table that a list of entries means. Each field is read off the whole list.
-use Rattle.std.specs.Prelude.{ℕ, ◌==◌, Bool, if◌then◌else◌, List, [], ◌∷◌, filter, length, map, max, Option, Some, None}
+use Rattle.std.specs.Prelude.{ℕ, if◌then◌else◌, List, [], ◌∷◌, filter, length, map, max, Option, Some, None}
 use Rattle.std.specs.List.{flat_map, list_any, last_or, range_with_len}
 use Rattle.chess_bits.specs.declared.men.Colour.{Colour}
 use Rattle.chess_bits.specs.declared.men.Colour.TheVariants.{White, Black}

@@ -1,5 +1,5 @@
 -- Which lists of entries a table can go through.
-use Rattle.std.specs.Prelude.{ℕ, ◌≡◌, ◌≤◌, List, [], ◌∷◌, ◌++◌, IfSome}
+use Rattle.std.specs.Prelude.{◌≡◌, ◌≤◌, List, [], ◌∷◌, ◌++◌, IfSome}
 use Rattle.rec_codec.specs.declared.limits.Version.TheVariants.{Two}
 use Rattle.rec_codec.specs.declared.limits.Limits.{Limits}
 use Rattle.rec_codec.specs.Limits.{IsInRange}
@@ -7,7 +7,6 @@ use Rattle.rec_codec.specs.Name.{IsName}
 use Rattle.rec_codec.specs.declared.record.Entry.{Entry}
 use Rattle.chess_entry.specs.declared.commands.Command.{Command}
 use Rattle.chess_entry.specs.declared.verdicts.Verdict.TheVariants.{Enter}
-use Rattle.chess_entry.specs.State.{TableState}
 use Rattle.chess_entry.specs.Games.{table_of}
 use Rattle.chess_entry.specs.Verdict.{IsVerdict}
 use Rattle.chess_entry.specs.Follow.{follow}

@@ -1,5 +1,5 @@
 -- How games end, by their lines of positions.
-use Rattle.std.specs.Prelude.{ℕ, Bool, true, false, ◌||◌, nat_le, if◌then◌else◌, List, [], ◌++◌, count_by, Option, Some, None}
+use Rattle.std.specs.Prelude.{ℕ, Bool, true, false, nat_le, if◌then◌else◌, List, [], ◌++◌, count_by, Option, Some, None}
 use Rattle.std.specs.List.{flat_map}
 use Rattle.chess_bits.specs.declared.men.Colour.{Colour}
 use Rattle.chess_bits.specs.Man.{other}
@@ -16,7 +16,6 @@ use Rattle.chess_end.specs.declared.ending.Article.TheVariants as articles
 use Rattle.chess_end.specs.declared.ending.Ending.{Ending}
 use Rattle.chess_end.specs.Ending.{won_by}
 use Rattle.chess_end.specs.Computing.{is_checkmate, is_stalemate, is_listed_dead, has_king_alone}
-use Rattle.rec_codec.specs.declared.record.Claim.{Claim}
 use Rattle.rec_codec.specs.declared.record.Event.{Event}
 use Rattle.rec_codec.specs.declared.record.Event.TheVariants as event
 use Rattle.rec_codec.specs.declared.record.Entry.{Entry}

@@ -1,6 +1,5 @@
 -- A table of games, as the players see it, and what can be read off a game that stands on it.
-use Rattle.std.specs.Prelude.{ℕ, ◌==◌, ◌&&◌, Bool, false, List, [], ◌∷◌, length, Option, Some, None, is_some, if◌then◌else◌}
-use Rattle.std.specs.List.{filter_map}
+use Rattle.std.specs.Prelude.{ℕ, ◌==◌, ◌&&◌, Bool, List, [], ◌∷◌, length, Option, Some, None, is_some, if◌then◌else◌}
 use Rattle.chess_bits.specs.declared.men.Colour.{Colour}
 use Rattle.chess_bits.specs.declared.men.Colour.TheVariants.{White, Black}
 use Rattle.chess_board.specs.declared.moves.Move.{Move}
@@ -9,7 +8,6 @@ use Rattle.chess_board.specs.Next.{next}
 use Rattle.chess_end.specs.declared.ending.Ending.{Ending}
 use Rattle.chess_clock.specs.TimeControl.{TimeControl}
 use Rattle.rec_codec.specs.declared.limits.Limits.{Limits}
-use Rattle.rec_codec.specs.Name.{name_bytes}
 
 -- A side of a game: who plays it, the milliseconds that it held at the start of the running turn (of a game that is over,
 -- what it had left at the end), and whether an offer of a draw by it stands.

@@ -2,7 +2,7 @@
 use Rattle.std.specs.Prelude.{ℕ, ◌==◌, ◌&&◌, Bool, true, false, List, [], ◌∷◌, ◌++◌, filter, Option, Some, None, is_some}
 use Rattle.std.specs.List.{flat_map}
 use Rattle.chess_bits.specs.declared.men.Colour.{Colour}
-use Rattle.chess_bits.specs.Man.{is_colour, other}
+use Rattle.chess_bits.specs.Man.{is_colour}
 use Rattle.chess_board.specs.declared.moves.Move.{Move}
 use Rattle.chess_clock.specs.ClockState.{on_move_after}
 use Rattle.rec_codec.specs.declared.record.Event.{Event}

@@ -6,7 +6,7 @@ use Rattle.chess_board.specs.Initial.{initial}
 use Rattle.chess_san.specs.Reading.{Names}
 use Rattle.chess_text.specs.Fen.{IsFenOf}
 use Rattle.arrayvec.specs.ArrayString.{ArrayString}
-use Rattle.chess_entry.specs.State.{GameState, TableState, position_of, find_game}
+use Rattle.chess_entry.specs.State.{GameState, position_of}
 
 -- a start and a move that a command tells, where it tells one
 pub record Told : Type 0 where

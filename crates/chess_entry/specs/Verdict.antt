@@ -7,7 +7,6 @@ use Rattle.chess_bits.specs.Man.{is_colour, other}
 use Rattle.chess_board.specs.declared.moves.Move.{Move}
 use Rattle.chess_board.specs.Position.{Position}
 use Rattle.chess_end.specs.Computing.{is_checkmate, is_stalemate, is_listed_dead}
-use Rattle.rec_codec.specs.declared.record.Event.{Event}
 use Rattle.rec_codec.specs.declared.record.Event.TheVariants as event
 use Rattle.rec_codec.specs.declared.record.Opening.{Opening}
 use Rattle.rec_codec.specs.Records.{entry}
@@ -18,7 +17,7 @@ use Rattle.chess_entry.specs.declared.refusals.Refusal.{Refusal}
 use Rattle.chess_entry.specs.declared.refusals.Refusal.TheVariants.{NoName, NoGame, NotSeated, NotStarted, Over, WrongPly, NotYourMove, BadMove, OfferStands, NoOffer, TooEarly, AlreadyClaimed, FlagUp, Taken, SamePlayer, BadFen, BadTime, TooManyGames, TooLong, NotOver, BadMoment, Finished}
 use Rattle.chess_entry.specs.declared.verdicts.Verdict.{Verdict}
 use Rattle.chess_entry.specs.declared.verdicts.Verdict.TheVariants.{Refuse, Enter, Read}
-use Rattle.chess_entry.specs.State.{SeatState, GameState, TableState, position_of, ply_of, seat_of, is_joined, is_over, find_game}
+use Rattle.chess_entry.specs.State.{GameState, TableState, position_of, ply_of, seat_of, is_joined, is_over, find_game}
 use Rattle.chess_entry.specs.Told.{Told, IsStartTold, IsMoveTold, bytes_of}
 
 -- a check: whether it applies, and the verdict where it does
