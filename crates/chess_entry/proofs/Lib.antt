@@ -11,3 +11,5 @@ pub mod GameLaw
 pub mod Numbers
 pub mod LawOfFollow
 pub mod Examples
+pub mod LawfulLists
+pub mod ExampleLists
