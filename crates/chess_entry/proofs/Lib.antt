@@ -12,3 +12,5 @@ pub mod Numbers
 pub mod LawOfFollow
 pub mod Examples
 mod EndingCases
+pub mod LawfulLists
+pub mod ExampleLists
