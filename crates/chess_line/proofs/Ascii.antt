@@ -17,7 +17,7 @@ use Rattle.chess_entry.specs.declared.commands.Act.TheVariants as acts
 use Rattle.chess_line.specs.declared.lines.Line.{Line}
 use Rattle.chess_line.specs.declared.lines.Line.TheVariants as lines
 use Rattle.chess_line.specs.Fields.{IsNumber, IsField, IsRest, colour_word, claim_word, times_text, AreTimes, optional}
-use Rattle.chess_line.specs.Line.{act_fields, line_fields, IsSayable, IsSayableLine, IsLineOf}
+use Rattle.chess_line.specs.Line.{act_fields, line_fields, IsSayable, IsSayableLine, HasForm}
 
 abbrev AreAscii : List (List ℕ) → Type 0
 AreAscii [] = Unit {0}
@@ -119,5 +119,5 @@ fields_ascii : (line : Line) → IsSayableLine line → AreAscii (line_fields li
 fields_ascii (lines.Called name) h = (plain (codes "name") refl, (name_ascii_by name h.bytes, tt))
 fields_ascii (lines.Act act) h = act_ascii act h
 
-pub line_ascii : (text : List ℕ) (line : Line) → IsLineOf text line → IsAscii text
+pub line_ascii : (text : List ℕ) (line : Line) → HasForm text line → IsAscii text
 line_ascii text line h = rw (h.spelled) (joined_ascii (line_fields line) (fields_ascii line h.sayable))

@@ -14,7 +14,7 @@ use Rattle.chess_line.specs.declared.lines.Line.{Line}
 use Rattle.chess_line.specs.declared.lines.Line.TheVariants as lines
 use Rattle.chess_line.specs.Fields.{IsNumber, IsField, IsRest, colour_word, claim_word, times_text, AreTimes, optional}
 use Rattle.chess_line.specs.Cut.{Unspaced, joined}
-use Rattle.chess_line.specs.Line.{act_fields, IsSayable, IsLineAfter, IsLineOf}
+use Rattle.chess_line.specs.Line.{act_fields, IsSayable, IsLineAfter, HasForm}
 use Rattle.chess_line.proofs.Cuts.{same_parts, no_parts, clear, clear_without, same_number, Without, without_append, without_cons, decimal_without}
 
 -- a test for the word of a line
@@ -179,7 +179,7 @@ game_after word rest (acts.Pgn g) h o m k is =
     of_game word rest (codes "pgn") g (acts.Pgn g) h (unspaced (codes "pgn") refl) is.sayable is.sayable refl is.spelled
 
 -- A line without a space is `list`.
-pub is_list : (word : List ℕ) (line : Line) → Unspaced word → IsLineOf word line → word ≡ codes "list"
+pub is_list : (word : List ℕ) (line : Line) → Unspaced word → HasForm word line → word ≡ codes "list"
 is_list word (lines.Called name) h is = absurd (no_parts 32 word (codes "name") name h is.spelled)
 is_list word (lines.Act acts.List) h is = is.spelled
 is_list word (lines.Act (acts.NewGame colour initial increment fen period)) h is = absurd (no_parts 32 word (codes "open") _ h is.spelled)
@@ -203,7 +203,7 @@ pub record ActAfter (word rest : List ℕ) (line : Line) : Type 0 where
   pub after : IsLineAfter word rest (lines.Act act)
 
 pub act_after : (text word rest : List ℕ) (line : Line) → Unspaced word → word ≢ codes "name" → text ≡ word ++ (32 ∷ rest) →
-    IsLineOf text line → ActAfter word rest line
+    HasForm text line → ActAfter word rest line
 act_after text word rest (lines.Called name) h n e is =
     absurd (n (same_parts 32 word (codes "name") rest name h (unspaced (codes "name") refl) (sym e ∙ is.spelled)).front)
 act_after text word rest (lines.Act act) h n e is = record {

@@ -1,5 +1,5 @@
 -- The forms of the lines that a client sends.
-use Rattle.std.specs.Prelude.{ℕ, ◌≡◌, List, [], ◌∷◌, ◌++◌, codes, decimal, IfSome, option_map}
+use Rattle.std.specs.Prelude.{ℕ, ◌≡◌, ◌≤◌, length, List, [], ◌∷◌, ◌++◌, codes, decimal, IfSome, option_map}
 use Rattle.std.specs.List.{join_with_byte}
 use Rattle.rec_codec.specs.Name.{IsName}
 use Rattle.chess_entry.specs.declared.commands.Act.{Act}
@@ -55,11 +55,16 @@ abbrev pub IsSayableLine : Line → Type 0
 IsSayableLine (lines.Called name) = IsName name
 IsSayableLine (lines.Act act) = IsSayable act
 
--- The text, without the line feed and the carriage return at its end, is a line: its fields with one space between
--- each two.
-pub record IsLineOf (text : List ℕ) (line : Line) : Type 0 where
+-- The text is the line's fields with one space between each two.
+pub record HasForm (text : List ℕ) (line : Line) : Type 0 where
   pub spelled : text ≡ join_with_byte 32 (line_fields line)
   pub sayable : IsSayableLine line
+
+-- The text, without the line feed and the carriage return at its end, is this line of the protocol, which has at most 255
+-- bytes.
+pub record IsLineOf (text : List ℕ) (line : Line) : Type 0 where
+  pub short : length text ≤ 255
+  pub form : HasForm text line
 
 -- an act and a line without the room that their texts leave unused
 abbrev pub shown_act : Act → Act

@@ -1,7 +1,7 @@
 //! A line, read.
 ghost use Rattle.std.specs.Prelude.{IfSome, IfNone, IsSomeAnd};
 ghost use Rattle.chess_line.specs.declared.lines.Line.{Line};
-ghost use Rattle.chess_line.specs.Line.{IsLineOf, SameLine};
+ghost use Rattle.chess_line.specs.Line.{HasForm, IsLineOf, SameLine};
 
 use crate::acts::read_act;
 use crate::fields::cut;
@@ -17,12 +17,10 @@ pub enum Line {
     Act(Act),
 }
 
-// A name line, of what follows its word and a space.
-// A line of the word alone.
 // A line that is text.
 fn read(text: &str) -> Option<Line>
-    ensures some { IfSome result (IsLineOf text.now) }
-    ensures every { (line : Line) → IsLineOf text.now line → IsSomeAnd result (SameLine line) }
+    ensures some { IfSome result (HasForm text.now) }
+    ensures every { (line : Line) → HasForm text.now line → IsSomeAnd result (SameLine line) }
 {
     let (word, rest) = cut(text);
     let Some(rest) = rest else {
@@ -40,13 +38,16 @@ fn read(text: &str) -> Option<Line>
     Some(Line::Act(act))
 }
 
-/// What a line asks for, given without the line feed at its end and without one carriage return before that. `None`
-/// exactly where it has no form of the protocol's.
+/// What a line of at most 255 bytes asks for, given without the line feed at its end and without one carriage return
+/// before that. `None` exactly where it is longer, or has no form of the protocol's (`docs/PROTOCOL.md`).
 pub fn parse(line: &[u8]) -> Option<Line>
     ensures some { IfSome result (IsLineOf line.now) }
     ensures none { IfNone result ((other : Line) → ¬ IsLineOf line.now other) }
     ensures one { IfSome result (λ told. (other : Line) → IsLineOf line.now other → SameLine other told) }
 {
+    if line.len() > 255 {
+        return None;
+    }
     match str::from_utf8(line) {
         Ok(text) => read(text),
         Err(_) => None,

@@ -207,3 +207,19 @@ fn refuses_bytes_outside_of_text(rt: HostRuntime) {
     assert!(rt; parse(b"open white 60 0 8/8 w\x7f").is_none());
     assert!(rt; parse(&[b'x'; 255]).is_none());
 }
+
+// A line of 255 bytes is read, and one of 256 is not: `move 1 0 ` has nine.
+#[test]
+fn refuses_lines_over_255_bytes(rt: HostRuntime) {
+    let mut line = [b'x'; 256];
+    line[..9].copy_from_slice(b"move 1 0 ");
+    assert!(rt; parse(&line[..255]).is_some());
+    assert!(rt; parse(&line).is_none());
+}
+
+// Only a FEN may have spaces as it likes: whether it is one is not asked here.
+#[test]
+fn takes_any_text_for_a_fen(rt: HostRuntime) {
+    assert!(rt; parse(b"open white 60 0  8/8").is_some());
+    assert!(rt; parse(b"open white 60 0 8/8 ").is_some());
+}
