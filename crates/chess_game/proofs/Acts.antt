@@ -1,5 +1,5 @@
 -- What the calls of a game do to its parts is what happens to the game that the players see.
-use Rattle.std.proofs.Common.{ℕ, ◌≡◌, ◌+◌, ◌-◌, ◌*◌, ◌<◌, ◌≤◌, Bool, true, false, List, [], ◌∷◌, ◌++◌, length, Option, Some, None, refl, sym, ap, ◌∙◌, subst, inl, inr, arith}
+use Rattle.std.proofs.Common.{ℕ, ◌≡◌, ◌-◌, ◌*◌, ◌<◌, ◌≤◌, Bool, true, false, List, [], ◌∷◌, ◌++◌, length, Option, Some, None, refl, sym, ap, ◌∙◌, subst, inl, inr, arith}
 use Rattle.std.specs.Prelude.{◌&&◌, ◌||◌, not, if◌then◌else◌, ◌==◌, nat_eq, nat_le, replicate, IsTrue, ◌↔◌}
 use Rattle.std.specs.Cmp.Lexicographic.{pointwise, bytes_decides}
 use Rattle.std.proofs.lemmas.Bool.{cases_Bool, false≢true}
@@ -23,7 +23,7 @@ use Rattle.chess_entry.specs.Story.{stated}
 use Rattle.chess_entry.specs.Outcome.{ending_after, is_granted, claimed_draw}
 use Rattle.chess_entry.specs.Games.{control_of}
 use Rattle.chess_entry.specs.Verdict.{has_fallen, is_finished_at}
-use Rattle.chess_entry.specs.Follow.{fresh_seat, new_game, joined, ended, ended_if, completed, turn_ended, moved, moved_if, claimed_wrongly, claim_judged}
+use Rattle.chess_entry.specs.Follow.{fresh_seat, new_game, ended, ended_if, completed, turn_ended, moved, moved_if, claimed_wrongly, claim_judged}
 use Rattle.chess_entry.specs.Bounds.{IsGame}
 use Rattle.chess_game.specs.declared.games.Game.TheInside.{Inside}
 use Rattle.chess_game.specs.declared.sides.Seat.{Seat}

@@ -12,7 +12,7 @@ use Rattle.chess_clock.specs.declared.events.Event.TheVariants.{Turn, WrongClaim
 use Rattle.chess_clock.specs.TimeControl.{TimeControl, moves_to_go}
 use Rattle.chess_clock.specs.Events.{time_used}
 use Rattle.chess_clock.specs.SideTimes.{second_within, given_further}
-use Rattle.chess_clock.specs.ClockState.{ClockState, time_of, after, time_after, on_move_after}
+use Rattle.chess_clock.specs.ClockState.{ClockState, time_of, time_after, on_move_after}
 use Rattle.chess_end.specs.declared.ending.Ending.{Ending}
 use Rattle.chess_entry.specs.State.{SeatState, GameState, position_after, position_of, ply_of, seat_of, is_over}
 use Rattle.chess_entry.specs.Follow.{completed, held_after_turn, turn_ended, ended, ended_if, claimed_wrongly}

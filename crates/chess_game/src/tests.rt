@@ -132,6 +132,15 @@ fn move_of(from: u8, to: u8) -> Option<Move>
     })
 }
 
+// What a side has left at a moment that is not before the running turn.
+fn left(game: &Game, colour: Colour, at: u64) -> Option<u32> {
+    if game.moment() <= at {
+        Some(game.left(colour, at))
+    } else {
+        None
+    }
+}
+
 // Makes a move.
 fn play(game: &mut Game, at: u64, from: u8, to: u8) -> Result<(), Fail> {
     let mv = move_of(from, to).ok_or("squares")?;
@@ -197,8 +206,8 @@ fn a_mate_in_four_plies(rt: HostRuntime) -> Result<(), Fail> {
     assert_eq!(rt; game.ending(), ended(GameResult::Black, Article::A511));
     assert_eq!(rt; game.ply(), 4);
     assert_eq!(rt; game.moves().len(), 4);
-    assert_eq!(rt; game.left(White, 1_000), 304_000);
-    assert_eq!(rt; game.left(Black, 9_000), 304_000);
+    assert_eq!(rt; left(&game, White, 1_000), Some(304_000));
+    assert_eq!(rt; left(&game, Black, 9_000), Some(304_000));
     assert!(rt; game.is_over());
     Ok(())
 }
@@ -208,8 +217,8 @@ fn a_mate_in_four_plies(rt: HostRuntime) -> Result<(), Fail> {
 fn a_move_before_the_flag_falls(rt: HostRuntime) -> Result<(), Fail> {
     let mut game = joined(rt.alloc(), &Board::initial(), 60, 2, None, 1_000)?;
     play(&mut game, 60_999, 12, 28)?;
-    assert_eq!(rt; game.left(White, 60_999), 2_001);
-    assert_eq!(rt; game.left(Black, 60_999), 60_000);
+    assert_eq!(rt; left(&game, White, 60_999), Some(2_001));
+    assert_eq!(rt; left(&game, Black, 60_999), Some(60_000));
     assert_eq!(rt; game.moment(), 60_999);
     let mut late = joined(rt.alloc(), &Board::initial(), 60, 2, None, 1_000)?;
     if !runs_at(&late, 61_000) {
@@ -218,7 +227,7 @@ fn a_move_before_the_flag_falls(rt: HostRuntime) -> Result<(), Fail> {
     assert!(rt; late.has_fallen(61_000));
     late.fall(61_000);
     assert_eq!(rt; late.ending(), ended(GameResult::Black, Article::A69));
-    assert_eq!(rt; late.left(White, 61_000), 0);
+    assert_eq!(rt; left(&late, White, 61_000), Some(0));
     Ok(())
 }
 
@@ -262,16 +271,16 @@ fn wrong_claims_give_time_and_offer(rt: HostRuntime) -> Result<(), Fail> {
     play_all(&mut game, 1_000, &KNIGHTS)?;
     claim_with(&mut game, 5_000, true, 12, 28)?;
     assert_eq!(rt; game.ply(), 9);
-    assert_eq!(rt; game.left(White, 5_000), 296_000);
-    assert_eq!(rt; game.left(Black, 5_000), 420_000);
+    assert_eq!(rt; left(&game, White, 5_000), Some(296_000));
+    assert_eq!(rt; left(&game, Black, 5_000), Some(420_000));
     assert!(rt; game.offers(White));
     assert!(rt; !game.claimed());
     claim(&mut game, 6_000, false)?;
     assert!(rt; game.claimed());
     assert!(rt; game.offers(White));
     assert!(rt; game.offers(Black));
-    assert_eq!(rt; game.left(White, 6_000), 416_000);
-    assert_eq!(rt; game.left(Black, 6_000), 419_000);
+    assert_eq!(rt; left(&game, White, 6_000), Some(416_000));
+    assert_eq!(rt; left(&game, Black, 6_000), Some(419_000));
     assert_eq!(rt; game.moment(), 5_000);
     if !runs_at(&game, 6_000) {
         return Err("runs".into());
@@ -492,10 +501,10 @@ fn offers_are_answered(rt: HostRuntime) -> Result<(), Fail> {
 fn the_second_period_begins_with_its_move(rt: HostRuntime) -> Result<(), Fail> {
     let mut game = joined(rt.alloc(), &Board::initial(), 60, 2, Some((1, 30)), 0)?;
     play(&mut game, 10_000, 12, 28)?;
-    assert_eq!(rt; game.left(White, 10_000), 82_000);
-    assert_eq!(rt; game.left(Black, 10_000), 60_000);
+    assert_eq!(rt; left(&game, White, 10_000), Some(82_000));
+    assert_eq!(rt; left(&game, Black, 10_000), Some(60_000));
     play(&mut game, 69_999, 52, 36)?;
-    assert_eq!(rt; game.left(White, 69_999), 82_000);
-    assert_eq!(rt; game.left(Black, 69_999), 32_001);
+    assert_eq!(rt; left(&game, White, 69_999), Some(82_000));
+    assert_eq!(rt; left(&game, Black, 69_999), Some(32_001));
     Ok(())
 }
