@@ -14,7 +14,7 @@ pub struct Asked<'a> {
 /// Whether the words ask for the usage alone.
 pub fn asks_for_help(words: &[String]) -> bool {
     match words {
-        [_program, word] => word == "--help",
+        [_program, word] => word.as_str() == "--help",
         _ => false,
     }
 }

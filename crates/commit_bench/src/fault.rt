@@ -37,7 +37,7 @@ impl From<AllocError> for Fault {
 }
 
 impl fmt::Display for Fault {
-    fn fmt(&self, f: &mut fmt::Formatter<'_>) -> fmt::Result {
+    fn fmt<W: fmt::Write>(&self, f: &mut fmt::Formatter<W>) -> fmt::Result {
         match self {
             Fault::Usage => f.write_str(
                 "usage: commit_bench FILE RECORDS COMMITS, 1 to 64 records",
