@@ -10,3 +10,4 @@ pub mod Records
 pub mod Period
 pub mod Sector
 pub mod Header
+pub mod OneProof
