@@ -7,3 +7,4 @@ pub mod SidesLemmas
 pub mod KeptGame
 pub mod Shown
 pub mod Acts
+mod Refused

@@ -1,4 +1,4 @@
-ghost use Rattle.std.specs.Prelude.{◌≡◌, ◌≤◌, ◌<◌, ◌++◌, length, true, false, IfOk, OnOk, OnErr};
+ghost use Rattle.std.specs.Prelude.{◌≡◌, ◌≤◌, ◌<◌, ◌++◌, length, true, false, is_some, IfOk, OnOk, OnErr};
 ghost use Rattle.chess_bits.specs.Man.{other};
 ghost use Rattle.chess_clock.specs.TimeControl.{time_control, IsTimeControl};
 ghost use Rattle.chess_entry.specs.State.{position_of, ply_of, seat_of, is_joined, is_over};
@@ -370,13 +370,16 @@ impl Game {
     }
 
     /// A claim is judged: a correct one ends the game without its stated move. A wrong one gives 120,000 ms to the
-    /// opponent, counts as an offer, and its stated move is made. It fails where memory is refused, and then all is as
-    /// it was.
+    /// opponent, counts as an offer, and its stated move is made. It fails where memory for that move is refused, and
+    /// then all is as it was.
     pub fn claim(&mut self, at: u64, claim: &Claim) -> Result<(), AllocError>
         requires in_time { IsInTime self.old at }
         requires judgeable { IsJudgeable self.old claim.now }
         ensures judged { OnOk result (self.new ≡ claim_judged self.old at claim.now) }
         ensures refused { OnErr result (self.new ≡ self.old) }
+        ensures wrong { OnErr result (is_granted claim.now.fifty self.old.start (self.old.moves ++ stated claim.now.mv)
+            ≡ false) }
+        ensures stating { OnErr result (is_some claim.now.mv ≡ true) }
     {
         let mv = stated_move(claim);
         if self.is_granted(claim.fifty, mv) {

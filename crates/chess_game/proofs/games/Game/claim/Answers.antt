@@ -1,8 +1,11 @@
 use Rattle.std.proofs.Common.{true, false, sym, ap, ◌∙◌, subst}
+use Rattle.std.specs.Prelude.{Option, is_some}
+use Rattle.chess_board.specs.declared.moves.Move.{Move}
 use Rattle.chess_board.specs.Legal.{IsLegal}
 use Rattle.chess_end.specs.declared.ending.Ending.{Ending}
 use Rattle.chess_entry.specs.Follow.{ended, moved, claimed_wrongly}
 use Rattle.chess_game.specs.Line.{LineState, last_of}
+use Rattle.chess_game.proofs.Refused.{on_err}
 use Rattle.chess_game.proofs.KeptGame.{IsGame-moved}
 use Rattle.chess_game.proofs.Shown.{Shows-kept, IsGame-kept, IsSound-shown, state_of-shown}
 use Rattle.chess_game.proofs.Acts.{HasRoom-playable, TimesFit-claim, TimesFit-turn, NotFallen-turn, IsOnWay-judged, IsGame-claimed, IsInTime-judged, IsPlayable-judged, Shows-claimed, claim-shows, granted-as, judged-granted, judged-none, judged-some}
@@ -119,3 +122,14 @@ returns-in_ok-push-in-Some-clause-judged c =
     (granted-as game claim c.stated_move-mv.result c.is_granted.result false c.stated_move-mv.ensures
     c.is_granted.ensures c.if-is_granted.false)
     (sym c.stated_move-mv.ensures ∙ c.in-Some.is)
+
+pub returns-in_err-push-in-Some-clause-wrong : goal.returns-in_err-push-in-Some-clause-wrong
+returns-in_err-push-in-Some-clause-wrong c =
+    on_err c.from_residual.result _
+    (granted-as c.args.self.now c.args.claim.now c.stated_move-mv.result c.is_granted.result false
+    c.stated_move-mv.ensures c.is_granted.ensures c.if-is_granted.false)
+
+pub returns-in_err-push-in-Some-clause-stating : goal.returns-in_err-push-in-Some-clause-stating
+returns-in_err-push-in-Some-clause-stating c =
+    on_err c.from_residual.result _
+    (ap (λ (mv : Option Move). is_some mv) (sym c.stated_move-mv.ensures ∙ c.in-Some.is))
