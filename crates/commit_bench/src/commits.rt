@@ -30,7 +30,7 @@ fn commit<D: Device>(journal: &mut Journal<D>, records: &[Record]) -> Result<(),
     requires few { length records.now ≤ 64 }
     ensures { OnOk result (journal.new.header.seq ≡ journal.old.header.seq + 1) }
 {
-    if journal.fits(records.len()) {
+    if journal.fits(records.len()) && !journal.whole() {
         journal.append(records)?;
         return Ok(());
     }
