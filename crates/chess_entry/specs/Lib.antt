@@ -9,3 +9,5 @@ pub mod Verdict
 pub mod Follow
 pub mod Lawful
 pub mod Bounds
+pub mod Table
+pub mod Snapshot
