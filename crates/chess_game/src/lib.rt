@@ -4,10 +4,14 @@
 
 mod games;
 mod lines;
+mod restored;
 mod sides;
+mod stored;
 
 pub use games::{Game, Times};
 pub use lines::is_finished;
 
+#[cfg(test)]
+mod snapshot_tests;
 #[cfg(test)]
 mod tests;
