@@ -8,4 +8,5 @@ pub mod RecordLemmas
 pub mod SnapshotLemmas
 pub mod SectorLemmas
 pub mod HeaderLemmas
+pub mod OneRecord
 mod Examples

@@ -131,7 +131,7 @@ pub length-codes_of : (ms : List Move) → length ms ≤ 60 → length (codes_of
 length-codes_of ms h = simp (length-append, length-map, length-replicate) (omega arith)
 
 -- each number fits two bytes
-codes-fit : (ms : List Move) → AllByRecursion IsStorable ms → AllByRecursion (λ c. c < 65536) (codes_of ms)
+pub codes-fit : (ms : List Move) → AllByRecursion IsStorable ms → AllByRecursion (λ c. c < 65536) (codes_of ms)
 codes-fit ms h = joined (map move_code ms) (replicate (60 - length ms) 0) (fits ms h) (none (60 - length ms))
   where
     fits : (ms : List Move) → AllByRecursion IsStorable ms → AllByRecursion (λ c. c < 65536) (map move_code ms)

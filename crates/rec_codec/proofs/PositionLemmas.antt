@@ -1,5 +1,5 @@
 -- Positions and their bytes.
-use Rattle.std.proofs.Common.{◌≡◌, ℕ, ◌+◌, ◌*◌, ◌/◌, ◌%◌, ◌<◌, true, List, length, map, get_or, set, Option, Some, None, refl, sym, ap, ◌∙◌, subst, ⊎_elim, arith}
+use Rattle.std.proofs.Common.{◌≡◌, ℕ, ◌+◌, ◌*◌, ◌/◌, ◌%◌, ◌<◌, Bool, true, List, length, map, get_or, set, Option, Some, None, refl, sym, ap, ◌∙◌, subst, ⊎_elim, arith}
 use Rattle.std.specs.Prelude.{nat_le, if◌then◌else◌, IfSome}
 use Rattle.std.specs.List.{range_with_len}
 use Rattle.std.proofs.lemmas.Bool.{le-leb, cases_eq}
@@ -120,6 +120,16 @@ length-position_bytes (Some p) = length-laid 38 (position_fields p) (refl, (refl
 pub colour_of-is_black : (colour : Colour) → colour_of (is_black colour) ≡ colour
 colour_of-is_black White = refl
 colour_of-is_black Black = refl
+
+-- rights by their parts
+pub same_rights : (r : Rights) (a b c d : Bool) → a ≡ r.white_king → b ≡ r.white_queen → c ≡ r.black_king →
+    d ≡ r.black_queen →
+    (let made : Rights = record { white_king = a; white_queen = b; black_king = c; black_queen = d } in made) ≡ r
+same_rights r a b c d e f g h =
+    let make : Bool → Bool → Bool → Bool → Rights =
+    λ a b c d. record { white_king = a; white_queen = b; black_king = c; black_queen = d } in
+    ap (λ x. make x b c d) e ∙ (ap (λ x. make r.white_king x c d) f
+    ∙ (ap (λ x. make r.white_king r.white_queen x d) g ∙ ap (λ x. make r.white_king r.white_queen r.black_king x) h))
 
 -- a position by its parts
 pub same_position : (p : Position) (men : List (Option Man)) (side : Colour) (rights : Rights)

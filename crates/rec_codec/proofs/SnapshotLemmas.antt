@@ -1,10 +1,12 @@
 -- Records of snapshots by their fields.
-use Rattle.std.proofs.Common.{◌≡◌, ℕ, Bool, Option, ap, ◌∙◌}
+use Rattle.std.proofs.Common.{◌≡◌, ℕ, ◌<◌, ◌^◌, Bool, Option, Some, None, ap, ◌∙◌, arith}
 use Rattle.chess_board.specs.Position.{Position}
 use Rattle.rec_codec.specs.declared.record.Meta.{Meta}
 use Rattle.rec_codec.specs.declared.record.Seat.{Seat}
 use Rattle.rec_codec.specs.declared.record.Ending.{Ending}
+use Rattle.rec_codec.specs.declared.record.Ending.TheVariants as ending
 use Rattle.rec_codec.specs.declared.record.Head.{Head}
+use Rattle.rec_codec.specs.Records.{ending_number}
 
 pub same_meta : (m : Meta) (games : ℕ) (moment : ℕ) (last : ℕ) (entries : ℕ) →
     games ≡ m.games → moment ≡ m.moment → last ≡ m.last → entries ≡ m.entries →
@@ -64,3 +66,21 @@ same_head h game moment moves initial increment period start white black claimed
     ∙ (ap (λ x. make h.game h.moment h.moves h.initial h.increment h.period h.start h.white x claimed ending) e8
     ∙ (ap (λ x. make h.game h.moment h.moves h.initial h.increment h.period h.start h.white h.black x ending) e9
     ∙ ap (λ x. make h.game h.moment h.moves h.initial h.increment h.period h.start h.white h.black h.claimed x) e10)))))))))
+
+-- the number of an ending fits its field
+pub ending_number-below : (e : Option Ending) → ending_number e < 2 ^ 16
+ending_number-below None = omega arith
+ending_number-below (Some ending.WhiteMates) = omega arith
+ending_number-below (Some ending.BlackMates) = omega arith
+ending_number-below (Some ending.WhiteWinsByResignation) = omega arith
+ending_number-below (Some ending.BlackWinsByResignation) = omega arith
+ending_number-below (Some ending.Stalemate) = omega arith
+ending_number-below (Some ending.DeadPosition) = omega arith
+ending_number-below (Some ending.Agreement) = omega arith
+ending_number-below (Some ending.WhiteWinsOnTime) = omega arith
+ending_number-below (Some ending.BlackWinsOnTime) = omega arith
+ending_number-below (Some ending.DrawnOnTime) = omega arith
+ending_number-below (Some ending.ThirdOccurrence) = omega arith
+ending_number-below (Some ending.FiftyMoves) = omega arith
+ending_number-below (Some ending.FifthOccurrence) = omega arith
+ending_number-below (Some ending.SeventyFiveMoves) = omega arith

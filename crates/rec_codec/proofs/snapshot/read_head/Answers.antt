@@ -1,30 +1,11 @@
-use Rattle.std.proofs.Common.{◌<◌, ◌^◌, ◌∙◌, [], ◌∷◌, Option, Some, None, ap, arith}
+use Rattle.std.proofs.Common.{◌∙◌, [], ◌∷◌, Some, ap}
 use Rattle.std.specs.Prelude.{is_some}
-use Rattle.rec_codec.specs.declared.record.Ending.{Ending}
-use Rattle.rec_codec.specs.declared.record.Ending.TheVariants as ending
 use Rattle.rec_codec.specs.Flags.{flags_byte, is_set}
 use Rattle.rec_codec.specs.Records.{ending_number}
 use Rattle.rec_codec.proofs.FieldLemmas.{flag-1, flag-2, flag-4, flag-8, flag-16, flag-32}
 use Rattle.rec_codec.proofs.EntryLemmas.{no_some, same_some}
-use Rattle.rec_codec.proofs.SnapshotLemmas.{same_head}
+use Rattle.rec_codec.proofs.SnapshotLemmas.{same_head, ending_number-below}
 use Rattle.rec_codec.proofs.snapshot.read_head.Goals as goal
-
-ending_number-below : (e : Option Ending) → ending_number e < 2 ^ 16
-ending_number-below None = omega arith
-ending_number-below (Some ending.WhiteMates) = omega arith
-ending_number-below (Some ending.BlackMates) = omega arith
-ending_number-below (Some ending.WhiteWinsByResignation) = omega arith
-ending_number-below (Some ending.BlackWinsByResignation) = omega arith
-ending_number-below (Some ending.Stalemate) = omega arith
-ending_number-below (Some ending.DeadPosition) = omega arith
-ending_number-below (Some ending.Agreement) = omega arith
-ending_number-below (Some ending.WhiteWinsOnTime) = omega arith
-ending_number-below (Some ending.BlackWinsOnTime) = omega arith
-ending_number-below (Some ending.DrawnOnTime) = omega arith
-ending_number-below (Some ending.ThirdOccurrence) = omega arith
-ending_number-below (Some ending.FiftyMoves) = omega arith
-ending_number-below (Some ending.FifthOccurrence) = omega arith
-ending_number-below (Some ending.SeventyFiveMoves) = omega arith
 
 pub returns-in_err-start : goal.returns-in_err-start
 returns-in_err-start c = λ h is s.
