@@ -1,5 +1,5 @@
 -- Each line has one answer.
-use Rattle.std.proofs.Common.{◌≡◌, ℕ, ◌<◌, ◌≤◌, Bool, ◌⊎◌, List, sym, refl, ap, ◌∙◌, inl, inr, subst, arith, codes}
+use Rattle.std.proofs.Common.{◌≡◌, ℕ, ◌<◌, ◌≤◌, Bool, ◌⊎◌, List, ◌++◌, sym, refl, ap, ◌∙◌, inl, inr, subst, arith, codes}
 use Rattle.std.specs.Prelude.{◌==◌, ◌||◌}
 use Rattle.std.specs.Bool.{Decides}
 use Rattle.std.proofs.lemmas.Bool.{false≢true, cases_Bool}
@@ -18,7 +18,7 @@ use Rattle.chess_board.proofs.ValidNext.{IsValid-next}
 use Rattle.chess_text.specs.Fen.{IsFenOf, fen_of}
 use Rattle.chess_text.proofs.Positions.{IsFenOf-fen_of, fen_of-IsFenOf}
 use Rattle.chess_server.specs.Field.{AsksMove}
-use Rattle.chess_server.specs.Answer.{IsMoveText, IsAtLimit, MakesMove, StopsAtLimit, RefusesMove, AnswersText, IsAnswer, as_line}
+use Rattle.chess_server.specs.Answer.{IsMoveText, IsAtLimit, MakesMove, StopsAtLimit, RefusesMove, AnswersText, IsAnswer, Says, as_line}
 use Rattle.chess_server.proofs.FieldLemmas.{Asks, asks, asked_text}
 use Rattle.chess_server.proofs.FieldLemmas.Asks.{Asks_one, Asks_none}
 use Rattle.chess_server.proofs.MoveTexts.{MovesBy, moves_by}
@@ -166,41 +166,55 @@ one_answer before line a p b q (inr h) (inr k) = (h.says ∙ sym k.says, h.stays
 
 -- ---- what the code does is an answer
 
-pub text-made : (p : Position) (text answer : List ℕ) (m : Move) (q : Position) → IsLegal p m → IsCoordinateOf text m →
-    (¬ IsAtLimit p → q ≡ next p m) → (¬ IsAtLimit p → (fen : List ℕ) × IsFenOf fen q × (answer ≡ as_line fen)) →
-    (IsAtLimit p → (q ≡ p) × (answer ≡ as_line (codes "no 20 TooLong"))) → AnswersText p text answer q
-text-made p text answer m q legal coordinate made shown stopped = elim (limited p) [
+pub text-made : (p : Position) (text old new : List ℕ) (m : Move) (q : Position) → IsLegal p m → IsCoordinateOf text m →
+    (¬ IsAtLimit p → q ≡ next p m) → (¬ IsAtLimit p → (fen : List ℕ) × IsFenOf fen q × (new ≡ old ++ as_line fen)) →
+    (IsAtLimit p → (q ≡ p) × (new ≡ old ++ as_line (codes "no 20 TooLong"))) →
+    Says old new (λ said. AnswersText p text said q)
+text-made p text old new m q legal coordinate made shown stopped = elim (limited p) [
   | inl limit ↦
-      let s = stopped limit in
-      inr (inl (record {
-        move = m;
-        is_text = record { legal = legal; coordinate = coordinate };
-        limit = limit;
-        says = s.1;
-        stays = s.0;
-      }))
+      let s = stopped limit in (
+        as_line (codes "no 20 TooLong"),
+        s.1,
+        inr (inl (record {
+          move = m;
+          is_text = record { legal = legal; coordinate = coordinate };
+          limit = limit;
+          says = refl;
+          stays = s.0;
+        })),
+      )
   | inr room ↦
-      let s = shown room in
-      inl (record {
-        move = m;
-        is_text = record { legal = legal; coordinate = coordinate };
-        room = room;
-        goes = made room;
-        fen = s.0;
-        is_fen = s.1;
-        says = s.2;
-      })
+      let s = shown room in (
+        as_line s.0,
+        s.2,
+        inl (record {
+          move = m;
+          is_text = record { legal = legal; coordinate = coordinate };
+          room = room;
+          goes = made room;
+          fen = s.0;
+          is_fen = s.1;
+          says = refl;
+        }),
+      )
 ]
 
-pub text-illegal : (p : Position) (text answer : List ℕ) (m : Move) → ¬ IsLegal p m → IsCoordinateOf text m →
-    answer ≡ as_line (codes "no 9 BadMove") → AnswersText p text answer p
-text-illegal p text answer m illegal coordinate says = inr (inr (record {
-  illegal = λ n t. illegal (subst (IsLegal p) (coordinate_one n m text t.coordinate coordinate) t.legal);
-  says = says;
-  stays = refl;
-}))
+pub text-illegal : (p : Position) (text old new : List ℕ) (m : Move) → ¬ IsLegal p m → IsCoordinateOf text m →
+    new ≡ old ++ as_line (codes "no 9 BadMove") → Says old new (λ said. AnswersText p text said p)
+text-illegal p text old new m illegal coordinate says = (
+  as_line (codes "no 9 BadMove"),
+  says,
+  inr (inr (record {
+    illegal = λ n t. illegal (subst (IsLegal p) (coordinate_one n m text t.coordinate coordinate) t.legal);
+    says = refl;
+    stays = refl;
+  })),
+)
 
-pub text-no_move : (p : Position) (text answer : List ℕ) → ((m : Move) → ¬ IsCoordinateOf text m) →
-    answer ≡ as_line (codes "no 9 BadMove") → AnswersText p text answer p
-text-no_move p text answer none says =
-    inr (inr (record { illegal = λ m t. none m t.coordinate; says = says; stays = refl }))
+pub text-no_move : (p : Position) (text old new : List ℕ) → ((m : Move) → ¬ IsCoordinateOf text m) →
+    new ≡ old ++ as_line (codes "no 9 BadMove") → Says old new (λ said. AnswersText p text said p)
+text-no_move p text old new none says = (
+  as_line (codes "no 9 BadMove"),
+  says,
+  inr (inr (record { illegal = λ m t. none m t.coordinate; says = refl; stays = refl })),
+)

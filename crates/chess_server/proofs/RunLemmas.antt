@@ -1,14 +1,12 @@
 -- Texts that inputs call for.
-use Rattle.std.proofs.Common.{◌≡◌, ℕ, true, false, List, [], ◌∷◌, ◌++◌, length, sym, refl, ap, ◌∙◌, subst, append_assoc}
-use Rattle.std.specs.List.{All}
+use Rattle.std.proofs.Common.{◌≡◌, ◌<◌, ℕ, true, List, [], ◌∷◌, ◌++◌, length, sym, refl, ap, ◌∙◌, subst, append_assoc}
 use Rattle.std.specs.Io.BufRead.{strip_last}
-use Rattle.chess_server.specs.Lines.{lines_of, has_long_line}
+use Rattle.session_lines.specs.Lines.{HasNoFeed, IsUnfinished, lines_of, has_long_line}
 use Rattle.chess_board.specs.Position.{Position, IsValid}
 use Rattle.chess_server.specs.Answer.{IsAnswer}
 use Rattle.chess_server.specs.Run.{IsRun, IsText, farewell}
-use Rattle.chess_server.specs.Turns.{IsUnfinished}
 use Rattle.chess_server.proofs.AnswerLemmas.{answers, valid_after, one_answer}
-use Rattle.chess_server.proofs.LineLemmas.{is_feed, lines-feed, long-feed, lines-rest, long-rest, lines-long, long-long}
+use Rattle.session_lines.proofs.LineLemmas.{lines-feed, long-feed, lines-rest, long-rest, lines-long, long-long}
 
 -- a text is called for, by totality of the answers
 pub record HasText (start : Position) (input : List ℕ) : Type 0 where
@@ -71,7 +69,7 @@ text-rest p held u =
     }
 
 -- a line that is too long calls for the farewell
-pub text-long : (p : Position) (held more : List ℕ) → All (λ b. is_feed b ≡ false) held → length held ≡ 256 →
+pub text-long : (p : Position) (held more : List ℕ) → HasNoFeed held → 255 < length held →
     IsText p (held ++ more) (farewell true)
 text-long p held more h e =
     record {

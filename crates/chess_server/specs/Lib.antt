@@ -1,5 +1,5 @@
-pub mod Lines
 pub mod Field
 pub mod Answer
 pub mod Run
 pub mod Turns
+pub mod End

@@ -1,7 +1,7 @@
 -- What an input calls for.
-use Rattle.std.specs.Prelude.{ℕ, ◌≡◌, Bool, true, false, List, [], ◌∷◌, ◌++◌, Option, codes}
-use Rattle.std.specs.Io.KnownBytes.{Appends}
-use Rattle.chess_server.specs.Lines.{lines_of, has_long_line}
+use Rattle.std.specs.Prelude.{ℕ, ◌≡◌, ◌<◌, Bool, true, false, List, [], ◌∷◌, ◌++◌, Option, length, codes}
+use Rattle.std.specs.Io.KnownBytes.{Appends, Consumes}
+use Rattle.session_lines.specs.Lines.{lines_of, has_long_line}
 use Rattle.chess_board.specs.Position.{Position}
 use Rattle.chess_board.specs.Initial.{initial}
 use Rattle.chess_server.specs.Answer.{IsAnswer}
@@ -37,3 +37,12 @@ AppendsText old new input = (text : List ℕ) × IsBoardText input text × Appen
 abbrev pub AppendsFront : Option (List ℕ) → Option (List ℕ) → List ℕ → Type 0
 AppendsFront old new input = (front : List ℕ) × (rest : List ℕ) × IsBoardText input
     (front ++ rest) × Appends old new front
+
+-- some bytes were taken from the reader, and their text was written
+abbrev pub AnswersTaken : Option (List ℕ) → Option (List ℕ) → Option (List ℕ) → Option (List ℕ) → Type 0
+AnswersTaken before after old new = (taken : List ℕ) × Consumes before after taken × AppendsText old new taken
+
+-- some bytes were taken from the reader, and a front of their text was written, but not all of it
+abbrev pub AnswersInPart : Option (List ℕ) → Option (List ℕ) → Option (List ℕ) → Option (List ℕ) → Type 0
+AnswersInPart before after old new = (taken : List ℕ) × (front : List ℕ) × (rest : List ℕ)
+    × Consumes before after taken × IsBoardText taken (front ++ rest) × (0 < length rest) × Appends old new front

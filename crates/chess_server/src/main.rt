@@ -3,6 +3,7 @@
 
 mod answer;
 mod board_loop;
+mod ends;
 mod line;
 #[cfg(test)]
 mod tests;
@@ -10,16 +11,25 @@ mod words;
 
 use board_loop::board;
 use clap::Error;
+use ends::{End, end_of_board, end_of_words, name, status};
 use std::alloc::{AllocError, Global};
 use std::env;
 use std::process::ExitCode;
 use words::{Word, no_text, read_words};
 
 fn main(rt: HostRuntime) -> ExitCode {
-    match asked(&rt, rt.alloc()) {
-        Ok(Word::Board) => answer_lines(&rt),
-        Err(error) => refuse(&rt, &error),
+    let end = match asked(&rt, rt.alloc()) {
+        Ok(Word::Board) => end_of_board(board(&mut rt.stdin(), &mut rt.stdout())),
+        Err(error) => {
+            let _ = error.print(&rt);
+            end_of_words(&error)
+        }
+    };
+    if let End::Fault(fault) = end {
+        let name = name(fault);
+        let _ = eprintln!(rt; "fault {name}");
     }
+    ExitCode::from(status(end))
 }
 
 /// What the command line asks for.
@@ -29,24 +39,4 @@ fn asked(rt: &HostRuntime, alloc: Global) -> Result<Word, Error> {
     };
     let words: Vec<String> = args.collect(alloc)?;
     read_words(alloc, words.as_slice())
-}
-
-fn answer_lines(rt: &HostRuntime) -> ExitCode {
-    match board(&mut rt.stdin(), &mut rt.stdout()) {
-        Ok(()) => ExitCode::SUCCESS,
-        Err(fault) => {
-            let _ = eprintln!(rt; "{fault}");
-            ExitCode::FAILURE
-        }
-    }
-}
-
-/// Prints the text of a usage fault, or the help that was asked for.
-fn refuse(rt: &HostRuntime, error: &Error) -> ExitCode {
-    let _ = error.print(rt);
-    if error.use_stderr() {
-        ExitCode::from(2)
-    } else {
-        ExitCode::SUCCESS
-    }
 }

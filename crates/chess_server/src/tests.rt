@@ -1,5 +1,6 @@
 //! The loop over readers and writers that give and take little, or fail.
 use crate::board_loop::{BoardFault, board};
+use crate::ends::{End, end_of_board, end_of_words, name, status};
 use crate::words::{Word, read_words};
 use std::alloc::{AllocError, Global};
 use std::io;
@@ -152,6 +153,57 @@ fn ends_at_a_long_line(rt: HostRuntime) -> Result<(), Fail> {
     Ok(())
 }
 
+// What standard error shows after `fault `.
+fn told_of(end: End) -> Option<&'static str> {
+    match end {
+        End::Fault(fault) => Some(name(fault)),
+        _ => None,
+    }
+}
+
+/// Counts its writes.
+#[derive(Drop)]
+struct Counted {
+    taken: Vec<u8>,
+    writes: usize,
+}
+
+impl Write for Counted {
+    fn write(&mut self, buf: &[u8]) -> io::Result<usize> {
+        self.taken.extend_from_slice(buf)?;
+        self.writes = self.writes.saturating_add(1);
+        Ok(buf.len())
+    }
+
+    fn flush(&mut self) -> io::Result<()> {
+        Ok(())
+    }
+}
+
+#[test]
+fn writes_once_what_is_at_hand(rt: HostRuntime) -> Result<(), Fail> {
+    let alloc = rt.alloc();
+    // 4,096 lines are one read, and their answers 53,248 bytes.
+    for (lines, length, writes) in [
+        (0, 0, 0),
+        (1, 13, 1),
+        (4096, 53_248, 1),
+        (4097, 53_261, 2),
+        (8192, 106_496, 2),
+    ] {
+        let input = vec![in alloc; b'\n'; lines]?;
+        let mut rest = input.as_slice();
+        let mut writer = Counted {
+            taken: Vec::new(alloc),
+            writes: 0,
+        };
+        assert_eq!(rt; board(&mut rest, &mut writer), Ok(()));
+        assert_eq!(rt; writer.taken.len(), length);
+        assert_eq!(rt; writer.writes, writes, "of {lines} lines");
+    }
+    Ok(())
+}
+
 #[test]
 fn breaks_off_where_a_read_fails(rt: HostRuntime) {
     let alloc = rt.alloc();
@@ -167,7 +219,15 @@ fn breaks_off_where_a_read_fails(rt: HostRuntime) {
         reader.fails_at = Some(4);
         reader.kind = kind;
         let mut written = Vec::new(alloc);
-        assert_eq!(rt; board(&mut reader, &mut written), result);
+        let ended = board(&mut reader, &mut written);
+        assert_eq!(rt; ended, result);
+        let (told, ends_with) = if result.is_ok() {
+            (None, 0)
+        } else {
+            (Some("Read"), 1)
+        };
+        assert_eq!(rt; told_of(end_of_board(ended)), told);
+        assert_eq!(rt; status(end_of_board(ended)), ends_with);
         assert_eq!(rt; written.as_slice(), text.as_bytes(), "at {kind:?}");
     }
 }
@@ -192,7 +252,15 @@ fn breaks_off_where_a_write_fails(rt: HostRuntime) {
         writer.fails_at = Some(17);
         writer.kind = kind;
         let mut input = b"hello\nmove x\n\n".as_slice();
-        assert_eq!(rt; board(&mut input, &mut writer), result);
+        let ended = board(&mut input, &mut writer);
+        assert_eq!(rt; ended, result);
+        let (told, ends_with) = if result.is_ok() {
+            (None, 0)
+        } else {
+            (Some("Write"), 1)
+        };
+        assert_eq!(rt; told_of(end_of_board(ended)), told);
+        assert_eq!(rt; status(end_of_board(ended)), ends_with);
         assert_eq!(rt; writer.taken.as_slice(), text.as_bytes(), "at {kind:?}");
     }
 }
@@ -215,12 +283,12 @@ fn reads_the_command_line(rt: HostRuntime) -> Result<(), Fail> {
     for unknown in ["serve", "--journal", ""] {
         match read_words(alloc, words_of(alloc, unknown)?.as_slice()) {
             Ok(_) => assert!(rt; false, "{unknown}"),
-            Err(error) => assert!(rt; error.use_stderr(), "{unknown}"),
+            Err(error) => assert_eq!(rt; status(end_of_words(&error)), 2, "{unknown}"),
         }
     }
     match read_words(alloc, words_of(alloc, "--help")?.as_slice()) {
         Ok(_) => assert!(rt; false, "help"),
-        Err(error) => assert!(rt; !error.use_stderr(), "help"),
+        Err(error) => assert_eq!(rt; status(end_of_words(&error)), 0, "help"),
     }
     Ok(())
 }

@@ -44,6 +44,7 @@ returns-in-Ok-eq0-clause-front g c =
       done,
       c.loop.rest.now,
       split,
+      search rules,
       subst (Appends old new) (append-nil done)
           (Appends-trans old now new done [] appended
           (subst (λ n. Appends now new (take n c.loop.rest.now)) c.in-Ok-eq0.field-0-test
@@ -56,8 +57,15 @@ returns-then-ne-clause-front g c =
     let now = g.W.Write.contents c.loop.writer in
     let new = g.W.Write.contents c.write.new.self in
     let (done, split, appended) = c.loop.invariant in
-    (done, c.loop.rest.now, split, Appends-kept old now new done appended c.in-Err.ensures.bytes)
+    (done, c.loop.rest.now, split, search rules, Appends-kept old now new done appended c.in-Err.ensures.bytes)
 
-pub returns-clause-front : goal.returns-clause-front
-returns-clause-front g c =
-    let (done, split, appended) = c.loop.invariant in (done, c.loop.rest.now, split, appended)
+pub returns-then-is_empty-2-clause-whole : goal.returns-then-is_empty-2-clause-whole
+returns-then-is_empty-2-clause-whole g c =
+    let (done, split, appended) = c.loop.invariant in
+    let empty : c.loop.rest.now ≡ [] = nil_from_length c.loop.rest.now (search rules) in
+    subst (Appends (g.W.Write.contents c.args.writer.now) (g.W.Write.contents c.loop.writer))
+    (sym (split ∙ ap (λ l. done ++ l) empty ∙ append-nil done)) appended
+
+pub returns-else-is_empty-2-clause-front : goal.returns-else-is_empty-2-clause-front
+returns-else-is_empty-2-clause-front g c =
+    let (done, split, appended) = c.loop.invariant in (done, c.loop.rest.now, split, search rules, appended)

@@ -1,17 +1,12 @@
 -- The first line of an input.
-use Rattle.std.proofs.Common.{◌≡◌, ℕ, ◌≤◌, Bool, true, false, List, [], ◌∷◌, ◌++◌, length, map, refl, ap, ◌∙◌, arith, length-append}
+use Rattle.std.proofs.Common.{◌≡◌, ℕ, ◌<◌, ◌≤◌, Bool, true, false, List, [], ◌∷◌, ◌++◌, length, map, refl, ap, ◌∙◌, arith, length-append}
 use Rattle.std.specs.Prelude.{◌==◌, ◌||◌, cond}
 use Rattle.std.specs.List.{All, slice_split, onto_first, list_any}
 use Rattle.std.specs.Io.BufRead.{strip_last}
 use Rattle.std.proofs.lemmas.List.Elements.{All-head, All-tail}
 use Rattle.std.proofs.lemmas.List.Splits.{slice_split-cons_no, slice_split_none, slice_split_at}
 use Rattle.std.proofs.lemmas.Bool.Decides.{nat_tests}
-use Rattle.chess_server.specs.Lines.{parts_of, is_too_long, ended_parts, lines_of, has_long_line}
-use Rattle.chess_server.specs.Turns.{IsUnfinished}
-
--- whether a byte is a line feed
-abbrev pub is_feed : ℕ → Bool
-is_feed b = b == 10
+use Rattle.session_lines.specs.Lines.{is_feed, HasNoFeed, parts_of, is_too_long, ended_parts, lines_of, has_long_line, IsUnfinished}
 
 -- the first part of an input, and the other parts
 pub record HasFirst (parts : List (List ℕ)) : Type 0 where
@@ -67,7 +62,7 @@ pub record BeginsFirst (held : List ℕ) (parts : List (List ℕ)) : Type 0 wher
   pub others : List (List ℕ)
   pub are : parts ≡ (held ++ tail) ∷ others
 
-pub begins_first : (held more : List ℕ) → All (λ b. is_feed b ≡ false) held →
+pub begins_first : (held more : List ℕ) → HasNoFeed held →
     BeginsFirst held (parts_of (held ++ more))
 begins_first [] more h = let first = parts_have_first more in record
     { tail = first.first; others = first.others; are = first.are }
@@ -84,18 +79,18 @@ ended-long : (part : List ℕ) (parts : List (List ℕ)) → is_too_long part �
 ended-long part [] e = refl
 ended-long part (next ∷ parts) e = rw e refl
 
-longer : (held tail : List ℕ) → length held ≡ 256 → is_too_long (held ++ tail) ≡ true
+longer : (held tail : List ℕ) → 255 < length held → is_too_long (held ++ tail) ≡ true
 longer held tail e = let l = length-append held tail in grind (arith, nat_tests, length-append)
 
--- with 256 bytes without a line feed there are no more lines
-pub lines-long : (held more : List ℕ) → All (λ b. is_feed b ≡ false) held → length held ≡ 256 →
+-- with more than 255 bytes without a line feed there are no more lines
+pub lines-long : (held more : List ℕ) → HasNoFeed held → 255 < length held →
     lines_of (held ++ more) ≡ []
 lines-long held more h e =
     let first = begins_first held more h in
     ap (λ parts. map (strip_last 13) (ended_parts parts)) first.are
     ∙ ap (map (strip_last 13)) (ended-long (held ++ first.tail) first.others (longer held first.tail e))
 
-pub long-long : (held more : List ℕ) → All (λ b. is_feed b ≡ false) held → length held ≡ 256 →
+pub long-long : (held more : List ℕ) → HasNoFeed held → 255 < length held →
     has_long_line (held ++ more) ≡ true
 long-long held more h e =
     let first = begins_first held more h in
