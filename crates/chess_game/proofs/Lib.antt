@@ -8,3 +8,6 @@ pub mod KeptGame
 pub mod Shown
 pub mod Acts
 mod Refused
+pub mod StoredLemmas
+pub mod ReplayLemmas
+pub mod RestoredLemmas

@@ -4,7 +4,9 @@
 
 mod games;
 mod lines;
+mod restored;
 mod sides;
+mod stored;
 
 pub use games::{Game, Times};
 pub use lines::is_finished;
