@@ -1,0 +1,3 @@
+mod Room
+mod Widths
+mod TimesShown
