@@ -6,15 +6,19 @@ use Rattle.chess_bits.specs.declared.men.Colour.TheVariants.{White, Black}
 use Rattle.chess_board.specs.declared.moves.Move.{Move}
 use Rattle.chess_end.specs.declared.ending.Ending.{Ending}
 use Rattle.chess_san.specs.San.{IsSan}
-use Rattle.rec_codec.specs.declared.record.Claim.{Claim}
 use Rattle.rec_codec.specs.declared.record.Event.{Event}
 use Rattle.rec_codec.specs.declared.record.Event.TheVariants as event
 use Rattle.rec_codec.specs.declared.record.Entry.{Entry}
 use Rattle.chess_entry.specs.State.{GameState, TableState, position_of, ply_of, find_game}
 use Rattle.chess_entry.specs.Story.{stated}
+use Rattle.chess_entry.specs.Table.{IsTable, IsEnteredOn}
 use Rattle.chess_entry.specs.Outcome.{is_granted, claimed_draw, agreed, resigned, flag_fallen, ending_with}
 use Rattle.chess_game.specs.Turn.{IsPlayable}
 use Rattle.chess_answer.specs.Fields.{with_fields, ok_text, end_fields, colour_text}
+
+-- `ok name NAME`, whatever the table
+abbrev pub named_text : List ℕ → List ℕ
+named_text name = with_fields (codes "ok") (codes "name" ∷ name ∷ [])
 
 -- the colour of the seat that is empty before a join
 abbrev pub free_side : GameState → Colour
@@ -32,11 +36,10 @@ abbrev pub IsWrongClaimLine : GameState → Option Move → List ℕ → Type 0
 IsWrongClaimLine game None text = text ≡ ok_text (codes "claim") game.number (codes "wrong" ∷ [])
 IsWrongClaimLine game (Some m) text = TellsMove game m (ok_text (codes "claim") game.number (codes "wrong" ∷ [])) text
 
--- a claim, by whether it is correct
-abbrev pub IsClaimLine : Bool → GameState → Claim → List ℕ → Type 0
-IsClaimLine true game claim text =
-    text ≡ ok_text (codes "claim") game.number (end_fields (Some (claimed_draw claim.fifty)))
-IsClaimLine false game claim text = IsWrongClaimLine game claim.mv text
+-- a claim, by whether it is correct: a correct one draws at once, and its stated move is not made
+abbrev pub IsClaimLine : Bool → GameState → Bool → Option Move → List ℕ → Type 0
+IsClaimLine true game fifty mv text = text ≡ ok_text (codes "claim") game.number (end_fields (Some (claimed_draw fifty)))
+IsClaimLine false game fifty mv text = IsWrongClaimLine game mv text
 
 -- the answer to an entry of a game that stands on the table
 abbrev pub IsGameLine : GameState → Event → List ℕ → Type 0
@@ -49,7 +52,7 @@ IsGameLine game (event.Accept by) text = text ≡ ok_text (codes "accept") game.
 IsGameLine game (event.Decline by) text = text ≡ ok_text (codes "decline") game.number []
 IsGameLine game (event.Resign by) text = text ≡ ok_text (codes "resign") game.number (end_fields (Some (resigned by)))
 IsGameLine game (event.Claim claim) text =
-    IsClaimLine (is_granted claim.fifty game.start (game.moves ++ stated claim.mv)) game claim text
+    IsClaimLine (is_granted claim.fifty game.start (game.moves ++ stated claim.mv)) game claim.fifty claim.mv text
 IsGameLine game event.Fallen text = text ≡ with_fields (codes "fallen")
     (decimal game.number ∷ end_fields (Some (flag_fallen (position_of game))))
 IsGameLine game event.Drop text = text ≡ ok_text (codes "drop") game.number []
@@ -76,3 +79,9 @@ abbrev pub MayComeOn : Option GameState → Event → Type 0
 MayComeOn None (event.Open opening) = Unit {0}
 MayComeOn None _ = ⊥
 MayComeOn (Some game) event = MayCome game event
+
+-- Every entry that may come on a table is so.
+abbrev pub LawOfComing : Type 0
+LawOfComing =
+    (table : TableState) (e : Entry) → IsTable table → IsEnteredOn table e
+    → MayComeOn (find_game e.game table.games) e.event

@@ -8,11 +8,12 @@ use chess_text::{article_code, result_code};
 use itoa::Buffer;
 use rec_codec::Name;
 
-/// Room for the line of an answer, without its line feed. The longest is that of `fen`, of at most 124 bytes.
-pub type Text = ArrayString<160>;
+/// Room for the line of an answer, without its line feed. The longest is that of `fen`: at most 18 bytes before the FEN,
+/// which has at most 93.
+pub type AnswerLine = ArrayString<160>;
 
-/// A text that begins with a word.
-pub fn begun(word: &str) -> Text
+/// An answer's first word, of at most 16 bytes.
+pub fn begun(word: &str) -> AnswerLine
     requires { length word.now ≤ 16 }
     ensures bytes { result.bytes ≡ word.now }
     ensures len { array_string_len result ≡ length word.now }
@@ -23,7 +24,7 @@ pub fn begun(word: &str) -> Text
 }
 
 /// Appends a space and a field.
-pub fn push_field(text: &mut Text, field: &str)
+pub fn push_field(text: &mut AnswerLine, field: &str)
     requires room { array_string_len text.old + (1 + length field.now) ≤ 160 }
     ensures bytes { text.new.bytes ≡ text.old.bytes ++ 32 ∷ field.now }
     ensures len { array_string_len text.new ≡ array_string_len text.old + (1 + length field.now) }
@@ -33,7 +34,7 @@ pub fn push_field(text: &mut Text, field: &str)
 }
 
 /// Appends a space and a number, of at most 20 digits.
-pub fn push_number(text: &mut Text, number: u64)
+pub fn push_number(text: &mut AnswerLine, number: u64)
     requires room { array_string_len text.old + 21 ≤ 160 }
     ensures bytes { text.new.bytes ≡ text.old.bytes ++ 32 ∷ decimal number }
     ensures len { array_string_len text.new ≤ array_string_len text.old + 21 }
@@ -43,7 +44,7 @@ pub fn push_number(text: &mut Text, number: u64)
 }
 
 /// Appends a space and a player's name, or `-` for an empty seat.
-pub fn push_seat(text: &mut Text, name: Option<Name>)
+pub fn push_seat(text: &mut AnswerLine, name: Option<Name>)
     requires room { array_string_len text.old + 17 ≤ 160 }
     ensures bytes { text.new.bytes ≡ text.old.bytes ++ 32 ∷ seat_text name }
     ensures len { array_string_len text.new ≤ array_string_len text.old + 17 }
@@ -55,7 +56,7 @@ pub fn push_seat(text: &mut Text, name: Option<Name>)
 }
 
 /// Appends the result and the article by which a game is over, or nothing.
-pub fn push_ending(text: &mut Text, ending: Option<Ending>)
+pub fn push_ending(text: &mut AnswerLine, ending: Option<Ending>)
     requires room { array_string_len text.old + 14 ≤ 160 }
     ensures bytes { text.new.bytes ≡ with_fields text.old.bytes (end_fields ending) }
     ensures len { array_string_len text.new ≤ array_string_len text.old + 14 }
@@ -66,8 +67,8 @@ pub fn push_ending(text: &mut Text, ending: Option<Ending>)
     }
 }
 
-/// `ok`, a word and a number.
-pub fn accepted(word: &str, number: u64) -> Text
+/// `ok`, a word of at most 8 bytes and a number.
+pub fn accepted(word: &str, number: u64) -> AnswerLine
     requires { length word.now ≤ 8 }
     ensures bytes { result.bytes ≡ ok_text word.now number [] }
     ensures len { array_string_len result ≤ 32 }

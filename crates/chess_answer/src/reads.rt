@@ -1,13 +1,14 @@
-ghost use Rattle.std.specs.Prelude.{◌≡◌, ◌≤◌, ◌+◌, [], ◌∷◌, ◌++◌, length, codes, decimal, IfOk, OnOk};
+ghost use Rattle.std.specs.Prelude.{◌≡◌, ◌≤◌, ◌+◌, [], ◌∷◌, ◌++◌, length, codes, decimal, IfOk, OnOk, OnErr};
 ghost use Rattle.std.specs.Option.{option_copied};
 ghost use Rattle.std.specs.String.{string_bytes};
 ghost use Rattle.arrayvec.specs.ArrayString.{array_string_len};
 ghost use Rattle.chess_text.specs.Fen.{side_letter};
-ghost use Rattle.chess_text.specs.Pgn.{result_text};
+ghost use Rattle.chess_text.specs.Game.{IsGameText};
+ghost use Rattle.chess_text.specs.Pgn.{heading, result_text};
 ghost use Rattle.chess_entry.specs.State.{position_of};
 ghost use Rattle.chess_answer.specs.Reads.{time_shown, offer_text, article_or_dash, show_text, IsFenLine, line_count, IsPgnOfGame, IsPgnReply, list_line_text, list_row};
 
-use crate::fields::{Text, accepted, begun, push_field, push_number, push_seat};
+use crate::fields::{AnswerLine, accepted, begun, push_field, push_number, push_seat};
 use chess_bits::Colour;
 use chess_end::Ending;
 use chess_game::Game;
@@ -20,13 +21,14 @@ use std::alloc::{AllocError, Global};
 /// have.
 #[derive(Drop)]
 pub struct Reply {
-    pub line: Text,
+    pub line: AnswerLine,
     pub body: String,
 }
 
 // `w` or `b` for the side on move.
 fn side_code(side: Colour) -> &'static str
-    ensures { result.now ≡ side_letter side ∷ [] }
+    ensures code { result.now ≡ side_letter side ∷ [] }
+    ensures short { length result.now ≤ 1 }
 {
     match side {
         Colour::White => "w",
@@ -36,7 +38,8 @@ fn side_code(side: Colour) -> &'static str
 
 // The offers that stand, or `-`.
 fn offer_code(game: &Game) -> &'static str
-    ensures { result.now ≡ offer_text game.now }
+    ensures code { result.now ≡ offer_text game.now }
+    ensures short { length result.now ≤ 2 }
 {
     match (game.offers(Colour::White), game.offers(Colour::Black)) {
         (true, true) => "wb",
@@ -46,13 +49,23 @@ fn offer_code(game: &Game) -> &'static str
     }
 }
 
-// The article by which a game is over, or `-`.
-fn article_or_dash(ending: Option<Ending>) -> &'static str
-    ensures { result.now ≡ article_or_dash ending }
+// Appends what a game gave, or `*` while it goes on.
+fn push_result(text: &mut AnswerLine, ending: Option<Ending>)
+    requires room { array_string_len text.old + 8 ≤ 160 }
+    ensures bytes { text.new.bytes ≡ text.old.bytes ++ 32 ∷ result_text ending }
+    ensures len { array_string_len text.new ≤ array_string_len text.old + 8 }
+{
+    push_field(text, result_code(ending));
+}
+
+// Appends the article by which a game is over, or `-`.
+fn push_article(text: &mut AnswerLine, ending: Option<Ending>)
+    requires room { array_string_len text.old + 6 ≤ 160 }
+    ensures { text.new.bytes ≡ text.old.bytes ++ 32 ∷ article_or_dash ending }
 {
     match ending {
-        None => "-",
-        Some(ending) => article_code(ending.article),
+        None => push_field(text, "-"),
+        Some(ending) => push_field(text, article_code(ending.article)),
     }
 }
 
@@ -69,7 +82,7 @@ fn time_shown(game: &Game, colour: Colour, at: u64) -> u64
 /// The answer to `show`, at a moment that is not before the running turn: `ok show G`, both players, how many moves were
 /// made, the side on move, what both sides have left in milliseconds, the offers that stand, the result and the article.
 /// It takes no memory.
-pub fn show_line(game: &Game, at: u64) -> Text
+pub fn show_line(game: &Game, at: u64) -> AnswerLine
     requires { game.now.moment ≤ at }
     ensures { result.bytes ≡ show_text game.now at }
 {
@@ -81,13 +94,13 @@ pub fn show_line(game: &Game, at: u64) -> Text
     push_number(&mut text, time_shown(game, Colour::White, at));
     push_number(&mut text, time_shown(game, Colour::Black, at));
     push_field(&mut text, offer_code(game));
-    push_field(&mut text, result_code(game.ending()));
-    push_field(&mut text, article_or_dash(game.ending()));
+    push_result(&mut text, game.ending());
+    push_article(&mut text, game.ending());
     text
 }
 
 /// The answer to `fen`: `ok fen G` and the FEN of the position that stands. It takes no memory.
-pub fn fen_line(game: &Game) -> Text
+pub fn fen_line(game: &Game) -> AnswerLine
     ensures { IsFenLine game.now result.bytes }
 {
     let mut text = accepted("fen", u64::from(game.number().get()));
@@ -105,27 +118,40 @@ fn name_text<'a>(name: &'a Option<Name>) -> Option<&'a str>
     }
 }
 
-// The PGN of a game. It fails where memory is refused.
-fn pgn_of(alloc: Global, game: &Game) -> Result<String, AllocError>
-    ensures { IfOk result (λ text. IsPgnOfGame game.now (string_bytes text)) }
+// The PGN of a game between these players. It fails where memory is refused.
+fn pgn_between<'a>(
+    alloc: Global,
+    game: &'a Game,
+    white: Option<&'a str>,
+    black: Option<&'a str>,
+) -> Result<String, AllocError>
+    ensures { IfOk result (λ text. IsGameText (string_bytes text)
+        (heading (option_copied white.entry) (option_copied black.entry) game.now.start game.now.ending
+        game.now.control.initial game.now.control.increment game.now.control.period) game.now.moves) }
 {
-    let white = game.player(Colour::White);
-    let black = game.player(Colour::Black);
-    let white = name_text(&white);
-    let black = name_text(&black);
-    let moves = game.moves();
     let times = game.times();
+    // The game's bounds: the counters have room before each move.
+    let _number = game.number();
     let text = GameText {
         white,
         black,
         start: *game.start(),
-        moves,
+        moves: game.moves(),
         ending: game.ending(),
         initial: times.initial,
         increment: times.increment,
         period: times.period,
     };
     pgn(alloc, &text)
+}
+
+// The PGN of a game. It fails where memory is refused.
+fn pgn_of(alloc: Global, game: &Game) -> Result<String, AllocError>
+    ensures { IfOk result (λ text. IsPgnOfGame game.now (string_bytes text)) }
+{
+    let white = game.player(Colour::White);
+    let black = game.player(Colour::Black);
+    pgn_between(alloc, game, name_text(&white), name_text(&black))
 }
 
 // How many lines a text has.
@@ -148,23 +174,25 @@ pub fn pgn_reply(alloc: Global, game: &Game) -> Result<Reply, AllocError>
     Ok(Reply { line, body })
 }
 
-/// Appends a game's line of `list` with its line feed: `G WHITE BLACK PLY RESULT`. It fails where memory is refused.
+/// Appends a game's line of `list` with its line feed: `G WHITE BLACK PLY RESULT`. It fails where memory is refused, and
+/// then the text is as it was.
 pub fn write_row(text: &mut String, game: &Game) -> Result<(), AllocError>
-    ensures { OnOk result (string_bytes text.new ≡ string_bytes text.old ++ list_row game.now) }
+    ensures written { OnOk result (string_bytes text.new ≡ string_bytes text.old ++ list_row game.now) }
+    ensures refused { OnErr result (string_bytes text.new ≡ string_bytes text.old) }
 {
     let mut buffer = Buffer::new();
     let mut row = begun(buffer.format(game.number().get()));
     push_seat(&mut row, game.player(Colour::White));
     push_seat(&mut row, game.player(Colour::Black));
     push_number(&mut row, u64::from(game.ply()));
-    push_field(&mut row, result_code(game.ending()));
+    push_result(&mut row, game.ending());
     row.push('\n');
     text.push_str(row.as_str())?;
     Ok(())
 }
 
 /// The line of the answer to `list`: `ok list K`, where K lines follow.
-pub fn list_line(count: usize) -> Text
+pub fn list_line(count: usize) -> AnswerLine
     ensures { result.bytes ≡ list_line_text count }
 {
     accepted("list", count as u64)

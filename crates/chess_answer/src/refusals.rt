@@ -1,7 +1,7 @@
 ghost use Rattle.std.specs.Prelude.{◌≡◌, ◌≤◌, length};
 ghost use Rattle.chess_answer.specs.Refusals.{row_of, refusal_text};
 
-use crate::fields::{Text, begun, push_field, push_number};
+use crate::fields::{AnswerLine, begun, push_field, push_number};
 use chess_entry::Refusal;
 
 // The number of a refusal.
@@ -71,7 +71,7 @@ fn name_of(refusal: Refusal) -> &'static str
 
 /// The answer to what is refused, `no NUMBER NAME`: the numbers are 1 to 24, and number 7, a wrong PLY, tells the present
 /// one behind its name.
-pub fn refusal_line(refusal: Refusal) -> Text
+pub fn refusal_line(refusal: Refusal) -> AnswerLine
     ensures { result.bytes ≡ refusal_text refusal }
 {
     let mut text = begun("no");
