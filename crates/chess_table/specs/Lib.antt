@@ -5,3 +5,4 @@ pub mod Checks
 pub mod Telling
 pub mod Ready
 pub mod Memory
+pub mod Reading
