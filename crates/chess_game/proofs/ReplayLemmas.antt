@@ -1,5 +1,5 @@
 -- The line of moves that were handed in.
-use Rattle.std.proofs.Common.{ℕ, ◌≡◌, ◌<◌, ◌+◌, suc, Bool, true, false, List, [], ◌∷◌, ◌++◌, length, take, drop, get_or, Option, Some, None, refl, sym, ap, ◌∙◌, subst, append_assoc, arith}
+use Rattle.std.proofs.Common.{ℕ, ◌≡◌, ◌<◌, ◌≤◌, ◌+◌, suc, Bool, true, false, List, [], ◌∷◌, ◌++◌, length, take, drop, get_or, Option, Some, None, refl, sym, ap, ◌∙◌, subst, append_assoc, arith}
 use Rattle.std.specs.Prelude.{◌||◌, is_some, nat_le}
 use Rattle.std.proofs.Math.Seq.{take-suc, drop-cons}
 use Rattle.std.proofs.lemmas.List.{take-append-drop}
@@ -77,20 +77,31 @@ or_last : (a b : Bool) → (a || b) ≡ false → b ≡ false
 or_last true b h = absurd (false≢true (sym h))
 or_last false b h = h
 
+low_number : (n : ℕ) → nat_le 150 n ≡ false → n < 150
+low_number n low = grind (arith, nat_tests)
+
 low_halfmove : (p : Position) → is_finished_at p ≡ false → p.halfmove < 150
 low_halfmove p goes_on =
-    let low : nat_le 150 p.halfmove ≡ false =
-    or_last (is_checkmate p || is_stalemate p || is_listed_dead p.placement) (nat_le 150 p.halfmove) goes_on in
-    grind (arith, nat_tests)
+    low_number p.halfmove
+    (or_last (is_checkmate p || is_stalemate p || is_listed_dead p.placement) (nat_le 150 p.halfmove) goes_on)
+
+low_most : {n : ℕ} → n < 150 → n ≤ 9999
+low_most low = omega arith
+
+below_most : {first n count : ℕ} → first ≤ 9999 → count ≤ first + n → n < 20000 → count < 65535
+below_most low most room = omega arith
+
+short_most : {n : ℕ} → n < 20000 → n < 65534
+short_most room = omega arith
 
 pub HasRoom-start : (start : Position) (moves : List Move) → IsStart start → length moves < 20000
     → HasRoom (record { start = start; moves = moves })
 HasRoom-start start moves is room =
-    let low = low_halfmove start is.goes_on in
-    let number = is.number in
-    let halfmove = halfmove-at_most start moves in
-    let fullmove = fullmove-at_most start moves in
-    record { halfmove = omega arith; fullmove = omega arith; short = omega arith }
+    record {
+      halfmove = below_most (low_most (low_halfmove start is.goes_on)) (halfmove-at_most start moves) room;
+      fullmove = below_most is.number (fullmove-at_most start moves) room;
+      short = short_most room;
+    }
 
 pub HasRoom-replayed : (start : Position) (moves : List Move) (line : LineState) (by_line : Option Ending)
     → IsReplayed start moves line by_line → IsStart start → length moves < 20000 → HasRoom line

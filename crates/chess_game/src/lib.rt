@@ -12,4 +12,6 @@ pub use games::{Game, Times};
 pub use lines::is_finished;
 
 #[cfg(test)]
+mod snapshot_tests;
+#[cfg(test)]
 mod tests;

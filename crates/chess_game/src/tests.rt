@@ -63,7 +63,7 @@ fn man_of(letter: u8) -> Option<(Colour, Kind)> {
 }
 
 // The board of a diagram, without castling rights.
-fn board_of(
+pub fn board_of(
     side: Colour,
     diagram: [&[u8; 8]; 8],
     halfmove: u16,
@@ -119,7 +119,7 @@ fn usual(alloc: Global) -> Result<Game, Fail> {
     joined(alloc, &Board::initial(), 300, 0, None, 1_000)
 }
 
-fn move_of(from: u8, to: u8) -> Option<Move>
+pub fn move_of(from: u8, to: u8) -> Option<Move>
     ensures { IfSome result (λ m. m.promotion ≡ None) }
 {
     if from >= 64 || to >= 64 {
@@ -200,14 +200,18 @@ fn ended(outcome: GameResult, article: Article) -> Option<Ending> {
 #[test]
 fn a_mate_in_four_plies(rt: HostRuntime) -> Result<(), Fail> {
     let mut game = joined(rt.alloc(), &Board::initial(), 300, 2, None, 1_000)?;
-    play_all(&mut game, 1_000, &[(13, 21), (52, 36), (14, 30)])?;
+    plays_to_mate(&rt, &mut game)
+}
+
+fn plays_to_mate(rt: &impl Abort, game: &mut Game) -> Result<(), Fail> {
+    play_all(game, 1_000, &[(13, 21), (52, 36), (14, 30)])?;
     assert_eq!(rt; game.ending(), None);
-    play(&mut game, 1_000, 59, 31)?;
+    play(game, 1_000, 59, 31)?;
     assert_eq!(rt; game.ending(), ended(GameResult::Black, Article::A511));
     assert_eq!(rt; game.ply(), 4);
     assert_eq!(rt; game.moves().len(), 4);
-    assert_eq!(rt; left(&game, White, 1_000), Some(304_000));
-    assert_eq!(rt; left(&game, Black, 9_000), Some(304_000));
+    assert_eq!(rt; left(game, White, 1_000), Some(304_000));
+    assert_eq!(rt; left(game, Black, 9_000), Some(304_000));
     assert!(rt; game.is_over());
     Ok(())
 }
@@ -216,18 +220,31 @@ fn a_mate_in_four_plies(rt: HostRuntime) -> Result<(), Fail> {
 #[test]
 fn a_move_before_the_flag_falls(rt: HostRuntime) -> Result<(), Fail> {
     let mut game = joined(rt.alloc(), &Board::initial(), 60, 2, None, 1_000)?;
-    play(&mut game, 60_999, 12, 28)?;
-    assert_eq!(rt; left(&game, White, 60_999), Some(2_001));
-    assert_eq!(rt; left(&game, Black, 60_999), Some(60_000));
+    moves_in_time(&rt, &mut game)
+}
+
+fn moves_in_time(rt: &impl Abort, game: &mut Game) -> Result<(), Fail> {
+    play(game, 60_999, 12, 28)?;
+    assert_eq!(rt; left(game, White, 60_999), Some(2_001));
+    assert_eq!(rt; left(game, Black, 60_999), Some(60_000));
     assert_eq!(rt; game.moment(), 60_999);
+    Ok(())
+}
+
+#[test]
+fn a_flag_that_falls(rt: HostRuntime) -> Result<(), Fail> {
     let mut late = joined(rt.alloc(), &Board::initial(), 60, 2, None, 1_000)?;
-    if !runs_at(&late, 61_000) {
+    falls(&rt, &mut late)
+}
+
+fn falls(rt: &impl Abort, late: &mut Game) -> Result<(), Fail> {
+    if !runs_at(late, 61_000) {
         return Err("runs".into());
     }
     assert!(rt; late.has_fallen(61_000));
     late.fall(61_000);
     assert_eq!(rt; late.ending(), ended(GameResult::Black, Article::A69));
-    assert_eq!(rt; left(&late, White, 61_000), Some(0));
+    assert_eq!(rt; left(late, White, 61_000), Some(0));
     Ok(())
 }
 
@@ -250,7 +267,11 @@ fn a_flag_against_a_king_alone(rt: HostRuntime) -> Result<(), Fail> {
         1,
     )?;
     let mut game = joined(rt.alloc(), &start, 1, 0, None, 0)?;
-    if !runs_at(&game, 999) || !runs_at(&game, 1_000) {
+    falls_against_a_king(&rt, &mut game)
+}
+
+fn falls_against_a_king(rt: &impl Abort, game: &mut Game) -> Result<(), Fail> {
+    if !runs_at(game, 999) || !runs_at(game, 1_000) {
         return Err("runs".into());
     }
     assert!(rt; !game.has_fallen(999));
@@ -267,22 +288,26 @@ const KNIGHTS: [(u8, u8); 4] = [(6, 21), (62, 45), (21, 6), (45, 62)];
 #[test]
 fn wrong_claims_give_time_and_offer(rt: HostRuntime) -> Result<(), Fail> {
     let mut game = usual(rt.alloc())?;
-    play_all(&mut game, 1_000, &KNIGHTS)?;
-    play_all(&mut game, 1_000, &KNIGHTS)?;
-    claim_with(&mut game, 5_000, true, 12, 28)?;
+    claims_wrongly(&rt, &mut game)
+}
+
+fn claims_wrongly(rt: &impl Abort, game: &mut Game) -> Result<(), Fail> {
+    play_all(game, 1_000, &KNIGHTS)?;
+    play_all(game, 1_000, &KNIGHTS)?;
+    claim_with(game, 5_000, true, 12, 28)?;
     assert_eq!(rt; game.ply(), 9);
-    assert_eq!(rt; left(&game, White, 5_000), Some(296_000));
-    assert_eq!(rt; left(&game, Black, 5_000), Some(420_000));
+    assert_eq!(rt; left(game, White, 5_000), Some(296_000));
+    assert_eq!(rt; left(game, Black, 5_000), Some(420_000));
     assert!(rt; game.offers(White));
     assert!(rt; !game.claimed());
-    claim(&mut game, 6_000, false)?;
+    claim(game, 6_000, false)?;
     assert!(rt; game.claimed());
     assert!(rt; game.offers(White));
     assert!(rt; game.offers(Black));
-    assert_eq!(rt; left(&game, White, 6_000), Some(416_000));
-    assert_eq!(rt; left(&game, Black, 6_000), Some(419_000));
+    assert_eq!(rt; left(game, White, 6_000), Some(416_000));
+    assert_eq!(rt; left(game, Black, 6_000), Some(419_000));
     assert_eq!(rt; game.moment(), 5_000);
-    if !runs_at(&game, 6_000) {
+    if !runs_at(game, 6_000) {
         return Err("runs".into());
     }
     game.accept(6_000);
@@ -298,12 +323,16 @@ fn wrong_claims_give_time_and_offer(rt: HostRuntime) -> Result<(), Fail> {
 #[test]
 fn a_third_occurrence_is_claimed(rt: HostRuntime) -> Result<(), Fail> {
     let mut game = usual(rt.alloc())?;
-    play(&mut game, 1_000, 12, 28)?;
+    claims_the_third(&rt, &mut game)
+}
+
+fn claims_the_third(rt: &impl Abort, game: &mut Game) -> Result<(), Fail> {
+    play(game, 1_000, 12, 28)?;
     for _ in 0..2 {
-        play_all(&mut game, 1_000, &[(62, 45), (6, 21), (45, 62), (21, 6)])?;
+        play_all(game, 1_000, &[(62, 45), (6, 21), (45, 62), (21, 6)])?;
     }
     assert_eq!(rt; game.ending(), None);
-    claim(&mut game, 1_000, false)?;
+    claim(game, 1_000, false)?;
     assert_eq!(rt; game.ending(), ended(GameResult::Draw, Article::A92));
     assert_eq!(rt; game.ply(), 9);
     Ok(())
@@ -313,9 +342,13 @@ fn a_third_occurrence_is_claimed(rt: HostRuntime) -> Result<(), Fail> {
 #[test]
 fn a_claim_with_its_move_stated(rt: HostRuntime) -> Result<(), Fail> {
     let mut game = usual(rt.alloc())?;
-    play(&mut game, 1_000, 12, 28)?;
+    claims_with_its_move(&rt, &mut game)
+}
+
+fn claims_with_its_move(rt: &impl Abort, game: &mut Game) -> Result<(), Fail> {
+    play(game, 1_000, 12, 28)?;
     play_all(
-        &mut game,
+        game,
         1_000,
         &[
             (62, 45),
@@ -327,7 +360,7 @@ fn a_claim_with_its_move_stated(rt: HostRuntime) -> Result<(), Fail> {
             (45, 62),
         ],
     )?;
-    claim_with(&mut game, 1_000, false, 21, 6)?;
+    claim_with(game, 1_000, false, 21, 6)?;
     assert_eq!(rt; game.ending(), ended(GameResult::Draw, Article::A92));
     assert_eq!(rt; game.ply(), 8);
     Ok(())
@@ -337,13 +370,28 @@ fn a_claim_with_its_move_stated(rt: HostRuntime) -> Result<(), Fail> {
 #[test]
 fn the_fifth_occurrence_draws(rt: HostRuntime) -> Result<(), Fail> {
     let mut game = usual(rt.alloc())?;
+    comes_five_times(&rt, &mut game)
+}
+
+fn comes_five_times(rt: &impl Abort, game: &mut Game) -> Result<(), Fail> {
     for _ in 0..4 {
         assert_eq!(rt; game.ending(), None);
-        play_all(&mut game, 1_000, &KNIGHTS)?;
+        play_all(game, 1_000, &KNIGHTS)?;
     }
     assert_eq!(rt; game.ending(), ended(GameResult::Draw, Article::A961));
     assert_eq!(rt; game.ply(), 16);
     Ok(())
+}
+
+// The ending that one move of a game from this start gives, with 300 s.
+fn ending_of(alloc: Global, start: &Board, from: u8, to: u8) -> Result<Option<Ending>, Fail> {
+    let mut game = joined(alloc, start, 300, 0, None, 1_000)?;
+    played(&mut game, from, to)
+}
+
+fn played(game: &mut Game, from: u8, to: u8) -> Result<Option<Ending>, Fail> {
+    play(game, 1_000, from, to)?;
+    Ok(game.ending())
 }
 
 // 7k/8/6K1/8/8/8/8/R7 w - - 149 90: Ra8 is mate, and Kf6 the last of 75 moves of each side.
@@ -364,12 +412,10 @@ fn mate_goes_before_seventy_five_moves(rt: HostRuntime) -> Result<(), Fail> {
         149,
         90,
     )?;
-    let mut mate = joined(rt.alloc(), &start, 300, 0, None, 1_000)?;
-    play(&mut mate, 1_000, 0, 56)?;
-    assert_eq!(rt; mate.ending(), ended(GameResult::White, Article::A511));
-    let mut quiet = joined(rt.alloc(), &start, 300, 0, None, 1_000)?;
-    play(&mut quiet, 1_000, 46, 45)?;
-    assert_eq!(rt; quiet.ending(), ended(GameResult::Draw, Article::A962));
+    let mate = ending_of(rt.alloc(), &start, 0, 56)?;
+    assert_eq!(rt; mate, ended(GameResult::White, Article::A511));
+    let quiet = ending_of(rt.alloc(), &start, 46, 45)?;
+    assert_eq!(rt; quiet, ended(GameResult::Draw, Article::A962));
     Ok(())
 }
 
@@ -391,9 +437,8 @@ fn dead_material_and_stalemate(rt: HostRuntime) -> Result<(), Fail> {
         0,
         1,
     )?;
-    let mut dead = joined(rt.alloc(), &pawn, 300, 0, None, 1_000)?;
-    play(&mut dead, 1_000, 0, 9)?;
-    assert_eq!(rt; dead.ending(), ended(GameResult::Draw, Article::A522));
+    let dead = ending_of(rt.alloc(), &pawn, 0, 9)?;
+    assert_eq!(rt; dead, ended(GameResult::Draw, Article::A522));
     let queen = board_of(
         White,
         [
@@ -409,9 +454,8 @@ fn dead_material_and_stalemate(rt: HostRuntime) -> Result<(), Fail> {
         0,
         1,
     )?;
-    let mut stale = joined(rt.alloc(), &queen, 300, 0, None, 1_000)?;
-    play(&mut stale, 1_000, 37, 53)?;
-    assert_eq!(rt; stale.ending(), ended(GameResult::Draw, Article::A521));
+    let stale = ending_of(rt.alloc(), &queen, 37, 53)?;
+    assert_eq!(rt; stale, ended(GameResult::Draw, Article::A521));
     Ok(())
 }
 
@@ -433,16 +477,20 @@ fn a_live_target_counts(rt: HostRuntime) -> Result<(), Fail> {
         0,
         1,
     )?;
-    let kings = [(60, 52), (4, 12), (52, 60), (12, 4)];
     let mut game = joined(rt.alloc(), &start, 300, 0, None, 1_000)?;
-    play(&mut game, 1_000, 12, 28)?;
-    play_all(&mut game, 1_000, &kings)?;
-    play_all(&mut game, 1_000, &kings)?;
-    claim(&mut game, 1_000, false)?;
+    comes_thrice_without_target(&rt, &mut game)
+}
+
+fn comes_thrice_without_target(rt: &impl Abort, game: &mut Game) -> Result<(), Fail> {
+    let kings = [(60, 52), (4, 12), (52, 60), (12, 4)];
+    play(game, 1_000, 12, 28)?;
+    play_all(game, 1_000, &kings)?;
+    play_all(game, 1_000, &kings)?;
+    claim(game, 1_000, false)?;
     assert_eq!(rt; game.ending(), None);
-    play_all(&mut game, 1_000, &kings)?;
+    play_all(game, 1_000, &kings)?;
     assert_eq!(rt; game.ply(), 13);
-    claim(&mut game, 1_000, false)?;
+    claim(game, 1_000, false)?;
     assert_eq!(rt; game.ending(), ended(GameResult::Draw, Article::A92));
     Ok(())
 }
@@ -466,8 +514,12 @@ fn a_resignation_loses(rt: HostRuntime) -> Result<(), Fail> {
         12,
     )?;
     let mut game = joined(rt.alloc(), &start, 60, 0, None, 1_000)?;
-    play_all(&mut game, 1_000, &[(60, 51), (12, 28)])?;
-    if !runs_at(&game, 1_000) {
+    resigns(&rt, &mut game)
+}
+
+fn resigns(rt: &impl Abort, game: &mut Game) -> Result<(), Fail> {
+    play_all(game, 1_000, &[(60, 51), (12, 28)])?;
+    if !runs_at(game, 1_000) {
         return Err("runs".into());
     }
     game.resign(1_000, Black);
@@ -479,13 +531,17 @@ fn a_resignation_loses(rt: HostRuntime) -> Result<(), Fail> {
 #[test]
 fn offers_are_answered(rt: HostRuntime) -> Result<(), Fail> {
     let mut game = usual(rt.alloc())?;
-    play(&mut game, 1_000, 12, 28)?;
+    offers_twice(&rt, &mut game)
+}
+
+fn offers_twice(rt: &impl Abort, game: &mut Game) -> Result<(), Fail> {
+    play(game, 1_000, 12, 28)?;
     if !game.is_joined() || game.is_over() {
         return Err("runs".into());
     }
     game.offer(White);
     assert!(rt; game.offers(White));
-    play(&mut game, 1_000, 52, 36)?;
+    play(game, 1_000, 52, 36)?;
     assert!(rt; !game.offers(White));
     if !game.is_joined() || game.is_over() {
         return Err("runs".into());
@@ -500,11 +556,15 @@ fn offers_are_answered(rt: HostRuntime) -> Result<(), Fail> {
 #[test]
 fn the_second_period_begins_with_its_move(rt: HostRuntime) -> Result<(), Fail> {
     let mut game = joined(rt.alloc(), &Board::initial(), 60, 2, Some((1, 30)), 0)?;
-    play(&mut game, 10_000, 12, 28)?;
-    assert_eq!(rt; left(&game, White, 10_000), Some(82_000));
-    assert_eq!(rt; left(&game, Black, 10_000), Some(60_000));
-    play(&mut game, 69_999, 52, 36)?;
-    assert_eq!(rt; left(&game, White, 69_999), Some(82_000));
-    assert_eq!(rt; left(&game, Black, 69_999), Some(32_001));
+    reaches_the_second_period(&rt, &mut game)
+}
+
+fn reaches_the_second_period(rt: &impl Abort, game: &mut Game) -> Result<(), Fail> {
+    play(game, 10_000, 12, 28)?;
+    assert_eq!(rt; left(game, White, 10_000), Some(82_000));
+    assert_eq!(rt; left(game, Black, 10_000), Some(60_000));
+    play(game, 69_999, 52, 36)?;
+    assert_eq!(rt; left(game, White, 69_999), Some(82_000));
+    assert_eq!(rt; left(game, Black, 69_999), Some(32_001));
     Ok(())
 }
