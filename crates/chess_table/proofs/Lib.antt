@@ -7,3 +7,5 @@ pub mod GameKept
 pub mod TableKept
 pub mod CheckLemmas
 pub mod FollowLemmas
+pub mod Comings
+pub mod AllowedLemmas

@@ -5,3 +5,5 @@ pub mod Checks
 pub mod Telling
 pub mod Ready
 pub mod Memory
+pub mod Coming
+pub mod Allowing

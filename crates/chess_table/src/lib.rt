@@ -2,6 +2,7 @@
 //! definitions, which the contracts cite.
 #![tactic(auto)]
 
+mod coming;
 mod entering;
 mod judging;
 mod table;
