@@ -1,5 +1,5 @@
 -- The test of an entry decides whether its game is ready for it, and whether a game may be opened so.
-use Rattle.std.specs.Prelude.{ℕ, ◌≡◌, ◌⊎◌, ◌≤◌, ◌<◌, ◌+◌, ◌^◌, ◌==◌, ◌&&◌, ◌||◌, not, nat_le, nat_lt, Bool, true, false, Option, Some, None, is_none, length, ◌↔◌, IsTrue}
+use Rattle.std.specs.Prelude.{ℕ, ◌≡◌, ◌≤◌, ◌<◌, ◌+◌, ◌^◌, ◌==◌, ◌&&◌, ◌||◌, not, nat_le, nat_lt, Bool, true, false, Option, Some, None, is_none, length, ◌↔◌, IsTrue}
 use Rattle.std.specs.Option.{ForSome}
 use Rattle.std.proofs.Common.{ap, sym, subst, ◌∙◌, refl, inl, inr, arith}
 use Rattle.std.proofs.lemmas.Bool.{leb-true, le-leb, and_parts, or_parts, eqb-true, false≢true}
@@ -18,7 +18,7 @@ use Rattle.rec_codec.specs.declared.record.Opening.{Opening}
 use Rattle.chess_entry.specs.State.{GameState, TableState, position_of, ply_of, seat_of, is_joined, is_over, find_game}
 use Rattle.chess_entry.specs.Verdict.{are_times, is_finished_at, is_full, is_on_move, has_offer, has_fallen, side_of}
 use Rattle.chess_entry.specs.Table.{IsTable, IsEnteredOn}
-use Rattle.chess_game.specs.Turn.{IsRunningAt, IsInTime, IsPlayable, IsJudgeable}
+use Rattle.chess_game.specs.Turn.{IsRunningAt, IsInTime}
 use Rattle.chess_table.specs.Coming.{IsReadyFor, OpensGame, ActsInGame}
 use Rattle.chess_table.specs.Allowing.{is_running_at, is_in_time, is_allowed, StatesLegal, opens_well, NamesPlayer}
 use Rattle.chess_table.proofs.Tellings.{IsTimeControl-of}

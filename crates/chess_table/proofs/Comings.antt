@@ -1,5 +1,5 @@
 -- An entry that comes as it should is the verdict on a command: that of a player of the game whose text names its move.
-use Rattle.std.specs.Prelude.{ℕ, ◌≡◌, ◌≢◌, ◌≤◌, ◌<◌, ◌+◌, ◌^◌, ◌==◌, ◌&&◌, ◌||◌, not, nat_le, nat_lt, nat_eq, Bool, true, false, if◌then◌else◌, List, [], ◌∷◌, ◌++◌, length, Option, Some, None, is_some, is_none, IfSome, max}
+use Rattle.std.specs.Prelude.{ℕ, ◌≡◌, ◌≤◌, ◌<◌, ◌+◌, ◌^◌, ◌==◌, ◌&&◌, ◌||◌, not, nat_le, nat_lt, nat_eq, Bool, true, false, if◌then◌else◌, List, [], ◌∷◌, ◌++◌, length, Option, Some, None, is_some, IfSome, max}
 use Rattle.std.specs.Cmp.Lexicographic.{pointwise, bytes_decides}
 use Rattle.std.specs.Option.{ForSome}
 use Rattle.std.proofs.Common.{ap, sym, subst, ◌∙◌, refl, inl, inr, arith}
@@ -12,14 +12,14 @@ use Rattle.chess_bits.specs.declared.men.Kind.{Kind}
 use Rattle.chess_bits.specs.declared.men.Kind.TheVariants.{Pawn, Knight, Bishop, Rook, Queen, King}
 use Rattle.chess_bits.specs.Man.{is_colour, other}
 use Rattle.chess_board.specs.declared.moves.Move.{Move}
-use Rattle.chess_board.specs.Position.{Position, IsValid}
+use Rattle.chess_board.specs.Position.{Position}
 use Rattle.chess_board.specs.Legal.{IsLegal}
 use Rattle.chess_board.proofs.Candidates.{IsOnBoard-from_man}
 use Rattle.chess_clock.specs.TimeControl.{IsTimeControl, IsPeriod, time_control}
 use Rattle.chess_text.specs.Fen.{fen_of}
 use Rattle.chess_text.proofs.Positions.{fen_of-IsFenOf}
 use Rattle.chess_san.specs.Name.{square_name}
-use Rattle.chess_san.specs.Coordinate.{IsPromotionText, IsCoordinateOf}
+use Rattle.chess_san.specs.Coordinate.{IsPromotionText}
 use Rattle.chess_san.specs.Reading.{Names}
 use Rattle.rec_codec.specs.Name.{IsName}
 use Rattle.rec_codec.specs.Moves.{CanBecome}
@@ -34,16 +34,16 @@ use Rattle.chess_entry.specs.declared.commands.Act.TheVariants as act
 use Rattle.chess_entry.specs.declared.commands.Command.{Command}
 use Rattle.chess_entry.specs.declared.verdicts.Verdict.{Verdict}
 use Rattle.chess_entry.specs.declared.verdicts.Verdict.TheVariants.{Refuse, Enter}
-use Rattle.chess_entry.specs.declared.refusals.Refusal.TheVariants.{BadMoment, NoName, OfferStands, NoOffer, TooEarly, AlreadyClaimed, FlagUp}
+use Rattle.chess_entry.specs.declared.refusals.Refusal.TheVariants.{OfferStands, NoOffer, TooEarly, AlreadyClaimed, FlagUp}
 use Rattle.chess_entry.specs.State.{GameState, TableState, position_of, ply_of, seat_of, is_joined, is_over, find_game}
 use Rattle.chess_entry.specs.Told.{Told, told, IsMoveTold}
-use Rattle.chess_entry.specs.Verdict.{Check, refuse, first_of, is_period, are_times, is_start, is_full, is_long, is_on_move, has_offer, has_fallen, in_game, by_side, while_running, in_turn, for_move, for_stated, moved, join_verdict, move_verdict, offer_verdict, accept_verdict, decline_verdict, resign_verdict, claim_verdict, flag_verdict, drop_verdict, in_seat, side_of, is_named, player_verdict, name_or_none, is_read, effective, verdict, IsTold, IsVerdict}
+use Rattle.chess_entry.specs.Verdict.{Check, refuse, first_of, is_period, are_times, is_start, is_full, is_long, is_on_move, has_offer, has_fallen, in_game, by_side, while_running, in_turn, for_move, moved, join_verdict, move_verdict, offer_verdict, accept_verdict, decline_verdict, resign_verdict, claim_verdict, flag_verdict, drop_verdict, in_seat, side_of, is_named, player_verdict, is_read, verdict, IsTold}
 use Rattle.chess_entry.specs.Bounds.{AreDifferent}
 use Rattle.chess_entry.specs.Table.{IsTable, IsOnTable, IsEnteredOn}
-use Rattle.chess_game.specs.Turn.{IsRunningAt, IsInTime, IsPlayable, IsJudgeable}
-use Rattle.chess_table.proofs.CheckLemmas.{CanBecome-legal, applies, skipped}
+use Rattle.chess_game.specs.Turn.{IsRunningAt}
+use Rattle.chess_table.proofs.CheckLemmas.{CanBecome-legal, skipped}
 use Rattle.chess_entry.proofs.Entering.{find_game-number}
-use Rattle.chess_table.specs.Coming.{IsReadyFor, OpensGame, ActsInGame, Comes}
+use Rattle.chess_table.specs.Coming.{IsReadyFor, OpensGame, Comes}
 use Rattle.chess_table.proofs.WhatEnters.{EachOf-found}
 
 -- ---- the checks that a game which runs lets through

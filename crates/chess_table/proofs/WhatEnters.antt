@@ -1,16 +1,16 @@
 -- What an entry that may come on a table asks of the table, and of the game that it is of.
-use Rattle.std.specs.Prelude.{ℕ, ◌≡◌, ◌⊎◌, ◌≤◌, ◌<◌, ◌+◌, ◌^◌, ◌==◌, ◌&&◌, not, nat_le, nat_lt, Bool, true, false, if◌then◌else◌, List, [], ◌∷◌, ◌++◌, length, Option, Some, None, is_some, is_none, IfSome, max}
+use Rattle.std.specs.Prelude.{ℕ, ◌≡◌, ◌⊎◌, ◌≤◌, ◌<◌, ◌+◌, ◌^◌, ◌==◌, ◌&&◌, not, nat_le, nat_lt, Bool, true, false, if◌then◌else◌, List, [], ◌∷◌, ◌++◌, length, Option, Some, None, is_some, is_none, IfSome}
 use Rattle.std.specs.Option.{ForSome}
 use Rattle.std.proofs.Common.{ap, sym, subst, ◌∙◌, refl, inl, inr, arith}
-use Rattle.std.proofs.lemmas.Bool.{leb-true, leb-false, and_parts, or_parts, not-false, cases_Bool, eqb-true}
+use Rattle.std.proofs.lemmas.Bool.{leb-true, leb-false, or_parts, not-false, cases_Bool}
 use Rattle.std.proofs.lemmas.Bool.Decides.{nat_tests}
 use Rattle.arrayvec.specs.ArrayString.{ArrayString}
 use Rattle.chess_bits.specs.declared.men.Colour.{Colour}
-use Rattle.chess_bits.specs.Man.{is_colour, other}
+use Rattle.chess_bits.specs.Man.{other}
 use Rattle.chess_board.specs.declared.moves.Move.{Move}
-use Rattle.chess_board.specs.Position.{Position, IsValid}
+use Rattle.chess_board.specs.Position.{Position}
 use Rattle.chess_board.specs.Legal.{EachOf, IsLegal}
-use Rattle.chess_clock.specs.TimeControl.{IsTimeControl, IsPeriod, time_control}
+use Rattle.chess_clock.specs.TimeControl.{IsTimeControl}
 use Rattle.rec_codec.specs.Name.{IsName}
 use Rattle.rec_codec.specs.declared.record.Event.{Event}
 use Rattle.rec_codec.specs.declared.record.Event.TheVariants as event
@@ -19,22 +19,20 @@ use Rattle.rec_codec.specs.declared.record.Opening.{Opening}
 use Rattle.rec_codec.specs.Records.{entry}
 use Rattle.chess_entry.specs.declared.commands.Act.{Act}
 use Rattle.chess_entry.specs.declared.commands.Act.TheVariants as act
-use Rattle.chess_entry.specs.declared.commands.Command.{Command}
 use Rattle.chess_entry.specs.declared.verdicts.Verdict.{Verdict}
 use Rattle.chess_entry.specs.declared.verdicts.Verdict.TheVariants.{Refuse, Enter, Read}
 use Rattle.chess_entry.specs.declared.refusals.Refusal.TheVariants.{OfferStands, NoOffer, TooEarly, AlreadyClaimed, FlagUp}
 use Rattle.chess_entry.specs.State.{GameState, TableState, position_of, ply_of, seat_of, is_joined, is_over, find_game}
 use Rattle.chess_entry.specs.Told.{Told, IsStartTold, IsMoveTold, bytes_of}
-use Rattle.chess_entry.specs.Verdict.{Check, refuse, first_of, is_period, are_times, is_start, is_finished, is_full, is_long, is_on_move, has_offer, has_fallen, in_game, by_side, while_running, in_turn, for_move, for_stated, opened_from, moved, open_verdict, join_verdict, move_verdict, offer_verdict, accept_verdict, decline_verdict, resign_verdict, claim_verdict, flag_verdict, drop_verdict, in_seat, side_of, player_verdict, name_or_none, is_read, effective, verdict, IsTold, IsVerdict}
+use Rattle.chess_entry.specs.Verdict.{Check, refuse, first_of, are_times, is_start, is_finished, is_full, is_long, is_on_move, has_offer, has_fallen, in_game, by_side, while_running, in_turn, for_move, for_stated, opened_from, moved, open_verdict, join_verdict, move_verdict, offer_verdict, accept_verdict, decline_verdict, resign_verdict, claim_verdict, flag_verdict, drop_verdict, in_seat, side_of, player_verdict, name_or_none, is_read, effective, verdict, IsTold}
 use Rattle.chess_entry.specs.Games.{control_of}
 use Rattle.chess_entry.specs.Bounds.{IsStart}
 use Rattle.chess_entry.specs.Table.{IsTable, IsOnTable, IsEnteredOn}
 use Rattle.chess_entry.proofs.Entering.{passed, entered, in_game-entered, by_side-entered, find_game-number}
 use Rattle.chess_entry.proofs.InPlay.{none-not_some}
 use Rattle.chess_table.proofs.Tellings.{legal_told, start_valid, IsTimeControl-of}
-use Rattle.chess_table.specs.Ready.{IsReady}
-use Rattle.chess_table.specs.Coming.{IsShort, IsExact, IsReadyFor, OpensGame, ActsInGame, Comes}
-use Rattle.chess_game.specs.Turn.{IsRunningAt, IsInTime, IsPlayable, IsJudgeable}
+use Rattle.chess_table.specs.Coming.{IsReadyFor, OpensGame, ActsInGame, Comes}
+use Rattle.chess_game.specs.Turn.{IsRunningAt, IsInTime, IsPlayable}
 
 -- ---- games on the table
 

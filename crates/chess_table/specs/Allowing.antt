@@ -1,5 +1,5 @@
 -- The test whether an entry of a journal may come on a table.
-use Rattle.std.specs.Prelude.{ℕ, ◌≡◌, ◌+◌, ◌==◌, ◌&&◌, ◌||◌, not, nat_le, nat_lt, Bool, true, false, Option, Some, is_none}
+use Rattle.std.specs.Prelude.{ℕ, ◌+◌, ◌==◌, ◌&&◌, ◌||◌, not, nat_le, nat_lt, Bool, false, is_none}
 use Rattle.std.specs.Option.{ForSome}
 use Rattle.chess_bits.specs.Man.{other}
 use Rattle.chess_board.specs.Legal.{IsLegal}

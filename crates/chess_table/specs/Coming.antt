@@ -1,5 +1,5 @@
 -- What an entry that comes on a table asks of it.
-use Rattle.std.specs.Prelude.{ℕ, ◌≡◌, ◌⊎◌, ◌≤◌, ◌<◌, ◌+◌, ◌^◌, ◌&&◌, not, nat_lt, true, false, Option, Some, length}
+use Rattle.std.specs.Prelude.{ℕ, ◌≡◌, ◌⊎◌, ◌≤◌, ◌<◌, ◌+◌, ◌^◌, ◌&&◌, not, nat_lt, true, false, Some, length}
 use Rattle.std.specs.Option.{ForSome}
 use Rattle.chess_bits.specs.Man.{other}
 use Rattle.chess_clock.specs.TimeControl.{IsTimeControl}

@@ -1,4 +1,4 @@
-use Rattle.std.proofs.Common.{ℕ, ◌≡◌, ◌≤◌, ◌<◌, Some, None, arith, sym, ap, ◌∙◌, subst}
+use Rattle.std.proofs.Common.{ℕ, arith, ap, ◌∙◌, subst}
 use Rattle.std.specs.Prelude.{◌↔◌, IsTrue}
 use Rattle.rec_codec.specs.declared.limits.Limits.{Limits}
 use Rattle.chess_entry.specs.State.{find_game}
