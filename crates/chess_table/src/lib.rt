@@ -9,3 +9,6 @@ mod table;
 
 pub use judging::judge;
 pub use table::Table;
+
+#[cfg(test)]
+mod tests;
