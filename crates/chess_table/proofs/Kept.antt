@@ -1,5 +1,5 @@
 -- What holds of every table is kept.
-use Rattle.std.proofs.Common.{ℕ, ◌≡◌, ◌≤◌, arith}
+use Rattle.std.proofs.Common.{ℕ, ◌≤◌, arith}
 use Rattle.rec_codec.specs.declared.limits.Limits.{Limits}
 use Rattle.rec_codec.specs.declared.limits.Version.TheVariants.{Two}
 use Rattle.rec_codec.specs.Limits.{IsInRange}

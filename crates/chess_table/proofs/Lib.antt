@@ -9,3 +9,5 @@ pub mod CheckLemmas
 pub mod FollowLemmas
 mod Answering
 mod WhichReads
+pub mod Comings
+pub mod AllowedLemmas

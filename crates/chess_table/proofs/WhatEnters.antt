@@ -1,16 +1,16 @@
 -- What an entry that may come on a table asks of the table, and of the game that it is of.
-use Rattle.std.specs.Prelude.{ℕ, ◌≡◌, ◌⊎◌, ◌≤◌, ◌<◌, ◌+◌, ◌^◌, ◌==◌, ◌&&◌, not, nat_le, nat_lt, Bool, true, false, if◌then◌else◌, List, [], ◌∷◌, ◌++◌, length, Option, Some, None, is_some, is_none, IfSome, max}
+use Rattle.std.specs.Prelude.{ℕ, ◌≡◌, ◌⊎◌, ◌≤◌, ◌<◌, ◌+◌, ◌^◌, ◌==◌, ◌&&◌, not, nat_le, nat_lt, Bool, true, false, if◌then◌else◌, List, [], ◌∷◌, ◌++◌, length, Option, Some, None, is_some, is_none, IfSome}
 use Rattle.std.specs.Option.{ForSome}
 use Rattle.std.proofs.Common.{ap, sym, subst, ◌∙◌, refl, inl, inr, arith}
-use Rattle.std.proofs.lemmas.Bool.{leb-true, leb-false, and_parts, or_parts, not-false, cases_Bool, eqb-true}
+use Rattle.std.proofs.lemmas.Bool.{leb-true, leb-false, or_parts, not-false, cases_Bool}
 use Rattle.std.proofs.lemmas.Bool.Decides.{nat_tests}
 use Rattle.arrayvec.specs.ArrayString.{ArrayString}
 use Rattle.chess_bits.specs.declared.men.Colour.{Colour}
-use Rattle.chess_bits.specs.Man.{is_colour, other}
+use Rattle.chess_bits.specs.Man.{other}
 use Rattle.chess_board.specs.declared.moves.Move.{Move}
-use Rattle.chess_board.specs.Position.{Position, IsValid}
+use Rattle.chess_board.specs.Position.{Position}
 use Rattle.chess_board.specs.Legal.{EachOf, IsLegal}
-use Rattle.chess_clock.specs.TimeControl.{IsTimeControl, IsPeriod, time_control}
+use Rattle.chess_clock.specs.TimeControl.{IsTimeControl}
 use Rattle.rec_codec.specs.Name.{IsName}
 use Rattle.rec_codec.specs.declared.record.Event.{Event}
 use Rattle.rec_codec.specs.declared.record.Event.TheVariants as event
@@ -19,70 +19,20 @@ use Rattle.rec_codec.specs.declared.record.Opening.{Opening}
 use Rattle.rec_codec.specs.Records.{entry}
 use Rattle.chess_entry.specs.declared.commands.Act.{Act}
 use Rattle.chess_entry.specs.declared.commands.Act.TheVariants as act
-use Rattle.chess_entry.specs.declared.commands.Command.{Command}
 use Rattle.chess_entry.specs.declared.verdicts.Verdict.{Verdict}
 use Rattle.chess_entry.specs.declared.verdicts.Verdict.TheVariants.{Refuse, Enter, Read}
 use Rattle.chess_entry.specs.declared.refusals.Refusal.TheVariants.{OfferStands, NoOffer, TooEarly, AlreadyClaimed, FlagUp}
 use Rattle.chess_entry.specs.State.{GameState, TableState, position_of, ply_of, seat_of, is_joined, is_over, find_game}
 use Rattle.chess_entry.specs.Told.{Told, IsStartTold, IsMoveTold, bytes_of}
-use Rattle.chess_entry.specs.Verdict.{Check, refuse, first_of, is_period, are_times, is_start, is_finished, is_full, is_long, is_on_move, has_offer, has_fallen, in_game, by_side, while_running, in_turn, for_move, for_stated, opened_from, moved, open_verdict, join_verdict, move_verdict, offer_verdict, accept_verdict, decline_verdict, resign_verdict, claim_verdict, flag_verdict, drop_verdict, in_seat, side_of, player_verdict, name_or_none, is_read, effective, verdict, IsTold, IsVerdict}
+use Rattle.chess_entry.specs.Verdict.{Check, refuse, first_of, are_times, is_start, is_finished, is_full, is_long, is_on_move, has_offer, has_fallen, in_game, by_side, while_running, in_turn, for_move, for_stated, opened_from, moved, open_verdict, join_verdict, move_verdict, offer_verdict, accept_verdict, decline_verdict, resign_verdict, claim_verdict, flag_verdict, drop_verdict, in_seat, side_of, player_verdict, name_or_none, is_read, effective, verdict, IsTold}
 use Rattle.chess_entry.specs.Games.{control_of}
 use Rattle.chess_entry.specs.Bounds.{IsStart}
 use Rattle.chess_entry.specs.Table.{IsTable, IsOnTable, IsEnteredOn}
 use Rattle.chess_entry.proofs.Entering.{passed, entered, in_game-entered, by_side-entered, find_game-number}
 use Rattle.chess_entry.proofs.InPlay.{none-not_some}
 use Rattle.chess_table.proofs.Tellings.{legal_told, start_valid, IsTimeControl-of}
-use Rattle.chess_table.specs.Ready.{IsReady}
-use Rattle.chess_game.specs.Turn.{IsRunningAt, IsInTime, IsPlayable, IsJudgeable}
-
--- ---- what an entry asks
-
--- There is room for the move that an entry states.
-abbrev pub IsShort : ℕ → GameState → Event → Type 0
-IsShort plies game (event.Move made) = ply_of game < plies
-IsShort plies game (event.Claim claim) = ForSome claim.mv (λ _. ply_of game < plies)
-IsShort plies game _ = Unit {0}
-
--- What the entry states is so, and no other check would have stopped its act.
-abbrev pub IsExact : GameState → ℕ → Event → Type 0
-IsExact game at (event.Open opening) = Unit {0}
-IsExact game at (event.Join name) = Unit {0}
-IsExact game at (event.Move made) = made.ply ≡ ply_of game
-IsExact game at (event.Offer by) = (has_fallen game at ≡ false) × (has_offer game ≡ false)
-IsExact game at (event.Accept by) =
-    (has_fallen game at ≡ false) × ((seat_of (other by) game).offers ≡ true) × (nat_lt (ply_of game) 2 ≡ false)
-IsExact game at (event.Decline by) = (has_fallen game at ≡ false) × ((seat_of (other by) game).offers ≡ true)
-IsExact game at (event.Resign by) = has_fallen game at ≡ false
-IsExact game at (event.Claim claim) = claim.ply ≡ ply_of game
-IsExact game at event.Fallen = has_fallen game at ≡ true
-IsExact game at event.Drop = (is_joined game && not (is_over game)) ≡ false
-
-pub record IsReadyFor (plies : ℕ) (game : GameState) (at : ℕ) (ev : Event) : Type 0 where
-  pub ready : IsReady game at ev
-  pub short : IsShort plies game ev
-  pub exact : IsExact game at ev
-
--- A game is opened with the next number.
-pub record OpensGame (table : TableState) (e : Entry) : Type 0 where
-  pub opening : Opening
-  pub opens : e.event ≡ event.Open opening
-  pub next : e.game ≡ table.last + 1
-  pub number : e.game < 2 ^ 32
-  pub control : IsTimeControl (control_of opening)
-  pub start : IsStart opening.start
-  pub named : IsName opening.name
-  pub room : length table.games < table.limits.games
-
--- The entry is of a game on the table, which is ready for it.
-pub record ActsInGame (table : TableState) (e : Entry) : Type 0 where
-  pub game : GameState
-  pub found : find_game e.game table.games ≡ Some game
-  pub ready : IsReadyFor table.limits.plies game e.moment e.event
-
-pub record Comes (table : TableState) (e : Entry) : Type 0 where
-  pub from : table.moment ≤ e.moment
-  pub to : e.moment ≤ 4611686018427387903
-  pub kind : OpensGame table e ⊎ ActsInGame table e
+use Rattle.chess_table.specs.Coming.{IsReadyFor, OpensGame, ActsInGame, Comes}
+use Rattle.chess_game.specs.Turn.{IsRunningAt, IsInTime, IsPlayable}
 
 -- ---- games on the table
 

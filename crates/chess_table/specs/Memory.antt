@@ -1,5 +1,5 @@
 -- For which entries memory may be refused.
-use Rattle.std.specs.Prelude.{◌≡◌, ◌++◌, true, false, List, Option, Some, is_some}
+use Rattle.std.specs.Prelude.{◌≡◌, ◌++◌, true, false, List, Some, is_some}
 use Rattle.rec_codec.specs.declared.record.Event.{Event}
 use Rattle.rec_codec.specs.declared.record.Event.TheVariants as event
 use Rattle.rec_codec.specs.declared.record.Entry.{Entry}

@@ -1,13 +1,11 @@
 -- What a game is to be like for an entry of it.
-use Rattle.std.specs.Prelude.{ℕ, ◌≡◌, ◌<◌, List, Option, Some, None, false}
-use Rattle.std.specs.Option.{ForSome}
+use Rattle.std.specs.Prelude.{ℕ, ◌≡◌, List, Some, None, false}
 use Rattle.rec_codec.specs.Name.{IsName}
 use Rattle.rec_codec.specs.declared.record.Event.{Event}
 use Rattle.rec_codec.specs.declared.record.Event.TheVariants as event
 use Rattle.rec_codec.specs.declared.record.Entry.{Entry}
 use Rattle.chess_clock.specs.TimeControl.{IsTimeControl}
-use Rattle.chess_entry.specs.State.{GameState, TableState, is_joined, find_game}
-use Rattle.chess_entry.specs.Story.{stated}
+use Rattle.chess_entry.specs.State.{GameState, is_joined, find_game}
 use Rattle.chess_entry.specs.Games.{control_of}
 use Rattle.chess_entry.specs.Verdict.{side_of}
 use Rattle.chess_entry.specs.Bounds.{IsStart}

@@ -9,7 +9,7 @@ ghost use Rattle.chess_entry.specs.declared.verdicts.Verdict.{Verdict};
 ghost use Rattle.chess_entry.specs.declared.verdicts.Verdict.TheVariants.{Refuse, Enter};
 ghost use Rattle.chess_entry.specs.State.{GameState, find_game, seat_of};
 ghost use Rattle.chess_entry.specs.Told.{Told, told, bytes_of};
-ghost use Rattle.chess_entry.specs.Verdict.{Check, first_of, while_running, in_turn, for_move, for_stated, are_times, in_seat, has_offer, open_verdict, join_verdict, move_verdict, offer_verdict, accept_verdict, decline_verdict, resign_verdict, claim_verdict, flag_verdict, drop_verdict, player_verdict, verdict, is_read, IsVerdict};
+ghost use Rattle.chess_entry.specs.Verdict.{Check, first_of, while_running, in_turn, for_move, for_stated, are_times, in_seat, is_full, has_offer, open_verdict, join_verdict, move_verdict, offer_verdict, accept_verdict, decline_verdict, resign_verdict, claim_verdict, flag_verdict, drop_verdict, player_verdict, verdict, is_read, IsVerdict};
 ghost use Rattle.chess_table.specs.Checks.{stopped_by, opening_from};
 ghost use Rattle.chess_table.specs.Telling.{IsTheStart, IsTheMove, IsTheTold};
 
@@ -26,7 +26,7 @@ use chess_text::fen_read;
 use rec_codec::StoredMove;
 
 // The greatest moment of a command.
-const GREATEST_MOMENT: u64 = 4_611_686_018_427_387_903;
+pub(crate) const GREATEST_MOMENT: u64 = 4_611_686_018_427_387_903;
 
 // What the text of a command tells: the start of a game, or a move.
 #[derive(Clone, Copy)]
@@ -206,6 +206,13 @@ fn running_seat<'a>(
     }
 }
 
+// There is no room for a game, or no number for it.
+pub(crate) fn is_full(table: &Table) -> bool
+    ensures { result ≡ is_full table.now }
+{
+    table.limits().games as usize <= table.games() || table.last() == u32::MAX
+}
+
 fn open_verdict(
     table: &Table,
     at: u64,
@@ -229,7 +236,7 @@ fn open_verdict(
     if is_finished(start) {
         return Verdict::Refuse(Refusal::Finished);
     }
-    if table.limits().games as usize <= table.games() || table.last() == u32::MAX {
+    if is_full(table) {
         return Verdict::Refuse(Refusal::TooManyGames);
     }
     Verdict::Enter(Entry {
@@ -293,14 +300,14 @@ fn move_verdict(
 }
 
 // An offer stands.
-fn has_offer(game: &Game) -> bool
+pub(crate) fn has_offer(game: &Game) -> bool
     ensures { result ≡ has_offer game.now }
 {
     game.offers(Colour::White) || game.offers(Colour::Black)
 }
 
 // An offer of the opponent stands.
-fn is_offered(game: &Game, side: Colour) -> bool
+pub(crate) fn is_offered(game: &Game, side: Colour) -> bool
     ensures { result ≡ (seat_of (other side) game.now).offers }
 {
     game.offers(side.other())

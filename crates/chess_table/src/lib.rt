@@ -3,9 +3,13 @@
 #![tactic(auto)]
 
 mod answers;
+mod coming;
 mod entering;
 mod judging;
 mod table;
 
 pub use judging::judge;
 pub use table::Table;
+
+#[cfg(test)]
+mod tests;

@@ -1,4 +1,4 @@
-use Rattle.std.proofs.Common.{◌≡◌, Some, None, List, ℕ, sym, subst}
+use Rattle.std.proofs.Common.{Some, List, ℕ, sym, subst}
 use Rattle.chess_board.specs.declared.moves.Move.{Move}
 use Rattle.chess_entry.specs.State.{find_game}
 use Rattle.chess_san.specs.Reading.{Names}

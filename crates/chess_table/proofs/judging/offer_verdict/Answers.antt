@@ -1,16 +1,13 @@
-use Rattle.std.proofs.Common.{ℕ, arith, true, false, ◌≡◌, ◌++◌, [], ◌∷◌, List, sym, ap, ◌∙◌, refl}
-use Rattle.std.specs.Prelude.{not, nat_lt, is_none}
-use Rattle.std.proofs.lemmas.Bool.Decides.{nat_tests}
+use Rattle.std.proofs.Common.{[], ◌∷◌, List, sym, ◌∙◌}
 use Rattle.chess_bits.specs.declared.men.Colour.{Colour}
-use Rattle.chess_bits.specs.Man.{other}
 use Rattle.rec_codec.specs.declared.record.Event.TheVariants as event
 use Rattle.rec_codec.specs.Records.{entry}
-use Rattle.chess_entry.specs.declared.refusals.Refusal.TheVariants.{OfferStands, NoOffer, TooEarly, AlreadyClaimed, FlagUp}
+use Rattle.chess_entry.specs.declared.refusals.Refusal.TheVariants.{OfferStands}
 use Rattle.chess_entry.specs.declared.verdicts.Verdict.{Verdict}
-use Rattle.chess_entry.specs.declared.verdicts.Verdict.TheVariants.{Refuse, Enter}
-use Rattle.chess_entry.specs.State.{GameState, ply_of, seat_of}
-use Rattle.chess_entry.specs.Verdict.{Check, first_of, refuse, has_offer, in_turn, for_move, for_stated, moved}
-use Rattle.chess_table.proofs.CheckLemmas.{stops, passes, stops_last, passes_last, applies, skipped}
+use Rattle.chess_entry.specs.declared.verdicts.Verdict.TheVariants.{Enter}
+use Rattle.chess_entry.specs.State.{GameState}
+use Rattle.chess_entry.specs.Verdict.{Check, refuse, has_offer}
+use Rattle.chess_table.proofs.CheckLemmas.{applies, skipped}
 use Rattle.chess_table.proofs.judging.offer_verdict.Goals as goal
 
 pub returns-in-Err : goal.returns-in-Err

@@ -1,4 +1,4 @@
-use Rattle.std.proofs.Common.{◌∙◌, sym}
+use Rattle.std.proofs.Common.{◌∙◌}
 use Rattle.std.specs.Prelude.{◌++◌}
 use Rattle.chess_entry.specs.Verdict.{while_running, first_of}
 use Rattle.chess_table.proofs.CheckLemmas.{stops}
