@@ -19,3 +19,4 @@ pub use fen::fen_write;
 pub use fields::FenError;
 pub use game::is_playable;
 pub use reading::fen_read;
+pub use tags::{article_code, result_code};

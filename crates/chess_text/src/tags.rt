@@ -36,8 +36,8 @@ pub fn result_code(ending: Option<Ending>) -> &'static str
     }
 }
 
-// The number of an article.
-fn article_code(article: Article) -> &'static str
+/// The number of an article of the FIDE Laws of Chess, as `5.1.1`.
+pub fn article_code(article: Article) -> &'static str
     ensures { result.now ≡ article_text article }
 {
     match article {

@@ -1,0 +1,4 @@
+mod Room
+mod Widths
+mod TimesShown
+pub mod Coming

@@ -1,0 +1,4 @@
+pub mod Fields
+pub mod Refusals
+pub mod Acts
+pub mod Reads

@@ -1,0 +1,175 @@
+ghost use Rattle.std.specs.Prelude.{◌≡◌, ◌≤◌, ◌+◌, [], ◌∷◌, ◌++◌, length, codes, decimal};
+ghost use Rattle.arrayvec.specs.ArrayString.{array_string_len};
+ghost use Rattle.chess_entry.specs.State.{position_of, ply_of};
+ghost use Rattle.chess_entry.specs.Story.{stated};
+ghost use Rattle.chess_entry.specs.Outcome.{ending, is_granted, claimed_draw, resigned, flag_fallen};
+ghost use Rattle.chess_board.specs.declared.moves.Move.{Move};
+ghost use Rattle.chess_game.specs.Turn.{IsPlayable};
+ghost use Rattle.chess_answer.specs.Fields.{with_fields, ok_text, end_fields, colour_text};
+ghost use Rattle.chess_answer.specs.Acts.{named_text, free_side, TellsMove, IsClaimLine, IsGameLine, MayCome};
+
+use crate::fields::{AnswerLine, accepted, begun, push_ending, push_field, push_number};
+use chess_bits::Colour;
+use chess_board::Move;
+use chess_end::{Article, Ending, GameResult, flag_result};
+use chess_entry::{Entry, Event, GameNumber, Name};
+use chess_game::Game;
+use chess_san::write;
+
+// The answer to an act of which only the game is told.
+fn told(word: &str, game: &Game) -> AnswerLine
+    requires { length word.now ≤ 8 }
+    ensures bytes { result.bytes ≡ ok_text word.now game.now.number [] }
+    ensures len { array_string_len result ≤ 32 }
+{
+    accepted(word, u64::from(game.number().get()))
+}
+
+/// The answer to `name`: `ok name NAME`.
+pub fn named_line(name: &Name) -> AnswerLine
+    ensures { result.bytes ≡ named_text name.now }
+{
+    let mut text = begun("ok");
+    push_field(&mut text, "name");
+    push_field(&mut text, name.as_str());
+    text
+}
+
+/// The answer to the opening of a game: `ok open G`.
+pub fn opened_line(number: GameNumber) -> AnswerLine
+    ensures { result.bytes ≡ ok_text (codes "open") number [] }
+{
+    accepted("open", u64::from(number.get()))
+}
+
+// The answer to a join, with the colour of the seat that is empty before it.
+fn join_line(game: &Game) -> AnswerLine
+    ensures { result.bytes ≡ ok_text (codes "join") game.now.number (colour_text (free_side game.now) ∷ []) }
+{
+    let mut text = told("join", game);
+    if game.player(Colour::White).is_none() {
+        push_field(&mut text, "white");
+    } else {
+        push_field(&mut text, "black");
+    }
+    text
+}
+
+// Appends how many moves were made with a move, its SAN, and the ending where it ends the game.
+fn push_move(text: &mut AnswerLine, game: &Game, mv: &Move)
+    requires room { array_string_len text.old ≤ 64 }
+    requires playable { IsPlayable game.now mv.now }
+    ensures { TellsMove game.now mv.now text.old.bytes text.new.bytes }
+{
+    push_number(text, u64::from(game.ply()) + 1);
+    push_field(text, write(game.board(), *mv).as_str());
+    push_ending(text, game.ending_with(mv));
+}
+
+// The answer to a move.
+fn move_line(game: &Game, mv: &Move) -> AnswerLine
+    requires { IsPlayable game.now mv.now }
+    ensures { TellsMove game.now mv.now (ok_text (codes "move") game.now.number []) result.bytes }
+{
+    let mut text = told("move", game);
+    push_move(&mut text, game, mv);
+    text
+}
+
+// A draw by an article.
+fn drawn(article: Article) -> Ending
+    ensures { result ≡ ending GameResult.Draw article }
+{
+    Ending {
+        result: GameResult::Draw,
+        article,
+    }
+}
+
+// The draw of a correct claim: by the fifty-move rule (FIDE article 9.3), or else by a third occurrence (9.2).
+fn drawn_by_claim(fifty: bool) -> Ending
+    ensures { result ≡ claimed_draw fifty }
+{
+    if fifty {
+        drawn(Article::A93)
+    } else {
+        drawn(Article::A92)
+    }
+}
+
+// What a game gives in which a side has resigned (FIDE article 5.1.2).
+fn resigned(by: Colour) -> Ending
+    ensures { result ≡ resigned by }
+{
+    Ending {
+        result: match by {
+            Colour::White => GameResult::Black,
+            Colour::Black => GameResult::White,
+        },
+        article: Article::A512,
+    }
+}
+
+// The answer to a claim, for the position that stands or for the one that a stated move would bring.
+fn claim_line(game: &Game, fifty: bool, mv: Option<Move>) -> AnswerLine
+    requires { (m : Move) → mv ≡ Some m → IsPlayable game.now m }
+    ensures { IsClaimLine (is_granted fifty game.now.start (game.now.moves ++ stated mv)) game.now fifty mv result.bytes }
+{
+    let mut text = told("claim", game);
+    if game.is_granted(fifty, mv) {
+        push_ending(&mut text, Some(drawn_by_claim(fifty)));
+        return text;
+    }
+    push_field(&mut text, "wrong");
+    match &mv {
+        None => {}
+        Some(mv) => push_move(&mut text, game, mv),
+    }
+    text
+}
+
+// The answer to an act that ends a game.
+fn ended_line(word: &str, game: &Game, ending: Ending) -> AnswerLine
+    requires { length word.now ≤ 8 }
+    ensures { result.bytes ≡ ok_text word.now game.now.number (end_fields (Some ending)) }
+{
+    let mut text = told(word, game);
+    push_ending(&mut text, Some(ending));
+    text
+}
+
+// The Fallen answer.
+fn fallen_line(game: &Game) -> AnswerLine
+    ensures { result.bytes ≡ with_fields (codes "fallen")
+        (decimal game.now.number ∷ end_fields (Some (flag_fallen (position_of game.now)))) }
+{
+    let mut text = begun("fallen");
+    push_number(&mut text, u64::from(game.number().get()));
+    let board = game.board();
+    let ending = flag_result(board, board.side());
+    push_ending(&mut text, Some(ending));
+    text
+}
+
+/// The answer to an act that becomes an entry in a game that stands: on the game before the entry. It takes no memory. A
+/// move that the entry tells may be made.
+pub fn act_line(game: &Game, entry: &Entry) -> AnswerLine
+    requires { MayCome game.now entry.now.event }
+    ensures { IsGameLine game.now entry.now.event result.bytes }
+{
+    match &entry.event {
+        Event::Open(_) => unreachable!(),
+        Event::Join(_) => join_line(game),
+        Event::Move(made) => move_line(game, &made.mv.get()),
+        Event::Offer(_) => told("offer", game),
+        Event::Accept(_) => ended_line("accept", game, drawn(Article::A523)),
+        Event::Decline(_) => told("decline", game),
+        Event::Resign(by) => ended_line("resign", game, resigned(*by)),
+        Event::Claim(claim) => match &claim.mv {
+            None => claim_line(game, claim.fifty, None),
+            Some(mv) => claim_line(game, claim.fifty, Some(mv.get())),
+        },
+        Event::Fallen => fallen_line(game),
+        Event::Drop => told("drop", game),
+    }
+}

@@ -1,0 +1,13 @@
+pub mod Places
+pub mod Widened
+pub mod TableInside
+pub mod Checks
+pub mod Telling
+pub mod Ready
+pub mod Memory
+<<<<<<< HEAD
+pub mod Reading
+=======
+pub mod Coming
+pub mod Allowing
+>>>>>>> table

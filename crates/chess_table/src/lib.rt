@@ -1,0 +1,15 @@
+//! A table of games: what a command meets on it, and the table with one entry more. `chess_entry` has the rules as
+//! definitions, which the contracts cite.
+#![tactic(auto)]
+
+mod answers;
+mod coming;
+mod entering;
+mod judging;
+mod table;
+
+pub use judging::judge;
+pub use table::Table;
+
+#[cfg(test)]
+mod tests;
