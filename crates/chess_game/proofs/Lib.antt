@@ -8,3 +8,4 @@ pub mod KeptGame
 pub mod Shown
 pub mod Acts
 mod Refused
+pub mod StoredLemmas

@@ -89,6 +89,25 @@ three-answered_with g line m board fifty b n not_so same sound moved told counte
     ∙ ap (λ (l : LineState). is_granted false l.start (l.moves ++ m ∷ [])) same
     ∙ ap (λ (f : Bool). is_granted f line.start (line.moves ++ m ∷ [])) (sym not_so)
 
+-- the ending that a move would give
+pub ending-answered_with : (g : Inside) (line : LineState) (m : Move) (board : Position) (n q : ℕ)
+    (result : Option Ending) → line_of g ≡ line → IsSound g → board ≡ next g.board m
+    → n ≡ count_in g.history.counts (key_of board) → q ≡ board.halfmove
+    → IfSome result (IsEnding board (n + 1) q) → IfNone result (IsRunning board (n + 1) q)
+    → result ≡ ending_after line.start (line.moves ++ m ∷ [])
+ending-answered_with g line m board n q result same sound moved counted quiet some none =
+    let p = next (position_after g.start g.moves.items) m in
+    let brought = moved_board g m board sound moved in
+    let last : board ≡ position_after g.start (g.moves.items ++ m ∷ []) =
+    brought ∙ sym (position_after-push g.start g.moves.items m) in
+    let Some_at : Position → Type 0 = λ b. IfSome result (IsEnding b (n + 1) q) in
+    let None_at : Position → Type 0 = λ b. IfNone result (IsRunning b (n + 1) q) in
+    ending_after-answered g.start (g.moves.items ++ m ∷ []) (n + 1) q result
+    (ap (λ (k : ℕ). k + 1) (counted_times g p board n sound counted brought) ∙ times-push g.start g.moves.items m)
+    (quiet ∙ ap (λ (b : Position). b.halfmove) last)
+    (subst Some_at last some) (subst None_at last none)
+    ∙ ap (λ (l : LineState). ending_after l.start (l.moves ++ m ∷ [])) same
+
 -- how many positions a history has
 pub length-history : (g : Inside) (line : LineState) → line_of g ≡ line → IsSound g
     → length g.history.clocks ≡ length line.moves + 1

@@ -4,3 +4,4 @@ pub mod Sides
 pub mod ClockFor
 pub mod GameInside
 pub mod Turn
+pub mod Stored

@@ -1,25 +1,27 @@
-ghost use Rattle.std.specs.Prelude.{◌≡◌, ◌≤◌, ◌<◌, ◌++◌, length, true, false, is_some, IfOk, OnOk, OnErr};
+ghost use Rattle.std.specs.Prelude.{◌≡◌, ◌≤◌, ◌<◌, ◌++◌, [], ◌∷◌, length, true, false, is_some, IfOk, OnOk, OnErr};
 ghost use Rattle.chess_bits.specs.Man.{other};
 ghost use Rattle.chess_clock.specs.TimeControl.{time_control, IsTimeControl};
 ghost use Rattle.chess_entry.specs.State.{position_of, ply_of, seat_of, is_joined, is_over};
 ghost use Rattle.chess_entry.specs.Story.{stated};
-ghost use Rattle.chess_entry.specs.Outcome.{is_granted, claimed_draw, agreed, resigned, flag_fallen};
+ghost use Rattle.chess_entry.specs.Outcome.{ending_after, is_granted, claimed_draw, agreed, resigned, flag_fallen};
 ghost use Rattle.chess_end.specs.Ending.{won_by};
 ghost use Rattle.chess_board.specs.declared.moves.Move.{Move};
 ghost use Rattle.chess_entry.specs.Games.{control_of};
 ghost use Rattle.chess_entry.specs.Follow.{fresh_seat, new_game, joined, moved, with_offer, ended, claim_judged};
 ghost use Rattle.chess_entry.specs.Verdict.{side_of, has_fallen, is_on_move, is_named};
 ghost use Rattle.chess_entry.specs.Bounds.{IsGame, IsStart, IsByAct};
+ghost use Rattle.chess_entry.specs.Snapshot.{IsHeadOf};
 ghost use Rattle.chess_game.specs.ClockFor.{seat_for};
 ghost use Rattle.chess_game.specs.Turn.{IsRunningAt, IsInTime, IsPlayable, IsJudgeable, left_in};
 
 use crate::lines::Line;
 use crate::sides::{Seat, Sides};
+use crate::stored::{stored_ending, stored_seat};
 use chess_bits::Colour;
 use chess_board::{Board, Move};
 use chess_clock::Clock;
 use chess_end::{Article, Ending, GameResult, flag_result};
-use rec_codec::{Claim, GameNumber, Name, Opening};
+use rec_codec::{Claim, GameNumber, Head, Name, Opening};
 use std::alloc::{AllocError, Global};
 use std::marker::Model;
 
@@ -281,6 +283,37 @@ impl Game {
         match mv {
             None => self.line.is_granted(fifty),
             Some(mv) => self.line.is_granted_with(fifty, mv),
+        }
+    }
+
+    /// The ending that a legal move would bring, if it would bring one. The move is not made.
+    pub fn ending_with(&self, mv: &Move) -> Option<Ending>
+        requires { IsPlayable self.now mv.now }
+        ensures { result ≡ ending_after self.now.start (self.now.moves ++ mv.now ∷ []) }
+    {
+        self.line.ending_with(mv)
+    }
+
+    /// What a snapshot keeps of the game beside its moves.
+    pub fn head(&self) -> Head
+        ensures { IsHeadOf self.now result }
+    {
+        let ending = match self.sides.ending {
+            None => None,
+            Some(ending) => Some(stored_ending(ending)),
+        };
+        Head {
+            game: self.number,
+            moment: self.moment(),
+            moves: self.ply(),
+            initial: self.times.initial,
+            increment: self.times.increment,
+            period: self.times.period,
+            start: *self.line.start(),
+            white: stored_seat(self.sides.white, self.held(Colour::White)),
+            black: stored_seat(self.sides.black, self.held(Colour::Black)),
+            claimed: self.sides.claimed,
+            ending,
         }
     }
 

@@ -5,6 +5,7 @@
 mod games;
 mod lines;
 mod sides;
+mod stored;
 
 pub use games::{Game, Times};
 pub use lines::is_finished;

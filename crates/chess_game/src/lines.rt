@@ -101,6 +101,20 @@ impl Line {
         )
     }
 
+    /// The ending that a legal move would give, if it would give one. The move is not made.
+    pub fn ending_with(&self, mv: &Move) -> Option<Ending>
+        requires legal { IsLegal (last_of self.now) mv.now }
+        requires room { HasRoom self.now }
+        ensures { result ≡ ending_after self.now.start (self.now.moves ++ mv.now ∷ []) }
+    {
+        let board = self.board.apply(*mv);
+        after_move(
+            &board,
+            self.history.times(&board) + 1,
+            u32::from(board.halfmove()),
+        )
+    }
+
     /// Whether a claim for the position that stands is correct: by the fifty-move rule (FIDE article 9.3), or else by a
     /// third occurrence (9.2).
     pub fn is_granted(&self, fifty: bool) -> bool
