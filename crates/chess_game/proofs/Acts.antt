@@ -1,9 +1,9 @@
 -- What the calls of a game do to its parts is what happens to the game that the players see.
-use Rattle.std.proofs.Common.{ℕ, ◌≡◌, ◌-◌, ◌*◌, ◌<◌, ◌≤◌, Bool, true, false, List, [], ◌∷◌, ◌++◌, length, Option, Some, None, refl, sym, ap, ◌∙◌, subst, inl, inr, arith}
-use Rattle.std.specs.Prelude.{◌&&◌, ◌||◌, not, if◌then◌else◌, ◌==◌, nat_eq, nat_le, replicate, IsTrue, ◌↔◌}
+use Rattle.std.proofs.Common.{ℕ, ◌≡◌, ◌-◌, ◌*◌, ◌<◌, ◌≤◌, Bool, true, false, List, [], ◌∷◌, ◌++◌, length, Option, Some, None, refl, sym, ap, ◌∙◌, subst, inl, inr}
+use Rattle.std.specs.Prelude.{◌&&◌, not, if◌then◌else◌, ◌==◌, nat_eq, nat_le, replicate, IsTrue, ◌↔◌}
 use Rattle.std.specs.Cmp.Lexicographic.{pointwise, bytes_decides}
 use Rattle.std.proofs.lemmas.Bool.{cases_Bool, false≢true}
-use Rattle.std.proofs.lemmas.Bool.Decides.{nat_tests, Decides-eqb}
+use Rattle.std.proofs.lemmas.Bool.Decides.{Decides-eqb}
 use Rattle.std.proofs.lemmas.List.{append_cancel_right}
 use Rattle.rec_codec.specs.Name.{padded}
 use Rattle.chess_bits.specs.declared.men.Colour.{Colour}
@@ -16,13 +16,12 @@ use Rattle.chess_clock.specs.TimeControl.{moves_to_go}
 use Rattle.chess_clock.specs.ClockState.{ClockState, time_of, left, started, after, turn_ended as turn_event, HasFallen, TimesFit}
 use Rattle.chess_end.specs.declared.ending.Ending.{Ending}
 use Rattle.rec_codec.specs.declared.record.Opening.{Opening}
-use Rattle.chess_end.specs.Computing.{is_checkmate, is_stalemate, is_listed_dead}
 use Rattle.chess_entry.specs.State.{GameState, position_of, ply_of, is_joined, is_over}
 use Rattle.rec_codec.specs.declared.record.Claim.{Claim}
 use Rattle.chess_entry.specs.Story.{stated}
 use Rattle.chess_entry.specs.Outcome.{ending_after, is_granted, claimed_draw}
 use Rattle.chess_entry.specs.Games.{control_of}
-use Rattle.chess_entry.specs.Verdict.{has_fallen, is_finished_at}
+use Rattle.chess_entry.specs.Verdict.{has_fallen}
 use Rattle.chess_entry.specs.Follow.{fresh_seat, new_game, ended, ended_if, completed, turn_ended, moved, moved_if, claimed_wrongly, claim_judged}
 use Rattle.chess_entry.specs.Bounds.{IsGame}
 use Rattle.chess_game.specs.declared.games.Game.TheInside.{Inside}
@@ -33,7 +32,7 @@ use Rattle.chess_game.specs.Sides.{turn_over, stopped_if, with_wrong_claim}
 use Rattle.chess_game.specs.ClockFor.{clock_for, sides_for, line_for, seat_for}
 use Rattle.chess_game.specs.GameInside.{state_of, IsSound}
 use Rattle.chess_game.specs.Turn.{IsRunningAt, IsInTime, IsPlayable, IsJudgeable, left_in}
-use Rattle.chess_game.proofs.LineLemmas.{halfmove-at_most, fullmove-at_most}
+use Rattle.chess_game.proofs.ReplayLemmas.{HasRoom-start}
 use Rattle.chess_game.proofs.EndingLemmas.{told_le}
 use Rattle.chess_game.proofs.SidesLemmas.{turn_over-shown, stopped_if-shown, with_wrong_claim-shown, completed-none}
 use Rattle.chess_game.proofs.KeptGame.{IsOnWay, IsOnWay-of, IsOnWay-turn, IsOnWay-claim, line_goes_on, TimesFit-on_way, held_for, not_fallen, IsInTime-claim, IsGame-claim}
@@ -68,26 +67,11 @@ left-answered g game side at n same sound so is =
 
 -- ---- room for a move
 
-or_last : (a b : Bool) → (a || b) ≡ false → b ≡ false
-or_last true b h = absurd (false≢true (sym h))
-or_last false b h = h
-
-low_halfmove : (p : Position) → is_finished_at p ≡ false → p.halfmove < 150
-low_halfmove p goes_on =
-    let low : nat_le 150 p.halfmove ≡ false =
-    or_last (is_checkmate p || is_stalemate p || is_listed_dead p.placement) (nat_le 150 p.halfmove) goes_on in
-    grind (arith, nat_tests)
-
 pub HasRoom-playable : (g : Inside) (game : GameState) → Shows g game → IsGame 20000 game → ply_of game < 20000
     → HasRoom g.line
 HasRoom-playable g game shows is room =
-    let low = low_halfmove game.start is.start.goes_on in
-    let number = is.start.number in
-    let halfmove = halfmove-at_most game.start game.moves in
-    let fullmove = fullmove-at_most game.start game.moves in
     let P : LineState → Type 0 = λ line. HasRoom line in
-    let here : P (line_for game) = record { halfmove = omega arith; fullmove = omega arith; short = omega arith } in
-    subst P (sym shows.line) here
+    subst P (sym shows.line) (HasRoom-start game.start game.moves is.start room)
 
 -- ---- a move
 

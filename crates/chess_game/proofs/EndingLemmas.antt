@@ -3,8 +3,7 @@ use Rattle.std.proofs.Common.{ℕ, ◌≡◌, ◌+◌, ◌≤◌, Bool, true, fa
 use Rattle.std.specs.Prelude.{IsTrue, ◌↔◌, ◌||◌, is_some, IfSome, IfNone, nat_le, count_by, if◌then◌else◌}
 use Rattle.std.specs.Bool.{Decides}
 use Rattle.std.specs.Cmp.Lexicographic.{bytes_decides}
-use Rattle.std.proofs.lemmas.Bool.{false≢true}
-use Rattle.std.proofs.lemmas.Bool.Decides.{nat_tests}
+use Rattle.std.proofs.lemmas.Bool.{false≢true, leb-true, le-leb}
 use Rattle.std.proofs.lemmas.List.Sums.{count_by-le-length}
 use Rattle.chess_bits.specs.declared.men.Colour.{Colour}
 use Rattle.chess_bits.specs.Man.{other}
@@ -93,8 +92,12 @@ by_article mate stale dead five q won dm ds dd df dq result articles.A69 is give
 by_article mate stale dead five q won dm ds dd df dq result articles.A92 is gives = absurd is
 by_article mate stale dead five q won dm ds dd df dq result articles.A93 is gives = absurd is
 
+by_none : (mate stale dead five seventy_five : Bool) (won : GameResult) → mate ≡ false → stale ≡ false → dead ≡ false
+    → five ≡ false → seventy_five ≡ false → ending_by_tests mate stale dead five seventy_five won ≡ None
+by_none mate stale dead five q won m s d f r = rw (m, s, d, f, r) refl
+
 Decides-nat_le : (a b : ℕ) → Decides (nat_le a b) (a ≤ b)
-Decides-nat_le a b = (λ e. grind (arith, nat_tests), λ h. grind (arith, nat_tests))
+Decides-nat_le a b = (leb-true a b, le-leb a b)
 
 article_is : (p : Position) (t q : ℕ) (article : Article) → IsEndedBy p t q article
     → ArticleOf (IsCheckmate p) (IsStalemate p) (IsListedDead p.placement) (5 ≤ t) (150 ≤ q) article
@@ -137,13 +140,13 @@ ended_so p t q e is =
 
 goes_on : (p : Position) (t q : ℕ) → IsRunning p t q → ending_counted p t q ≡ None
 goes_on p t q is =
-    rw (
-      refuted (is_checkmate p) (Decides-is_checkmate p) is.0,
-      refuted (is_stalemate p) (Decides-is_stalemate p) is.1,
-      refuted (is_listed_dead p.placement) (Decides-is_listed_dead p.placement) is.2,
-      refuted (nat_le 5 t) (Decides-nat_le 5 t) is.3,
-      refuted (nat_le 150 q) (Decides-nat_le 150 q) is.4,
-    ) refl
+    by_none (is_checkmate p) (is_stalemate p) (is_listed_dead p.placement) (nat_le 5 t) (nat_le 150 q)
+    (won_by (other p.side))
+    (refuted (is_checkmate p) (Decides-is_checkmate p) is.0)
+    (refuted (is_stalemate p) (Decides-is_stalemate p) is.1)
+    (refuted (is_listed_dead p.placement) (Decides-is_listed_dead p.placement) is.2)
+    (refuted (nat_le 5 t) (Decides-nat_le 5 t) is.3)
+    (refuted (nat_le 150 q) (Decides-nat_le 150 q) is.4)
 
 answered : (p : Position) (t q : ℕ) (result : Option Ending) → IfSome result (IsEnding p t q)
     → IfNone result (IsRunning p t q) → result ≡ ending_counted p t q

@@ -1,13 +1,12 @@
 -- What holds of every game is kept by all that can happen to it.
 use Rattle.std.proofs.Common.{ℕ, ◌≡◌, ◌+◌, ◌-◌, ◌*◌, ◌^◌, ◌<◌, ◌≤◌, Bool, true, false, List, [], ◌∷◌, ◌++◌, length, Option, Some, None, refl, sym, ap, ◌∙◌, subst, arith, length-append}
 use Rattle.std.specs.Prelude.{◌&&◌, ◌||◌, if◌then◌else◌, is_some, IfSome, nat_le}
-use Rattle.std.proofs.lemmas.Bool.{false≢true}
-use Rattle.std.proofs.lemmas.Bool.Decides.{nat_tests}
+use Rattle.std.proofs.Math.Nat.{le_refl, le_trans}
+use Rattle.std.proofs.lemmas.Bool.{false≢true, le-leb}
 use Rattle.chess_bits.specs.declared.men.Colour.{Colour}
 use Rattle.chess_bits.specs.declared.men.Colour.TheVariants.{White, Black}
 use Rattle.chess_bits.specs.Man.{other, is_colour}
 use Rattle.chess_board.specs.declared.moves.Move.{Move}
-use Rattle.chess_board.specs.Position.{Position}
 use Rattle.chess_board.specs.Line.{IsLegalLine}
 use Rattle.chess_clock.specs.TimeControl.{TimeControl, IsTimeControl}
 use Rattle.chess_clock.specs.Held.{given_for}
@@ -29,6 +28,7 @@ use Rattle.chess_game.proofs.LineLemmas.{IsLegalLine-push, side-position_after}
 use Rattle.chess_game.proofs.KeptLine.{GoesOnUntilLast-push, ending_by_last-pushed}
 use Rattle.chess_game.proofs.TimeLemmas.{given_for-claims, held_after_turn-at_most, with_penalty-at_most, completed-mover, completed-other, completed-at_most}
 use Rattle.chess_game.proofs.SidesLemmas.{seat_turned}
+use Rattle.chess_game.proofs.ReplayLemmas.{GoesOnUntilLast-none}
 
 -- ---- a game on its way: both play, and no act or flag has ended it before its last move
 
@@ -120,6 +120,12 @@ IsGame-going game way none = record {
 
 -- ---- the end
 
+more_of : (n : ℕ) {a b : ℕ} → a ≤ b → n + a ≤ n + b
+more_of n more = omega arith
+
+none_most : (n : ℕ) → 0 ≤ n
+none_most n = omega arith
+
 left_at-at_most : (on_move : Bool) (held turn : ℕ) → left_at on_move held turn ≤ held
 left_at-at_most true held turn = omega arith
 left_at-at_most false held turn = omega arith
@@ -135,12 +141,13 @@ one_more false claimed over = omega arith
 claims-ended : (game : GameState) (at : ℕ) (e : Ending) (side : Colour)
     → claims_most game side ≤ claims_most (ended game at e) side
 claims-ended game at e side =
-    let more = one_more (is_colour side (position_of game).side) game.claimed (is_over game) in omega arith
+    more_of (completed game.start.side side (ply_of game))
+    (one_more (is_colour side (position_of game).side) game.claimed (is_over game))
 
 less_held : (control : TimeControl) (held held' n a b : ℕ) → held ≤ given_for control n a → held' ≤ held → a ≤ b
     → held' ≤ given_for control n b
 less_held control held held' n a b most less more =
-    let claims = given_for-claims control n a b more in omega arith
+    le_trans less (le_trans most (given_for-claims control n a b more))
 
 pub IsGame-ended : (game : GameState) (at : ℕ) (e : Ending) → IsOnWay game
     → Agrees (ending_by_last game.start game.moves) (Some e) → IsGame 20000 (ended game at e)
@@ -185,6 +192,9 @@ at_most_one : (b : Bool) → let n : ℕ = if b then 1 else 0 in n ≤ 1
 at_most_one true = omega arith
 at_most_one false = omega arith
 
+one_among : (k one further : ℕ) → one ≤ 1 → k + one ≤ k + 1 + further
+one_among k one further few = omega arith
+
 -- a side's time after a turn of the mover, with any number of further claims
 abbrev WithinAfter : GameState → ℕ → Colour → Colour → ℕ → ℕ → Type 0
 WithinAfter game at mover side n further =
@@ -208,14 +218,14 @@ within_turn game at White White further on most =
     let mine : completed game.start.side White (ply_of game + 1) ≡ n + 1 = completed-mover game.start.side White (ply_of game) on in
     let theirs : completed game.start.side Black (ply_of game + 1) ≡ k = completed-other game.start.side Black (ply_of game) on in
     rw (mine, theirs) (less_held game.control _ _ (n + 1) (k + 0) (k + further)
-    (held_after_turn-at_most game.control game.white.held n (k + 0) (at - game.moment) most) (omega arith) (omega arith))
+    (held_after_turn-at_most game.control game.white.held n (k + 0) (at - game.moment) most) (le_refl _) (more_of k (none_most further)))
 within_turn game at Black Black further on most =
     let n = completed game.start.side Black (ply_of game) in
     let k = completed game.start.side White (ply_of game) in
     let mine : completed game.start.side Black (ply_of game + 1) ≡ n + 1 = completed-mover game.start.side Black (ply_of game) on in
     let theirs : completed game.start.side White (ply_of game + 1) ≡ k = completed-other game.start.side White (ply_of game) on in
     rw (mine, theirs) (less_held game.control _ _ (n + 1) (k + 0) (k + further)
-    (held_after_turn-at_most game.control game.black.held n (k + 0) (at - game.moment) most) (omega arith) (omega arith))
+    (held_after_turn-at_most game.control game.black.held n (k + 0) (at - game.moment) most) (le_refl _) (more_of k (none_most further)))
 within_turn game at White Black further on most =
     let n = completed game.start.side Black (ply_of game) in
     let k = completed game.start.side White (ply_of game) in
@@ -224,7 +234,7 @@ within_turn game at White Black further on most =
     let mine : completed game.start.side Black (ply_of game + 1) ≡ n = completed-other game.start.side Black (ply_of game) on in
     let theirs : completed game.start.side White (ply_of game + 1) ≡ k + 1 = completed-mover game.start.side White (ply_of game) on in
     rw (mine, theirs) (less_held game.control game.black.held game.black.held n (k + one) (k + 1 + further)
-    most (omega arith) (omega (arith, few)))
+    most (le_refl _) (one_among k one further few))
 within_turn game at Black White further on most =
     let n = completed game.start.side White (ply_of game) in
     let k = completed game.start.side Black (ply_of game) in
@@ -233,7 +243,7 @@ within_turn game at Black White further on most =
     let mine : completed game.start.side White (ply_of game + 1) ≡ n = completed-other game.start.side White (ply_of game) on in
     let theirs : completed game.start.side Black (ply_of game + 1) ≡ k + 1 = completed-mover game.start.side Black (ply_of game) on in
     rw (mine, theirs) (less_held game.control game.white.held game.white.held n (k + one) (k + 1 + further)
-    most (omega arith) (omega (arith, few)))
+    most (le_refl _) (one_among k one further few))
 
 further_after : GameState → ℕ → Move → Colour → ℕ
 further_after game at m side =
@@ -277,6 +287,9 @@ black_name game at m = by_side (is_colour Black (position_of game).side)
     by_side true = refl
     by_side false = refl
 
+one_longer : {n long : ℕ} → long ≡ n + 1 → n < 20000 → long ≤ 20000
+one_longer longer room = omega arith
+
 pub IsOnWay-turn : (game : GameState) (at : ℕ) (m : Move) → IsOnWay game
     → ending_by_last game.start game.moves ≡ None → IsPlayable game m → IsOnWay (turn_ended game at m)
 IsOnWay-turn game at m way none playable =
@@ -295,7 +308,7 @@ IsOnWay-turn game at m way none playable =
       white_name = subst Named (sym white) way.white_name;
       black_name = subst Named (sym black) way.black_name;
       players = subst AreOther' (sym black) (subst AreOther (sym white) way.players);
-      short = omega (arith, longer, room);
+      short = one_longer longer room;
       joined = ap (λ (name : Option (List ℕ)). is_some name && is_some (turn_ended game at m).black.name) white
           ∙ ap (λ (name : Option (List ℕ)). is_some game.white.name && is_some name) black ∙ way.joined;
       running = way.running;
@@ -326,11 +339,16 @@ IsGame-moved game at m is in_time playable =
 
 -- ---- times fit
 
+few_and_one : {n one : ℕ} → n ≤ 10000 → one ≤ 1 → n + one ≤ 10001
+few_and_one few one = omega arith
+
+fits : {held given : ℕ} → held ≤ given → given ≤ 1972920000 → held < 2 ^ 32
+fits most given = omega arith
+
 claims-few : (game : GameState) (side : Colour) → ply_of game ≤ 20000 → claims_most game side ≤ 10001
 claims-few game side short =
-    let few = completed-at_most game.start.side side (ply_of game) short in
-    let one = at_most_one (is_colour side (position_of game).side && (game.claimed || is_over game)) in
-    omega arith
+    few_and_one (completed-at_most game.start.side side (ply_of game) short)
+    (at_most_one (is_colour side (position_of game).side && (game.claimed || is_over game)))
 
 pub TimesFit-on_way : (game : GameState) → IsOnWay game → TimesFit (clock_for game)
 TimesFit-on_way game way =
@@ -338,12 +356,10 @@ TimesFit-on_way game way =
     way.control (completed-at_most game.start.side White (ply_of game) way.short) (claims-few game Black way.short) in
     let black = given_for-at_most game.control (completed game.start.side Black (ply_of game)) (claims_most game White)
     way.control (completed-at_most game.start.side Black (ply_of game) way.short) (claims-few game White way.short) in
-    let white_held = way.white_held in
-    let black_held = way.black_held in
-    record { white_fits = omega arith; black_fits = omega arith }
+    record { white_fits = fits way.white_held white; black_fits = fits way.black_held black }
 
 Decides-nat_le : (a b : ℕ) → a ≤ b → nat_le a b ≡ true
-Decides-nat_le a b h = grind (arith, nat_tests)
+Decides-nat_le a b h = le-leb a b h
 
 pub held_for : (game : GameState) (side : Colour) → (time_of side (clock_for game)).held ≡ (seat_of side game).held
 held_for game White = refl
@@ -375,7 +391,8 @@ claims-made game Black on = rw on refl
 
 claims-more : (game : GameState) (by side : Colour) → claims_most game side ≤ claims_most (claimed_wrongly game by) side
 claims-more game by side =
-    let more = one_claim (is_colour side (position_of game).side) game.claimed (is_over game) in omega arith
+    more_of (completed game.start.side side (ply_of game))
+    (one_claim (is_colour side (position_of game).side) game.claimed (is_over game))
   where
     one_claim : (on claimed over : Bool) →
         let before : ℕ = if on && (claimed || over) then 1 else 0 in
@@ -409,7 +426,7 @@ IsOnWay-claim game White way unclaimed on =
       goes_on = way.goes_on;
       white_held = less_held game.control game.white.held game.white.held
           (completed game.start.side White (ply_of game)) (claims_most game Black)
-          (claims_most (claimed_wrongly game White) Black) way.white_held (omega arith) (claims-more game White Black);
+          (claims_most (claimed_wrongly game White) Black) way.white_held (le_refl _) (claims-more game White Black);
       black_held = penalised game.control game.black.held (completed game.start.side Black (ply_of game))
           (claims_most game White) (claims_most (claimed_wrongly game White) White) way.black_held
           (after ∙ ap (λ (n : ℕ). n + 1) (sym before));
@@ -435,7 +452,7 @@ IsOnWay-claim game Black way unclaimed on =
           (after ∙ ap (λ (n : ℕ). n + 1) (sym before));
       black_held = less_held game.control game.black.held game.black.held
           (completed game.start.side Black (ply_of game)) (claims_most game White)
-          (claims_most (claimed_wrongly game Black) White) way.black_held (omega arith) (claims-more game Black White);
+          (claims_most (claimed_wrongly game Black) White) way.black_held (le_refl _) (claims-more game Black White);
     }
 
 pub IsGame-claim : (game : GameState) (by : Colour) → IsGame 20000 game → IsOnWay (claimed_wrongly game by)
@@ -471,10 +488,6 @@ one_taken : (colour : Colour) (name : List ℕ) →
 one_taken White name = (tt, refl)
 one_taken Black name = (tt, refl)
 
-no_moves : (start : Position) → GoesOnUntilLast start []
-no_moves start [] m last rest same = absurd cc
-no_moves start (n ∷ before) m last rest same = absurd cc
-
 pub IsGame-new : (number : ℕ) (opening : Opening) → 1 ≤ number → number < 2 ^ 32 → IsTimeControl (control_of opening)
     → IsStart opening.start → IsName opening.name → IsGame 20000 (new_game number opening)
 IsGame-new number opening numbered fits control start named =
@@ -498,7 +511,7 @@ IsGame-new number opening numbered fits control start named =
       };
       played = record {
         legal = tt;
-        goes_on = no_moves opening.start;
+        goes_on = GoesOnUntilLast-none opening.start;
         ending = tt;
         quiet_at_end = λ over. quiet;
         white = initial_at_most (completed opening.start.side White 0) (claims_most (new_game number opening) Black);

@@ -7,7 +7,7 @@ use Rattle.chess_entry.specs.Outcome.{ending_after}
 use Rattle.chess_entry.specs.Bounds.{GoesOnUntilLast, ending_by_last}
 
 -- a list with a member, by its last one
-last_split : (x : Move) (xs : List Move) → (before : List Move) × (last : Move) × (x ∷ xs ≡ before ++ last ∷ [])
+pub last_split : (x : Move) (xs : List Move) → (before : List Move) × (last : Move) × (x ∷ xs ≡ before ++ last ∷ [])
 last_split x [] = ([], x, refl)
 last_split x (y ∷ xs) =
     let rest = last_split y xs in

@@ -9,3 +9,5 @@ pub mod Shown
 pub mod Acts
 mod Refused
 pub mod StoredLemmas
+pub mod ReplayLemmas
+pub mod RestoredLemmas

@@ -5,3 +5,4 @@ pub mod ClockFor
 pub mod GameInside
 pub mod Turn
 pub mod Stored
+pub mod Restored

@@ -1,4 +1,4 @@
-ghost use Rattle.std.specs.Prelude.{◌≡◌, ◌≤◌, ◌<◌, ◌++◌, [], ◌∷◌, length, true, false, is_some, IfOk, OnOk, OnErr};
+ghost use Rattle.std.specs.Prelude.{◌≡◌, ◌≤◌, ◌<◌, ◌++◌, [], ◌∷◌, length, true, false, is_some, IfOk, OnOk, OnErr, IfSome, IfNone};
 ghost use Rattle.chess_bits.specs.Man.{other};
 ghost use Rattle.chess_clock.specs.TimeControl.{time_control, IsTimeControl};
 ghost use Rattle.chess_entry.specs.State.{position_of, ply_of, seat_of, is_joined, is_over};
@@ -12,9 +12,11 @@ ghost use Rattle.chess_entry.specs.Verdict.{side_of, has_fallen, is_on_move, is_
 ghost use Rattle.chess_entry.specs.Bounds.{IsGame, IsStart, IsByAct};
 ghost use Rattle.chess_entry.specs.Snapshot.{IsHeadOf};
 ghost use Rattle.chess_game.specs.ClockFor.{seat_for};
+ghost use Rattle.chess_game.specs.Restored.{IsRestored, NamesNoGame};
 ghost use Rattle.chess_game.specs.Turn.{IsRunningAt, IsInTime, IsPlayable, IsJudgeable, left_in};
 
 use crate::lines::Line;
+use crate::restored::{is_counted, may_be_opened, may_stand, sides_named};
 use crate::sides::{Seat, Sides};
 use crate::stored::{stored_ending, stored_seat};
 use chess_bits::Colour;
@@ -139,6 +141,35 @@ impl Game {
                 ending: None,
             },
         })
+    }
+
+    /// The game that a snapshot names by its head and its moves, of which nothing is taken on trust; `None` where no game
+    /// of at most 20,000 moves has that head and these moves. It fails where memory is refused.
+    pub fn restore(alloc: Global, head: &Head, moves: &[Move]) -> Result<Option<Game>, AllocError>
+        ensures some { IfOk result (λ told. IfSome told (IsRestored head.now moves.now)) }
+        ensures none { IfOk result (λ told. IfNone told (NamesNoGame head.now moves.now)) }
+    {
+        let _numbered = head.game.get();
+        if !is_counted(head, moves) || !may_be_opened(head, moves) {
+            return Ok(None);
+        }
+        let Some(replayed) = Line::replay(alloc, &head.start, moves)? else {
+            return Ok(None);
+        };
+        let mover = replayed.line.board().side();
+        if !may_stand(head, moves, mover, replayed.by_line) {
+            return Ok(None);
+        }
+        Ok(Some(Game {
+            number: head.game,
+            times: Times {
+                initial: head.initial,
+                increment: head.increment,
+                period: head.period,
+            },
+            line: replayed.line,
+            sides: sides_named(head, moves, mover),
+        }))
     }
 
     /// The game's number.

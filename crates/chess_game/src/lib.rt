@@ -4,6 +4,7 @@
 
 mod games;
 mod lines;
+mod restored;
 mod sides;
 mod stored;
 

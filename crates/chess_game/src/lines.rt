@@ -1,12 +1,15 @@
-ghost use Rattle.std.specs.Prelude.{◌≡◌, ◌<◌, [], ◌∷◌, ◌++◌, List, length, IfOk, OnOk, OnErr};
+ghost use Rattle.std.specs.Prelude.{◌≡◌, ◌<◌, [], ◌∷◌, ◌++◌, List, length, IfOk, OnOk, OnErr, IfSome, IfNone, ◌≤◌};
 ghost use Rattle.chess_board.specs.declared.moves.Move.{Move};
 ghost use Rattle.chess_board.specs.Legal.{IsLegal};
 ghost use Rattle.chess_entry.specs.Outcome.{ending_after, is_granted};
 ghost use Rattle.chess_entry.specs.Verdict.{is_finished_at};
+ghost use Rattle.chess_entry.specs.Bounds.{IsStart};
+ghost use Rattle.chess_game.specs.Restored.{IsLine, IsReplayed};
 ghost use Rattle.chess_game.specs.Line.{LineState, last_of, HasRoom, with_move};
 
 use chess_board::{Board, Move};
 use chess_end::{Ending, after_move, claim_fifty, claim_three};
+use chess_moves::legal;
 use chess_repeat::History;
 use std::alloc::{AllocError, Global};
 use std::marker::Model;
@@ -30,6 +33,8 @@ pub struct Line {
 
 impl Model for Line {
     ghost use Rattle.chess_entry.specs.Verdict.{is_finished_at};
+    ghost use Rattle.chess_entry.specs.Bounds.{IsStart};
+    ghost use Rattle.chess_game.specs.Restored.{IsLine, IsReplayed};
     ghost use Rattle.chess_game.specs.Line.{LineState};
     ghost use Rattle.chess_entry.specs.Verdict.{is_finished_at};
     ghost use Rattle.chess_game.specs.LineInside.{line_of, IsSound};
@@ -39,6 +44,13 @@ impl Model for Line {
     ghost view = { line_of };
 
     ghost invariant = { IsSound };
+}
+
+/// A line of moves that were handed in, and the ending that the last of them gives.
+#[derive(Drop)]
+pub struct Replayed {
+    pub line: Line,
+    pub by_line: Option<Ending>,
 }
 
 impl Line {
@@ -52,6 +64,30 @@ impl Line {
             moves: Vec::new(alloc),
             history: History::new(alloc, start)?,
         })
+    }
+
+    /// The line of these moves, and the ending that the last of them gives; `None` where a move is not legal or comes after
+    /// one that ends the game. It fails where memory is refused.
+    pub fn replay(
+        alloc: Global,
+        start: &Board,
+        moves: &[Move],
+    ) -> Result<Option<Replayed>, AllocError>
+        requires start { IsStart start.now }
+        requires short { length moves.now ≤ 20000 }
+        ensures made { IfOk result (λ told. IfSome told (λ made. IsReplayed start.now moves.now made.line made.by_line)) }
+        ensures none { IfOk result (λ told. IfNone told (¬ IsLine start.now moves.now)) }
+    {
+        let mut line = Line::new(alloc, start)?;
+        let mut by_line = None;
+        for mv in moves {
+            if by_line.is_some() || !legal(line.board(), *mv) {
+                return Ok(None);
+            }
+            line.push(mv)?;
+            by_line = line.ending();
+        }
+        Ok(Some(Replayed { line, by_line }))
     }
 
     /// The position that the line starts from.
