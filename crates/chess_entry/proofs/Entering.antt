@@ -39,7 +39,7 @@ pub record Acts (table : TableState) (e : Entry) : Type 0 where
 
 -- ---- checks
 
-passed : (b : Bool) (r : Refusal) (v : Verdict) (e : Entry) →
+pub passed : (b : Bool) (r : Refusal) (v : Verdict) (e : Entry) →
     (if b then Refuse r else v) ≡ Enter e → (b ≡ false) × (v ≡ Enter e)
 passed true r v e h = absurd (cc)
 passed false r v e h = (refl, h)
@@ -49,15 +49,15 @@ passed_or : (b : Bool) (x : Entry) (v : Verdict) (e : Entry) →
 passed_or true x v e h = inl (cc)
 passed_or false x v e h = inr (refl, h)
 
-entered : (x e : Entry) → Enter x ≡ Enter e → e ≡ x
+pub entered : (x e : Entry) → Enter x ≡ Enter e → e ≡ x
 entered x e h = cc
 
-in_game-entered : (v : GameState → Verdict) (o : Option GameState) (e : Entry) → in_game v o ≡ Enter e →
+pub in_game-entered : (v : GameState → Verdict) (o : Option GameState) (e : Entry) → in_game v o ≡ Enter e →
     (game : GameState) × (o ≡ Some game) × (v game ≡ Enter e)
 in_game-entered v None e h = absurd (cc)
 in_game-entered v (Some game) e h = (game, refl, h)
 
-by_side-entered : (v : Colour → Verdict) (o : Option Colour) (e : Entry) → by_side v o ≡ Enter e →
+pub by_side-entered : (v : Colour → Verdict) (o : Option Colour) (e : Entry) → by_side v o ≡ Enter e →
     (side : Colour) × (o ≡ Some side) × (v side ≡ Enter e)
 by_side-entered v None e h = absurd (cc)
 by_side-entered v (Some side) e h = (side, refl, h)

@@ -1,0 +1,9 @@
+pub mod Rising
+pub mod PlaceLemmas
+pub mod Kept
+pub mod Tellings
+pub mod WhatEnters
+pub mod GameKept
+pub mod TableKept
+pub mod CheckLemmas
+pub mod FollowLemmas

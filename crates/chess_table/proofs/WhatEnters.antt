@@ -1,0 +1,454 @@
+-- What an entry that may come on a table asks of the table, and of the game that it is of.
+use Rattle.std.specs.Prelude.{ℕ, ◌≡◌, ◌⊎◌, ◌≤◌, ◌<◌, ◌+◌, ◌^◌, ◌==◌, ◌&&◌, not, nat_le, nat_lt, Bool, true, false, if◌then◌else◌, List, [], ◌∷◌, ◌++◌, length, Option, Some, None, is_some, is_none, IfSome, max}
+use Rattle.std.specs.Option.{ForSome}
+use Rattle.std.proofs.Common.{ap, sym, subst, ◌∙◌, refl, inl, inr, arith}
+use Rattle.std.proofs.lemmas.Bool.{leb-true, leb-false, and_parts, or_parts, not-false, cases_Bool, eqb-true}
+use Rattle.std.proofs.lemmas.Bool.Decides.{nat_tests}
+use Rattle.arrayvec.specs.ArrayString.{ArrayString}
+use Rattle.chess_bits.specs.declared.men.Colour.{Colour}
+use Rattle.chess_bits.specs.Man.{is_colour, other}
+use Rattle.chess_board.specs.declared.moves.Move.{Move}
+use Rattle.chess_board.specs.Position.{Position, IsValid}
+use Rattle.chess_board.specs.Legal.{EachOf, IsLegal}
+use Rattle.chess_clock.specs.TimeControl.{IsTimeControl, IsPeriod, time_control}
+use Rattle.rec_codec.specs.Name.{IsName}
+use Rattle.rec_codec.specs.declared.record.Event.{Event}
+use Rattle.rec_codec.specs.declared.record.Event.TheVariants as event
+use Rattle.rec_codec.specs.declared.record.Entry.{Entry}
+use Rattle.rec_codec.specs.declared.record.Opening.{Opening}
+use Rattle.rec_codec.specs.Records.{entry}
+use Rattle.chess_entry.specs.declared.commands.Act.{Act}
+use Rattle.chess_entry.specs.declared.commands.Act.TheVariants as act
+use Rattle.chess_entry.specs.declared.commands.Command.{Command}
+use Rattle.chess_entry.specs.declared.verdicts.Verdict.{Verdict}
+use Rattle.chess_entry.specs.declared.verdicts.Verdict.TheVariants.{Refuse, Enter, Read}
+use Rattle.chess_entry.specs.declared.refusals.Refusal.TheVariants.{OfferStands, NoOffer, TooEarly, AlreadyClaimed, FlagUp}
+use Rattle.chess_entry.specs.State.{GameState, TableState, position_of, ply_of, seat_of, is_joined, is_over, find_game}
+use Rattle.chess_entry.specs.Told.{Told, IsStartTold, IsMoveTold, bytes_of}
+use Rattle.chess_entry.specs.Verdict.{Check, refuse, first_of, is_period, are_times, is_start, is_finished, is_full, is_long, is_on_move, has_offer, has_fallen, in_game, by_side, while_running, in_turn, for_move, for_stated, opened_from, moved, open_verdict, join_verdict, move_verdict, offer_verdict, accept_verdict, decline_verdict, resign_verdict, claim_verdict, flag_verdict, drop_verdict, in_seat, side_of, player_verdict, name_or_none, is_read, effective, verdict, IsTold, IsVerdict}
+use Rattle.chess_entry.specs.Games.{control_of}
+use Rattle.chess_entry.specs.Bounds.{IsStart}
+use Rattle.chess_entry.specs.Table.{IsTable, IsOnTable, IsEnteredOn}
+use Rattle.chess_entry.proofs.Entering.{passed, entered, in_game-entered, by_side-entered, find_game-number}
+use Rattle.chess_entry.proofs.InPlay.{none-not_some}
+use Rattle.chess_table.proofs.Tellings.{legal_told, start_valid, IsTimeControl-of}
+use Rattle.chess_table.specs.Ready.{IsReady}
+use Rattle.chess_game.specs.Turn.{IsRunningAt, IsInTime, IsPlayable, IsJudgeable}
+
+-- ---- what an entry asks
+
+-- There is room for the move that an entry states.
+abbrev pub IsShort : ℕ → GameState → Event → Type 0
+IsShort plies game (event.Move made) = ply_of game < plies
+IsShort plies game (event.Claim claim) = ForSome claim.mv (λ _. ply_of game < plies)
+IsShort plies game _ = Unit {0}
+
+-- What the entry states is so, and no other check would have stopped its act.
+abbrev pub IsExact : GameState → ℕ → Event → Type 0
+IsExact game at (event.Open opening) = Unit {0}
+IsExact game at (event.Join name) = Unit {0}
+IsExact game at (event.Move made) = made.ply ≡ ply_of game
+IsExact game at (event.Offer by) = (has_fallen game at ≡ false) × (has_offer game ≡ false)
+IsExact game at (event.Accept by) =
+    (has_fallen game at ≡ false) × ((seat_of (other by) game).offers ≡ true) × (nat_lt (ply_of game) 2 ≡ false)
+IsExact game at (event.Decline by) = (has_fallen game at ≡ false) × ((seat_of (other by) game).offers ≡ true)
+IsExact game at (event.Resign by) = has_fallen game at ≡ false
+IsExact game at (event.Claim claim) = claim.ply ≡ ply_of game
+IsExact game at event.Fallen = has_fallen game at ≡ true
+IsExact game at event.Drop = (is_joined game && not (is_over game)) ≡ false
+
+pub record IsReadyFor (plies : ℕ) (game : GameState) (at : ℕ) (ev : Event) : Type 0 where
+  pub ready : IsReady game at ev
+  pub short : IsShort plies game ev
+  pub exact : IsExact game at ev
+
+-- A game is opened with the next number.
+pub record OpensGame (table : TableState) (e : Entry) : Type 0 where
+  pub opening : Opening
+  pub opens : e.event ≡ event.Open opening
+  pub next : e.game ≡ table.last + 1
+  pub number : e.game < 2 ^ 32
+  pub control : IsTimeControl (control_of opening)
+  pub start : IsStart opening.start
+  pub named : IsName opening.name
+  pub room : length table.games < table.limits.games
+
+-- The entry is of a game on the table, which is ready for it.
+pub record ActsInGame (table : TableState) (e : Entry) : Type 0 where
+  pub game : GameState
+  pub found : find_game e.game table.games ≡ Some game
+  pub ready : IsReadyFor table.limits.plies game e.moment e.event
+
+pub record Comes (table : TableState) (e : Entry) : Type 0 where
+  pub from : table.moment ≤ e.moment
+  pub to : e.moment ≤ 4611686018427387903
+  pub kind : OpensGame table e ⊎ ActsInGame table e
+
+-- ---- games on the table
+
+pub EachOf-found : (P : GameState → Type 0) (number : ℕ) (games : List GameState) (game : GameState) → EachOf P games
+    → find_game number games ≡ Some game → P game
+EachOf-found P number [] game each found = absurd (cc)
+EachOf-found P number (g ∷ games) game each found = elim (cases_Bool (g.number == number)) [
+  | inl here ↦
+      let is : Some g ≡ Some game = sym (ap (λ (b : Bool). if b then Some g else find_game number games) here) ∙ found in
+      let same : g ≡ game = cc in
+      subst P same each.0
+  | inr later ↦
+      EachOf-found P number games game each.1
+      (sym (ap (λ (b : Bool). if b then Some g else find_game number games) later) ∙ found)
+]
+
+-- ---- an entry of a game
+
+fallen_or : (b : Bool) (x : Entry) (v : Verdict) (e : Entry) → (if b then Enter x else v) ≡ Enter e
+    → ((b ≡ true) × (e ≡ x)) ⊎ ((b ≡ false) × (v ≡ Enter e))
+fallen_or true x v e h = inl (refl, entered x e h)
+fallen_or false x v e h = inr (refl, h)
+
+module _ (table : TableState) (is : IsTable table) (at : ℕ) (from : table.moment ≤ at) where
+  abbrev Acted : Entry → Type 0
+  Acted e = (e.moment ≡ at) × ActsInGame table e
+
+  acted : (number : ℕ) (game : GameState) (ev : Event) (e : Entry) → find_game number table.games ≡ Some game
+      → IsReadyFor table.limits.plies game at ev → e ≡ entry game.number at ev → Acted e
+  acted number game ev e found ready same =
+      let here : Acted (entry game.number at ev) = (
+        refl,
+        record {
+          game = game;
+          found = ap (λ (n : ℕ). find_game n table.games) (find_game-number number table.games game found) ∙ found;
+          ready = ready;
+        },
+      ) in
+      subst Acted (sym same) here
+
+  -- the moment is not before the running turn
+  turn_began : (number : ℕ) (game : GameState) → find_game number table.games ≡ Some game → game.moment ≤ at
+  turn_began number game found =
+      let on = EachOf-found (IsOnTable table) number table.games game is.games found in omega (arith, on.moment)
+
+  abbrev Follows : GameState → Entry → Type 0
+  Follows game e = (ev : Event) × IsReadyFor table.limits.plies game at ev × (e ≡ entry game.number at ev)
+
+  -- an entry where the game has to run: the flag has fallen, or the other checks passed
+  runs : (number : ℕ) (game : GameState) (checks : List Check) (v : Verdict) (e : Entry)
+      → find_game number table.games ≡ Some game → first_of (while_running game at ++ checks) v ≡ Enter e
+      → (IsInTime game at → first_of checks v ≡ Enter e → Follows game e) → Acted e
+  runs number game checks v e found h follows =
+      let joined = passed (not (is_joined game)) _ _ e h in
+      let over = passed (is_over game) _ _ e joined.1 in
+      let running : IsRunningAt game at = record {
+        joined = not-false (is_joined game) joined.0;
+        goes_on = over.0;
+        from_start = turn_began number game found;
+      } in
+      elim (fallen_or (has_fallen game at) (entry game.number at event.Fallen) (first_of checks v) e over.1) [
+        | inl fallen ↦
+            acted number game event.Fallen e found (record { ready = running; short = tt; exact = fallen.0 }) fallen.1
+        | inr up ↦
+            let next = follows (record { running = running; in_time = up.0 }) up.1 in
+            acted number game next.0 e found next.1 next.2
+      ]
+
+  -- what a verdict in a player's seat enters is of that game
+  abbrev EntersIn : (GameState → Colour → Verdict) → ℕ → Type 0
+  EntersIn v number =
+      (game : GameState) (side : Colour) (e : Entry) → find_game number table.games ≡ Some game
+      → v game side ≡ Enter e → Acted e
+
+  in_seat-enters : (name : List ℕ) (number : ℕ) (v : GameState → Colour → Verdict) (e : Entry)
+      → EntersIn v number → in_seat table name number v ≡ Enter e → Acted e
+  in_seat-enters name number v e enters h =
+      let found = in_game-entered (λ game. by_side (v game) (side_of name game)) (find_game number table.games) e h in
+      let seated = by_side-entered (v found.0) (side_of name found.0) e found.2 in
+      enters found.0 seated.0 e found.1 seated.2
+
+  -- ---- a move
+
+  in_turn-passes : (game : GameState) (side : Colour) (ply : ℕ) (checks : List Check) (v : Verdict) (e : Entry)
+      → first_of (in_turn game side ply ++ checks) v ≡ Enter e
+      → (is_on_move side game ≡ true) × (first_of checks v ≡ Enter e)
+  in_turn-passes game side ply checks v e h =
+      let told = passed (not (ply == ply_of game)) _ _ e h in
+      let on_move = passed (not (is_on_move side game)) _ _ e told.1 in
+      (not-false (is_on_move side game) on_move.0, on_move.1)
+
+  for_move-passes : (game : GameState) (move : Option Move) (v : Verdict) (e : Entry)
+      → first_of (for_move table game move) v ≡ Enter e → (ply_of game < table.limits.plies) × (v ≡ Enter e)
+  for_move-passes game move v e h =
+      let short = passed (is_long table game) _ _ e h in
+      (leb-false table.limits.plies (ply_of game) short.0, (passed (is_none move) _ _ e short.1).1)
+
+  playable : (game : GameState) (m : Move) → IsLegal (position_of game) m → ply_of game < table.limits.plies → IsPlayable game m
+  playable game m legal short = record { legal = legal; room = omega (arith, is.limits.few_plies) }
+
+  moved-follows : (game : GameState) (move : Option Move) (e : Entry) → IsInTime game at
+      → ((m : Move) → move ≡ Some m → IsLegal (position_of game) m) → ply_of game < table.limits.plies
+      → moved game at move ≡ Enter e → Follows game e
+  moved-follows game None e up legal short h = absurd (cc)
+  moved-follows game (Some m) e up legal short h = (
+    event.Move (record { mv = m; ply = ply_of game }),
+    record { ready = (up, playable game m (legal m refl) short); short = short; exact = refl },
+    entered _ e h,
+  )
+
+  move-enters : (number ply : ℕ) (text : List ℕ) (move : Option Move)
+      → IsMoveTold (find_game number table.games) (Some text) move
+      → EntersIn (move_verdict table at ply move) number
+  move-enters number ply text move tells game side e found h =
+      let here = subst (λ (o : Option GameState). IsMoveTold o (Some text) move) found tells in
+      runs number game (in_turn game side ply ++ for_move table game move) (moved game at move) e found h
+      (λ up rest.
+      let turn = in_turn-passes game side ply (for_move table game move) (moved game at move) e rest in
+      let last = for_move-passes game move (moved game at move) e turn.1 in
+      moved-follows game move e up (λ m states. legal_told game (Some text) move m here states) last.0 last.1)
+
+  -- ---- offers, and the end
+
+  offer-enters : (number : ℕ) → EntersIn (offer_verdict at) number
+  offer-enters number game side e found h =
+      runs number game (refuse (has_offer game) OfferStands ∷ []) (Enter (entry game.number at (event.Offer side))) e found h
+      (λ up rest.
+      let free = passed (has_offer game) _ _ e rest in (
+        event.Offer side,
+        record { ready = up.running; short = tt; exact = (up.in_time, free.0) },
+        entered _ e free.1,
+      ))
+
+  accept-enters : (number : ℕ) → EntersIn (accept_verdict at) number
+  accept-enters number game side e found h =
+      runs number game
+      (refuse (not (seat_of (other side) game).offers) NoOffer ∷ refuse (nat_lt (ply_of game) 2) TooEarly ∷ [])
+      (Enter (entry game.number at (event.Accept side))) e found h
+      (λ up rest.
+      let offered = passed (not (seat_of (other side) game).offers) _ _ e rest in
+      let late = passed (nat_lt (ply_of game) 2) _ _ e offered.1 in (
+        event.Accept side,
+        record {
+          ready = up.running;
+          short = tt;
+          exact = (up.in_time, not-false (seat_of (other side) game).offers offered.0, late.0);
+        },
+        entered _ e late.1,
+      ))
+
+  decline-enters : (number : ℕ) → EntersIn (decline_verdict at) number
+  decline-enters number game side e found h =
+      runs number game (refuse (not (seat_of (other side) game).offers) NoOffer ∷ [])
+      (Enter (entry game.number at (event.Decline side))) e found h
+      (λ up rest.
+      let offered = passed (not (seat_of (other side) game).offers) _ _ e rest in (
+        event.Decline side,
+        record {
+          ready = up.running;
+          short = tt;
+          exact = (up.in_time, not-false (seat_of (other side) game).offers offered.0);
+        },
+        entered _ e offered.1,
+      ))
+
+  resign-enters : (number : ℕ) → EntersIn (resign_verdict at) number
+  resign-enters number game side e found h =
+      runs number game [] (Enter (entry game.number at (event.Resign side))) e found h
+      (λ up rest. (
+        event.Resign side,
+        record { ready = up.running; short = tt; exact = up.in_time },
+        entered _ e rest,
+      ))
+
+  flag-enters : (number : ℕ) → EntersIn (flag_verdict at) number
+  flag-enters number game side e found h =
+      runs number game [] (Refuse FlagUp) e found h (λ up rest. absurd (cc))
+
+  drop-enters : (number : ℕ) → EntersIn (drop_verdict at) number
+  drop-enters number game side e found h =
+      let gone = passed (is_joined game && not (is_over game)) _ _ e h in
+      acted number game event.Drop e found (record { ready = tt; short = tt; exact = gone.0 }) (entered _ e gone.1)
+
+  -- ---- a claim
+
+  for_stated-passes : (game : GameState) (text : Option (List ℕ)) (move : Option Move) (v : Verdict) (e : Entry)
+      → IsMoveTold (Some game) text move → first_of (for_stated table game (is_some text) move) v ≡ Enter e
+      → ForSome move (λ _. ply_of game < table.limits.plies) × (v ≡ Enter e)
+  for_stated-passes game None move v e tells h = (λ m states. absurd (cc), h)
+  for_stated-passes game (Some text) move v e tells h =
+      let last = for_move-passes game move v e h in (λ m states. last.0, last.1)
+
+  claim-enters : (number ply : ℕ) (fifty : Bool) (text : Option (List ℕ)) (move : Option Move)
+      → IsMoveTold (find_game number table.games) text move
+      → EntersIn (claim_verdict table at ply fifty (is_some text) move) number
+  claim-enters number ply fifty text move tells game side e found h =
+      let here = subst (λ (o : Option GameState). IsMoveTold o text move) found tells in
+      let claim : Event = event.Claim (record { by = side; fifty = fifty; mv = move; ply = ply_of game }) in
+      let v : Verdict = Enter (entry game.number at claim) in
+      let last = for_stated table game (is_some text) move in
+      runs number game (in_turn game side ply ++ (refuse game.claimed AlreadyClaimed ∷ last)) v e found h
+      (λ up rest.
+      let turn = in_turn-passes game side ply (refuse game.claimed AlreadyClaimed ∷ last) v e rest in
+      let first = passed game.claimed _ _ e turn.1 in
+      let short = for_stated-passes game text move v e here first.1 in (
+        claim,
+        record {
+          ready = (
+            up,
+            record {
+              on_move = turn.0;
+              unclaimed = first.0;
+              stated = λ m states. playable game m (legal_told game text move m here states) (short.0 m states);
+            },
+          );
+          short = short.0;
+          exact = refl;
+        },
+        entered _ e short.1,
+      ))
+
+  -- ---- a join
+
+  join-enters : (number : ℕ) (name : List ℕ) (e : Entry) → IsName name
+      → in_game (join_verdict at name) (find_game number table.games) ≡ Enter e → Acted e
+  join-enters number name e named h =
+      let found = in_game-entered (join_verdict at name) (find_game number table.games) e h in
+      let untaken = passed (is_joined found.0) _ _ e found.2 in
+      let stranger = passed (is_some (side_of name found.0)) _ _ e untaken.1 in
+      acted number found.0 (event.Join name) e found.1
+      (record { ready = (untaken.0, none-not_some (side_of name found.0) stranger.0, named); short = tt; exact = tt }) (entered _ e stranger.1)
+
+  -- ---- a new game
+
+  room_for_number : (last : ℕ) → last < 2 ^ 32 → (last == 4294967295) ≡ false → last + 1 < 2 ^ 32
+  room_for_number last fits free = grind (arith, nat_tests)
+
+  opens : (opening : Position → Opening) (start : Option Position) (e : Entry)
+      → ((p : Position) → start ≡ Some p
+      → IsTimeControl (control_of (opening p)) × IsStart (opening p).start × IsName (opening p).name)
+      → is_full table ≡ false → opened_from table at opening start ≡ Enter e → (e.moment ≡ at) × OpensGame table e
+  opens opening None e good room h = absurd (cc)
+  opens opening (Some p) e good room h =
+      let facts = good p refl in
+      let full = or_parts (nat_le table.limits.games (length table.games)) (table.last == 4294967295) room in
+      let here : OpensGame table (entry (table.last + 1) at (event.Open (opening p))) = record {
+        opening = opening p;
+        opens = refl;
+        next = refl;
+        number = room_for_number table.last is.last full.1;
+        control = facts.0;
+        start = facts.1;
+        named = facts.2;
+        room = leb-false table.limits.games (length table.games) full.0;
+      } in
+      let same : e ≡ entry (table.last + 1) at (event.Open (opening p)) = entered _ e h in
+      (ap (λ (x : Entry). x.moment) same, subst (OpensGame table) (sym same) here)
+
+  abbrev opening_with : Colour → ℕ → ℕ → Option (ℕ × ℕ) → List ℕ → Position → Opening
+  opening_with colour initial increment period name start = record {
+    colour = colour;
+    initial = initial;
+    increment = increment;
+    period = period;
+    name = name;
+    start = start;
+  }
+
+  open-enters : (colour : Colour) (initial increment : ℕ) (period : Option (ℕ × ℕ)) (name : List ℕ)
+      (fen : Option (List ℕ)) (start : Option Position) (e : Entry) → IsName name → IsStartTold fen start
+      → open_verdict table at (opening_with colour initial increment period name) (are_times initial increment period) start
+      ≡ Enter e → (e.moment ≡ at) × OpensGame table e
+  open-enters colour initial increment period name fen start e named tells h =
+      let times = passed (not (are_times initial increment period)) _ _ e h in
+      let numbered = passed (not (is_start start)) _ _ e times.1 in
+      let goes_on = passed (is_finished start) _ _ e numbered.1 in
+      let room = passed (is_full table) _ _ e goes_on.1 in
+      opens (opening_with colour initial increment period name) start e
+      (λ p states. (
+        IsTimeControl-of initial increment period (not-false (are_times initial increment period) times.0),
+        record {
+          valid = start_valid fen start p tells states;
+          number = leb-true p.fullmove 9999 (ap is_start (sym states) ∙ not-false (is_start start) numbered.0);
+          goes_on = ap is_finished (sym states) ∙ goes_on.0;
+        },
+        named,
+      )) room.0 room.1
+
+  -- ---- every act
+
+  abbrev Entered : Entry → Type 0
+  Entered e = (e.moment ≡ at) × (OpensGame table e ⊎ ActsInGame table e)
+
+  by_act : (e : Entry) → Acted e → Entered e
+  by_act e h = (h.0, inr h.1)
+
+  no_read : (o : Option GameState) (e : Entry) → in_game (λ _. Read) o ≡ Enter e → Entered e
+  no_read None e h = absurd (cc)
+  no_read (Some game) e h = absurd (cc)
+
+  player-enters : (name : List ℕ) (told : Told) (a : Act) (e : Entry) → (is_read a ≡ false → IsName name)
+      → IsTold table a told → player_verdict table at name told a ≡ Enter e → Entered e
+  player-enters name told (act.NewGame colour initial increment fen period) e named tells h =
+      let opened = open-enters colour initial increment period name (bytes_of fen) told.start e (named refl) tells.0 h in
+      (opened.0, inl opened.1)
+  player-enters name told (act.Join game) e named tells h = by_act e (join-enters game name e (named refl) h)
+  player-enters name told (act.Play game ply text) e named tells h =
+      by_act e (in_seat-enters name game (move_verdict table at ply told.move) e
+      (move-enters game ply text.bytes told.move tells.1) h)
+  player-enters name told (act.Offer game) e named tells h =
+      by_act e (in_seat-enters name game (offer_verdict at) e (offer-enters game) h)
+  player-enters name told (act.Accept game) e named tells h =
+      by_act e (in_seat-enters name game (accept_verdict at) e (accept-enters game) h)
+  player-enters name told (act.Decline game) e named tells h =
+      by_act e (in_seat-enters name game (decline_verdict at) e (decline-enters game) h)
+  player-enters name told (act.Resign game) e named tells h =
+      by_act e (in_seat-enters name game (resign_verdict at) e (resign-enters game) h)
+  player-enters name told (act.Claim game ply fifty text) e named tells h =
+      by_act e (in_seat-enters name game (claim_verdict table at ply fifty (is_some text) told.move) e
+      (claim_text game ply fifty text tells.1) h)
+    where
+      claim_text : (game ply : ℕ) (fifty : Bool) (text : Option ArrayString)
+          → IsMoveTold (find_game game table.games) (bytes_of text) told.move
+          → EntersIn (claim_verdict table at ply fifty (is_some text) told.move) game
+      claim_text game ply fifty None tells = claim-enters game ply fifty None told.move tells
+      claim_text game ply fifty (Some text) tells = claim-enters game ply fifty (Some text.bytes) told.move tells
+  player-enters name told (act.Flag game) e named tells h =
+      by_act e (in_seat-enters name game (flag_verdict at) e (flag-enters game) h)
+  player-enters name told (act.Remove game) e named tells h =
+      by_act e (in_seat-enters name game (drop_verdict at) e (drop-enters game) h)
+  player-enters name told (act.Show game) e named tells h = no_read (find_game game table.games) e h
+  player-enters name told (act.Fen game) e named tells h = no_read (find_game game table.games) e h
+  player-enters name told (act.Pgn game) e named tells h = no_read (find_game game table.games) e h
+  player-enters name told act.List e named tells h = absurd (cc)
+
+-- ---- the verdict
+
+known : (read stranger : Bool) → (not read && stranger) ≡ false → read ≡ false → stranger ≡ false
+known true stranger h read = absurd (cc)
+known false stranger h read = h
+
+name_of : (who : Option (List ℕ)) → IfSome who IsName → is_none who ≡ false → IsName (name_or_none who)
+name_of None named is = absurd (cc)
+name_of (Some name) named is = named
+
+in_range-at : (at : ℕ) → nat_lt 4611686018427387903 at ≡ false → at ≤ 4611686018427387903
+in_range-at at h = grind (arith, nat_tests)
+
+-- An entry that may come on a table has a moment that is not before those of the entries so far, opens a game for which
+-- there is room, or is of a game that is ready for it.
+pub Comes-entered : (table : TableState) (e : Entry) → IsTable table → IsEnteredOn table e → Comes table e
+Comes-entered table e is on =
+    let command = on.command in
+    let told = on.entered.told in
+    let h : verdict table command told ≡ Enter e = sym on.entered.is in
+    let early = passed (nat_lt 4611686018427387903 command.at) _ _ e h in
+    let named = passed (not (is_read command.act) && is_none command.who) _ _ e early.1 in
+    let at = effective table command.at in
+    let from : table.moment ≤ at = omega arith in
+    let asked : command.at ≤ 4611686018427387903 = in_range-at command.at early.0 in
+    let to : at ≤ 4611686018427387903 = omega (arith, is.moment) in
+    let all = player-enters table is at from (name_or_none command.who) told command.act e
+    (λ acts. name_of command.who on.named (known (is_read command.act) (is_none command.who) named.0 acts))
+    on.entered.is_told named.1 in
+    record {
+      from = subst (λ (n : ℕ). table.moment ≤ n) (sym all.0) from;
+      to = subst (λ (n : ℕ). n ≤ 4611686018427387903) (sym all.0) to;
+      kind = all.1;
+    }

@@ -1,0 +1,126 @@
+ghost use Rattle.std.specs.Prelude.{◌≡◌, ◌≤◌, length, slice_get, IfSome, IfNone, None};
+ghost use Rattle.std.specs.Option.{option_copied};
+ghost use Rattle.rec_codec.specs.declared.limits.Version.TheVariants.{Two};
+ghost use Rattle.rec_codec.specs.Limits.{IsInRange};
+ghost use Rattle.chess_entry.specs.State.{find_game};
+ghost use Rattle.chess_entry.specs.Table.{empty_table, AreRising, IsTable, IsOnTable};
+ghost use Rattle.chess_table.specs.Places.{IsPlaceOf};
+ghost use Rattle.chess_table.specs.Widened.{with_limits};
+
+use chess_game::Game;
+use rec_codec::Limits;
+use std::alloc::Global;
+use std::marker::Model;
+
+/// A table of games by rising number, and what the entries so far have in common.
+#[derive(Drop)]
+pub struct Table {
+    pub(crate) limits: Limits,
+    pub(crate) games: Vec<Game>,
+    pub(crate) moment: u64,
+    pub(crate) last: u32,
+    pub(crate) entries: u64,
+}
+
+impl Model for Table {
+    ghost use Rattle.chess_entry.specs.State.{TableState};
+    ghost use Rattle.chess_table.specs.TableInside.{table_of, IsSound};
+
+    ghost Value = { TableState };
+
+    ghost view = { table_of };
+
+    ghost invariant = { IsSound };
+}
+
+impl Table {
+    /// The table without any entry. It takes no memory yet.
+    pub fn new(alloc: Global, limits: Limits) -> Table
+        requires { IsInRange Two limits }
+        ensures { result ≡ empty_table limits }
+    {
+        Table {
+            limits,
+            games: Vec::new(alloc),
+            moment: 0,
+            last: 0,
+            entries: 0,
+        }
+    }
+
+    /// How many games the table may have, and how many moves a game.
+    pub fn limits(&self) -> Limits
+        ensures limits { result ≡ self.now.limits }
+        ensures table { IsTable self.now }
+    {
+        self.limits
+    }
+
+    /// How many games stand on the table, at most 4,096.
+    pub fn games(&self) -> usize
+        ensures games { result ≡ length self.now.games }
+        ensures few { result ≤ 4096 }
+    {
+        self.games.len()
+    }
+
+    /// The game at a place, from 0 by rising number; `None` past the last.
+    pub fn game_at(&self, place: usize) -> Option<&Game>
+        ensures game { option_copied result ≡ slice_get self.now.games place }
+    {
+        self.games.get(place)
+    }
+
+    /// The game of a number; `None` where no game of the table has it.
+    pub fn find(&self, number: u32) -> Option<&Game>
+        ensures game { option_copied result ≡ find_game number self.now.games }
+        ensures on_table { IfSome result (λ game. IsOnTable self.now game.now) }
+    {
+        match place_of(&self.games, number) {
+            Some(place) => Some(&self.games[place]),
+            None => None,
+        }
+    }
+
+    /// The greatest moment of any entry so far, in milliseconds; 0 before the first.
+    pub fn moment(&self) -> u64
+        ensures { result ≡ self.now.moment }
+    {
+        self.moment
+    }
+
+    /// The last number that was given to a game; 0 before the first.
+    pub fn last(&self) -> u32
+        ensures { result ≡ self.now.last }
+    {
+        self.last
+    }
+
+    /// The number of entries so far.
+    pub fn entries(&self) -> u64
+        ensures { result ≡ self.now.entries }
+    {
+        self.entries
+    }
+
+    /// Sets greater limits. Everything else stays.
+    pub fn widen(&mut self, limits: Limits)
+        requires in_range { IsInRange Two limits }
+        requires games { self.old.limits.games ≤ limits.games }
+        requires plies { self.old.limits.plies ≤ limits.plies }
+        ensures { self.new ≡ with_limits limits self.old }
+    {
+        self.limits = limits;
+    }
+}
+
+// Where the game of a number stands among games by rising number.
+pub(crate) fn place_of(games: &[Game], number: u32) -> Option<usize>
+    requires { AreRising games.now }
+    ensures some { IfSome result (IsPlaceOf games.now number) }
+    ensures none { IfNone result (find_game number games.now ≡ None) }
+{
+    games
+        .binary_search_by_key(&number, |game| game.number().get())
+        .ok()
+}
