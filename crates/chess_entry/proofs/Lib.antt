@@ -14,3 +14,6 @@ pub mod Examples
 mod EndingCases
 pub mod LawfulLists
 pub mod ExampleLists
+pub mod OneMeaning
+pub mod MeaningMore
+pub mod SnapshotSize

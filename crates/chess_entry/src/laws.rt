@@ -1,5 +1,6 @@
 ghost use Rattle.chess_entry.specs.Lawful.{LawOfFollow};
 ghost use Rattle.chess_entry.specs.Outcome.{LawOfTimes, LawOfEndings};
+ghost use Rattle.chess_entry.specs.Snapshot.{LawOfMeaning};
 
 /// The law that ties `follow` to the table of a whole list: an entry that is the verdict on some command leads from the
 /// table of the entries before it to that of the list with it. It does nothing when it runs.
@@ -17,4 +18,10 @@ pub fn law_of_times()
 /// for a fallen flag), as `chess_end` states them. It does nothing when it runs.
 pub fn law_of_endings()
     ensures { LawOfEndings }
+{}
+
+/// The law that a content means one table at most: of a snapshot and the journal's records after it, two tables that they
+/// mean under the same limits are one. It does nothing when it runs.
+pub fn law_of_meaning()
+    ensures { LawOfMeaning }
 {}

@@ -1,0 +1,11 @@
+//! The games of a table as the records of a snapshot, and back: a game's part is its head and its moves, 60 a record.
+#![tactic(auto)]
+
+mod listing;
+mod reading;
+mod runs;
+mod writing;
+
+pub use listing::read_games;
+pub use reading::{ReadGame, read_game};
+pub use writing::{write_game, write_games};
