@@ -5,9 +5,6 @@ pub mod Checks
 pub mod Telling
 pub mod Ready
 pub mod Memory
-<<<<<<< HEAD
 pub mod Reading
-=======
 pub mod Coming
 pub mod Allowing
->>>>>>> table
