@@ -1,5 +1,5 @@
 -- The counters have room before each move of a game.
-use Rattle.std.proofs.Common.{ℕ, ◌≡◌, ◌+◌, ◌≤◌, ◌<◌, true, false, Bool, sym, List, [], ◌∷◌, length, arith}
+use Rattle.std.proofs.Common.{◌≡◌, ◌+◌, ◌≤◌, ◌<◌, true, false, Bool, sym, List, [], ◌∷◌, length, arith}
 use Rattle.std.specs.Prelude.{◌||◌, nat_le}
 use Rattle.std.proofs.lemmas.Bool.{leb-false, false≢true}
 use Rattle.chess_board.specs.declared.moves.Move.{Move}

@@ -1,7 +1,6 @@
 -- The times that a game shows: before the join a side has the initial time left.
-use Rattle.std.proofs.Common.{ℕ, ◌≡◌, true, false, Bool, sym, ap, ◌∙◌, refl, ◌*◌, ◌-◌}
+use Rattle.std.proofs.Common.{ℕ, ◌≡◌, true, false, Bool, ap, ◌∙◌, refl, ◌*◌, ◌-◌}
 use Rattle.std.specs.Prelude.{◌&&◌, not, if◌then◌else◌}
-use Rattle.std.proofs.lemmas.Bool.{cases_Bool}
 use Rattle.chess_bits.specs.declared.men.Colour.{Colour}
 use Rattle.chess_bits.specs.declared.men.Colour.TheVariants.{White, Black}
 use Rattle.chess_entry.specs.State.{GameState, seat_of, is_joined, is_over}

@@ -1,5 +1,5 @@
 -- The answers to reads: a line, and a body of more lines behind it for `pgn` and `list`.
-use Rattle.std.specs.Prelude.{ℕ, ◌≡◌, ◌==◌, ◌*◌, ◌+◌, Bool, if◌then◌else◌, List, [], ◌∷◌, ◌++◌, length, count_by, Option, Some, None, IsSomeAnd, codes, decimal}
+use Rattle.std.specs.Prelude.{ℕ, ◌≡◌, ◌==◌, ◌*◌, if◌then◌else◌, List, [], ◌∷◌, ◌++◌, length, count_by, Option, Some, None, IsSomeAnd, codes, decimal}
 use Rattle.std.specs.List.{flat_map}
 use Rattle.chess_bits.specs.declared.men.Colour.{Colour}
 use Rattle.chess_bits.specs.declared.men.Colour.TheVariants.{White, Black}
@@ -10,7 +10,7 @@ use Rattle.chess_text.specs.Pgn.{heading, result_text, article_text}
 use Rattle.chess_entry.specs.declared.commands.Act.{Act}
 use Rattle.chess_entry.specs.declared.commands.Act.TheVariants as act
 use Rattle.chess_entry.specs.declared.commands.Command.{Command}
-use Rattle.chess_entry.specs.State.{GameState, TableState, position_of, ply_of, seat_of, is_joined, find_game}
+use Rattle.chess_entry.specs.State.{GameState, TableState, position_of, ply_of, is_joined, find_game}
 use Rattle.chess_entry.specs.Verdict.{effective}
 use Rattle.chess_game.specs.Turn.{left_in}
 use Rattle.chess_answer.specs.Fields.{with_fields, ok_text, seat_text}
