@@ -246,4 +246,3 @@ fn claims_with_its_move(rt: &impl Abort, game: &mut Game) -> Result<(), Fail> {
     assert_eq!(rt; game.ply(), 8);
     Ok(())
 }
-

@@ -30,7 +30,9 @@ impl From<AllocError> for Fault {
 impl fmt::Display for Fault {
     fn fmt<W: fmt::Write>(&self, f: &mut fmt::Formatter<W>) -> fmt::Result {
         match self {
-            Fault::Input => f.write_str("a line is neither `table GAMES PLIES` nor `MOMENT NAME LINE`"),
+            Fault::Input => f.write_str(
+                "a line is neither `table GAMES PLIES` nor `MOMENT NAME LINE`",
+            ),
             Fault::Full => f.write_str("a table has as many entries as can be counted"),
             Fault::File(error) => write!(f, "{error}"),
             Fault::NoMemory => f.write_str("no memory"),

@@ -8,7 +8,7 @@ mod lines;
 mod playing;
 
 use fault::Fault;
-use lines::read_line;
+use lines::{InputLine, read_line};
 use playing::Player;
 use std::io::{BufRead, BufReader};
 use std::process::ExitCode;
@@ -30,9 +30,13 @@ fn run(rt: &HostRuntime) -> Result<(), Fault> {
         let Some(line) = read_line(text.as_str()) else {
             return Err(Fault::Input);
         };
-        if let Some(reply) = player.play(line)? {
-            println!(rt; "{}", reply.line.as_str())?;
-            print!(rt; "{}", reply.body.as_str())?;
+        match line {
+            InputLine::Table(limits) => player.begin(limits),
+            InputLine::Sent(sent) => {
+                let reply = player.answer(&sent)?;
+                println!(rt; "{}", reply.line.as_str())?;
+                print!(rt; "{}", reply.body.as_str())?;
+            }
         }
     }
     Ok(())

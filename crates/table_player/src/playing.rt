@@ -3,12 +3,12 @@ ghost use Rattle.std.specs.Prelude.{IfSome};
 ghost use Rattle.rec_codec.specs.Name.{IsName};
 
 use crate::fault::Fault;
-use crate::lines::{InputLine, Sent};
+use crate::lines::Sent;
 use chess_answer::{AnswerLine, Reply, named_line, refusal_line};
-use chess_entry::{Act, Command, Name, Refusal, Verdict};
+use chess_entry::{Command, Name, Refusal, Verdict};
 use chess_line::{Line, parse};
 use chess_table::{Table, judge};
-use rec_codec::Limits;
+use rec_codec::{Limits, Version};
 use std::alloc::Global;
 
 // The limits of the table before one is asked for.
@@ -48,22 +48,16 @@ impl Player {
         }
     }
 
-    /// Begins a table, or answers a line. `Full`: the table has as many entries as can be counted; `NoMemory`: memory was
-    /// refused. The table is then as it was.
-    pub fn play(&mut self, line: InputLine) -> Result<Option<Reply>, Fault> {
-        match line {
-            InputLine::Table(limits) => {
-                if limits.is_in_range(rec_codec::Version::Two) {
-                    self.table = Table::new(self.alloc, limits);
-                }
-                Ok(None)
-            }
-            InputLine::Sent(sent) => Ok(Some(self.answer(sent)?)),
+    /// Begins an empty table with these limits, where they are in the range of version 2.
+    pub fn begin(&mut self, limits: Limits) {
+        if limits.is_in_range(Version::Two) {
+            self.table = Table::new(self.alloc, limits);
         }
     }
 
-    // The answer to a line of a session.
-    fn answer(&mut self, sent: Sent) -> Result<Reply, Fault> {
+    /// The answer to a line of a session. `Full`: the table has as many entries as can be counted; `NoMemory`: memory was
+    /// refused. The table is then as it was.
+    pub fn answer(&mut self, sent: &Sent) -> Result<Reply, Fault> {
         let Some(line) = parse(sent.line.as_bytes()) else {
             return Ok(self.alone(refusal_line(Refusal::BadLine)));
         };
