@@ -1,7 +1,7 @@
 -- The parts of several games, one after the other.
 use Rattle.std.specs.Prelude.{ℕ, ◌≡◌, ◌<◌, ◌+◌, List, [], ◌∷◌, ◌++◌, length, take, Result, Ok, Err, OnErr}
 use Rattle.std.specs.List.{flat_map}
-use Rattle.std.proofs.Common.{suc, ap, sym, subst, ◌∙◌, refl, add-one, append_assoc, get_or}
+use Rattle.std.proofs.Common.{ap, sym, subst, ◌∙◌, add-one, append_assoc, get_or}
 use Rattle.std.proofs.Math.Seq.{take-suc}
 use Rattle.std.proofs.lemmas.List.{append-nil}
 use Rattle.std.proofs.lemmas.Grind.{flat_map-append}

@@ -1,13 +1,12 @@
 -- The games that a list of records holds, one part after the other.
-use Rattle.std.specs.Prelude.{ℕ, ◌≡◌, ◌≤◌, ◌<◌, ◌+◌, ◌-◌, List, [], ◌∷◌, ◌++◌, length, map}
+use Rattle.std.specs.Prelude.{ℕ, ◌≡◌, ◌≤◌, List, [], ◌∷◌, ◌++◌, length, map}
 use Rattle.std.specs.List.{flat_map}
-use Rattle.std.proofs.Common.{arith, ap, sym, subst, ◌∙◌, refl, drop, length-append, append_assoc}
+use Rattle.std.proofs.Common.{arith, ap, sym, subst, ◌∙◌, refl, drop, append_assoc}
 use Rattle.std.proofs.Math.Seq.{drop-append_seam}
 use Rattle.std.proofs.lemmas.List.{append-nil}
 use Rattle.std.proofs.lemmas.Grind.{flat_map-append}
 use Rattle.chess_board.specs.Legal.{EachOf}
 use Rattle.rec_codec.specs.declared.record.Record.{Record}
-use Rattle.rec_codec.specs.declared.record.Record.TheVariants as kind
 use Rattle.chess_entry.specs.State.{GameState}
 use Rattle.chess_entry.specs.Bounds.{IsGame}
 use Rattle.chess_entry.specs.Snapshot.{StoredGame, moves_record, records_of, AreStoredAs}
@@ -60,17 +59,6 @@ HoldsSoFar-more records rest games game many before is_game starts = record {
       (starts.starts ∙ ap (λ (rs : List Record). records_of starts.part ++ rs) (sym (drop_part rest game many starts)))
       ∙ sym (append_assoc before.front (records_of starts.part) (drop many rest));
 }
-
-nil_of : {A : Type 0} (xs : List A) → length xs ≡ 0 → xs ≡ []
-nil_of [] none = refl
-nil_of (x ∷ xs) none = absurd (omega arith)
-
-pub HoldsGames-all : (records rest : List Record) (games : List GameState) → HoldsSoFar records rest games →
-    length rest ≡ 0 → HoldsGames records games
-HoldsGames-all records rest games so_far none =
-    subst (λ (rs : List Record). HoldsGames rs games)
-    (sym (so_far.parts ∙ ap (λ (rs : List Record). so_far.front ++ rs) (nil_of rest none) ∙ append-nil so_far.front))
-    so_far.holds
 
 -- a first game, and others
 pub record HoldsFirst (rest : List Record) : Type 0 where
@@ -139,12 +127,3 @@ no_games records rest some none left all holds =
     let more = left all holds in
     let first = first_of rest more.0 more.1.parts more.1.stored more.1.are_games more.1.kept some in
     none first.game first.many first.is_game first.starts
-
--- a part has a record at least, and no more than there are
-pub many_in : (rest : List Record) (game : GameState) (many : ℕ) → StartsWithGame rest game many →
-    (1 ≤ many) × (many ≤ length rest)
-many_in rest game many starts =
-    let size = starts.size in
-    let whole : length rest ≡ length (records_of starts.part) + length starts.rest =
-    ap length starts.starts ∙ length-append (records_of starts.part) starts.rest in
-    (omega arith, omega arith)

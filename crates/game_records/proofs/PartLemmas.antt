@@ -94,9 +94,6 @@ IsFrontOf-more old mid new game head front = record {
       ∙ append_assoc old (kind.Head head.head ∷ []) front.more;
 }
 
-pub IsFrontOf-same : (old new : List Record) → new ≡ old → IsFrontOf old new
-IsFrontOf-same old new same = record { more = []; records = same ∙ sym (append-nil old) }
-
 -- ---- what writing a game answers, after its head record
 
 pub game_written : {E : Type 0} (result : Result (Unit {0}) E) (old mid new : List Record) (game : GameState) (number : ℕ)

@@ -14,7 +14,7 @@ use Rattle.chess_entry.specs.Bounds.{IsGame}
 use Rattle.chess_entry.specs.Snapshot.{AreRuns, IsHeadOf, moves_record}
 use Rattle.chess_entry.proofs.OneMeaning.{one_list_of_runs}
 use Rattle.chess_game.specs.Restored.{IsRestored, NamesNoGame}
-use Rattle.game_records.specs.Part.{HoldsMoves, StartsWithGame, StartsWithNone, HasGameAfter}
+use Rattle.game_records.specs.Part.{HoldsMoves, StartsWithGame, HasGameAfter}
 use Rattle.game_records.proofs.RunLemmas.{AreRuns-uncons}
 
 -- how many runs some moves have
@@ -97,21 +97,6 @@ with_head head rest game many after =
           (sym (take-append-drop n rest) ∙ ap (λ (rs : List Record). rs ++ drop n rest) after.moves.kept);
       size = omega (arith, length-map after.moves.runs (moves_record head.game));
     }
-
--- records that start with another record
-pub no_head : (first : Record) (rest : List Record) → ((head : Head) → first ≡ kind.Head head → ⊥) →
-    StartsWithNone (first ∷ rest)
-no_head first rest other = λ game many is_game starts.
-    let both : first ∷ rest
-    ≡ kind.Head starts.part.head ∷ (map (moves_record starts.part.head.game) starts.part.runs ++ starts.rest)
-    = starts.starts in
-    other starts.part.head (cc)
-
-pub no_records : StartsWithNone []
-no_records = λ game many is_game starts.
-    let no : [] ≡ kind.Head starts.part.head ∷ (map (moves_record starts.part.head.game) starts.part.runs ++ starts.rest)
-    = starts.starts in
-    absurd (cc)
 
 -- ---- what reading finds
 

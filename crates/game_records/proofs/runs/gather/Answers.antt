@@ -1,4 +1,4 @@
-use Rattle.std.proofs.Common.{ℕ, ◌≡◌, ◌≤◌, ◌+◌, ◌-◌, length, min, arith, ap, sym, ◌∙◌, vec_len}
+use Rattle.std.proofs.Common.{ℕ, ◌≡◌, ◌-◌, length, min, arith, ap, sym, ◌∙◌, vec_len}
 use Rattle.game_records.proofs.RunLemmas.{no_moves, forth_more, back_more, left_more, all_moves}
 use Rattle.game_records.proofs.runs.gather.Goals as goal
 

@@ -1,4 +1,4 @@
-use Rattle.std.proofs.Common.{◌≡◌, ◌≤◌, ◌+◌, ◌-◌, ◌/◌, ◌++◌, List, length, drop, vec_len}
+use Rattle.std.proofs.Common.{◌≡◌, ◌≤◌, ◌+◌, ◌-◌, ◌++◌, List, length, drop, vec_len}
 use Rattle.std.specs.Vec.{vec_capacity}
 use Rattle.chess_board.specs.declared.moves.Move.{Move}
 use Rattle.rec_codec.specs.Limits.{ceiling}
