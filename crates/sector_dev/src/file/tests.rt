@@ -8,7 +8,6 @@ use std::io::{self, ErrorKind};
 use std::os::fd::AsRawFd;
 use std::path::PathBuf;
 use std::process::Abort;
-use std::test::Fail;
 use std::{env, fs, process};
 
 // A name in the folder for such files, at which no file stands.
@@ -21,14 +20,28 @@ fn free_path(rt: &HostRuntime, name: &str) -> io::Result<PathBuf> {
     }
 }
 
+// Whether a file has these bytes.
+fn file_is(rt: &HostRuntime, path: &PathBuf, bytes: &[u8]) -> bool {
+    match fs::read(rt, path) {
+        Ok(found) => found.as_slice() == bytes,
+        Err(_) => false,
+    }
+}
+
+fn length(rt: &HostRuntime, path: &PathBuf) -> Option<u64> {
+    fs::metadata(rt, path).ok().map(|found| found.len())
+}
+
+// Reads a sector, whose bytes are whole.
 fn read_sector<D: Device>(
     rt: &impl Abort,
     device: &mut D,
     at: u32,
 ) -> Result<[u8; 512], DeviceFault> {
-    assert!(rt; at < device.sectors(), "sector {at}");
+    assert!(rt; at < device.sectors());
     let mut sector = [0xee; 512];
-    assert_eq!(rt; device.read(at, &mut sector)?, Got::Whole);
+    let got = device.read(at, &mut sector)?;
+    assert!(rt; got == Got::Whole);
     Ok(sector)
 }
 
@@ -38,8 +51,23 @@ fn write_sector<D: Device>(
     at: u32,
     value: &[u8; 512],
 ) -> Result<(), DeviceFault> {
-    assert!(rt; at < device.sectors(), "sector {at}");
+    assert!(rt; at < device.sectors());
     device.write(at, value)
+}
+
+// Sectors, and the byte that each is filled with.
+type Filled<'a> = &'a [(u32, u8)];
+
+fn write_filled<D: Device>(rt: &impl Abort, device: &mut D, filled: Filled<'_>) {
+    for (at, byte) in filled {
+        assert!(rt; write_sector(rt, device, *at, &[*byte; 512]).is_ok());
+    }
+}
+
+fn check_filled<D: Device>(rt: &impl Abort, device: &mut D, filled: Filled<'_>) {
+    for (at, byte) in filled {
+        assert!(rt; read_sector(rt, device, *at) == Ok([*byte; 512]));
+    }
 }
 
 // The system's number of the last error.
@@ -53,160 +81,132 @@ fn refusal(opened: io::Result<FileDevice>) -> Option<ErrorKind> {
 }
 
 #[test]
-fn a_new_file_holds_zeros(rt: HostRuntime) -> Result<(), Fail> {
-    let path = free_path(&rt, "new")?;
-    let mut device = FileDevice::create(&rt, &path, 3)?;
-    assert_eq!(rt; device.sectors(), 3);
-    for at in 0..3 {
-        assert_eq!(rt;
-            read_sector(&rt, &mut device, at),
-            Ok([0; 512]),
-            "sector {at}"
-        );
-    }
-    assert_eq!(rt; fs::metadata(&rt, &path)?.len(), 1536);
-    fs::remove_file(&rt, &path)?;
-    Ok(())
+fn a_new_file_holds_zeros(rt: HostRuntime) {
+    let path = free_path(&rt, "new").expect(&rt, "a path");
+    let mut device = FileDevice::create(&rt, &path, 3).expect(&rt, "a file");
+    assert!(rt; device.sectors() == 3);
+    check_filled(&rt, &mut device, &[(0, 0), (1, 0), (2, 0)]);
+    assert!(rt; length(&rt, &path) == Some(1536));
+    assert!(rt; fs::remove_file(&rt, &path).is_ok());
 }
 
-#[test]
-fn a_later_opening_reads_what_was_written(rt: HostRuntime) -> Result<(), Fail> {
-    let path = free_path(&rt, "written")?;
+// A sector whose first and last bytes are unlike the others.
+fn marked() -> [u8; 512] {
     let mut value = [7; 512];
     value[0] = 1;
     value[511] = 2;
-    let mut device = FileDevice::create(&rt, &path, 4)?;
-    write_sector(&rt, &mut device, 3, &[9; 512])?;
-    write_sector(&rt, &mut device, 2, &value)?;
-    device.sync()?;
-    drop(device);
-    let mut device = FileDevice::open(&rt, &path)?;
-    assert_eq!(rt; device.sectors(), 4);
-    assert_eq!(rt; read_sector(&rt, &mut device, 1), Ok([0; 512]));
-    assert_eq!(rt; read_sector(&rt, &mut device, 2), Ok(value));
-    assert_eq!(rt; read_sector(&rt, &mut device, 3), Ok([9; 512]));
-    let bytes = fs::read(&rt, &path)?;
-    assert_eq!(rt;
-        bytes.get(1024..1536),
-        Some(value.as_slice()),
-        "where sector 2 stands"
-    );
-    fs::remove_file(&rt, &path)?;
-    Ok(())
+    value
+}
+
+fn write_and_sync<D: Device>(rt: &impl Abort, device: &mut D) {
+    write_filled(rt, device, &[(3, 9)]);
+    assert!(rt; write_sector(rt, device, 2, &marked()).is_ok());
+    assert!(rt; device.sync().is_ok());
 }
 
 #[test]
-fn what_is_there_stays(rt: HostRuntime) -> Result<(), Fail> {
-    let path = free_path(&rt, "longer")?;
+fn a_later_opening_reads_what_was_written(rt: HostRuntime) {
+    let path = free_path(&rt, "written").expect(&rt, "a path");
+    write_and_sync(
+        &rt,
+        &mut FileDevice::create(&rt, &path, 4).expect(&rt, "a file"),
+    );
+    let mut device = FileDevice::open(&rt, &path).expect(&rt, "a file");
+    assert!(rt; device.sectors() == 4);
+    check_filled(&rt, &mut device, &[(1, 0), (3, 9)]);
+    assert!(rt; read_sector(&rt, &mut device, 2) == Ok(marked()));
+    // Where sector 2 stands.
+    let bytes = fs::read(&rt, &path).expect(&rt, "a file to read");
+    assert!(rt; bytes.get(1024..1536) == Some(marked().as_slice()));
+    assert!(rt; fs::remove_file(&rt, &path).is_ok());
+}
+
+#[test]
+fn what_is_there_stays(rt: HostRuntime) {
+    let path = free_path(&rt, "longer").expect(&rt, "a path");
     let old = [5u8; 1000];
-    fs::write(&rt, &path, old.as_slice())?;
-    assert_eq!(rt; FileDevice::open(&rt, &path)?.sectors(), 1);
-    assert_eq!(rt; fs::read(&rt, &path)?.as_slice(), old.as_slice());
+    fs::write(&rt, &path, old.as_slice()).expect(&rt, "a file to write");
+    assert!(rt; FileDevice::open(&rt, &path).expect(&rt, "a file").sectors() == 1);
+    assert!(rt; file_is(&rt, &path, &old));
     let mut whole = [0u8; 1024];
     whole[..1000].copy_from_slice(&old);
-    assert_eq!(rt; FileDevice::create(&rt, &path, 2)?.sectors(), 2);
-    assert_eq!(rt; fs::read(&rt, &path)?.as_slice(), whole.as_slice());
-    assert_eq!(rt; FileDevice::create(&rt, &path, 1)?.sectors(), 2);
-    assert_eq!(rt; fs::read(&rt, &path)?.as_slice(), whole.as_slice());
-    fs::remove_file(&rt, &path)?;
-    Ok(())
+    for sectors in [2, 1] {
+        assert!(rt;
+            FileDevice::create(&rt, &path, sectors)
+                .expect(&rt, "a file")
+                .sectors()
+                == 2
+        );
+        assert!(rt; file_is(&rt, &path, &whole));
+    }
+    assert!(rt; fs::remove_file(&rt, &path).is_ok());
 }
 
 // 50,000 sectors take many writes of zeros; no hole is left in the file.
 #[test]
-fn a_long_file_is_written(rt: HostRuntime) -> Result<(), Fail> {
-    let path = free_path(&rt, "long")?;
-    fs::write(&rt, &path, [7u8; 700].as_slice())?;
-    let mut device = FileDevice::create(&rt, &path, 50_000)?;
-    assert_eq!(rt; device.sectors(), 50_000);
-    assert_eq!(rt; read_sector(&rt, &mut device, 0), Ok([7; 512]));
-    for at in [2, 31, 32, 33, 49_999] {
-        assert_eq!(rt;
-            read_sector(&rt, &mut device, at),
-            Ok([0; 512]),
-            "sector {at}"
-        );
-    }
-    let bytes = fs::read(&rt, &path)?;
-    assert_eq!(rt; bytes.len(), 25_600_000);
+fn a_long_file_is_written(rt: HostRuntime) {
+    let path = free_path(&rt, "long").expect(&rt, "a path");
+    fs::write(&rt, &path, [7u8; 700].as_slice()).expect(&rt, "a file to write");
+    let mut device = FileDevice::create(&rt, &path, 50_000).expect(&rt, "a file");
+    assert!(rt; device.sectors() == 50_000);
+    check_filled(
+        &rt,
+        &mut device,
+        &[(0, 7), (2, 0), (31, 0), (32, 0), (33, 0), (49_999, 0)],
+    );
+    let bytes = fs::read(&rt, &path).expect(&rt, "a file to read");
+    assert!(rt; bytes.len() == 25_600_000);
     assert!(rt; bytes.iter().skip(700).all(|byte| *byte == 0));
-    fs::remove_file(&rt, &path)?;
-    Ok(())
+    assert!(rt; fs::remove_file(&rt, &path).is_ok());
+}
+
+// Whether opening the file and lengthening it are refused so.
+fn is_refused(rt: &HostRuntime, path: &str, sectors: u32, kind: ErrorKind) -> bool {
+    let opened = refusal(FileDevice::open(rt, path)) == Some(kind);
+    let created = refusal(FileDevice::create(rt, path, sectors)) == Some(kind);
+    opened && created
 }
 
 #[test]
-fn a_file_has_one_device_at_a_time(rt: HostRuntime) -> Result<(), Fail> {
-    let path = free_path(&rt, "locked")?;
-    let created = FileDevice::create(&rt, &path, 1)?;
-    assert_eq!(rt;
-        refusal(FileDevice::open(&rt, &path)),
-        Some(ErrorKind::WouldBlock)
-    );
-    assert_eq!(rt;
-        refusal(FileDevice::create(&rt, &path, 9)),
-        Some(ErrorKind::WouldBlock)
-    );
-    assert_eq!(rt; fs::metadata(&rt, &path)?.len(), 512);
+fn a_file_has_one_device_at_a_time(rt: HostRuntime) {
+    let path = free_path(&rt, "locked").expect(&rt, "a path");
+    let created = FileDevice::create(&rt, &path, 1).expect(&rt, "a file");
+    assert!(rt; is_refused(&rt, path.as_str(), 9, ErrorKind::WouldBlock));
+    assert!(rt; length(&rt, &path) == Some(512));
     drop(created);
-    let opened = FileDevice::open(&rt, &path)?;
-    assert_eq!(rt;
-        refusal(FileDevice::create(&rt, &path, 9)),
-        Some(ErrorKind::WouldBlock)
-    );
+    let opened = FileDevice::open(&rt, &path).expect(&rt, "a file");
+    assert!(rt; is_refused(&rt, path.as_str(), 9, ErrorKind::WouldBlock));
     drop(opened);
-    assert_eq!(rt; FileDevice::create(&rt, &path, 2)?.sectors(), 2);
-    fs::remove_file(&rt, &path)?;
-    Ok(())
+    assert!(rt;
+        FileDevice::create(&rt, &path, 2)
+            .expect(&rt, "a file")
+            .sectors()
+            == 2
+    );
+    assert!(rt; fs::remove_file(&rt, &path).is_ok());
 }
 
 #[test]
-fn what_is_missing_or_a_folder_is_refused(rt: HostRuntime) -> Result<(), Fail> {
-    let path = free_path(&rt, "missing")?;
-    assert_eq!(rt;
-        refusal(FileDevice::open(&rt, &path)),
-        Some(ErrorKind::NotFound)
-    );
-    let below = path.join(rt.alloc(), "file")?;
-    assert_eq!(rt;
-        refusal(FileDevice::open(&rt, &below)),
-        Some(ErrorKind::NotFound)
-    );
-    assert_eq!(rt;
-        refusal(FileDevice::create(&rt, &below, 1)),
-        Some(ErrorKind::NotFound)
-    );
-    assert!(rt; !fs::exists(&rt, &path)?, "opening makes nothing");
-
-    fs::create_dir(&rt, &path)?;
-    assert_eq!(rt;
-        refusal(FileDevice::open(&rt, &path)),
-        Some(ErrorKind::IsADirectory)
-    );
-    assert_eq!(rt;
-        refusal(FileDevice::create(&rt, &path, 1)),
-        Some(ErrorKind::IsADirectory)
-    );
-    fs::remove_dir(&rt, &path)?;
-    Ok(())
+fn what_is_missing_or_a_folder_is_refused(rt: HostRuntime) {
+    let path = free_path(&rt, "missing").expect(&rt, "a path");
+    let opened = FileDevice::open(&rt, &path);
+    assert!(rt; refusal(opened) == Some(ErrorKind::NotFound));
+    let below = path.join(rt.alloc(), "file").expect(&rt, "memory");
+    assert!(rt; is_refused(&rt, below.as_str(), 1, ErrorKind::NotFound));
+    // Opening makes nothing.
+    assert!(rt; !fs::exists(&rt, &path).expect(&rt, "an answer"));
+    assert!(rt; fs::create_dir(&rt, &path).is_ok());
+    assert!(rt; is_refused(&rt, path.as_str(), 1, ErrorKind::IsADirectory));
+    assert!(rt; fs::remove_dir(&rt, &path).is_ok());
 }
 
 #[test]
-fn what_can_be_opened_and_is_no_file_is_refused(rt: HostRuntime) -> Result<(), Fail> {
-    let (pipe, _writer) = io::pipe(&rt)?;
-    let pipe = format!(in rt.alloc(); "/proc/self/fd/{}", pipe.as_raw_fd())?;
-    for path in ["/dev/null", pipe.as_str()] {
-        assert_eq!(rt;
-            refusal(FileDevice::open(&rt, path)),
-            Some(ErrorKind::InvalidInput),
-            "{path}"
-        );
-        assert_eq!(rt;
-            refusal(FileDevice::create(&rt, path, 1)),
-            Some(ErrorKind::InvalidInput),
-            "{path}"
-        );
-    }
-    Ok(())
+fn what_can_be_opened_and_is_no_file_is_refused(rt: HostRuntime) {
+    assert!(rt; is_refused(&rt, "/dev/null", 1, ErrorKind::InvalidInput));
+    let (pipe, _writer) = io::pipe(&rt).expect(&rt, "a pipe");
+    let path = format!(in rt.alloc(); "/proc/self/fd/{}", pipe.as_raw_fd());
+    let path = path.expect(&rt, "memory");
+    assert!(rt; is_refused(&rt, path.as_str(), 1, ErrorKind::InvalidInput));
 }
 
 #[test]
@@ -217,57 +217,61 @@ fn a_name_stands_in_a_folder(rt: HostRuntime) {
         ("/games", "/"),
         ("a/b/games", "a/b"),
     ] {
-        assert_eq!(rt; folder_of(path).as_str(), folder, "{path}");
+        assert!(rt; folder_of(path).as_str() == folder);
     }
 }
 
-#[test]
-fn a_short_read_fails(rt: HostRuntime) -> Result<(), Fail> {
-    let path = free_path(&rt, "short")?;
-    let mut device = FileDevice::create(&rt, &path, 2)?;
-    write_sector(&rt, &mut device, 0, &[3; 512])?;
-    OpenOptions::new()
-        .write(true)
-        .open(&rt, &path)?
-        .set_len(1023)?;
-    assert_eq!(rt; read_sector(&rt, &mut device, 1), Err(DeviceFault));
-    assert_eq!(rt; device.failures, 1);
-    assert_eq!(rt; read_sector(&rt, &mut device, 0), Ok([3; 512]));
-    assert_eq!(rt; device.failures, 1);
-    fs::remove_file(&rt, &path)?;
-    Ok(())
+fn shorten(rt: &HostRuntime, path: &PathBuf, length: u64) -> io::Result<()> {
+    let file = OpenOptions::new().write(true).open(rt, path)?;
+    file.set_len(length)
 }
 
 #[test]
-fn a_write_and_a_sync_that_the_system_refuses_fail(rt: HostRuntime) -> Result<(), Fail> {
+fn a_short_read_fails(rt: HostRuntime) {
+    let path = free_path(&rt, "short").expect(&rt, "a path");
+    let mut device = FileDevice::create(&rt, &path, 2).expect(&rt, "a file");
+    write_filled(&rt, &mut device, &[(0, 3)]);
+    assert!(rt; shorten(&rt, &path, 1023).is_ok());
+    assert!(rt; read_sector(&rt, &mut device, 1).is_err());
+    assert!(rt; device.failures == 1);
+    check_filled(&rt, &mut device, &[(0, 3)]);
+    assert!(rt; device.failures == 1);
+    assert!(rt; fs::remove_file(&rt, &path).is_ok());
+}
+
+// The device has failed so often, last with this number of the system's.
+fn check_failures(rt: &impl Abort, device: &FileDevice, failures: u64, number: i32) {
+    assert!(rt; device.failures == failures);
+    assert!(rt; last_number(device) == Some(number));
+}
+
+// The file can't be written, nor can it be synced: EBADF and EINVAL.
+fn fail_to_write_and_sync(rt: &impl Abort, device: &mut FileDevice) {
+    assert!(rt; device.last_error().is_none());
+    assert!(rt; write_sector(rt, device, 1, &[3; 512]).is_err());
+    check_failures(rt, device, 1, 9);
+    assert!(rt; device.sync().is_err());
+    check_failures(rt, device, 2, 22);
+}
+
+#[test]
+fn a_write_and_a_sync_that_the_system_refuses_fail(rt: HostRuntime) {
     // No file, so that it cannot be synced, and opened for reading alone.
+    let null = File::open(&rt, "/dev/null").expect(&rt, "a file to open");
     let mut device = FileDevice {
-        file: File::open(&rt, "/dev/null")?,
+        file: null,
         sectors: 2,
         failures: 0,
         sync_failed: false,
         last_error: None,
     };
-    assert!(rt; device.last_error().is_none());
-    assert_eq!(rt;
-        write_sector(&rt, &mut device, 1, &[3; 512]),
-        Err(DeviceFault)
-    );
-    assert_eq!(rt; device.failures, 1);
-    // EBADF
-    assert_eq!(rt; last_number(&device), Some(9));
-    assert_eq!(rt; device.sync(), Err(DeviceFault));
-    assert_eq!(rt; device.failures, 2);
-    // EINVAL
-    assert_eq!(rt; last_number(&device), Some(22));
+    fail_to_write_and_sync(&rt, &mut device);
     // A file that can be synced does not mend it.
-    let path = free_path(&rt, "synced")?;
-    device.file = File::create_new(&rt, &path)?;
-    assert_eq!(rt; device.sync(), Err(DeviceFault));
-    assert_eq!(rt; device.failures, 3);
-    assert_eq!(rt; last_number(&device), Some(22));
-    fs::remove_file(&rt, &path)?;
-    Ok(())
+    let path = free_path(&rt, "synced").expect(&rt, "a path");
+    device.file = File::create_new(&rt, &path).expect(&rt, "a file to create");
+    assert!(rt; device.sync().is_err());
+    check_failures(&rt, &device, 3, 22);
+    assert!(rt; fs::remove_file(&rt, &path).is_ok());
 }
 
 // A file that notes where it was last read or written.
@@ -302,13 +306,12 @@ impl PositionedFile for FakeFile {
 }
 
 #[test]
-fn the_last_sector_stands_before_two_tebibytes(rt: HostRuntime) -> Result<(), Fail> {
+fn the_last_sector_stands_before_two_tebibytes(rt: HostRuntime) {
     let mut device = FileDevice::over(FakeFile { offset: 0 }, u32::MAX);
-    write_sector(&rt, &mut device, 4_294_967_294, &[1; 512])?;
-    assert_eq!(rt; device.file.offset, 2_199_023_254_528);
-    assert_eq!(rt; read_sector(&rt, &mut device, 8_388_608), Ok([6; 512]));
-    assert_eq!(rt; device.file.offset, 4_294_967_296);
-    Ok(())
+    write_filled(&rt, &mut device, &[(4_294_967_294, 1)]);
+    assert!(rt; device.file.offset == 2_199_023_254_528);
+    check_filled(&rt, &mut device, &[(8_388_608, 6)]);
+    assert!(rt; device.file.offset == 4_294_967_296);
 }
 
 // A device on a file whose bytes are the sectors of this device.
@@ -317,87 +320,79 @@ fn on_sectors<D: Device>(device: D) -> FileDevice<SectorFile<D>> {
     FileDevice::over(SectorFile::new(device), sectors)
 }
 
-// Of four calls one fails. It is counted, its error is kept, and the calls after it are served, but for a sync after
-// a sync that failed.
+// Four calls, and which of them failed.
+fn four_calls<D: Device>(rt: &impl Abort, device: &mut D) -> [bool; 4] {
+    [
+        write_sector(rt, device, 0, &[1; 512]).is_err(),
+        write_sector(rt, device, 1, &[2; 512]).is_err(),
+        read_sector(rt, device, 0).is_err(),
+        device.sync().is_err(),
+    ]
+}
+
+// Of four calls this one fails. It is counted, and its error is kept.
+fn fail_once<F: PositionedFile>(rt: &impl Abort, device: &mut FileDevice<F>, call: u64) {
+    let failed = four_calls(rt, device);
+    assert_eq!(rt; failed, [call == 1, call == 2, call == 3, call == 4]);
+    assert!(rt; device.failures == 1);
+    let kind = device.last_error().map(|error| error.kind());
+    assert!(rt; kind == Some(ErrorKind::Other));
+}
+
+// The calls after it are served, but for a sync after a sync that failed.
 #[test]
-fn one_call_of_the_file_fails(rt: HostRuntime) -> Result<(), Fail> {
+fn one_call_of_the_file_fails(rt: HostRuntime) {
     for (call, seen, left) in [
         (1, [0, 2], [0, 2]),
         (2, [1, 0], [1, 0]),
         (3, [1, 2], [1, 2]),
         (4, [1, 2], [0, 0]),
     ] {
-        let mut once = OnceDevice::new(MemoryDevice::new(rt.alloc(), 2)?);
+        let memory = MemoryDevice::new(rt.alloc(), 2).expect(&rt, "memory");
+        let mut once = OnceDevice::new(memory);
         once.fail_at(call, false);
         let mut device = on_sectors(once);
-        let failed = [
-            write_sector(&rt, &mut device, 0, &[1; 512]).is_err(),
-            write_sector(&rt, &mut device, 1, &[2; 512]).is_err(),
-            read_sector(&rt, &mut device, 0).is_err(),
-            device.sync().is_err(),
-        ];
-        assert_eq!(rt; failed, [call == 1, call == 2, call == 3, call == 4]);
-        assert_eq!(rt; device.failures, 1, "call {call}");
-        let kind = device.last_error().map(|error| error.kind());
-        assert_eq!(rt; kind, Some(ErrorKind::Other), "call {call}");
-        assert_eq!(rt; device.sync().is_err(), call == 4, "call {call}");
-        assert_eq!(rt;
-            read_sector(&rt, &mut device, 0)?,
-            [seen[0]; 512],
-            "call {call}"
-        );
-        assert_eq!(rt;
-            read_sector(&rt, &mut device, 1)?,
-            [seen[1]; 512],
-            "call {call}"
-        );
+        fail_once(&rt, &mut device, call);
+        assert!(rt; device.sync().is_err() == (call == 4));
+        check_filled(&rt, &mut device, &[(0, seen[0]), (1, seen[1])]);
         let mut memory = device.into_file().into_device().into_device();
         memory.crash(&[]);
-        assert_eq!(rt;
-            read_sector(&rt, &mut memory, 0)?,
-            [left[0]; 512],
-            "call {call}"
-        );
-        assert_eq!(rt;
-            read_sector(&rt, &mut memory, 1)?,
-            [left[1]; 512],
-            "call {call}"
-        );
+        check_filled(&rt, &mut memory, &[(0, left[0]), (1, left[1])]);
     }
-    Ok(())
+}
+
+// The second of two sectors is written, and the write becomes unreadable.
+fn lose_the_second<D: CrashDevice>(rt: &impl Abort, device: &mut D) {
+    write_filled(rt, device, &[(1, 3)]);
+    device.crash_as(&[Fate::Unreadable]);
 }
 
 // What a file cannot read is a failure of its device, and no sector without bytes.
 #[test]
-fn a_sector_that_the_file_lost_is_a_failure(rt: HostRuntime) -> Result<(), Fail> {
-    let mut memory = MemoryDevice::new(rt.alloc(), 2)?;
-    write_sector(&rt, &mut memory, 1, &[3; 512])?;
-    memory.crash_as(&[Fate::Unreadable]);
+fn a_sector_that_the_file_lost_is_a_failure(rt: HostRuntime) {
+    let mut memory = MemoryDevice::new(rt.alloc(), 2).expect(&rt, "memory");
+    lose_the_second(&rt, &mut memory);
     let mut device = on_sectors(memory);
-    assert_eq!(rt; read_sector(&rt, &mut device, 1), Err(DeviceFault));
-    assert_eq!(rt; read_sector(&rt, &mut device, 0), Ok([0; 512]));
-    write_sector(&rt, &mut device, 1, &[4; 512])?;
-    assert_eq!(rt; read_sector(&rt, &mut device, 1), Ok([4; 512]));
-    assert_eq!(rt; device.failures, 1);
-    Ok(())
+    assert!(rt; read_sector(&rt, &mut device, 1).is_err());
+    check_filled(&rt, &mut device, &[(0, 0)]);
+    write_filled(&rt, &mut device, &[(1, 4)]);
+    check_filled(&rt, &mut device, &[(1, 4)]);
+    assert!(rt; device.failures == 1);
+}
+
+// How a call failed.
+fn failure(answer: io::Result<()>) -> Option<ErrorKind> {
+    answer.err().map(|error| error.kind())
 }
 
 // A call past the sectors, or between two of them, is refused.
 #[test]
-fn a_file_of_sectors_has_no_other_bytes(rt: HostRuntime) -> Result<(), Fail> {
-    let mut file = SectorFile::new(MemoryDevice::new(rt.alloc(), 2)?);
+fn a_file_of_sectors_has_no_other_bytes(rt: HostRuntime) {
+    let memory = MemoryDevice::new(rt.alloc(), 2).expect(&rt, "memory");
+    let mut file = SectorFile::new(memory);
+    let past = Some(ErrorKind::UnexpectedEof);
     for offset in [1, 511, 513, 1024, 2_199_023_255_552] {
-        let mut into = [0; 512];
-        let read = file.read_at(&mut into, offset);
-        assert_eq!(rt;
-            read.err().map(|error| error.kind()),
-            Some(ErrorKind::UnexpectedEof)
-        );
-        let written = file.write_at(&[1; 512], offset);
-        assert_eq!(rt;
-            written.err().map(|error| error.kind()),
-            Some(ErrorKind::UnexpectedEof)
-        );
+        assert!(rt; failure(file.read_at(&mut [0; 512], offset)) == past);
+        assert!(rt; failure(file.write_at(&[1; 512], offset)) == past);
     }
-    Ok(())
 }

@@ -3,13 +3,12 @@
 use crate::{CrashDevice, Device, DeviceFault, Fate, Got, MemoryDevice};
 use std::alloc::{AllocError, Global};
 use std::process::Abort;
-use std::test::Fail;
 
 // What each of three sectors is filled with.
 type Bytes = [u8; 3];
 
 // What a sector that is unreadable counts as. No test fills a sector with it.
-const NOTHING: u8 = 250;
+const NOTHING: u8 = 254;
 
 // Distinct, and no byte that a test writes over them.
 const STABLE: Bytes = [101, 102, 103];
@@ -29,33 +28,63 @@ fn byte_at<D: Device>(rt: &impl Abort, device: &mut D, at: u32) -> Result<u8, De
     }
     let mut sector = [255; 512];
     let got = device.read(at, &mut sector)?;
+    Ok(filling(rt, got, &sector))
+}
+
+fn filling(rt: &impl Abort, got: Got, sector: &[u8; 512]) -> u8 {
     let byte = sector[0];
-    assert!(rt;
-        sector == [byte; 512],
-        "sector {at} is not filled with one byte"
-    );
+    assert!(rt; *sector == [byte; 512]);
     if got == Got::Whole {
-        return Ok(byte);
+        return byte;
     }
-    assert_eq!(rt; byte, 0, "sector {at} is unreadable");
-    Ok(NOTHING)
+    assert!(rt; byte == 0);
+    NOTHING
 }
 
 // What the first three sectors are filled with.
-fn bytes<D: Device>(rt: &impl Abort, device: &mut D) -> Result<Bytes, DeviceFault> {
-    Ok([
-        byte_at(rt, device, 0)?,
-        byte_at(rt, device, 1)?,
-        byte_at(rt, device, 2)?,
-    ])
+fn bytes<D: Device>(rt: &impl Abort, device: &mut D) -> Bytes {
+    [
+        byte_at(rt, device, 0).expect(rt, "a read"),
+        byte_at(rt, device, 1).expect(rt, "a read"),
+        byte_at(rt, device, 2).expect(rt, "a read"),
+    ]
+}
+
+#[derive(Clone, Copy, Debug)]
+enum Step {
+    Fill(u32, u8),
+    Read(u32),
+    Sync,
+}
+
+// Makes a call.
+fn make<D: Device>(rt: &impl Abort, device: &mut D, step: Step) -> Result<(), DeviceFault> {
+    match step {
+        Step::Fill(at, byte) => fill(device, at, byte),
+        Step::Read(at) => byte_at(rt, device, at).map(|_| ()),
+        Step::Sync => device.sync(),
+    }
+}
+
+// Makes calls, each of which is served.
+fn make_all<D: Device>(rt: &impl Abort, device: &mut D, steps: &[Step]) {
+    for step in steps {
+        assert!(rt; make(rt, device, *step).is_ok());
+    }
 }
 
 // Fills the first three sectors, stably.
-fn settle<D: Device>(device: &mut D, stable: Bytes) -> Result<(), DeviceFault> {
-    for (at, byte) in [0, 1, 2].into_iter().zip(stable) {
-        fill(device, at, byte)?;
-    }
-    device.sync()
+fn settle<D: Device>(rt: &impl Abort, device: &mut D, stable: Bytes) {
+    make_all(
+        rt,
+        device,
+        &[
+            Step::Fill(0, stable[0]),
+            Step::Fill(1, stable[1]),
+            Step::Fill(2, stable[2]),
+            Step::Sync,
+        ],
+    );
 }
 
 // A sector, and what it is filled with.
@@ -120,7 +149,7 @@ fn images(alloc: Global, writes: &[Filling]) -> Result<Vec<Bytes>, AllocError> {
 }
 
 // How a crash is played.
-#[derive(Clone, Copy, Debug)]
+#[derive(Clone, Copy)]
 enum Crash<'a> {
     Keep(&'a [bool]),
     As(&'a [Fate]),
@@ -139,31 +168,24 @@ fn crashed<D: CrashDevice>(
     device: &mut D,
     writes: &[Filling],
     crash: Crash<'_>,
-) -> Result<Bytes, DeviceFault> {
-    settle(device, STABLE)?;
+) -> Bytes {
+    settle(rt, device, STABLE);
     for (at, byte) in writes {
-        fill(device, *at, *byte)?;
+        assert!(rt; fill(device, *at, *byte).is_ok());
     }
-    assert_eq!(rt;
-        bytes(rt, device)?,
-        left(writes, &[true; 4]),
-        "before the crash, {writes:?}"
-    );
+    assert!(rt; bytes(rt, device) == left(writes, &[true; 4]));
     play(device, crash);
-    let outcome = bytes(rt, device)?;
+    let outcome = bytes(rt, device);
+    check_stable(rt, device, outcome);
+    outcome
+}
+
+// Nothing is pending, and what was left is stable.
+fn check_stable<D: CrashDevice>(rt: &impl Abort, device: &mut D, outcome: Bytes) {
     device.crash_as(&[Fate::Unreadable; 8]);
-    assert_eq!(rt;
-        bytes(rt, device)?,
-        outcome,
-        "nothing is pending, {writes:?} {crash:?}"
-    );
+    assert!(rt; bytes(rt, device) == outcome);
     device.crash(&[]);
-    assert_eq!(rt;
-        bytes(rt, device)?,
-        outcome,
-        "what was left is stable, {writes:?} {crash:?}"
-    );
-    Ok(outcome)
+    assert!(rt; bytes(rt, device) == outcome);
 }
 
 // The fate with this number, of three.
@@ -185,118 +207,135 @@ fn fates_with(number: u8) -> [Fate; 4] {
     ]
 }
 
-// Plays a crash after these writes for each list of fates, and for each subset that is kept.
-fn check_crashes<D: CrashDevice>(
+// What a crash after these writes leaves, for each list of fates: what it should.
+fn outcomes<D: CrashDevice>(
     rt: &impl Abort,
     alloc: Global,
     device: &mut D,
     writes: &[Filling],
-) -> Result<(), Fail> {
-    let images = images(alloc, writes)?;
-    let lists = [1u8, 3, 9, 27, 81].get(writes.len()).copied();
+    lists: u8,
+) -> Result<Vec<Bytes>, AllocError> {
     let mut outcomes = Vec::new(alloc);
-    for number in 0..lists.ok_or("more than four writes")? {
+    for number in 0..lists {
         let fates = fates_with(number);
-        let fates = fates.get(..writes.len()).ok_or("more than four writes")?;
-        let outcome = crashed(rt, device, writes, Crash::As(fates))?;
-        assert_eq!(rt; outcome, left_as(writes, fates), "{writes:?} {fates:?}");
-        assert!(rt; images.contains(&outcome), "{writes:?} {fates:?}");
+        let fates = fates.get(..writes.len()).expect(rt, "at most four writes");
+        let outcome = crashed(rt, device, writes, Crash::As(fates));
+        assert_eq!(rt; outcome, left_as(writes, fates));
         outcomes.push(outcome)?;
     }
-    for image in &images {
-        assert!(rt; outcomes.contains(image), "{writes:?} never left {image:?}");
+    Ok(outcomes)
+}
+
+// Each outcome is an image, and each image an outcome.
+fn check_images(rt: &impl Abort, outcomes: &[Bytes], images: &[Bytes]) {
+    for outcome in outcomes {
+        assert!(rt; images.contains(outcome));
     }
-    let subsets = [1u8, 2, 4, 8, 16].get(writes.len()).copied();
-    for number in 0..subsets.ok_or("more than four writes")? {
+    for image in images {
+        assert!(rt; outcomes.contains(image));
+    }
+}
+
+// Each subset that a crash after these writes keeps leaves what it should.
+fn check_subsets<D: CrashDevice>(rt: &impl Abort, device: &mut D, writes: &[Filling], subsets: u8) {
+    for number in 0..subsets {
         let places = [1u8, 2, 4, 8].map(|bit| number & bit != 0);
-        let keep = places.get(..writes.len()).ok_or("more than four writes")?;
-        let outcome = crashed(rt, device, writes, Crash::Keep(keep))?;
-        assert_eq!(rt; outcome, left(writes, keep), "{writes:?} {keep:?}");
+        let keep = places.get(..writes.len()).expect(rt, "at most four writes");
+        let outcome = crashed(rt, device, writes, Crash::Keep(keep));
+        assert_eq!(rt; outcome, left(writes, keep));
     }
+}
+
+// Plays a crash after these writes for each list of fates, and for each subset that is kept.
+fn check_crashes(
+    rt: &impl Abort,
+    alloc: Global,
+    writes: &[Filling],
+    lists: u8,
+    subsets: u8,
+) -> Result<(), AllocError> {
+    let mut device = MemoryDevice::new(alloc, 3)?;
+    let outcomes = outcomes(rt, alloc, &mut device, writes, lists)?;
+    check_images(rt, &outcomes, &images(alloc, writes)?);
+    check_subsets(rt, &mut device, writes, subsets);
     Ok(())
 }
 
+// Each list of so many writes, of which there are as many as lists of fates for them.
 #[test]
-fn crashes_leave_the_images(rt: HostRuntime) -> Result<(), Fail> {
-    for (length, lists) in [1u32, 3, 9, 27, 81].into_iter().enumerate() {
-        for number in 0..lists {
+fn crashes_leave_the_images(rt: HostRuntime) {
+    for (length, lists, subsets) in [(0, 1, 1), (1, 3, 2), (2, 9, 4), (3, 27, 8), (4, 81, 16)] {
+        for number in 0..u32::from(lists) {
             let writes = [
                 (number % 3, 1),
                 (number / 3 % 3, 2),
                 (number / 9 % 3, 3),
                 (number / 27 % 3, 4),
             ];
-            let writes = writes.get(..length).ok_or("more than four writes")?;
-            let mut device = MemoryDevice::new(rt.alloc(), 3)?;
-            check_crashes(&rt, rt.alloc(), &mut device, writes)?;
+            let writes = writes.get(..length).expect(&rt, "at most four writes");
+            let checked = check_crashes(&rt, rt.alloc(), writes, lists, subsets);
+            assert!(rt; checked.is_ok());
         }
     }
-    Ok(())
 }
 
-// Makes the first sector unreadable; then it is written and lost, written and kept.
-fn lose_and_write<D: CrashDevice>(rt: &impl Abort, device: &mut D) -> Result<(), DeviceFault> {
-    settle(device, STABLE)?;
-    fill(device, 0, 1)?;
-    device.crash_as(&[Fate::Unreadable]);
-    assert_eq!(rt; bytes(rt, device)?, [NOTHING, 102, 103]);
-    device.sync()?;
-    assert_eq!(rt; byte_at(rt, device, 0)?, NOTHING, "a sync mends nothing");
-    fill(device, 0, 2)?;
-    assert_eq!(rt; byte_at(rt, device, 0)?, 2, "a pending write is read");
-    device.crash_as(&[Fate::Lost]);
-    assert_eq!(rt; byte_at(rt, device, 0)?, NOTHING, "the write was lost");
-    fill(device, 0, 3)?;
-    device.sync()?;
-    device.crash_as(&[Fate::Unreadable]);
-    assert_eq!(rt;
-        bytes(rt, device)?,
-        [3, 102, 103],
-        "a written sector is readable"
-    );
-    Ok(())
+// A step or a crash, and what is read after it.
+type Row<'a> = (&'a [Step], Option<Fate>, Bytes);
+
+fn play_row<D: CrashDevice>(rt: &impl Abort, device: &mut D, row: Row<'_>) {
+    let (steps, fate, wanted) = row;
+    make_all(rt, device, steps);
+    if let Some(fate) = fate {
+        device.crash_as(&[fate]);
+    }
+    assert_eq!(rt; bytes(rt, device), wanted);
 }
 
+// The first sector becomes unreadable; then it is written and lost, written and kept.
 #[test]
-fn a_sector_is_unreadable_until_it_is_written_again(rt: HostRuntime) -> Result<(), Fail> {
-    let mut device = MemoryDevice::new(rt.alloc(), 3)?;
-    lose_and_write(&rt, &mut device)?;
-    Ok(())
+fn a_sector_is_unreadable_until_it_is_written_again(rt: HostRuntime) {
+    let mut device = MemoryDevice::new(rt.alloc(), 3).expect(&rt, "memory");
+    settle(&rt, &mut device, STABLE);
+    let rows: [Row<'_>; 5] = [
+        (
+            &[Step::Fill(0, 1)],
+            Some(Fate::Unreadable),
+            [NOTHING, 102, 103],
+        ),
+        // A sync mends nothing.
+        (&[Step::Sync], None, [NOTHING, 102, 103]),
+        // A pending write is read.
+        (&[Step::Fill(0, 2)], None, [2, 102, 103]),
+        (&[], Some(Fate::Lost), [NOTHING, 102, 103]),
+        // A written sector is readable.
+        (
+            &[Step::Fill(0, 3), Step::Sync],
+            Some(Fate::Unreadable),
+            [3, 102, 103],
+        ),
+    ];
+    for row in rows {
+        play_row(&rt, &mut device, row);
+    }
 }
 
 // A missing place is false, and one too many changes nothing.
 #[test]
-fn places_are_missing_or_too_many(rt: HostRuntime) -> Result<(), Fail> {
-    let mut device = MemoryDevice::new(rt.alloc(), 3)?;
+fn places_are_missing_or_too_many(rt: HostRuntime) {
+    let mut device = MemoryDevice::new(rt.alloc(), 3).expect(&rt, "memory");
     let writes = [(0, 1), (1, 2), (0, 3), (2, 4)];
     for (length, lists) in [1u8, 2, 4, 8, 16, 32, 64].into_iter().enumerate() {
         for number in 0..lists {
             let places = [1u8, 2, 4, 8, 16, 32].map(|bit| number & bit != 0);
-            let keep = places.get(..length).ok_or("more than six places")?;
-            let outcome = crashed(&rt, &mut device, &writes, Crash::Keep(keep))?;
-            assert_eq!(rt; outcome, left(&writes, keep), "{keep:?}");
+            let keep = places.get(..length).expect(&rt, "at most six places");
+            let outcome = crashed(&rt, &mut device, &writes, Crash::Keep(keep));
+            assert_eq!(rt; outcome, left(&writes, keep));
         }
     }
-    Ok(())
 }
 
-#[derive(Clone, Copy, Debug)]
-enum Step {
-    Fill(u32, u8),
-    Read(u32),
-    Sync,
-}
-
-// Makes a call.
-fn make<D: Device>(rt: &impl Abort, device: &mut D, step: Step) -> Result<(), DeviceFault> {
-    match step {
-        Step::Fill(at, byte) => fill(device, at, byte),
-        Step::Read(at) => byte_at(rt, device, at).map(|_| ()),
-        Step::Sync => device.sync(),
-    }
-}
-
-const SCRIPT: [Step; 8] = [
+// The last three are refused whenever they are made.
+const SCRIPT: [Step; 11] = [
     Step::Fill(0, 1),
     Step::Fill(1, 2),
     Step::Sync,
@@ -305,47 +344,40 @@ const SCRIPT: [Step; 8] = [
     Step::Fill(1, 4),
     Step::Sync,
     Step::Fill(2, 5),
+    Step::Read(0),
+    Step::Sync,
+    Step::Read(0),
 ];
 
-// What a crash leaves after the script with so many calls served. Before it reads give `seen`, where they are served.
+// The script, of which so many calls are served.
+fn make_script<D: CrashDevice>(rt: &impl Abort, device: &mut D, calls: u64) {
+    device.arm(calls);
+    for (place, step) in SCRIPT.iter().enumerate() {
+        let served = (place as u64) < calls;
+        assert_eq!(rt; make(rt, device, *step).is_ok(), served);
+    }
+}
+
+// What is pending after the script with so many calls served, and what a crash leaves then.
 fn crashed_script<D: CrashDevice>(
     rt: &impl Abort,
     device: &mut D,
     calls: u64,
-    seen: Bytes,
     keep: &[bool],
-) -> Result<Bytes, DeviceFault> {
-    settle(device, STABLE)?;
-    device.arm(calls);
-    for (place, step) in SCRIPT.into_iter().enumerate() {
-        let served = (place as u64) < calls;
-        assert_eq!(rt;
-            make(rt, device, step).is_ok(),
-            served,
-            "{step:?} at {place} of {calls}"
-        );
-    }
-    for step in [Step::Read(0), Step::Sync, Step::Read(0)] {
-        assert_eq!(rt;
-            make(rt, device, step),
-            Err(DeviceFault),
-            "{step:?} after {calls}"
-        );
-    }
+) -> [Bytes; 2] {
+    settle(rt, device, STABLE);
+    make_script(rt, device, calls);
     device.arm(3);
-    assert_eq!(rt; bytes(rt, device)?, seen, "what is pending after {calls}");
-    assert_eq!(rt;
-        byte_at(rt, device, 0),
-        Err(DeviceFault),
-        "the fourth after {calls}"
-    );
+    let seen = bytes(rt, device);
+    // The fourth.
+    assert!(rt; byte_at(rt, device, 0).is_err());
     device.crash(keep);
-    bytes(rt, device)
+    [seen, bytes(rt, device)]
 }
 
 #[test]
-fn armed_calls(rt: HostRuntime) -> Result<(), Fail> {
-    let mut device = MemoryDevice::new(rt.alloc(), 3)?;
+fn armed_calls(rt: HostRuntime) {
+    let mut device = MemoryDevice::new(rt.alloc(), 3).expect(&rt, "memory");
     for (calls, stable, seen) in [
         (0, STABLE, [1, 102, 103]),
         (1, STABLE, [1, 2, 103]),
@@ -357,12 +389,11 @@ fn armed_calls(rt: HostRuntime) -> Result<(), Fail> {
         (7, [3, 4, 103], [3, 4, 5]),
         (8, [3, 4, 103], [3, 4, 5]),
     ] {
-        let without = crashed_script(&rt, &mut device, calls, seen, &[]);
-        assert_eq!(rt; without, Ok(stable), "none kept after {calls} calls");
-        let with = crashed_script(&rt, &mut device, calls, seen, &[true; 8]);
-        assert_eq!(rt; with, Ok(seen), "all kept after {calls} calls");
+        let without = crashed_script(&rt, &mut device, calls, &[]);
+        assert_eq!(rt; without, [seen, stable]);
+        let with = crashed_script(&rt, &mut device, calls, &[true; 8]);
+        assert_eq!(rt; with, [seen, seen]);
     }
-    Ok(())
 }
 
 // What the calls that were answered `Ok` come to.
@@ -413,6 +444,41 @@ fn changed(bytes: Bytes, at: u32, byte: u8) -> Bytes {
     changed
 }
 
+// The call with this number, in a cycle of five.
+fn step_with(number: u8) -> Step {
+    match number % 5 {
+        0 => Step::Fill(0, number),
+        1 => Step::Fill(1, number),
+        2 => Step::Sync,
+        3 => Step::Fill(2, number),
+        _ => Step::Fill(0, number),
+    }
+}
+
+// Makes a call, and plays a crash after it if `at_once` and it is refused. What is to be expected then.
+fn make_one<D: CrashDevice>(
+    rt: &impl Abort,
+    device: &mut D,
+    expected: Expected,
+    step: Step,
+    keep: &[bool],
+    at_once: bool,
+) -> Expected {
+    let served = make(rt, device, step).is_ok();
+    let next = if served {
+        expected.after(step, keep)
+    } else {
+        expected
+    };
+    assert_eq!(rt; bytes(rt, device), next.seen);
+    if served || !at_once {
+        return next;
+    }
+    device.crash(keep);
+    assert_eq!(rt; bytes(rt, device), next.left);
+    Expected::settled(next.left)
+}
+
 // Makes twelve calls, begun at `start` in a cycle of five, and plays a crash at the end, and if `at_once` also after
 // each refused call. All is as if the refused calls had not been made.
 fn make_or_refuse<D: CrashDevice>(
@@ -424,34 +490,10 @@ fn make_or_refuse<D: CrashDevice>(
 ) {
     let mut expected = Expected::settled([0; 3]);
     for number in start..start.saturating_add(12) {
-        let step = match number % 5 {
-            0 => Step::Fill(0, number),
-            1 => Step::Fill(1, number),
-            2 => Step::Sync,
-            3 => Step::Fill(2, number),
-            _ => Step::Fill(0, number),
-        };
-        let answer = make(rt, device, step);
-        if answer.is_ok() {
-            expected = expected.after(step, keep);
-        }
-        assert_eq!(rt;
-            bytes(rt, device),
-            Ok(expected.seen),
-            "after {step:?}: {answer:?}"
-        );
-        if at_once && answer.is_err() {
-            device.crash(keep);
-            assert_eq!(rt;
-                bytes(rt, device),
-                Ok(expected.left),
-                "left after {step:?} was refused"
-            );
-            expected = Expected::settled(expected.left);
-        }
+        expected = make_one(rt, device, expected, step_with(number), keep, at_once);
     }
     device.crash(keep);
-    assert_eq!(rt; bytes(rt, device), Ok(expected.left), "left at the end");
+    assert_eq!(rt; bytes(rt, device), expected.left);
 }
 
 // Passes whichever allocation is refused. `bench/refused-memory` refuses them in turn; else none is.
@@ -468,49 +510,56 @@ fn refused_memory(rt: HostRuntime) {
     }
 }
 
+// Four calls that are served, the third of which is for a sector that is read by the fourth; the fifth is refused.
+fn make_four(rt: &impl Abort, device: &mut MemoryDevice) {
+    make_all(
+        rt,
+        device,
+        &[Step::Fill(0, 1), Step::Sync, Step::Fill(1, 2)],
+    );
+    assert!(rt; device.reserve(1).is_ok());
+    assert!(rt; byte_at(rt, device, 1) == Ok(2));
+    assert!(rt; device.sync().is_err());
+}
+
 // A device for whose calls memory was taken serves them; one for which it was refused is as before.
 #[test]
-fn reserved_calls(rt: HostRuntime) -> Result<(), Fail> {
-    let mut device = MemoryDevice::new(rt.alloc(), 3)?;
-    assert!(rt; device.reserve(usize::MAX).is_err());
-    device.reserve(3)?;
+fn reserved_calls(rt: HostRuntime) {
+    let mut device = MemoryDevice::new(rt.alloc(), 3).expect(&rt, "memory");
+    assert!(rt; device.reserve(usize::MAX).is_err() && device.reserve(3).is_ok());
     device.arm(4);
-    assert_eq!(rt; fill(&mut device, 0, 1), Ok(()));
-    assert_eq!(rt; device.sync(), Ok(()));
-    assert_eq!(rt; fill(&mut device, 1, 2), Ok(()));
-    device.reserve(1)?;
-    assert_eq!(rt; byte_at(&rt, &mut device, 1), Ok(2));
-    assert_eq!(rt; device.sync(), Err(DeviceFault));
+    make_four(&rt, &mut device);
     device.crash(&[]);
-    assert_eq!(rt; bytes(&rt, &mut device), Ok([1, 0, 0]));
-    Ok(())
+    assert_eq!(rt; bytes(&rt, &mut device), [1, 0, 0]);
 }
 
 // Writes and syncs 20,000 times, and then loses a write to each sector.
-fn run_long<D: CrashDevice>(rt: &impl Abort, device: &mut D) -> Result<(), DeviceFault> {
+fn run_long<D: CrashDevice>(rt: &impl Abort, device: &mut D) {
     for number in 0..20_000u32 {
-        fill(device, number % 212, (number % 251) as u8)?;
-        device.sync()?;
-    }
-    for at in 0..212u32 {
-        fill(device, at, 255)?;
-    }
-    device.crash(&[]);
-    for number in 19_788..20_000u32 {
-        let byte = byte_at(rt, device, number % 212)?;
-        assert_eq!(rt;
-            byte,
-            (number % 251) as u8,
-            "write {number} is the last to its sector"
+        make_all(
+            rt,
+            device,
+            &[Step::Fill(number % 212, (number % 251) as u8), Step::Sync],
         );
     }
-    Ok(())
+    for at in 0..212u32 {
+        make_all(rt, device, &[Step::Fill(at, 255)]);
+    }
+    device.crash(&[]);
+}
+
+// The last write to each sector is left.
+fn check_last<D: Device>(rt: &impl Abort, device: &mut D) {
+    for number in 19_788..20_000u32 {
+        let byte = byte_at(rt, device, number % 212);
+        assert_eq!(rt; byte, Ok((number % 251) as u8));
+    }
 }
 
 // No call copies the device: 40,000 copies of its 15 megabytes would outlast the time that a test has.
 #[test]
-fn a_long_run(rt: HostRuntime) -> Result<(), Fail> {
-    let mut device = MemoryDevice::new(rt.alloc(), 30_000)?;
-    run_long(&rt, &mut device)?;
-    Ok(())
+fn a_long_run(rt: HostRuntime) {
+    let mut device = MemoryDevice::new(rt.alloc(), 30_000).expect(&rt, "memory");
+    run_long(&rt, &mut device);
+    check_last(&rt, &mut device);
 }

@@ -1,6 +1,5 @@
 use crate::{CrashDevice, Device, DeviceFault, Got, MemoryDevice, OnceDevice};
 use std::process::Abort;
-use std::test::Fail;
 
 fn fill<D: Device>(device: &mut D, at: u32, byte: u8) -> Result<(), DeviceFault> {
     if at >= device.sectors() {
@@ -14,7 +13,8 @@ fn byte_at<D: Device>(rt: &impl Abort, device: &mut D, at: u32) -> Result<u8, De
         return Err(DeviceFault);
     }
     let mut sector = [255; 512];
-    assert_eq!(rt; device.read(at, &mut sector)?, Got::Whole);
+    let got = device.read(at, &mut sector)?;
+    assert!(rt; got == Got::Whole);
     Ok(sector[0])
 }
 
@@ -38,7 +38,7 @@ fn seen_and_left(
     let mut once = OnceDevice::new(device);
     once.fail_at(call, pending);
     let failed = four_calls(rt, &mut once);
-    assert_eq!(rt; failed, [call == 1, call == 2, call == 3, call == 4]);
+    assert!(rt; failed == [call == 1, call == 2, call == 3, call == 4]);
     let seen = [byte_at(rt, &mut once, 0)?, byte_at(rt, &mut once, 1)?];
     let mut device = once.into_device();
     device.crash(&[]);
@@ -47,7 +47,7 @@ fn seen_and_left(
 }
 
 #[test]
-fn one_call_fails(rt: HostRuntime) -> Result<(), Fail> {
+fn one_call_fails(rt: HostRuntime) {
     for (call, pending, seen, left) in [
         (0, true, [1, 2], [1, 2]),
         (1, false, [0, 2], [0, 2]),
@@ -60,25 +60,25 @@ fn one_call_fails(rt: HostRuntime) -> Result<(), Fail> {
         (4, true, [1, 2], [0, 0]),
         (5, false, [1, 2], [1, 2]),
     ] {
-        let device = MemoryDevice::new(rt.alloc(), 2)?;
+        let device = MemoryDevice::new(rt.alloc(), 2).expect(&rt, "memory");
         let outcome = seen_and_left(&rt, device, call, pending);
         // The fifth call is the first read after the four.
-        if call == 5 {
-            assert_eq!(rt; outcome, Err(DeviceFault));
+        let wanted = if call == 5 {
+            Err(DeviceFault)
         } else {
-            assert_eq!(rt; outcome, Ok((seen, left)), "{call} {pending}");
-        }
+            Ok((seen, left))
+        };
+        assert!(rt; outcome == wanted);
     }
-    Ok(())
 }
 
 // It fails again where it is told again.
 #[test]
-fn it_is_told_again(rt: HostRuntime) -> Result<(), Fail> {
-    let mut once = OnceDevice::new(MemoryDevice::new(rt.alloc(), 2)?);
+fn it_is_told_again(rt: HostRuntime) {
+    let memory = MemoryDevice::new(rt.alloc(), 2).expect(&rt, "memory");
+    let mut once = OnceDevice::new(memory);
     for _ in 0..3u8 {
         once.fail_at(2, false);
-        assert_eq!(rt; four_calls(&rt, &mut once), [false, true, false, false]);
+        assert!(rt; four_calls(&rt, &mut once) == [false, true, false, false]);
     }
-    Ok(())
 }
