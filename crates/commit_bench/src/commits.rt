@@ -1,12 +1,16 @@
 //! Commits, one after the other.
 ghost use Rattle.std.specs.Prelude.{◌≡◌, ◌≤◌, ◌+◌, length, OnOk};
+ghost use Rattle.sector_journal.specs.Compactions.{IsUnderWay};
 
 use crate::fault::Fault;
 use chess_bits::Square;
 use chess_board::Move;
-use rec_codec::{Entry, Event, GameNumber, Made, Record, StoredMove};
+use rec_codec::{
+    Entry, Event, GameNumber, Made, MoveList, Moves, Record, StoredMove, snapshot_records,
+};
 use sector_dev::Device;
 use sector_journal::Journal;
+use std::alloc::{AllocError, Global};
 
 // White's e2e4 in game 1.
 fn one_move() -> Record {
@@ -24,13 +28,76 @@ fn one_move() -> Record {
     })
 }
 
-// One commit; a half without room for it is left by a switch with a snapshot of one record.
+/// What each commit is: so many records, 1 to 64, and beside them a compaction to a snapshot of so many, if any.
+#[derive(Clone, Copy)]
+pub struct Plan {
+    pub records: usize,
+    pub snapshot: Option<usize>,
+}
+
+// Sixty of the move, as a snapshot keeps them.
+fn sixty_moves() -> Record {
+    let mv = Move {
+        from: Square::new(12),
+        to: Square::new(28),
+        promotion: None,
+    };
+    Record::Moves(Moves {
+        game: GameNumber::new(1),
+        moves: MoveList::new(&[mv; 60]),
+    })
+}
+
+// A snapshot of so many records.
+fn snapshot_of(alloc: Global, count: usize) -> Result<Vec<Record>, AllocError> {
+    let one = [sixty_moves()];
+    let mut records = Vec::new(alloc);
+    for _ in 0..count {
+        records.extend_from_slice(&one)?;
+    }
+    Ok(records)
+}
+
+// Begins a compaction to a snapshot of so many records.
+fn begin<D: Device>(alloc: Global, journal: &mut Journal<D>, count: usize) -> Result<(), Fault>
+    requires { ¬ IsUnderWay journal.old.compaction }
+    ensures { OnOk result (journal.new.header ≡ journal.old.header) }
+{
+    let most = snapshot_records(journal.limits()) as usize;
+    let base = snapshot_of(alloc, count)?;
+    if base.is_empty() || base.len() > most {
+        return Err(Fault::Snapshot);
+    }
+    journal.begin(base)?;
+    Ok(())
+}
+
+// Begins a compaction where none is under way but one is to be, and takes the memory that a commit wants beside it.
+fn prepare<D: Device>(alloc: Global, journal: &mut Journal<D>, plan: &Plan) -> Result<(), Fault>
+    ensures { OnOk result (journal.new.header ≡ journal.old.header) }
+{
+    let Some(count) = plan.snapshot else {
+        return Ok(());
+    };
+    if !journal.under_way() {
+        begin(alloc, journal, count)?;
+    }
+    journal.ready(plan.records)?;
+    Ok(())
+}
+
+// One commit: the end of a compaction whose snapshot is written, else an append. A half without room for that is left by
+// a switch with a snapshot of one record.
 fn commit<D: Device>(journal: &mut Journal<D>, records: &[Record]) -> Result<(), Fault>
     requires some { 1 ≤ length records.now }
     requires few { length records.now ≤ 64 }
     ensures { OnOk result (journal.new.header.seq ≡ journal.old.header.seq + 1) }
 {
-    if journal.fits(records.len()) && !journal.whole() {
+    if journal.whole() {
+        journal.finish(records)?;
+        return Ok(());
+    }
+    if journal.fits(records.len()) {
         journal.append(records)?;
         return Ok(());
     }
@@ -41,19 +108,21 @@ fn commit<D: Device>(journal: &mut Journal<D>, records: &[Record]) -> Result<(),
     Ok(())
 }
 
-/// So many commits of so many records, 1 to 64.
+/// So many commits of this plan.
 pub fn make_commits<D: Device>(
+    alloc: Global,
     journal: &mut Journal<D>,
-    records: usize,
+    plan: &Plan,
     commits: u32,
 ) -> Result<(), Fault>
-    requires some { 1 ≤ records }
-    requires few { records ≤ 64 }
+    requires some { 1 ≤ plan.now.records }
+    requires few { plan.now.records ≤ 64 }
     ensures { OnOk result (journal.new.header.seq ≡ journal.old.header.seq + commits) }
 {
     let all = [one_move(); 64];
     for _ in 0..commits {
-        commit(journal, &all[..records])?;
+        prepare(alloc, journal, plan)?;
+        commit(journal, &all[..plan.records])?;
     }
     Ok(())
 }

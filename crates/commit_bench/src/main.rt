@@ -1,5 +1,6 @@
 //! Makes commits in a journal on a file: `commit_bench FILE RECORDS COMMITS` makes the file where it isn't there, and a
-//! journal on it where it holds none, and prints how many commits it made, each of so many records.
+//! journal on it where it holds none, and prints how many commits it made, each of so many records. With a fourth word,
+//! `SNAPSHOT`, a compaction to a snapshot of so many records is always under way beside them.
 #![tactic(auto)]
 
 mod asked;
@@ -7,7 +8,7 @@ mod commits;
 mod fault;
 
 use asked::{asks_for_help, read_words};
-use commits::make_commits;
+use commits::{Plan, make_commits};
 use fault::Fault;
 use rec_codec::{Limits, need};
 use sector_dev::FileDevice;
@@ -40,7 +41,11 @@ fn run(rt: &HostRuntime) -> Result<(), Fault> {
     let asked = read_words(&words)?;
     let device = FileDevice::create(rt, asked.file, need(LIMITS))?;
     let mut journal = journal_on(rt, device)?;
-    make_commits(&mut journal, asked.records, asked.commits)?;
+    let plan = Plan {
+        records: asked.records,
+        snapshot: asked.snapshot,
+    };
+    make_commits(rt.alloc(), &mut journal, &plan, asked.commits)?;
     println!(rt; "commits {}", asked.commits)?;
     Ok(())
 }
