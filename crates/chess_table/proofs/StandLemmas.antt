@@ -1,16 +1,14 @@
 -- Games that may stand on a table, checked one after the other, and the table that has them.
-use Rattle.std.proofs.Common.{ℕ, ◌≡◌, ◌+◌, ◌≤◌, ◌<◌, ◌^◌, List, [], ◌∷◌, length, arith, sym, subst}
+use Rattle.std.proofs.Common.{ℕ, ◌≡◌, ◌+◌, ◌≤◌, ◌<◌, ◌^◌, List, [], ◌∷◌, length, get_or, drop, suc, arith, ap, sym, subst, ◌∙◌, add-one, drop-cons}
 use Rattle.chess_board.specs.Legal.{EachOf}
 use Rattle.rec_codec.specs.declared.limits.Limits.{Limits}
 use Rattle.rec_codec.specs.declared.limits.Version.TheVariants.{Two}
 use Rattle.rec_codec.specs.Limits.{IsInRange}
 use Rattle.rec_codec.specs.declared.record.Meta.{Meta}
-use Rattle.chess_entry.specs.State.{GameState, TableState, ply_of}
-use Rattle.chess_entry.specs.Bounds.{IsGame}
-use Rattle.chess_entry.specs.Table.{IsTable, IsOnTable, AreRising}
+use Rattle.chess_entry.specs.State.{GameState, TableState}
+use Rattle.chess_entry.specs.Table.{IsOnTable}
 use Rattle.chess_table.specs.Stored.{table_from, StandFrom, IsStanding}
 use Rattle.chess_table.proofs.Rising.{EachOf-weaker, Rise, Rise-of, AreRising-of}
-use Rattle.chess_table.proofs.Kept.{IsGame-within}
 
 StandFrom-each : (table : TableState) (before : ℕ) (games : List GameState) → StandFrom table before games →
     EachOf (IsOnTable table) games
@@ -36,15 +34,6 @@ StandFrom-of : (table : TableState) (before : ℕ) (games : List GameState) → 
 StandFrom-of table before [] above rise each = tt
 StandFrom-of table before (game ∷ games) above rise each =
     (above.0, each.0, StandFrom-of table game.number games rise.0 rise.1 each.1)
-
--- a game on a table, by what is checked of it
-pub IsOnTable-of : (table : TableState) (game : GameState) → IsGame 20000 game → ply_of game ≤ table.limits.plies →
-    game.number ≤ table.last → game.moment ≤ table.moment → IsOnTable table game
-IsOnTable-of table game is short number moment = record {
-  game = IsGame-within 20000 table.limits.plies game is short;
-  number = number;
-  moment = moment;
-}
 
 -- what is checked of a snapshot's first record and of the games with it
 pub record AreWell (limits : Limits) (games : List GameState) (meta : Meta) : Type 0 where
@@ -82,4 +71,34 @@ AreWell-of limits games meta is =
           (EachOf-weaker (IsOnTable table) (λ g. 0 < g.number) games
           (λ g on. let low = on.game.numbered in omega (arith, low)) is.bounds.games)
           (Rise-of games is.bounds.rising) is.bounds.games;
+    }
+
+-- ---- one game after the other
+
+item_first : (games : List GameState) (i : ℕ) (game : GameState) → i < length games → game ≡ get_or games i game →
+    drop i games ≡ game ∷ drop (i + 1) games
+item_first games i game below here =
+    rw add-one (drop-cons games i game below ∙ ap (λ (g : GameState). g ∷ drop (suc i) games) (sym here))
+
+-- All games may stand just where those from a place on do.
+pub record GoesOn (table : TableState) (games : List GameState) (before i : ℕ) : Type 0 where
+  pub forth : StandFrom table 0 games → StandFrom table before (drop i games)
+  pub back : StandFrom table before (drop i games) → StandFrom table 0 games
+
+-- the game at the place may not stand
+pub stands_not : (table : TableState) (games : List GameState) (before i : ℕ) (game : GameState) →
+    GoesOn table games before i → i < length games → game ≡ get_or games i game →
+    (before < game.number → IsOnTable table game → ⊥) → StandFrom table 0 games → ⊥
+stands_not table games before i game goes below here not_here all =
+    let stand = subst (StandFrom table before) (item_first games i game below here) (goes.forth all) in
+    not_here stand.0 stand.1
+
+pub GoesOn-more : (table : TableState) (games : List GameState) (before i : ℕ) (game : GameState) →
+    GoesOn table games before i → i < length games → game ≡ get_or games i game → before < game.number →
+    IsOnTable table game → GoesOn table games game.number (i + 1)
+GoesOn-more table games before i game goes below here rises on =
+    let first = item_first games i game below here in
+    record {
+      forth = λ all. (subst (StandFrom table before) first (goes.forth all)).2;
+      back = λ rest. goes.back (subst (StandFrom table before) (sym first) (rises, on, rest));
     }

@@ -36,8 +36,13 @@ pub(crate) fn is_standing(limits: Limits, games: &[Game], meta: &Meta) -> bool
     requires { IsInRange Two limits }
     ensures { IsTrue result ↔ IsStanding limits games.now meta.now }
 {
-    games.len() <= limits.games as usize
-        && meta.games as usize == games.len()
-        && meta.moment <= GREATEST_MOMENT
-        && may_stand(limits, games, meta)
+    // Read, so that they are known to fit their fields.
+    let (_last, _entries) = (meta.last, meta.entries);
+    if games.len() > limits.games as usize
+        || meta.games as usize != games.len()
+        || meta.moment > GREATEST_MOMENT
+    {
+        return false;
+    }
+    may_stand(limits, games, meta)
 }
