@@ -6,6 +6,12 @@ use rec_codec::{Limits, Name, Version};
 pub enum InputLine<'a> {
     /// An empty table with these limits, which are in the range of version 2.
     Table(Limits),
+    /// The records of a snapshot of the table are wanted.
+    Records,
+    /// The table is to be read, under these limits, from the last records that were wanted and those of the entries since.
+    Reopen(Limits),
+    /// It is to be read so with one byte changed, and the table stays.
+    Changed(Change),
     /// A line of a session, with its moment and the name of who sends it, if it has one.
     Sent(Sent<'a>),
 }
@@ -16,6 +22,25 @@ pub struct Sent<'a> {
     pub at: u64,
     pub who: Option<Name>,
     pub line: &'a str,
+}
+
+/// A byte of a record of the snapshot, both counted from 0, and its other value.
+#[derive(Clone, Copy)]
+pub struct Change {
+    pub record: usize,
+    pub byte: usize,
+    pub value: u8,
+}
+
+// `RECORD BYTE VALUE`, in decimals.
+fn read_change(text: &str) -> Option<Change> {
+    let (record, rest) = text.split_once(' ')?;
+    let (byte, value) = rest.split_once(' ')?;
+    Some(Change {
+        record: record.parse::<usize>().ok()?,
+        byte: byte.parse::<usize>().ok()?,
+        value: value.parse::<u8>().ok()?,
+    })
 }
 
 // `GAMES PLIES`, both in range.
@@ -32,11 +57,20 @@ fn read_limits(text: &str) -> Option<Limits> {
     }
 }
 
-/// Reads a line of the input; `None` where it has neither form.
+/// Reads a line of the input; `None` where it has none of the forms.
 pub fn read_line(text: &str) -> Option<InputLine<'_>> {
+    if text == "records" {
+        return Some(InputLine::Records);
+    }
     let (first, rest) = text.split_once(' ')?;
     if first == "table" {
         return Some(InputLine::Table(read_limits(rest)?));
+    }
+    if first == "reopen" {
+        return Some(InputLine::Reopen(read_limits(rest)?));
+    }
+    if first == "changed" {
+        return Some(InputLine::Changed(read_change(rest)?));
     }
     let (name, line) = rest.split_once(' ')?;
     let at = first.parse::<u64>().ok()?;

@@ -3,12 +3,13 @@ ghost use Rattle.std.specs.Prelude.{IfSome};
 ghost use Rattle.rec_codec.specs.Name.{IsName};
 
 use crate::fault::Fault;
-use crate::lines::Sent;
+use crate::lines::{Change, Sent};
+use crate::stored::Stored;
 use chess_answer::{AnswerLine, Reply, named_line, refusal_line};
-use chess_entry::{Command, Name, Refusal, Verdict};
+use chess_entry::{Command, Entry, Name, Refusal, Verdict};
 use chess_line::{Line, parse};
 use chess_table::{Table, judge};
-use rec_codec::{Limits, Version};
+use rec_codec::{Limits, Record, Version};
 use std::alloc::Global;
 
 // The limits of the table before one is asked for.
@@ -20,11 +21,12 @@ const LIMITS: Limits = Limits {
 // The greatest moment of a line.
 const GREATEST_MOMENT: u64 = 4_611_686_018_427_387_903;
 
-/// A table, and where it takes its memory.
+/// A table, where it takes its memory, and its records, where they were wanted.
 #[derive(Drop)]
 pub struct Player {
     alloc: Global,
     table: Table,
+    stored: Option<Stored>,
 }
 
 // Who asks has a name of the right form, if any.
@@ -45,6 +47,7 @@ impl Player {
         Player {
             alloc,
             table: Table::new(alloc, LIMITS),
+            stored: None,
         }
     }
 
@@ -52,6 +55,54 @@ impl Player {
     pub fn begin(&mut self, limits: Limits) {
         if limits.is_in_range(Version::Two) {
             self.table = Table::new(self.alloc, limits);
+            self.stored = None;
+        }
+    }
+
+    /// Takes the records of a snapshot of the table.
+    pub fn store(&mut self) -> Result<(), Fault> {
+        self.stored = Some(Stored::of(self.alloc, &self.table)?);
+        Ok(())
+    }
+
+    /// The records of the snapshot; none before they were taken.
+    pub fn records(&self) -> &[Record] {
+        match &self.stored {
+            None => &[],
+            Some(stored) => stored.base(),
+        }
+    }
+
+    /// Goes on with the table that the records mean under limits; where they mean none, the table stays. `Input`: they were
+    /// not taken.
+    pub fn reopen(&mut self, limits: Limits) -> Result<&'static str, Fault> {
+        let Some(stored) = &self.stored else {
+            return Err(Fault::Input);
+        };
+        match stored.read(self.alloc, limits) {
+            Ok(table) => {
+                self.table = table;
+                Ok("reopened")
+            }
+            Err(Fault::Damaged) => Ok("damaged"),
+            Err(fault) => Err(fault),
+        }
+    }
+
+    /// What is read from the records where a byte is another: a table, `damaged`, or no record.
+    pub fn read_changed(&mut self, change: &Change) -> Result<&'static str, Fault> {
+        let limits = self.table.limits();
+        match &mut self.stored {
+            None => Err(Fault::Input),
+            Some(stored) => stored.read_changed(self.alloc, limits, change),
+        }
+    }
+
+    // Keeps the record of an entry, where records are kept.
+    fn keep(&mut self, entry: &Entry) -> Result<(), Fault> {
+        match &mut self.stored {
+            None => Ok(()),
+            Some(stored) => stored.push(entry),
         }
     }
 
@@ -92,6 +143,7 @@ impl Player {
                 }
                 let line = self.table.act_line(&entry);
                 self.table.enter(entry)?;
+                self.keep(&entry)?;
                 Ok(self.alone(line))
             }
         }
