@@ -36,12 +36,16 @@ ended-more part (next ∷ parts) h e = rw e refl
 fits : (held : List ℕ) → length held ≤ 255 → is_too_long held ≡ false
 fits held h = grind (arith, nat_tests)
 
+pub ended-feed : (held more : List ℕ) → IsUnfinished held →
+    ended_parts (parts_of (held ++ 10 ∷ more)) ≡ held ∷ ended_parts (parts_of more)
+ended-feed held more u =
+    ap ended_parts (slice_split_at is_feed held 10 more u.no_feed refl)
+    ∙ ended-more held (parts_of more) (parts_have_first more) (fits held u.short)
+
 -- a line feed after bytes without one ends the first line
 pub lines-feed : (held more : List ℕ) → IsUnfinished held →
     lines_of (held ++ 10 ∷ more) ≡ strip_last 13 held ∷ lines_of more
-lines-feed held more u =
-    ap (λ parts. map (strip_last 13) (ended_parts parts)) (slice_split_at is_feed held 10 more u.no_feed refl)
-    ∙ ap (map (strip_last 13)) (ended-more held (parts_of more) (parts_have_first more) (fits held u.short))
+lines-feed held more u = ap (map (strip_last 13)) (ended-feed held more u)
 
 pub long-feed : (held more : List ℕ) → IsUnfinished held → has_long_line (held ++ 10 ∷ more) ≡ has_long_line more
 long-feed held more u =
@@ -82,13 +86,16 @@ ended-long part (next ∷ parts) e = rw e refl
 longer : (held tail : List ℕ) → 255 < length held → is_too_long (held ++ tail) ≡ true
 longer held tail e = let l = length-append held tail in grind (arith, nat_tests, length-append)
 
+pub ended-more-long : (held more : List ℕ) → HasNoFeed held → 255 < length held →
+    ended_parts (parts_of (held ++ more)) ≡ []
+ended-more-long held more h e =
+    let first = begins_first held more h in
+    ap ended_parts first.are ∙ ended-long (held ++ first.tail) first.others (longer held first.tail e)
+
 -- with more than 255 bytes without a line feed there are no more lines
 pub lines-long : (held more : List ℕ) → HasNoFeed held → 255 < length held →
     lines_of (held ++ more) ≡ []
-lines-long held more h e =
-    let first = begins_first held more h in
-    ap (λ parts. map (strip_last 13) (ended_parts parts)) first.are
-    ∙ ap (map (strip_last 13)) (ended-long (held ++ first.tail) first.others (longer held first.tail e))
+lines-long held more h e = ap (map (strip_last 13)) (ended-more-long held more h e)
 
 pub long-long : (held more : List ℕ) → HasNoFeed held → 255 < length held →
     has_long_line (held ++ more) ≡ true
