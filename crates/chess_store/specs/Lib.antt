@@ -1,0 +1,6 @@
+pub mod Means
+pub mod Batch
+pub mod Faults
+pub mod Creating
+pub mod Opening
+pub mod Widening

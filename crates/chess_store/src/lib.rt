@@ -1,0 +1,12 @@
+//! The store: a table whose commands last. A batch of commands lasts whole or not at all, and its replies leave only once
+//! it lasts; a crash at any moment leaves the table from before a batch or that with all of it.
+#![tactic(auto)]
+
+mod batch;
+mod fault;
+mod laws;
+mod store;
+
+pub use fault::{Refused, StoreFault};
+pub use laws::law_of_images;
+pub use store::{Parts, Store};
