@@ -1,2 +1,3 @@
 pub mod MeansLemmas
 pub mod BatchLemmas
+pub mod CommitLemmas

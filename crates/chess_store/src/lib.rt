@@ -3,6 +3,7 @@
 #![tactic(auto)]
 
 mod batch;
+mod commits;
 mod fault;
 mod laws;
 mod store;
