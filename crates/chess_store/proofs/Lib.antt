@@ -1,3 +1,4 @@
 pub mod MeansLemmas
 pub mod BatchLemmas
 pub mod CommitLemmas
+pub mod OpenLemmas
