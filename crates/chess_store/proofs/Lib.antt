@@ -1,3 +1,5 @@
 pub mod MeansLemmas
 pub mod BatchLemmas
 pub mod CommitLemmas
+pub mod RunLemmas
+pub mod WidenLemmas

@@ -7,6 +7,8 @@ mod commits;
 mod fault;
 mod laws;
 mod store;
+mod submitting;
+mod widening;
 
 pub use fault::{Refused, StoreFault};
 pub use laws::law_of_images;
