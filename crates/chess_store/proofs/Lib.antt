@@ -2,3 +2,5 @@ pub mod MeansLemmas
 pub mod BatchLemmas
 pub mod CommitLemmas
 pub mod OpenLemmas
+pub mod RunLemmas
+pub mod WidenLemmas

@@ -9,6 +9,8 @@ mod fault;
 mod laws;
 mod opening;
 mod store;
+mod submitting;
+mod widening;
 
 pub use fault::{Refused, StoreFault};
 pub use laws::law_of_images;
