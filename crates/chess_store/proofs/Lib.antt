@@ -1,0 +1,6 @@
+pub mod MeansLemmas
+pub mod BatchLemmas
+pub mod CommitLemmas
+pub mod OpenLemmas
+pub mod RunLemmas
+pub mod WidenLemmas

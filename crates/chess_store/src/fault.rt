@@ -1,0 +1,77 @@
+use chess_table::TableFault;
+use sector_journal::JournalFault;
+use std::alloc::AllocError;
+
+/// Why a store refuses a call.
+#[derive(Clone, Copy, Debug, PartialEq, Eq)]
+pub enum StoreFault {
+    /// A header slot starts with the eight bytes of a header: the device may hold a journal.
+    Exists,
+    /// The device has fewer sectors than its limits need.
+    TooSmall,
+    /// No header slot starts with the eight bytes of a header.
+    NotOurs,
+    /// No header is valid, a sector that it names does not hold records, or the records mean no table.
+    Damaged,
+    /// The device failed, and has counted it; so many entries may last or not, all of them or none.
+    Device { pending: u64 },
+    /// Memory was refused.
+    NoMemory,
+    /// The number of the header, or the count of entries, would pass 2^64 - 1.
+    Worn,
+    /// The device has failed in an earlier call.
+    Failed,
+}
+
+impl From<JournalFault> for StoreFault {
+    ghost use Rattle.std.specs.Prelude.{◌≡◌};
+    ghost use Rattle.chess_store.specs.Faults.{of_journal};
+
+    ghost from_gives = { λ fault made. made ≡ of_journal fault };
+
+    // Nothing is pending.
+    fn from(fault: JournalFault) -> StoreFault {
+        match fault {
+            JournalFault::Exists => StoreFault::Exists,
+            JournalFault::TooSmall => StoreFault::TooSmall,
+            JournalFault::NotOurs => StoreFault::NotOurs,
+            JournalFault::Damaged => StoreFault::Damaged,
+            JournalFault::Device => StoreFault::Device { pending: 0 },
+            JournalFault::NoMemory => StoreFault::NoMemory,
+            JournalFault::Worn => StoreFault::Worn,
+            JournalFault::Failed => StoreFault::Failed,
+        }
+    }
+}
+
+impl From<TableFault> for StoreFault {
+    ghost use Rattle.std.specs.Prelude.{◌≡◌};
+    ghost use Rattle.chess_store.specs.Faults.{of_table};
+
+    ghost from_gives = { λ fault made. made ≡ of_table fault };
+
+    fn from(fault: TableFault) -> StoreFault {
+        match fault {
+            TableFault::Damaged => StoreFault::Damaged,
+            TableFault::NoMemory => StoreFault::NoMemory,
+        }
+    }
+}
+
+impl From<AllocError> for StoreFault {
+    ghost use Rattle.std.specs.Prelude.{◌≡◌};
+    ghost use Rattle.chess_store.specs.declared.fault.StoreFault.TheVariants.{NoMemory};
+
+    ghost from_gives = { λ _ fault. fault ≡ NoMemory };
+
+    fn from(_: AllocError) -> StoreFault {
+        StoreFault::NoMemory
+    }
+}
+
+/// A device that `create` or `open` hands back, and why.
+#[derive(Drop)]
+pub struct Refused<D> {
+    pub device: D,
+    pub fault: StoreFault,
+}
