@@ -1,0 +1,4 @@
+pub mod LawfulEntries
+pub mod ServingLemmas
+pub mod LivesLemmas
+pub mod KeptLemmas

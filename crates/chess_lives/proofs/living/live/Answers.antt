@@ -1,0 +1,71 @@
+use Rattle.std.proofs.Common.{ℕ, ◌≡◌, ◌∙◌, ap, sym, subst, List, map, Vec, Global}
+use Rattle.sector_dev.specs.Image.{Sectors}
+use Rattle.chess_entry.specs.Games.{table_of}
+use Rattle.chess_entry.specs.declared.commands.Command.{Command}
+use Rattle.chess_store.specs.Means.{Means}
+use Rattle.chess_lives.specs.Lives.{batches_of}
+use Rattle.chess_lives.specs.Serving.{IsServed}
+use Rattle.chess_lives.proofs.LivesLemmas.{Means-in_range, lived_to, life_stopped}
+use Rattle.chess_lives.proofs.living.live.Goals as goal
+
+pub returns-in-Some-clause-stopped : goal.returns-in-Some-clause-stopped
+returns-in-Some-clause-stopped g c = λ limits k begun.
+    let state = g.D.Device.state in
+    let failures = g.D.Device.failures in
+    let device = c.args.device in
+    let left = c.serve-left.result in
+    let life = c.args.life.now in
+    let table = table_of limits k in
+    let served = c.serve-left.ensures.served (c.limit.ensures.model.1 begun.model) table
+    (λ image is. begun.means image (c.limit.ensures.images begun.model image is)) in
+    let reads = (state device).reads in
+    let in_range = Means-in_range reads table
+    (begun.means reads ((g.met.D.Device.coherent device).reads_are_image begun.model)) in
+    life_stopped limits k (failures device) life left.report left.fault c.in-Some.fault (state left.device)
+    (failures left.device) in_range begun.lawful
+    (subst (λ (n : ℕ). IsServed table (batches_of life) n left.report left.fault (state left.device)
+    (failures left.device)) c.limit.ensures.failures
+    (subst (λ (bs : List (Vec Command Global)). IsServed table (map (λ b. b.items) bs)
+    (failures c.limit.new.device) left.report left.fault (state left.device) (failures left.device))
+    c.deref.ensures.value served))
+    (sym c.returned.ensures ∙ c.in-Some.is)
+
+pub returns-in-None-clause-lived : goal.returns-in-None-clause-lived
+returns-in-None-clause-lived g c = λ limits k begun.
+    let state = g.D.Device.state in
+    let failures = g.D.Device.failures in
+    let device = c.args.device in
+    let left = c.serve-left.result in
+    let life = c.args.life.now in
+    let new = c.crash_as.new.self in
+    let table = table_of limits k in
+    let model = c.limit.ensures.model.1 begun.model in
+    let kept = c.serve-left.ensures.model.1 model in
+    let served = c.serve-left.ensures.served model table
+    (λ image is. begun.means image (c.limit.ensures.images begun.model image is)) in
+    let reads = (state device).reads in
+    let in_range = Means-in_range reads table
+    (begun.means reads ((g.met.D.Device.coherent device).reads_are_image begun.model)) in
+    let lived = lived_to limits k (failures device) life left.report left.fault (state left.device)
+    (failures left.device) (state new).reads in_range begun.lawful
+    (subst (λ (n : ℕ). IsServed table (batches_of life) n left.report left.fault (state left.device)
+    (failures left.device)) c.limit.ensures.failures
+    (subst (λ (bs : List (Vec Command Global)). IsServed table (map (λ b. b.items) bs)
+    (failures c.limit.new.device) left.report left.fault (state left.device) (failures left.device))
+    c.deref.ensures.value served))
+    (sym c.returned.ensures ∙ c.in-None.is) (c.crash_as.ensures.image kept) in
+    let stable = c.crash_as.ensures.left kept in
+    record {
+      next = lived.next;
+      after = failures left.device;
+      first = lived.life_is;
+      rest = (
+        record {
+          model = c.crash_as.ensures.model.1 kept;
+          lawful = lived.lawful;
+          means = λ image is. subst (λ (s : Sectors). Means s (table_of limits lived.next))
+              (stable.reads ∙ sym ((stable.images image).0 is)) lived.means;
+        },
+        sym c.crash_as.ensures.failures,
+      );
+    }

@@ -1,0 +1,181 @@
+use Rattle.std.proofs.Common.{ℕ, ◌≡◌, ◌∙◌, ◌+◌, ◌++◌, [], ◌∷◌, Ok, Err, Result, ap, sym, subst, arith, List, length, length-append, take, IfOk, IfErr}
+use Rattle.std.proofs.lemmas.List.{take_all}
+use Rattle.chess_entry.specs.State.{TableState}
+use Rattle.chess_entry.specs.Games.{table_of}
+use Rattle.chess_store.specs.declared.fault.StoreFault.{StoreFault}
+use Rattle.chess_store.specs.Means.{Means, AllMean}
+use Rattle.chess_lives.specs.declared.plan.Life.{Life}
+use Rattle.chess_lives.specs.declared.plan.LifeReport.{LifeReport}
+use Rattle.chess_lives.specs.declared.plan.Report.{Report}
+use Rattle.chess_lives.specs.Lives.{IsBegun, IsLifeThen, IsReport}
+use Rattle.chess_lives.specs.Stops.{IsReturned, IsStopped, IsCutShort}
+use Rattle.chess_lives.specs.Serving.{IsShown}
+use Rattle.chess_lives.proofs.LivesLemmas.{AreOver, are_over-none, are_over-more, cut_short, cut_at_start, cut_at_end, is_report, IfOk-both, IfErr-map, take-more_at, around-one}
+use Rattle.chess_lives.proofs.living.lives.Goals as goal
+
+pub returns-in_default-clause-returned : goal.returns-in_default-clause-returned
+returns-in_default-clause-returned g c = λ limits k begun.
+    cut_at_start limits k (g.D.Device.failures c.args.device) c.args.plan.now.lives.items (g.D.Device.state c.args.device)
+    begun
+
+pub loop-life-init : goal.loop-life-init
+loop-life-init g c =
+    let state = g.D.Device.state in
+    let failures = g.D.Device.failures in
+    let device = c.args.device in
+    record {
+      count = ap (λ (rs : List LifeReport). length rs) c.in-Ok.ensures.items;
+      room = omega (arith, c.in-Ok.ensures.capacity, c.len.ensures, c.deref-life-items.ensures.len);
+      over = λ limits k begun.
+          subst (λ (rs : List LifeReport). AreOver limits k (failures device) [] rs (state device) (failures device))
+          (sym c.in-Ok.ensures.items) (are_over-none limits k (failures device) (state device) begun);
+      model = (λ model. model, λ model. model);
+      sectors = cc;
+    }
+
+pub push_reserved-requires : goal.push_reserved-requires
+push_reserved-requires g c =
+    omega (arith, c.loop-life.invariant.count, c.loop-life.invariant.room, c.loop-life-test.true)
+
+pub loop-life-preserved : goal.loop-life-preserved
+loop-life-preserved g c =
+    let state = g.D.Device.state in
+    let failures = g.D.Device.failures in
+    let device = c.args.device in
+    let inv = c.loop-life.invariant in
+    let lives = c.deref-life-items.result.now in
+    let i = c.loop-life.life-index in
+    let left = c.loop-life.left in
+    let new = c.live-device.result.device in
+    let life = c.life-item.result in
+    let report = c.in-Ok-report.report in
+    let reports = c.loop-life.reports.items in
+    record {
+      count = omega (
+        arith,
+        ap (λ (rs : List LifeReport). length rs) c.push_reserved.ensures.items,
+        length-append reports (report ∷ []),
+        inv.count,
+      );
+      room = omega (arith, inv.room, c.push_reserved.ensures.capacity);
+      over = λ limits k begun.
+          let so_far = inv.over limits k begun in
+          let then = subst (λ (r : Result LifeReport StoreFault). IfOk r (λ report. IsLifeThen limits
+          (λ next after. IsBegun limits next (state new) × (after ≡ failures new)) so_far.last (failures left) life
+          report)) c.in-Ok-report.is (c.live-device.ensures.lived limits so_far.last so_far.begun) in
+          let more = are_over-more limits k (failures device) (take i lives) reports (state left) (state new)
+          (failures left) (failures new) life report so_far then in
+          subst (λ (rs : List LifeReport). AreOver limits k (failures device) (take (i + 1) lives) rs (state new)
+          (failures new)) (sym c.push_reserved.ensures.items)
+          (subst (λ (ls : List Life). AreOver limits k (failures device) ls (reports ++ report ∷ []) (state new)
+          (failures new)) (sym (take-more_at lives i life c.loop-life-test.true c.life-item.is)) more);
+      model = (λ model. inv.model.0 (c.live-device.ensures.model.0 model), λ model. c.live-device.ensures.model.1 (inv.model.1 model));
+      sectors = c.live-device.ensures.sectors ∙ inv.sectors;
+    }
+
+pub returns-in-Err-clause-returned : goal.returns-in-Err-clause-returned
+returns-in-Err-clause-returned g c = λ limits k begun.
+    let state = g.D.Device.state in
+    let failures = g.D.Device.failures in
+    let device = c.args.device in
+    let lives = c.deref-life-items.result.now in
+    let i = c.loop-life.life-index in
+    let left = c.loop-life.left in
+    let new = c.live-device.result.device in
+    let life = c.life-item.result in
+    let fault = c.in-Err.fault in
+    let so_far = c.loop-life.invariant.over limits k begun in
+    let around = around-one lives i life c.loop-life-test.true c.life-item.is in
+    let stopped = subst (λ (r : Result LifeReport StoreFault). IfErr r (λ fault. IsStopped limits so_far.last
+    (failures left) (life ∷ []) fault (state new) (failures new))) c.in-Err.is
+    (c.live-device.ensures.stopped limits so_far.last so_far.begun) in
+    cut_short limits k (failures device) c.args.plan.now.lives.items (take i lives) around.0 c.loop-life.reports.items
+    (state left) (state new) (failures left) (failures new) life fault so_far
+    (sym c.deref-life-items.ensures.value ∙ around.1) stopped
+
+pub returns-in-Err-clause-model : goal.returns-in-Err-clause-model
+returns-in-Err-clause-model g c =
+    let inv = c.loop-life.invariant in
+    (λ model. inv.model.0 (c.live-device.ensures.model.0 model), λ model. c.live-device.ensures.model.1 (inv.model.1 model))
+
+pub returns-in-Err-clause-sectors : goal.returns-in-Err-clause-sectors
+returns-in-Err-clause-sectors g c = c.live-device.ensures.sectors ∙ c.loop-life.invariant.sectors
+
+pub returns-clause-reported : goal.returns-clause-reported
+returns-clause-reported g c = λ limits k begun.
+    let state = g.D.Device.state in
+    let failures = g.D.Device.failures in
+    let device = c.args.device in
+    let lives = c.args.plan.now.lives.items in
+    let left = c.loop-life.left in
+    let new = c.show.result.device in
+    let reports = c.loop-life.reports.items in
+    let whole : take c.loop-life.life-index c.deref-life-items.result.now ≡ lives =
+    take_all c.loop-life.life-index c.deref-life-items.result.now c.loop-life-test.false
+    ∙ c.deref-life-items.ensures.value in
+    let so_far = subst (λ (ls : List Life). AreOver limits k (failures device) ls reports (state left) (failures left))
+    whole (c.loop-life.invariant.over limits k begun) in
+    let table = table_of limits so_far.last in
+    IfOk-both c.show.result.report
+    (λ report. IsShown table (failures left) report.table report.kept (failures new))
+    (λ report. report.lives.items ≡ reports)
+    (λ report. IsReport limits k (failures device) lives report (failures new))
+    (c.show.ensures.shown so_far.begun.model table so_far.begun.means) c.show.ensures.reports
+    (λ report shown same.
+    is_report limits k (failures device) lives reports (state left) (failures left) (failures new) report so_far shown
+    same)
+
+pub returns-clause-images : goal.returns-clause-images
+returns-clause-images g c = λ limits k begun.
+    let state = g.D.Device.state in
+    let failures = g.D.Device.failures in
+    let device = c.args.device in
+    let lives = c.args.plan.now.lives.items in
+    let left = c.loop-life.left in
+    let new = c.show.result.device in
+    let reports = c.loop-life.reports.items in
+    let whole : take c.loop-life.life-index c.deref-life-items.result.now ≡ lives =
+    take_all c.loop-life.life-index c.deref-life-items.result.now c.loop-life-test.false
+    ∙ c.deref-life-items.ensures.value in
+    let so_far = subst (λ (ls : List Life). AreOver limits k (failures device) ls reports (state left) (failures left))
+    whole (c.loop-life.invariant.over limits k begun) in
+    let table = table_of limits so_far.last in
+    IfOk-both c.show.result.report
+    (λ report. IsShown table (failures left) report.table report.kept (failures new))
+    (λ report. report.lives.items ≡ reports)
+    (λ report. AllMean (state new) report.table)
+    (c.show.ensures.shown so_far.begun.model table so_far.begun.means) c.show.ensures.reports
+    (λ report shown same image is.
+    subst (λ (t : TableState). Means image t) (sym shown.same)
+    (c.show.ensures.images so_far.begun.model table so_far.begun.means image is))
+
+pub returns-clause-returned : goal.returns-clause-returned
+returns-clause-returned g c = λ limits k begun.
+    let state = g.D.Device.state in
+    let failures = g.D.Device.failures in
+    let device = c.args.device in
+    let lives = c.args.plan.now.lives.items in
+    let left = c.loop-life.left in
+    let new = c.show.result.device in
+    let reports = c.loop-life.reports.items in
+    let whole : take c.loop-life.life-index c.deref-life-items.result.now ≡ lives =
+    take_all c.loop-life.life-index c.deref-life-items.result.now c.loop-life-test.false
+    ∙ c.deref-life-items.ensures.value in
+    let so_far = subst (λ (ls : List Life). AreOver limits k (failures device) ls reports (state left) (failures left))
+    whole (c.loop-life.invariant.over limits k begun) in
+    let table = table_of limits so_far.last in
+    IfErr-map c.show.result.report
+    (λ fault. IsReturned fault (Unit {0}) (failures left) (failures new))
+    (λ fault. IsCutShort limits k (failures device) lives fault (state new) (failures new))
+    (c.show.ensures.fault so_far.begun.model table so_far.begun.means)
+    (λ fault is_returned.
+    cut_at_end limits k (failures device) lives reports (state left) (state new) (failures left) (failures new) fault
+    so_far (c.show.ensures.images so_far.begun.model table so_far.begun.means) is_returned)
+
+pub returns-clause-model : goal.returns-clause-model
+returns-clause-model g c =
+    let inv = c.loop-life.invariant in
+    (λ model. inv.model.0 (c.show.ensures.model.0 model), λ model. c.show.ensures.model.1 (inv.model.1 model))
+
+pub returns-clause-sectors : goal.returns-clause-sectors
+returns-clause-sectors g c = c.show.ensures.sectors ∙ c.loop-life.invariant.sectors

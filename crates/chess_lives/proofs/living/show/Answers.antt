@@ -1,0 +1,39 @@
+use Rattle.std.proofs.Common.{◌≡◌, ◌∙◌, ap, sym, subst}
+use Rattle.sector_dev.specs.Image.{Sectors}
+use Rattle.chess_entry.specs.State.{TableState}
+use Rattle.chess_entry.specs.Table.{IsTable}
+use Rattle.chess_store.proofs.MeansLemmas.{one_table}
+use Rattle.chess_lives.proofs.LivesLemmas.{refused_last}
+use Rattle.chess_lives.proofs.living.show.Goals as goal
+
+pub returns-in-Ok-clause-shown : goal.returns-in-Ok-clause-shown
+returns-in-Ok-clause-shown g c = λ model table means.
+    let state = g.D.Device.state in
+    let device = c.args.device in
+    let reads = (state device).reads in
+    let given = c.into_parts-device.ensures in
+    let same : c.in-Ok.store.table ≡ table =
+    one_table reads c.in-Ok.store.table table (c.in-Ok.ensures.means model)
+    (means reads ((g.met.D.Device.coherent device).reads_are_image model)) in
+    record {
+      same = given.table ∙ same;
+      count = c.entries.ensures ∙ ap (λ (t : TableState). t.entries) (given.table ∙ same);
+      is_table = subst (λ (t : TableState). IsTable t) (sym given.table) c.limits-limits.ensures.table;
+      unfailed = ap g.D.Device.failures given.device ∙ c.in-Ok.ensures.cause;
+    }
+
+pub returns-in-Ok-clause-images : goal.returns-in-Ok-clause-images
+returns-in-Ok-clause-images g c = λ model table means image is.
+    means image (c.in-Ok.ensures.images model image
+    (subst (λ (d : _). (g.D.Device.state d).image image) c.into_parts-device.ensures.device is))
+
+pub returns-in-Err-clause-fault : goal.returns-in-Err-clause-fault
+returns-in-Err-clause-fault g c = λ model table means.
+    let refused = c.in-Err.refused in
+    refused_last refused.fault (g.D.Device.failures c.args.device) (g.D.Device.failures refused.device)
+    (c.in-Err.ensures.readable model (λ image is. record { table = table; means = means image is }))
+    c.in-Err.ensures.cause_refused
+
+pub returns-in-Err-clause-images : goal.returns-in-Err-clause-images
+returns-in-Err-clause-images g c = λ model table means image is.
+    means image (c.in-Err.ensures.images_refused model image is)

@@ -1,0 +1,53 @@
+use Rattle.std.proofs.Common.{◌≡◌, ℕ, sym, subst, arith, map}
+use Rattle.sector_dev.specs.Device.{State}
+use Rattle.chess_entry.specs.State.{TableState}
+use Rattle.chess_store.proofs.MeansLemmas.{one_table}
+use Rattle.chess_store.specs.Means.{IsKept}
+use Rattle.chess_lives.specs.Serving.{IsServed}
+use Rattle.chess_lives.proofs.ServingLemmas.{judged-entries, served-opened, served-refused}
+use Rattle.chess_lives.proofs.serving.serve.Goals as goal
+
+pub report_of-requires-clause-begun : goal.report_of-requires-clause-begun
+report_of-requires-clause-begun g c =
+    let t = c.submit_all-tally.ensures.tallied in
+    omega (
+      arith,
+      c.shown-begun.ensures,
+      t.shown,
+      judged-entries c.in-Ok.opened.table t.course.answered t.kept t.is_course.answered,
+    )
+
+pub returns-in-Ok-clause-served : goal.returns-in-Ok-clause-served
+returns-in-Ok-clause-served g c = λ model table means.
+    let state = g.D.Device.state in
+    let failures = g.D.Device.failures in
+    let device = c.args.device in
+    let store = c.in-Ok.opened in
+    let left = c.submit_all-tally.new.store.journal.device in
+    let batches = map (λ b. b.items) c.args.batches.now in
+    let tally = c.submit_all-tally.result in
+    let report = c.report_of.result in
+    let reads = (state device).reads in
+    let same : store.table ≡ table =
+    one_table reads store.table table (c.in-Ok.ensures.means model)
+    (means reads ((g.met.D.Device.coherent device).reads_are_image model)) in
+    let served = served-opened store.table batches tally (failures store.journal.device)
+    (IsKept (state store.journal.device) store.journal.header store.journal.compaction store.table) (state left)
+    (failures left) c.shown-begun.result report c.submit_all-tally.ensures.tallied (c.in-Ok.ensures.kept model)
+    c.shown-begun.ensures c.report_of.ensures.opened c.report_of.ensures.acknowledged c.report_of.ensures.accepted
+    c.report_of.ensures.unsent in
+    subst (λ (t : TableState). IsServed t batches (failures device) report tally.fault (state c.into_device.result)
+    (failures c.into_device.result)) same
+    (subst (λ (d : _). IsServed store.table batches (failures device) report tally.fault (state d) (failures d))
+    (sym c.into_device.ensures)
+    (subst (λ (n : ℕ). IsServed store.table batches n report tally.fault (state left) (failures left))
+    c.in-Ok.ensures.cause served))
+
+pub returns-in-Err-clause-served : goal.returns-in-Err-clause-served
+returns-in-Err-clause-served g c = λ model table means.
+    let refused = c.in-Err.refused in
+    served-refused table (map (λ b. b.items) c.args.batches.now) (g.D.Device.failures c.args.device) refused.fault
+    (g.D.Device.state refused.device) (g.D.Device.failures refused.device)
+    (c.in-Err.ensures.readable model (λ image is. record { table = table; means = means image is }))
+    c.in-Err.ensures.cause_refused
+    (λ image is. means image (c.in-Err.ensures.images_refused model image is))

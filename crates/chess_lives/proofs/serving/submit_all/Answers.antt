@@ -1,0 +1,110 @@
+use Rattle.std.proofs.Common.{ℕ, ◌≡◌, ◌≤◌, ◌∙◌, ◌+◌, ◌-◌, ◌^◌, min, Some, Err, ap, sym, subst, arith, List, length, map, take, true, false, count_by, inl}
+use Rattle.std.proofs.lemmas.List.{take_all}
+use Rattle.chess_entry.specs.declared.commands.Command.{Command}
+use Rattle.chess_answer.specs.declared.reads.Reply.{Reply}
+use Rattle.chess_store.specs.declared.fault.StoreFault.{StoreFault}
+use Rattle.chess_store.specs.declared.fault.StoreFault.TheVariants.{Failed}
+use Rattle.chess_store.specs.Batch.{IsAnswered}
+use Rattle.chess_store.specs.Faults.{MayLast}
+use Rattle.chess_store.specs.Means.{IsKept}
+use Rattle.chess_store.proofs.MeansLemmas.{kept_means}
+use Rattle.chess_lives.specs.Courses.{IsBatch, is_unsent}
+use Rattle.chess_lives.specs.Serving.{IsTallied}
+use Rattle.chess_lives.proofs.ServingLemmas.{SoFar, so_far-none, so_far-more, EachOf-at, take_map-more, around-at, tallied-all, tallied-err, room-err}
+use Rattle.chess_lives.proofs.serving.submit_all.Goals as goal
+
+pub submit-requires-clause-some : goal.submit-requires-clause-some
+submit-requires-clause-some g c =
+    let batch = EachOf-at IsBatch (λ b. b.items) c.args.batches.now c.loop-batch.batch-index c.batch-item.result
+    c.requires.batches c.loop-batch-test.true c.batch-item.is in
+    subst (λ (commands : List Command). 1 ≤ length commands) (sym c.deref.ensures.value) batch.some
+
+pub submit-requires-clause-few : goal.submit-requires-clause-few
+submit-requires-clause-few g c =
+    let batch = EachOf-at IsBatch (λ b. b.items) c.args.batches.now c.loop-batch.batch-index c.batch-item.result
+    c.requires.batches c.loop-batch-test.true c.batch-item.is in
+    subst (λ (commands : List Command). length commands ≤ 64) (sym c.deref.ensures.value) batch.few
+
+pub loop-batch-init : goal.loop-batch-init
+loop-batch-init g c = record {
+  works = c.requires.works;
+  so_far = so_far-none c.args.store.now.table c.shown-count.result c.shown-count.ensures;
+  kept = λ kept. kept;
+  unfailed = cc;
+  model = (λ model. model, λ model. model);
+  sectors = cc;
+}
+
+pub loop-batch-preserved : goal.loop-batch-preserved
+loop-batch-preserved g c =
+    let inv = c.loop-batch.invariant in
+    let e = c.in-Ok.ensures in
+    let replies = c.in-Ok.replies.items in
+    let answered = e.replies in
+    let told : IsAnswered c.loop-batch.store.table c.batch-item.result.items replies answered.entries
+    c.submit.new.self.table =
+    subst (λ (commands : List Command). IsAnswered c.loop-batch.store.table commands replies answered.entries
+    c.submit.new.self.table) c.deref.ensures.value answered.answered in
+    let counted : c.unsent.result ≡ count_by is_unsent replies =
+    c.unsent.ensures ∙ ap (λ (rs : List Reply). count_by is_unsent rs) c.deref-in-Ok.ensures.value in
+    let done = map (λ b. b.items) (take c.loop-batch.batch-index c.args.batches.now) in
+    record {
+      works = e.works;
+      so_far = subst (λ (all : List (List Command)). SoFar c.args.store.now.table all c.submit.new.self.table
+          c.shown-count-in-Ok.result c.saturating_add-refused.result)
+          (sym (take_map-more (λ b. b.items) c.args.batches.now c.loop-batch.batch-index c.batch-item.result
+          c.loop-batch-test.true c.batch-item.is))
+          (so_far-more c.args.store.now.table done c.loop-batch.store.table c.submit.new.self.table c.loop-batch.count
+          c.shown-count-in-Ok.result c.loop-batch.refused c.saturating_add-refused.result c.batch-item.result.items
+          replies answered.entries inv.so_far told c.shown-count-in-Ok.ensures
+          (c.saturating_add-refused.ensures ∙ ap (λ (n : ℕ). min (c.loop-batch.refused + n) (2 ^ 64 - 1)) counted));
+      kept = λ kept. e.kept (inv.kept kept);
+      unfailed = e.cause ∙ inv.unfailed;
+      model = (λ model. inv.model.0 (c.submit.ensures.model.0 model), λ model. c.submit.ensures.model.1 (inv.model.1 model));
+      sectors = c.submit.ensures.sectors ∙ inv.sectors;
+    }
+
+pub returns-clause-tallied : goal.returns-clause-tallied
+returns-clause-tallied g c =
+    let inv = c.loop-batch.invariant in
+    let device = c.args.store.now.journal.device in
+    let store = c.loop-batch.store in
+    let WasKept = IsKept (g.D.Device.state device) c.args.store.now.journal.header c.args.store.now.journal.compaction
+    c.args.store.now.table in
+    tallied-all c.args.store.now.table (g.D.Device.failures device) WasKept (g.D.Device.state store.journal.device)
+    (g.D.Device.failures store.journal.device) (map (λ b. b.items) c.args.batches.now) store.table c.loop-batch.count
+    c.loop-batch.refused
+    (subst (λ (bs : List _). SoFar c.args.store.now.table (map (λ b. b.items) bs) store.table c.loop-batch.count
+    c.loop-batch.refused) (take_all c.loop-batch.batch-index c.args.batches.now c.loop-batch-test.false) inv.so_far)
+    inv.unfailed
+    (λ was. kept_means (g.D.Device.state store.journal.device) store.journal.header store.journal.compaction store.table
+    (inv.kept was))
+
+pub returns-in-Err-clause-tallied : goal.returns-in-Err-clause-tallied
+returns-in-Err-clause-tallied g c =
+    let inv = c.loop-batch.invariant in
+    let device = c.args.store.now.journal.device in
+    let store = c.loop-batch.store in
+    let new = c.submit.new.self in
+    let WasKept = IsKept (g.D.Device.state device) c.args.store.now.journal.header c.args.store.now.journal.compaction
+    c.args.store.now.table in
+    let around = around-at (λ b. b.items) c.args.batches.now c.loop-batch.batch-index c.batch-item.result
+    c.loop-batch-test.true c.batch-item.is in
+    let last : MayLast c.in-Err.fault store.table c.batch-item.result.items new.table =
+    subst (λ (commands : List Command). MayLast c.in-Err.fault store.table commands new.table) c.deref.ensures.value
+    c.in-Err.ensures.pending in
+    subst (λ (bs : List (List Command)). IsTallied c.args.store.now.table bs
+    (record { shown = c.loop-batch.count; unsent = c.loop-batch.refused; fault = Some c.in-Err.fault })
+    (g.D.Device.failures device) WasKept (g.D.Device.state new.journal.device) (g.D.Device.failures new.journal.device))
+    (sym around.is)
+    (tallied-err c.args.store.now.table (g.D.Device.failures device) WasKept (g.D.Device.state new.journal.device)
+    (g.D.Device.failures new.journal.device) (map (λ b. b.items) (take c.loop-batch.batch-index c.args.batches.now))
+    around.rest c.batch-item.result.items store.table new.table c.loop-batch.count c.loop-batch.refused
+    (g.D.Device.failures store.journal.device) c.in-Err.fault inv.so_far c.in-Err.ensures.fault
+    (λ is. let failed : store.failed ≡ true = c.submit.ensures.failed.0 (c.in-Err.is ∙ ap (λ (f : StoreFault). Err f) is) in cc)
+    last c.in-Err.ensures.cause_err inv.unfailed (λ was. c.submit.ensures.either (inv.kept was)))
+
+pub returns-in-Err-clause-room : goal.returns-in-Err-clause-room
+returns-in-Err-clause-room g c =
+    room-err c.in-Err.fault c.loop-batch.store.table c.submit.new.self.table c.deref.result.now c.loop-batch.count
+    c.in-Err.ensures.pending c.submit.ensures.bounds c.loop-batch.invariant.so_far.count

@@ -1,0 +1,20 @@
+use Rattle.std.proofs.Common.{◌≡◌, ◌↔◌, false, map, take}
+use Rattle.chess_store.specs.Means.{IsKept}
+use Rattle.chess_lives.proofs.ServingLemmas.{SoFar}
+use Rattle.chess_lives.proofs.serving.submit_all.Given as goal
+
+abbrev pub invariant-loop-batch : goal.invariant-loop-batch
+invariant-loop-batch g l =
+    let state = g.D.Device.state in
+    let failures = g.D.Device.failures in
+    let sector_count = g.D.Device.sector_count in
+    record {
+      works : l.store.failed ≡ false;
+      so_far : SoFar l.fn.store.table (map (λ b. b.items) (take l.batch-index l.batches)) l.store.table l.count l.refused;
+      kept : IsKept (state l.fn.store.journal.device) l.fn.store.journal.header l.fn.store.journal.compaction
+          l.fn.store.table
+          → IsKept (state l.store.journal.device) l.store.journal.header l.store.journal.compaction l.store.table;
+      unfailed : failures l.store.journal.device ≡ failures l.fn.store.journal.device;
+      model : (state l.store.journal.device).keeps_model ↔ (state l.fn.store.journal.device).keeps_model;
+      sectors : sector_count l.store.journal.device ≡ sector_count l.fn.store.journal.device;
+    }

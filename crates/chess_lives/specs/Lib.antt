@@ -1,0 +1,5 @@
+pub mod Courses
+pub mod Lives
+pub mod Stops
+pub mod Serving
+pub mod Laws

@@ -1,0 +1,12 @@
+//! The lives of a store: it is opened, served and stopped, over and over, wherever the device stops.
+#![tactic(auto)]
+
+mod checking;
+mod laws;
+mod living;
+mod plan;
+mod serving;
+
+pub use laws::{law_of_beginning, law_of_kept};
+pub use living::lives;
+pub use plan::{Life, LifeReport, Lived, Plan, Report};
