@@ -3,3 +3,4 @@ pub mod BatchLemmas
 pub mod CommitLemmas
 pub mod RunLemmas
 pub mod WidenLemmas
+pub mod CallLemmas
