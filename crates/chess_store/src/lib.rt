@@ -4,8 +4,10 @@
 
 mod batch;
 mod commits;
+mod creating;
 mod fault;
 mod laws;
+mod opening;
 mod store;
 mod submitting;
 mod widening;
