@@ -37,10 +37,7 @@ fn read_limits(text: &str) -> Option<Limits> {
 // `SECTORS GAMES PLIES`.
 fn read_create(text: &str) -> Option<InputLine<'_>> {
     let (sectors, limits) = text.split_once(' ')?;
-    Some(InputLine::Create(
-        sectors.parse::<u32>().ok()?,
-        read_limits(limits)?,
-    ))
+    Some(InputLine::Create(sectors.parse::<u32>().ok()?, read_limits(limits)?))
 }
 
 // `MOMENT NAME LINE`, where LINE is an act of the protocol.
