@@ -1,7 +1,9 @@
 -- What becomes of a batch of commands.
-use Rattle.std.specs.Prelude.{ℕ, ◌≡◌, ◌⊎◌, ◌+◌, ◌-◌, ◌^◌, ◌<◌, ◌≤◌, List, [], ◌∷◌, ◌++◌, length, not, count_by, string_bytes, IfSome}
+use Rattle.std.specs.Prelude.{ℕ, ◌≡◌, ◌⊎◌, ◌+◌, ◌-◌, ◌^◌, ◌<◌, ◌≤◌, List, [], ◌∷◌, ◌++◌, length, map, not, count_by, string_bytes, IfSome}
 use Rattle.rec_codec.specs.Name.{IsName}
 use Rattle.rec_codec.specs.declared.record.Entry.{Entry}
+use Rattle.rec_codec.specs.declared.record.Record.{Record}
+use Rattle.rec_codec.specs.declared.record.Record.TheVariants as kind
 use Rattle.chess_entry.specs.declared.commands.Command.{Command}
 use Rattle.chess_entry.specs.declared.refusals.Refusal.{Refusal}
 use Rattle.chess_entry.specs.declared.refusals.Refusal.TheVariants.{NoMemory}
@@ -37,6 +39,12 @@ pub record IsTaken (before : TableState) (e : Entry) (reply : Reply) (entries : 
   pub one : entries ≡ e ∷ []
   pub follows : after ≡ follow before e
 
+-- The act becomes this entry, unless memory is refused to it.
+abbrev pub IsEntering : TableState → Entry → Reply → List Entry → TableState → Type 0
+IsEntering before e reply entries after =
+    IsTaken before e reply entries after
+    ⊎ (MayNeedMemory before e × IsRefused NoMemory reply × IsNothing before entries after)
+
 -- What becomes of a command by its verdict. Where memory was refused, which happens only to the entries and the reads that
 -- need it, it is answered 22 and changes nothing.
 abbrev pub Becomes : Verdict → TableState → Command → Reply → List Entry → TableState → Type 0
@@ -45,9 +53,7 @@ Becomes Read before command reply entries after =
     (IsReply before command reply.line.bytes (string_bytes reply.body)
     ⊎ (HasBody command.act × IsRefused NoMemory reply))
     × IsNothing before entries after
-Becomes (Enter e) before command reply entries after =
-    IsTaken before e reply entries after
-    ⊎ (MayNeedMemory before e × IsRefused NoMemory reply × IsNothing before entries after)
+Becomes (Enter e) before command reply entries after = IsEntering before e reply entries after
 
 -- what becomes of one command: its reply, the entry that it becomes, if it does, and the table after it
 pub record IsOutcome (before : TableState) (command : Command) (reply : Reply) (entries : List Entry)
@@ -90,6 +96,12 @@ pub record AreEntered (before : TableState) (commands : List Command) (count : �
   pub answered : IsAnswered before commands replies entries after
   pub some : 1 ≤ length entries
   pub counted : count ≡ length entries
+
+-- records more, of entries of which that is said
+pub record AreRecorded (old new : List Record) (P : List Entry → Type 0) : Type 0 where
+  pub entries : List Entry
+  pub appended : new ≡ old ++ map kind.Entry entries
+  pub are : P entries
 
 -- ---- what is worn out
 

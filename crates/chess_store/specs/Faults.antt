@@ -3,6 +3,8 @@ use Rattle.std.specs.Prelude.{ℕ, ◌≡◌, ◌≤◌, List, Result, Ok, Err}
 use Rattle.sector_dev.specs.Device.{HasRisen}
 use Rattle.sector_journal.specs.declared.fault.JournalFault.{JournalFault}
 use Rattle.sector_journal.specs.declared.fault.JournalFault.TheVariants as journal
+use Rattle.chess_table.specs.declared.restoring.TableFault.{TableFault}
+use Rattle.chess_table.specs.declared.restoring.TableFault.TheVariants as table
 use Rattle.chess_entry.specs.declared.commands.Command.{Command}
 use Rattle.chess_entry.specs.State.{TableState}
 use Rattle.chess_store.specs.declared.fault.StoreFault.{StoreFault}
@@ -19,6 +21,11 @@ of_journal journal.Device = Device 0
 of_journal journal.NoMemory = NoMemory
 of_journal journal.Worn = Worn
 of_journal journal.Failed = Failed
+
+-- what a fault of the records is
+abbrev pub of_table : TableFault → StoreFault
+of_table table.Damaged = Damaged
+of_table table.NoMemory = NoMemory
 
 -- of `submit`
 abbrev pub IsSubmitFault : StoreFault → Type 0

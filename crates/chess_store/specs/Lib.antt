@@ -4,3 +4,4 @@ pub mod Faults
 pub mod Creating
 pub mod Opening
 pub mod Widening
+pub mod Committing

@@ -1,3 +1,4 @@
+use chess_table::TableFault;
 use sector_journal::JournalFault;
 use std::alloc::AllocError;
 
@@ -39,6 +40,20 @@ impl From<JournalFault> for StoreFault {
             JournalFault::NoMemory => StoreFault::NoMemory,
             JournalFault::Worn => StoreFault::Worn,
             JournalFault::Failed => StoreFault::Failed,
+        }
+    }
+}
+
+impl From<TableFault> for StoreFault {
+    ghost use Rattle.std.specs.Prelude.{◌≡◌};
+    ghost use Rattle.chess_store.specs.Faults.{of_table};
+
+    ghost from_gives = { λ fault made. made ≡ of_table fault };
+
+    fn from(fault: TableFault) -> StoreFault {
+        match fault {
+            TableFault::Damaged => StoreFault::Damaged,
+            TableFault::NoMemory => StoreFault::NoMemory,
         }
     }
 }

@@ -3,9 +3,14 @@
 #![tactic(auto)]
 
 mod batch;
+mod commits;
+mod creating;
 mod fault;
 mod laws;
+mod opening;
 mod store;
+mod submitting;
+mod widening;
 
 pub use fault::{Refused, StoreFault};
 pub use laws::law_of_images;

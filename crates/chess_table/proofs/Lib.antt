@@ -11,3 +11,5 @@ mod Answering
 mod WhichReads
 pub mod Comings
 pub mod AllowedLemmas
+mod StandLemmas
+mod StoredLemmas

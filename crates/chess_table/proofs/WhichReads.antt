@@ -1,5 +1,5 @@
 -- A command that is a read: it is `show`, `fen` or `pgn` of a game that stands, or `list`.
-use Rattle.std.specs.Prelude.{ℕ, ◌≡◌, ◌<◌, ◌==◌, ◌&&◌, not, nat_lt, Bool, true, false, if◌then◌else◌, List, [], ◌∷◌, ◌++◌, Option, Some, None, is_none, is_some}
+use Rattle.std.specs.Prelude.{ℕ, ◌≡◌, ◌&&◌, not, nat_lt, Bool, true, false, if◌then◌else◌, List, [], ◌∷◌, ◌++◌, Option, Some, None, is_none, is_some}
 use Rattle.std.proofs.Common.{ap, sym, subst, refl}
 use Rattle.chess_bits.specs.declared.men.Colour.{Colour}
 use Rattle.chess_bits.specs.Man.{other}
@@ -14,9 +14,9 @@ use Rattle.chess_entry.specs.declared.commands.Command.{Command}
 use Rattle.chess_entry.specs.declared.refusals.Refusal.TheVariants.{NoName, BadMoment, AlreadyClaimed, OfferStands, NoOffer, TooEarly, FlagUp, NotOver, Taken, SamePlayer, BadTime, BadFen, Finished, TooManyGames}
 use Rattle.chess_entry.specs.declared.verdicts.Verdict.{Verdict}
 use Rattle.chess_entry.specs.declared.verdicts.Verdict.TheVariants.{Refuse, Enter, Read}
-use Rattle.chess_entry.specs.State.{GameState, TableState, position_of, ply_of, seat_of, is_joined, is_over, find_game}
+use Rattle.chess_entry.specs.State.{GameState, TableState, ply_of, seat_of, is_joined, is_over, find_game}
 use Rattle.chess_entry.specs.Told.{Told}
-use Rattle.chess_entry.specs.Verdict.{Check, refuse, first_of, are_times, is_start, is_finished, is_full, has_offer, is_read, in_game, by_side, while_running, in_turn, for_move, for_stated, opened_from, moved, in_seat, side_of, player_verdict, name_or_none, effective, verdict, IsTold, move_verdict, offer_verdict, accept_verdict, decline_verdict, resign_verdict, claim_verdict, flag_verdict, drop_verdict, join_verdict}
+use Rattle.chess_entry.specs.Verdict.{Check, refuse, first_of, are_times, is_start, is_finished, is_full, has_offer, is_read, in_game, by_side, while_running, in_turn, for_move, for_stated, opened_from, moved, in_seat, side_of, player_verdict, name_or_none, effective, move_verdict, offer_verdict, accept_verdict, decline_verdict, resign_verdict, claim_verdict, flag_verdict, drop_verdict, join_verdict}
 use Rattle.chess_table.specs.Reading.{IsRead}
 
 -- what holds where a verdict is a read

@@ -8,3 +8,5 @@ pub mod Memory
 pub mod Reading
 pub mod Coming
 pub mod Allowing
+pub mod Entered
+pub mod Stored

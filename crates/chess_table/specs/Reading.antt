@@ -1,5 +1,4 @@
 -- Which commands are reads, and for which of them memory may be refused.
-use Rattle.std.specs.Prelude.{Bool, true, false}
 use Rattle.chess_entry.specs.declared.commands.Act.{Act}
 use Rattle.chess_entry.specs.declared.commands.Act.TheVariants as act
 use Rattle.chess_entry.specs.declared.commands.Command.{Command}

@@ -48,7 +48,7 @@ impl Table {
     }
 
     // Where the table takes its memory.
-    fn allocator(&self) -> Global {
+    pub(crate) fn allocator(&self) -> Global {
         *self.games.allocator()
     }
 

@@ -1,15 +1,18 @@
-ghost use Rattle.std.specs.Prelude.{◌≡◌, ◌≤◌, ◌++◌, ℕ, List, Option, Some, None, is_some, true, false, IfOk, IfErr};
+ghost use Rattle.std.specs.Prelude.{◌≡◌, ◌≤◌, ◌++◌, ℕ, List, Option, Some, None, is_some, true, false, IfOk, IfErr, IfSome};
 ghost use Rattle.chess_bits.specs.declared.men.Colour.{Colour};
 ghost use Rattle.chess_bits.specs.Man.{other};
 ghost use Rattle.chess_board.specs.declared.moves.Move.{Move};
 ghost use Rattle.chess_board.specs.Position.{Position};
 ghost use Rattle.rec_codec.specs.declared.record.Event.TheVariants as event;
+ghost use Rattle.rec_codec.specs.Name.{IsName};
 ghost use Rattle.rec_codec.specs.Records.{entry};
 ghost use Rattle.chess_entry.specs.declared.verdicts.Verdict.{Verdict};
 ghost use Rattle.chess_entry.specs.declared.verdicts.Verdict.TheVariants.{Refuse, Enter};
 ghost use Rattle.chess_entry.specs.State.{GameState, find_game, seat_of};
 ghost use Rattle.chess_entry.specs.Told.{Told, told, bytes_of};
 ghost use Rattle.chess_entry.specs.Verdict.{Check, first_of, while_running, in_turn, for_move, for_stated, are_times, in_seat, is_full, has_offer, open_verdict, join_verdict, move_verdict, offer_verdict, accept_verdict, decline_verdict, resign_verdict, claim_verdict, flag_verdict, drop_verdict, player_verdict, verdict, is_read, IsVerdict};
+ghost use Rattle.chess_entry.specs.Table.{IsEnteredOn};
+ghost use Rattle.chess_table.specs.Entered.{OnEnter};
 ghost use Rattle.chess_table.specs.Checks.{stopped_by, opening_from};
 ghost use Rattle.chess_table.specs.Telling.{IsTheStart, IsTheMove, IsTheTold};
 
@@ -515,13 +518,24 @@ fn checked(table: &Table, command: &Command, tells: &Tells) -> Verdict
     player_verdict(table, at, &name, tells, &command.act)
 }
 
+// Who asks has a name of the right form, if anybody does.
+fn know_name(who: &Option<Name>)
+    ensures { IfSome who.now IsName }
+{
+    if let Some(name) = who {
+        let _name = name.as_str();
+    }
+}
+
 /// What a command meets on a table: the first check that applies refuses it, or makes it the entry that a flag has fallen;
-/// else it is a read, or becomes an entry. The texts of moves are read in the position that stands. It takes no memory and
-/// changes nothing.
+/// else it is a read, or becomes an entry, which may come on the table. The texts of moves are read in the position that
+/// stands. It takes no memory and changes nothing.
 pub fn judge(table: &Table, command: &Command) -> Verdict
     ensures verdict { IsVerdict table.now command.now result }
     ensures one { (other : Verdict) → IsVerdict table.now command.now other → other ≡ result }
+    ensures coming { OnEnter result (IsEnteredOn table.now) }
 {
+    know_name(&command.who);
     let tells = told_by(table, &command.act);
     checked(table, command, &tells)
 }

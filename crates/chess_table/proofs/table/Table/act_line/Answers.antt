@@ -1,5 +1,5 @@
-use Rattle.std.proofs.Common.{ℕ, ◌≡◌, Option, Some, None, sym, ap, ◌∙◌}
-use Rattle.chess_entry.specs.State.{GameState, find_game}
+use Rattle.std.proofs.Common.{ℕ, ◌≡◌, sym, ap, ◌∙◌}
+use Rattle.chess_entry.specs.State.{find_game}
 use Rattle.chess_table.proofs.Answering.{game-comes, game-answered, opening-answered}
 use Rattle.chess_table.proofs.table.Table.act_line.Goals as goal
 
