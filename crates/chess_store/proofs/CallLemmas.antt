@@ -1,5 +1,5 @@
 -- What follows from the result of a call.
-use Rattle.std.specs.Prelude.{◌≡◌, ◌≤◌, ℕ, Result, Ok, Err, OnOk, OnErr, IfOk, is_err, true, false}
+use Rattle.std.specs.Prelude.{◌≡◌, ◌≤◌, ℕ, Result, Ok, Err, OnOk, OnErr, is_err, true, false}
 use Rattle.std.proofs.Common.{sym, subst}
 use Rattle.std.proofs.lemmas.Bool.{false≢true}
 use Rattle.sector_dev.specs.Device.{CountsFailure, HasRisen}

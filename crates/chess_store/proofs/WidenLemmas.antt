@@ -1,6 +1,6 @@
 -- Greater limits: a table under them, and two commits one after the other.
-use Rattle.std.proofs.Common.{ℕ, ◌≡◌, ◌⊎◌, ◌∙◌, ◌+◌, ◌*◌, ◌-◌, ◌/◌, ◌^◌, ◌≤◌, ◌<◌, Bool, true, false, List, [], ◌∷◌, length, sym, ap, subst, inl, inr, refl, arith}
-use Rattle.std.specs.Prelude.{◌≢◌, ◌↔◌, Result, Ok, Err, OnOk, OnErr, IfErr, IsErrOf, IsOk}
+use Rattle.std.proofs.Common.{ℕ, ◌≡◌, ◌∙◌, ◌+◌, ◌*◌, ◌-◌, ◌^◌, ◌≤◌, Bool, true, false, List, [], length, sym, ap, subst, inl, inr, refl, arith}
+use Rattle.std.specs.Prelude.{◌≢◌, ◌↔◌, Result, Ok, Err, OnOk, OnErr, IfErr, IsErrOf}
 use Rattle.std.proofs.lemmas.Bool.{false≢true}
 use Rattle.std.proofs.Math.Nat.{mul-le-mul_left, mul-le-mul_right}
 use Rattle.sector_dev.specs.Image.{Sectors}
@@ -27,7 +27,7 @@ use Rattle.chess_entry.proofs.MeaningMore.{AreEnteredOn-none, IsMeaning-of}
 use Rattle.chess_table.specs.Widened.{with_limits}
 use Rattle.chess_table.proofs.Kept.{IsTable-widen}
 use Rattle.chess_store.specs.Means.{MeansEither, IsKept}
-use Rattle.chess_store.specs.Committing.{IsBatch, Lasts, IsTried, IsWidened}
+use Rattle.chess_store.specs.Committing.{IsBatch, Lasts, IsWidened}
 use Rattle.chess_store.proofs.CommitLemmas.{lasts_by, kept_idle, meaning_limits}
 
 -- ---- the table

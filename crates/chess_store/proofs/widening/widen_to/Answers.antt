@@ -1,4 +1,4 @@
-use Rattle.std.specs.Prelude.{Result, Err, OnOk}
+use Rattle.std.specs.Prelude.{Result, OnOk}
 use Rattle.std.proofs.Common.{sym, subst}
 use Rattle.std.proofs.lemmas.Result.{err_from_is_err_and}
 use Rattle.sector_journal.specs.declared.fault.JournalFault.{JournalFault}
