@@ -61,7 +61,7 @@ impl Player {
     pub fn play(&mut self, line: &InputLine) -> Result<String, Fault> {
         match line {
             InputLine::Create(sectors, limits) => self.create(*sectors, *limits),
-            InputLine::Say(command) => self.say(*command),
+            InputLine::Say(command) => self.say(command),
             InputLine::Submit => self.submit(),
             InputLine::Open(calls) => self.open(*calls),
             InputLine::Crash(letters) => self.crash(letters),
@@ -83,8 +83,8 @@ impl Player {
         }
     }
 
-    fn say(&mut self, command: Command) -> Result<String, Fault> {
-        self.batch.push(command).map_err(AllocError::from)?;
+    fn say(&mut self, command: &Command) -> Result<String, Fault> {
+        self.batch.extend_from_slice(&[*command])?;
         Ok(String::new(self.alloc))
     }
 
