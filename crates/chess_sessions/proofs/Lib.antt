@@ -1,0 +1,4 @@
+pub mod TakingLemmas
+pub mod DeliveryLemmas
+pub mod NameLemmas
+pub mod RoomLemmas

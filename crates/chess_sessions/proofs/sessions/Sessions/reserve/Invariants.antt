@@ -1,0 +1,7 @@
+use Rattle.std.proofs.Common.{length, take}
+use Rattle.chess_sessions.specs.Session.{IsUnchanged}
+use Rattle.chess_sessions.specs.Delivery.{HaveRoom}
+use Rattle.chess_sessions.proofs.sessions.Sessions.reserve.Given as goal
+
+abbrev pub invariant-loop-line : goal.invariant-loop-line
+invariant-loop-line l = HaveRoom (length l.taken) l.self.slab (take l.line-index l.taken) × IsUnchanged l.fn.self l.self

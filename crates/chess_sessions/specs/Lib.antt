@@ -1,0 +1,4 @@
+pub mod Session
+pub mod Turn
+pub mod Answers
+pub mod Delivery
