@@ -13,9 +13,6 @@ use chess_moves::legal;
 use rec_codec::{Claim, GameNumber, Name, Opening, StoredMove};
 use std::alloc::Global;
 use std::process::Abort;
-use std::test::Fail;
-
-const EMPTY: &[u8; 8] = b"........";
 
 // Whether a game may start there.
 fn is_start(board: &Board) -> bool
@@ -64,59 +61,44 @@ fn man_of(letter: u8) -> Option<(Colour, Kind)> {
 
 // The board of a diagram, without castling rights.
 pub fn board_of(
+    rt: &impl Abort,
     side: Colour,
     diagram: [&[u8; 8]; 8],
     halfmove: u16,
     fullmove: u16,
-) -> Result<Board, Fail> {
+) -> Board {
     let mut men = [None; 64];
     for i in 0..64 {
         men[56 - i / 8 * 8 + i % 8] = man_of(diagram[i / 8][i % 8]);
     }
-    let board = Board::try_new(Parts {
+    let parts = Parts {
         men,
         side,
         rights: CastlingRights::of(false, false, false, false),
         target: None,
         halfmove,
         fullmove,
-    })?;
-    Ok(board)
+    };
+    Board::try_new(parts).expect(rt, "a board")
 }
 
-// A game that ann opens as White and bob joins at this moment.
-fn joined(
-    alloc: Global,
-    start: &Board,
-    initial: u32,
-    increment: u32,
-    period: Option<(u32, u32)>,
-    at: u64,
-) -> Result<Game, Fail> {
-    let ann = Name::try_new("ann").ok_or("a name")?;
-    let bob = Name::try_new("bob").ok_or("a name")?;
-    if !is_time_control(initial, increment, period) || !is_start(start) {
-        return Err("a game".into());
-    }
+// A game that ann opens as White with 300 s and this increment, from the initial position, and bob joins at 1,000.
+fn joined(rt: &impl Abort, alloc: Global, increment: u32) -> Game {
+    let start = Board::initial();
+    assert!(rt; is_time_control(300, increment, None) && is_start(&start));
     let opening = Opening {
         colour: White,
-        initial,
+        initial: 300,
         increment,
-        period,
-        name: ann,
-        start: *start,
+        period: None,
+        name: Name::try_new("ann").expect(rt, "a name"),
+        start,
     };
-    let mut game = Game::open(alloc, GameNumber::new(1), &opening)?;
-    if game.is_joined() || game.side_of(&bob).is_some() {
-        return Err("a free seat".into());
-    }
-    game.join(at, bob);
-    Ok(game)
-}
-
-// 300 s and no increment, from the initial position, joined at 1,000.
-fn usual(alloc: Global) -> Result<Game, Fail> {
-    joined(alloc, &Board::initial(), 300, 0, None, 1_000)
+    let mut game = Game::open(alloc, GameNumber::new(1), &opening).expect(rt, "memory");
+    let bob = Name::try_new("bob").expect(rt, "a name");
+    assert!(rt; !game.is_joined() && game.side_of(&bob).is_none());
+    game.join(1_000, bob);
+    game
 }
 
 pub fn move_of(from: u8, to: u8) -> Option<Move>
@@ -142,51 +124,29 @@ fn left(game: &Game, colour: Colour, at: u64) -> Option<u32> {
 }
 
 // Makes a move.
-fn play(game: &mut Game, at: u64, from: u8, to: u8) -> Result<(), Fail> {
-    let mv = move_of(from, to).ok_or("squares")?;
-    if !is_in_time(game, at) || !is_playable(game, &mv) {
-        return Err("a move".into());
-    }
-    game.play(at, mv)?;
-    Ok(())
+fn play(rt: &impl Abort, game: &mut Game, from: u8, to: u8) {
+    let mv = move_of(from, to).expect(rt, "squares");
+    assert!(rt; is_in_time(game, 1_000) && is_playable(game, &mv));
+    assert!(rt; game.play(1_000, mv).is_ok());
 }
 
-fn play_all(game: &mut Game, at: u64, moves: &[(u8, u8)]) -> Result<(), Fail> {
+fn play_all(rt: &impl Abort, game: &mut Game, moves: &[(u8, u8)]) {
     for (from, to) in moves {
-        play(game, at, *from, *to)?;
+        play(rt, game, *from, *to);
     }
-    Ok(())
 }
 
-// Judges a claim of the side to move, for the position that stands.
-fn claim(game: &mut Game, at: u64, fifty: bool) -> Result<(), Fail> {
-    if !is_in_time(game, at) || game.claimed() {
-        return Err("a claim".into());
-    }
+// Judges a claim of the side to move, of three occurrences, with a stated move.
+fn claim_with(rt: &impl Abort, game: &mut Game, from: u8, to: u8) {
+    let mv = move_of(from, to).expect(rt, "squares");
+    assert!(rt; is_in_time(game, 1_000) && is_playable(game, &mv) && !game.claimed());
     let claim = Claim {
         by: game.board().side(),
-        fifty,
-        mv: None,
-        ply: game.ply(),
-    };
-    game.claim(at, &claim)?;
-    Ok(())
-}
-
-// The same with a stated move.
-fn claim_with(game: &mut Game, at: u64, fifty: bool, from: u8, to: u8) -> Result<(), Fail> {
-    let mv = move_of(from, to).ok_or("squares")?;
-    if !is_in_time(game, at) || !is_playable(game, &mv) || game.claimed() {
-        return Err("a claim".into());
-    }
-    let claim = Claim {
-        by: game.board().side(),
-        fifty,
+        fifty: false,
         mv: Some(StoredMove::new(mv)),
         ply: game.ply(),
     };
-    game.claim(at, &claim)?;
-    Ok(())
+    assert!(rt; game.claim(1_000, &claim).is_ok());
 }
 
 fn ended(outcome: GameResult, article: Article) -> Option<Ending> {
@@ -198,51 +158,37 @@ fn ended(outcome: GameResult, article: Article) -> Option<Ending> {
 
 // 1. f3 e5 2. g4 Qh4.
 #[test]
-fn a_mate_in_four_plies(rt: HostRuntime) -> Result<(), Fail> {
-    let mut game = joined(rt.alloc(), &Board::initial(), 300, 2, None, 1_000)?;
-    plays_to_mate(&rt, &mut game)
+fn a_mate_in_four_plies(rt: HostRuntime) {
+    let mut game = joined(&rt, rt.alloc(), 2);
+    play_all(&rt, &mut game, &[(13, 21), (52, 36), (14, 30)]);
+    assert!(rt; game.ending().is_none());
+    play(&rt, &mut game, 59, 31);
+    check_mated(&rt, &game);
 }
 
-fn plays_to_mate(rt: &impl Abort, game: &mut Game) -> Result<(), Fail> {
-    play_all(game, 1_000, &[(13, 21), (52, 36), (14, 30)])?;
-    assert_eq!(rt; game.ending(), None);
-    play(game, 1_000, 59, 31)?;
-    assert_eq!(rt; game.ending(), ended(GameResult::Black, Article::A511));
-    assert_eq!(rt; game.ply(), 4);
-    assert_eq!(rt; game.moves().len(), 4);
-    assert_eq!(rt; left(game, White, 1_000), Some(304_000));
-    assert_eq!(rt; left(game, Black, 9_000), Some(304_000));
-    assert!(rt; game.is_over());
-    Ok(())
+fn check_mated(rt: &impl Abort, game: &Game) {
+    assert!(rt; game.ending() == ended(GameResult::Black, Article::A511));
+    assert!(rt; game.ply() == 4 && game.moves().len() == 4 && game.is_over());
+    assert!(rt; left(game, White, 1_000) == Some(304_000));
+    assert!(rt; left(game, Black, 9_000) == Some(304_000));
 }
 
-// Nf3 Nf6 Ng1 Ng8.
-const KNIGHTS: [(u8, u8); 4] = [(6, 21), (62, 45), (21, 6), (45, 62)];
-
-// The same claimed one move earlier, with 5. Ng1 stated: the claim is correct, and its move is not made.
+// 1. e4 Nf6 2. Nf3 Ng8 3. Ng1 Nf6 4. Nf3 Ng8, and 5. Ng1 stated: the claim is correct, and its move is not made.
 #[test]
-fn a_claim_with_its_move_stated(rt: HostRuntime) -> Result<(), Fail> {
-    let mut game = usual(rt.alloc())?;
-    claims_with_its_move(&rt, &mut game)
-}
-
-fn claims_with_its_move(rt: &impl Abort, game: &mut Game) -> Result<(), Fail> {
-    play(game, 1_000, 12, 28)?;
-    play_all(
-        game,
-        1_000,
-        &[
-            (62, 45),
-            (6, 21),
-            (45, 62),
-            (21, 6),
-            (62, 45),
-            (6, 21),
-            (45, 62),
-        ],
-    )?;
-    claim_with(game, 1_000, false, 21, 6)?;
-    assert_eq!(rt; game.ending(), ended(GameResult::Draw, Article::A92));
-    assert_eq!(rt; game.ply(), 8);
-    Ok(())
+fn a_claim_with_its_move_stated(rt: HostRuntime) {
+    let mut game = joined(&rt, rt.alloc(), 0);
+    play(&rt, &mut game, 12, 28);
+    for (from, to) in [
+        (62, 45),
+        (6, 21),
+        (45, 62),
+        (21, 6),
+        (62, 45),
+        (6, 21),
+        (45, 62),
+    ] {
+        play(&rt, &mut game, from, to);
+    }
+    claim_with(&rt, &mut game, 21, 6);
+    assert!(rt; game.ending() == ended(GameResult::Draw, Article::A92) && game.ply() == 8);
 }

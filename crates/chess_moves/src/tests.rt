@@ -83,7 +83,8 @@ fn a_game_starts_with_20_moves(rt: HostRuntime) {
 }
 
 // r3k2r/p1ppqpb1/bn2pnp1/3PN3/1p2P3/2N2Q1p/PPPBBPPP/R3K2R w KQkq - 0 1
-const BOTH_MAY_CASTLE: Diagram = *b"r...k..r\
+const BOTH_MAY_CASTLE: Diagram = *b"\
+    r...k..r\
     p.ppqpb.\
     bn..pnp.\
     ...PN...\
@@ -101,7 +102,8 @@ fn both_sides_may_castle(rt: HostRuntime) {
 }
 
 // R6R/3Q4/1Q4Q1/4Q3/2Q4Q/Q4Q2/pp1Q4/kBNN1KB1 w - - 0 1
-const NINE_QUEENS: Diagram = *b"R......R\
+const NINE_QUEENS: Diagram = *b"\
+    R......R\
     ...Q....\
     .Q....Q.\
     ....Q...\
@@ -117,7 +119,8 @@ fn nine_queens_have_218_moves(rt: HostRuntime) {
 }
 
 // 8/8/8/8/8/6k1/6q1/6K1 w - - 0 1
-const MATE: Diagram = *b"........\
+const MATE: Diagram = *b"\
+    ........\
     ........\
     ........\
     ........\
@@ -127,7 +130,8 @@ const MATE: Diagram = *b"........\
     ......K.";
 
 // 8/8/8/8/8/6q1/5k2/7K w - - 0 1
-const STALEMATE: Diagram = *b"........\
+const STALEMATE: Diagram = *b"\
+    ........\
     ........\
     ........\
     ........\
@@ -146,7 +150,8 @@ fn mate_and_stalemate_leave_no_move(rt: HostRuntime) {
 }
 
 // 8/8/8/K1pP3r/8/8/8/7k w - c6 0 1
-const PINNED_BOTH: Diagram = *b"........\
+const PINNED_BOTH: Diagram = *b"\
+    ........\
     ........\
     ........\
     K.pP...r\
@@ -167,7 +172,8 @@ fn en_passant_does_not_uncover_the_king(rt: HostRuntime) {
 }
 
 // 4k3/8/8/8/8/8/1r6/R3K3 w Q - 0 1, or with other rights.
-const ROOK_ATTACKS_B1: Diagram = *b"....k...\
+const ROOK_ATTACKS_B1: Diagram = *b"\
+    ....k...\
     ........\
     ........\
     ........\
@@ -188,7 +194,8 @@ fn castles_past_an_attack_on_b1(rt: HostRuntime) {
 }
 
 // 1r5k/P7/6K1/8/8/8/8/8 w - - 0 1: the pawn takes on b8.
-const PAWN_TAKES: Diagram = *b".r.....k\
+const PAWN_TAKES: Diagram = *b"\
+    .r.....k\
     P.......\
     ......K.\
     ........\

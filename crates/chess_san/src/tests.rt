@@ -2,10 +2,9 @@
 
 use crate::{coordinate, read, write};
 use chess_bits::{Colour, Kind, Square};
-use chess_board::{BadBoard, Board, CastlingRights, Move, Parts};
+use chess_board::{Board, CastlingRights, Move, Parts};
 use chess_moves::legal;
 use std::process::Abort;
-use std::test::Fail;
 
 // The man that a letter of a diagram stands for: capitals are White's.
 fn man_of(letter: u8) -> Option<(Colour, Kind)> {
@@ -26,34 +25,39 @@ fn man_of(letter: u8) -> Option<(Colour, Kind)> {
     Some((colour, kind))
 }
 
-// The board of a diagram, from rank 8 to rank 1, with both counters at a number.
+// A diagram, from rank 8 to rank 1.
+type Diagram = [u8; 64];
+
+// Its board, with both counters at a number.
 fn board_with(
-    diagram: [&[u8; 8]; 8],
+    rt: &impl Abort,
+    diagram: Diagram,
     side: Colour,
     rights: CastlingRights,
     target: Option<Square>,
     counters: u16,
-) -> Result<Board, BadBoard> {
+) -> Board {
     let mut men = [None; 64];
     for i in 0..64 {
-        men[56 - i / 8 * 8 + i % 8] = man_of(diagram[i / 8][i % 8]);
+        men[56 - i / 8 * 8 + i % 8] = man_of(diagram[i]);
     }
-    Board::try_new(Parts {
+    let parts = Parts {
         men,
         side,
         rights,
         target,
         halfmove: counters,
         fullmove: counters,
-    })
+    };
+    Board::try_new(parts).expect(rt, "a board")
 }
 
 fn no_rights() -> CastlingRights {
     CastlingRights::of(false, false, false, false)
 }
 
-fn board_of(diagram: [&[u8; 8]; 8], side: Colour) -> Result<Board, BadBoard> {
-    board_with(diagram, side, no_rights(), None, 1)
+fn board_of(rt: &impl Abort, diagram: Diagram, side: Colour) -> Board {
+    board_with(rt, diagram, side, no_rights(), None, 1)
 }
 
 fn move_of(from: Square, to: Square, promotion: Option<Kind>) -> Move {
@@ -76,41 +80,38 @@ fn expect_none(rt: &impl Abort, board: &Board, text: &str) {
 }
 
 #[test]
-fn a_pinned_knight_is_no_rival(rt: HostRuntime) -> Result<(), Fail> {
-    let diagram = [
-        b"....k...",
-        b"........",
-        b"........",
-        b"........",
-        b".b......",
-        b"..N.....",
-        b"........",
-        b"....K.N.",
-    ];
-    let board = board_of(diagram, Colour::White)?;
+fn a_pinned_knight_is_no_rival(rt: HostRuntime) {
+    let diagram = *b"\
+        ....k...\
+        ........\
+        ........\
+        ........\
+        .b......\
+        ..N.....\
+        ........\
+        ....K.N.";
+    let board = board_of(&rt, diagram, Colour::White);
     let mv = move_of(Square::at(7, 1), Square::at(5, 2), None);
     expect_text(&rt, &board, &mv, "Ne2");
     assert_eq!(rt; read(&board, "g1e2"), Some(mv));
     for text in ["Nge2", "N1e2", "Ng1e2", "Nce2", "Ne2+", "Nxe2"] {
         expect_none(&rt, &board, text);
     }
-    Ok(())
 }
 
-const QUEENS: [&[u8; 8]; 8] = [
-    b".k......",
-    b"........",
-    b"........",
-    b"........",
-    b"....Q..Q",
-    b"........",
-    b"........",
-    b"K......Q",
-];
+const QUEENS: Diagram = *b"\
+    .k......\
+    ........\
+    ........\
+    ........\
+    ....Q..Q\
+    ........\
+    ........\
+    K......Q";
 
 #[test]
-fn three_queens_are_told_apart(rt: HostRuntime) -> Result<(), Fail> {
-    let board = board_of(QUEENS, Colour::White)?;
+fn three_queens_are_told_apart(rt: HostRuntime) {
+    let board = board_of(&rt, QUEENS, Colour::White);
     let e1 = Square::at(5, 1);
     expect_text(&rt, &board, &move_of(Square::at(5, 4), e1, None), "Qee1");
     expect_text(&rt, &board, &move_of(Square::at(8, 1), e1, None), "Q1e1");
@@ -118,44 +119,40 @@ fn three_queens_are_told_apart(rt: HostRuntime) -> Result<(), Fail> {
     for text in ["Qe1", "Qhe1", "Q4e1", "Qe4e1", "Q1e1+", "Qexe1"] {
         expect_none(&rt, &board, text);
     }
-    Ok(())
 }
 
 #[test]
-fn fools_mate(rt: HostRuntime) -> Result<(), Fail> {
-    let diagram = [
-        b"rnbqkbnr",
-        b"pppp.ppp",
-        b"........",
-        b"....p...",
-        b"......P.",
-        b".....P..",
-        b"PPPPP..P",
-        b"RNBQKBNR",
-    ];
-    let board = board_of(diagram, Colour::Black)?;
+fn fools_mate(rt: HostRuntime) {
+    let diagram = *b"\
+        rnbqkbnr\
+        pppp.ppp\
+        ........\
+        ....p...\
+        ......P.\
+        .....P..\
+        PPPPP..P\
+        RNBQKBNR";
+    let board = board_of(&rt, diagram, Colour::Black);
     let mv = move_of(Square::at(4, 8), Square::at(8, 4), None);
     expect_text(&rt, &board, &mv, "Qh4#");
     assert_eq!(rt; read(&board, "Qh4"), Some(mv));
     assert_eq!(rt; read(&board, "d8h4"), Some(mv));
     expect_none(&rt, &board, "Qh4+");
     expect_none(&rt, &board, "qh4#");
-    Ok(())
 }
 
 #[test]
-fn a_pawn_takes_and_mates_as_a_queen(rt: HostRuntime) -> Result<(), Fail> {
-    let diagram = [
-        b".r.....k",
-        b"P.......",
-        b"......K.",
-        b"........",
-        b"........",
-        b"........",
-        b"........",
-        b"........",
-    ];
-    let board = board_of(diagram, Colour::White)?;
+fn a_pawn_takes_and_mates_as_a_queen(rt: HostRuntime) {
+    let diagram = *b"\
+        .r.....k\
+        P.......\
+        ......K.\
+        ........\
+        ........\
+        ........\
+        ........\
+        ........";
+    let board = board_of(&rt, diagram, Colour::White);
     let a7 = Square::at(1, 7);
     let takes = move_of(a7, Square::at(2, 8), Some(Kind::Queen));
     expect_text(&rt, &board, &takes, "axb8=Q#");
@@ -164,46 +161,42 @@ fn a_pawn_takes_and_mates_as_a_queen(rt: HostRuntime) -> Result<(), Fail> {
     for text in ["a8", "a8=K", "a8N", "xb8=Q#", "ab8=Q#", "b8=Q#", "axb8=Q+"] {
         expect_none(&rt, &board, text);
     }
-    Ok(())
 }
 
 #[test]
-fn castling_to_the_queens_wing(rt: HostRuntime) -> Result<(), Fail> {
-    let diagram = [
-        b"....k...",
-        b"........",
-        b"........",
-        b"........",
-        b"........",
-        b"........",
-        b".r......",
-        b"R...K...",
-    ];
+fn castling_to_the_queens_wing(rt: HostRuntime) {
+    let diagram = *b"\
+        ....k...\
+        ........\
+        ........\
+        ........\
+        ........\
+        ........\
+        .r......\
+        R...K...";
     let rights = CastlingRights::of(false, true, false, false);
-    let board = board_with(diagram, Colour::White, rights, None, 1)?;
+    let board = board_with(&rt, diagram, Colour::White, rights, None, 1);
     let mv = move_of(Square::at(5, 1), Square::at(3, 1), None);
     expect_text(&rt, &board, &mv, "O-O-O");
     assert_eq!(rt; read(&board, "e1c1"), Some(mv));
     for text in ["O-O", "0-0-0", "o-o-o", "Kc1", "O-O-O+", "e1a1"] {
         expect_none(&rt, &board, text);
     }
-    Ok(())
 }
 
 #[test]
-fn a_pawn_takes_en_passant(rt: HostRuntime) -> Result<(), Fail> {
-    let diagram = [
-        b"....k...",
-        b"........",
-        b"........",
-        b"...pP...",
-        b"........",
-        b"........",
-        b"........",
-        b"....K...",
-    ];
+fn a_pawn_takes_en_passant(rt: HostRuntime) {
+    let diagram = *b"\
+        ....k...\
+        ........\
+        ........\
+        ...pP...\
+        ........\
+        ........\
+        ........\
+        ....K...";
     let target = Square::at(4, 6);
-    let board = board_with(diagram, Colour::White, no_rights(), Some(target), 1)?;
+    let board = board_with(&rt, diagram, Colour::White, no_rights(), Some(target), 1);
     expect_text(
         &rt,
         &board,
@@ -212,15 +205,13 @@ fn a_pawn_takes_en_passant(rt: HostRuntime) -> Result<(), Fail> {
     );
     expect_none(&rt, &board, "d6");
     expect_none(&rt, &board, "ed6");
-    Ok(())
 }
 
 #[test]
-fn counters_at_their_end_change_no_text(rt: HostRuntime) -> Result<(), Fail> {
-    let board = board_with(QUEENS, Colour::White, no_rights(), None, 65_535)?;
+fn counters_at_their_end_change_no_text(rt: HostRuntime) {
+    let board = board_with(&rt, QUEENS, Colour::White, no_rights(), None, 65_535);
     let checks = move_of(Square::at(5, 4), Square::at(5, 8), None);
     expect_text(&rt, &board, &checks, "Qe8+");
-    Ok(())
 }
 
 #[test]

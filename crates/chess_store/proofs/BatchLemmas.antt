@@ -21,7 +21,7 @@ use Rattle.chess_entry.specs.Verdict.{IsVerdict, is_read, in_game, player_verdic
 use Rattle.chess_entry.specs.Table.{IsEnteredOn, AreEnteredOn, followed}
 use Rattle.chess_entry.proofs.MeaningMore.{AreEnteredOn-none, AreEnteredOn-cons, AreEnteredOn-append, followed-append}
 use Rattle.chess_answer.specs.declared.reads.Reply.{Reply}
-use Rattle.chess_store.specs.Batch.{IsNothing, IsTaken, Becomes, IsOutcome, IsOutcomeThen, IsAnswered, AreRecorded, act_count}
+use Rattle.chess_store.specs.Batch.{IsNothing, Becomes, IsOutcome, IsAnswered, AreRecorded, act_count}
 
 false_of : (b : Bool) → (b ≡ true → ⊥) → b ≡ false
 false_of true no_proof = absurd (no_proof refl)

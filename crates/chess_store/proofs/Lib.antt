@@ -4,3 +4,4 @@ pub mod CommitLemmas
 pub mod OpenLemmas
 pub mod RunLemmas
 pub mod WidenLemmas
+pub mod CallLemmas

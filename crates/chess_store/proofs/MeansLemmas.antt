@@ -1,6 +1,5 @@
 -- What an image means, and what a store keeps.
-use Rattle.std.proofs.Common.{◌≡◌, sym, ap, subst}
-use Rattle.sector_dev.specs.Image.{Sectors}
+use Rattle.std.proofs.Common.{◌≡◌, subst}
 use Rattle.sector_dev.specs.Device.{State}
 use Rattle.rec_codec.specs.declared.header.Header.{Header}
 use Rattle.sector_journal.specs.declared.compactions.Compaction.{Compaction}
@@ -9,7 +8,7 @@ use Rattle.sector_journal.proofs.MeaningLemmas.{one_meaning}
 use Rattle.chess_entry.specs.State.{TableState}
 use Rattle.chess_entry.specs.Snapshot.{IsMeaning}
 use Rattle.chess_entry.proofs.OneMeaning as meanings
-use Rattle.chess_store.specs.Means.{Means, AllMean, IsKept, LawOfImages}
+use Rattle.chess_store.specs.Means.{AllMean, IsKept, LawOfImages}
 
 -- an image means one table at most
 pub one_table : LawOfImages

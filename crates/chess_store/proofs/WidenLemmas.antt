@@ -1,6 +1,6 @@
 -- Greater limits: a table under them, and two commits one after the other.
-use Rattle.std.proofs.Common.{ℕ, ◌≡◌, ◌⊎◌, ◌∙◌, ◌+◌, ◌*◌, ◌-◌, ◌/◌, ◌^◌, ◌≤◌, ◌<◌, Bool, true, false, List, [], ◌∷◌, length, sym, ap, subst, inl, inr, refl, arith}
-use Rattle.std.specs.Prelude.{◌≢◌, ◌↔◌, Result, Ok, Err, OnOk, OnErr, IfErr, IsErrOf, IsOk}
+use Rattle.std.proofs.Common.{ℕ, ◌≡◌, ◌∙◌, ◌+◌, ◌*◌, ◌-◌, ◌^◌, ◌≤◌, Bool, true, false, List, [], length, sym, ap, subst, inl, inr, refl, arith}
+use Rattle.std.specs.Prelude.{◌≢◌, ◌↔◌, Result, Ok, Err, OnOk, OnErr, IfErr, IsErrOf}
 use Rattle.std.proofs.lemmas.Bool.{false≢true}
 use Rattle.std.proofs.Math.Nat.{mul-le-mul_left, mul-le-mul_right}
 use Rattle.sector_dev.specs.Image.{Sectors}
@@ -27,7 +27,7 @@ use Rattle.chess_entry.proofs.MeaningMore.{AreEnteredOn-none, IsMeaning-of}
 use Rattle.chess_table.specs.Widened.{with_limits}
 use Rattle.chess_table.proofs.Kept.{IsTable-widen}
 use Rattle.chess_store.specs.Means.{MeansEither, IsKept}
-use Rattle.chess_store.specs.Committing.{IsBatch, Lasts, IsTried, IsWidened}
+use Rattle.chess_store.specs.Committing.{IsBatch, Lasts, IsWidened}
 use Rattle.chess_store.proofs.CommitLemmas.{lasts_by, kept_idle, meaning_limits}
 
 -- ---- the table
@@ -223,53 +223,4 @@ module _ {D : Type 0} (state : D → State) (sector_count failures : D → ℕ) 
         works = ok;
         fails = fails_so result (now_failed ≡ true) device err;
         count = counts_so result (failures old) (failures new) device cause;
-      }
-
-made_counts : (r : Result (Unit {0}) JournalFault) (old new : ℕ) → IsOk r → CountsFailure r old new → new ≡ old
-made_counts (Ok x) old new made counts = counts
-made_counts (Err e) old new made counts = absurd (false≢true made)
-
-err_along : {T E : Type 0} (r : Result T E) (next half limits : Limits) → half ≡ limits → OnErr r (next ≡ half)
-    → OnErr r (next ≡ limits)
-err_along (Ok x) next half limits same is = tt
-err_along (Err e) next half limits same is = is ∙ same
-
--- after a commit that was made
-module _ {D : Type 0} (state : D → State) (sector_count failures : D → ℕ) (old mid new : D)
-    (given result : Result (Unit {0}) JournalFault) (limits half wider next : Limits) (mid_failed failed : Bool) where
-  pub both_tried : IsTried state sector_count failures old mid given limits half mid_failed
-      → IsOk given
-      → IsWidened state sector_count failures mid new result half wider next failed
-      → IsWidened state sector_count failures old new result limits wider next failed
-  both_tried first made second =
-      let counted : failures mid ≡ failures old = made_counts given (failures old) (failures mid) made first.count in
-      record {
-        model = (λ h. first.model.0 (second.model.0 h), λ h. second.model.1 (first.model.1 h));
-        size = second.size ∙ first.size;
-        limited = second.limited;
-        limited_err = err_along result next half limits first.limited second.limited_err;
-        fault = second.fault;
-        works = second.works;
-        fails = second.fails;
-        count = subst (λ (n : ℕ). CountsFailure result n (failures new)) counted second.count;
-      }
-
--- before one that failed
-module _ {D : Type 0} (state : D → State) (sector_count failures : D → ℕ) (old new : D)
-    (given result : Result (Unit {0}) JournalFault) (limits wider next : Limits) (failed : Bool) where
-  pub first_tried : IsTried state sector_count failures old new given limits next failed
-      → (e : JournalFault) → given ≡ Err e → result ≡ Err e
-      → IsWidened state sector_count failures old new result limits wider next failed
-  first_tried first e was is =
-      let same : given ≡ result = was ∙ sym is in
-      record {
-        model = first.model;
-        size = first.size;
-        limited = subst (λ (r : Result (Unit {0}) JournalFault). OnOk r (next ≡ wider)) (sym is) tt;
-        limited_err = subst (λ (r : Result (Unit {0}) JournalFault). OnErr r (next ≡ limits)) (sym is) first.limited;
-        fault = subst (λ (r : Result (Unit {0}) JournalFault). IfErr r (λ fault. fault ≡ Device)) same first.fault;
-        works = subst (λ (r : Result (Unit {0}) JournalFault). OnOk r (failed ≡ false)) same first.works;
-        fails = subst (λ (r : Result (Unit {0}) JournalFault). OnErr r (failed ≡ true)) same first.fails;
-        count = subst (λ (r : Result (Unit {0}) JournalFault). CountsFailure r (failures old) (failures new)) same
-            first.count;
       }

@@ -1,5 +1,5 @@
 -- Why a store refuses a call.
-use Rattle.std.specs.Prelude.{ℕ, ◌≡◌, ◌≤◌, List, Result, Ok, Err}
+use Rattle.std.specs.Prelude.{ℕ, ◌≡◌, ◌≤◌, List}
 use Rattle.sector_dev.specs.Device.{HasRisen}
 use Rattle.sector_journal.specs.declared.fault.JournalFault.{JournalFault}
 use Rattle.sector_journal.specs.declared.fault.JournalFault.TheVariants as journal

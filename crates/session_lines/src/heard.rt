@@ -183,10 +183,11 @@ impl Lines {
         self.ahead().next_line().is_some()
     }
 
-    /// Takes the oldest line.
+    /// Takes the oldest line, if one waits.
     pub fn drop_line(&mut self)
-        requires { 0 < length (lines_of self.old.bytes) }
-        ensures taken { (line : List ℕ) × IsFirstLine self.old.bytes line self.new.bytes }
+        ensures taken { 0 < length (lines_of self.old.bytes) →
+            (line : List ℕ) × IsFirstLine self.old.bytes line self.new.bytes }
+        ensures none { lines_of self.old.bytes ≡ [] → self.new ≡ self.old }
         ensures long { self.new.is_long ≡ self.old.is_long }
     {
         if let Some((part, _)) = split_feed(&self.whole.as_slice()[self.taken..]) {

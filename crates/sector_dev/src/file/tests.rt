@@ -121,32 +121,49 @@ fn a_later_opening_reads_what_was_written(rt: HostRuntime) {
     assert!(rt; fs::remove_file(&rt, &path).is_ok());
 }
 
+// Whether a device is created on this file that has two sectors then, and the file these bytes.
+fn has_two_sectors(rt: &HostRuntime, path: &PathBuf, sectors: u32, bytes: &[u8]) -> bool {
+    match FileDevice::create(rt, path, sectors) {
+        Ok(device) => device.sectors() == 2 && file_is(rt, path, bytes),
+        Err(_) => false,
+    }
+}
+
+// These bytes, and zeros up to the end of the second sector.
+fn lengthened(old: &[u8; 1000]) -> [u8; 1024] {
+    let mut whole = [0u8; 1024];
+    whole[..1000].copy_from_slice(old);
+    whole
+}
+
 #[test]
 fn what_is_there_stays(rt: HostRuntime) {
     let path = free_path(&rt, "longer").expect(&rt, "a path");
     let old = [5u8; 1000];
-    fs::write(&rt, &path, old.as_slice()).expect(&rt, "a file to write");
-    assert!(rt; FileDevice::open(&rt, &path).expect(&rt, "a file").sectors() == 1);
+    assert!(rt; fs::write(&rt, &path, old.as_slice()).is_ok());
+    let opened = FileDevice::open(&rt, &path).expect(&rt, "a file");
+    assert!(rt; opened.sectors() == 1);
+    drop(opened);
     assert!(rt; file_is(&rt, &path, &old));
-    let mut whole = [0u8; 1024];
-    whole[..1000].copy_from_slice(&old);
-    for sectors in [2, 1] {
-        assert!(rt;
-            FileDevice::create(&rt, &path, sectors)
-                .expect(&rt, "a file")
-                .sectors()
-                == 2
-        );
-        assert!(rt; file_is(&rt, &path, &whole));
-    }
+    let whole = lengthened(&old);
+    assert!(rt; has_two_sectors(&rt, &path, 2, &whole));
+    assert!(rt; has_two_sectors(&rt, &path, 1, &whole));
     assert!(rt; fs::remove_file(&rt, &path).is_ok());
+}
+
+// Whether the file has the bytes of 50,000 sectors, which are zeros from the 700th on.
+fn is_long(rt: &HostRuntime, path: &PathBuf) -> bool {
+    match fs::read(rt, path) {
+        Ok(bytes) => { bytes.len() == 25_600_000 && bytes.iter().skip(700).all(|byte| *byte == 0) }
+        Err(_) => false,
+    }
 }
 
 // 50,000 sectors take many writes of zeros; no hole is left in the file.
 #[test]
 fn a_long_file_is_written(rt: HostRuntime) {
     let path = free_path(&rt, "long").expect(&rt, "a path");
-    fs::write(&rt, &path, [7u8; 700].as_slice()).expect(&rt, "a file to write");
+    assert!(rt; fs::write(&rt, &path, [7u8; 700].as_slice()).is_ok());
     let mut device = FileDevice::create(&rt, &path, 50_000).expect(&rt, "a file");
     assert!(rt; device.sectors() == 50_000);
     check_filled(
@@ -154,9 +171,7 @@ fn a_long_file_is_written(rt: HostRuntime) {
         &mut device,
         &[(0, 7), (2, 0), (31, 0), (32, 0), (33, 0), (49_999, 0)],
     );
-    let bytes = fs::read(&rt, &path).expect(&rt, "a file to read");
-    assert!(rt; bytes.len() == 25_600_000);
-    assert!(rt; bytes.iter().skip(700).all(|byte| *byte == 0));
+    assert!(rt; is_long(&rt, &path));
     assert!(rt; fs::remove_file(&rt, &path).is_ok());
 }
 
@@ -186,6 +201,13 @@ fn a_file_has_one_device_at_a_time(rt: HostRuntime) {
     assert!(rt; fs::remove_file(&rt, &path).is_ok());
 }
 
+// Whether a folder that is made here is refused.
+fn refuses_folder(rt: &HostRuntime, path: &PathBuf) -> bool {
+    fs::create_dir(rt, path).is_ok()
+        && is_refused(rt, path.as_str(), 1, ErrorKind::IsADirectory)
+        && fs::remove_dir(rt, path).is_ok()
+}
+
 #[test]
 fn what_is_missing_or_a_folder_is_refused(rt: HostRuntime) {
     let path = free_path(&rt, "missing").expect(&rt, "a path");
@@ -194,10 +216,8 @@ fn what_is_missing_or_a_folder_is_refused(rt: HostRuntime) {
     let below = path.join(rt.alloc(), "file").expect(&rt, "memory");
     assert!(rt; is_refused(&rt, below.as_str(), 1, ErrorKind::NotFound));
     // Opening makes nothing.
-    assert!(rt; !fs::exists(&rt, &path).expect(&rt, "an answer"));
-    assert!(rt; fs::create_dir(&rt, &path).is_ok());
-    assert!(rt; is_refused(&rt, path.as_str(), 1, ErrorKind::IsADirectory));
-    assert!(rt; fs::remove_dir(&rt, &path).is_ok());
+    assert!(rt; fs::exists(&rt, &path).is_ok_and(|found| !found));
+    assert!(rt; refuses_folder(&rt, &path));
 }
 
 #[test]

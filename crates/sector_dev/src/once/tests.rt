@@ -18,6 +18,10 @@ fn byte_at<D: Device>(rt: &impl Abort, device: &mut D, at: u32) -> Result<u8, De
     Ok(sector[0])
 }
 
+fn bytes<D: Device>(rt: &impl Abort, device: &mut D) -> Result<[u8; 2], DeviceFault> {
+    Ok([byte_at(rt, device, 0)?, byte_at(rt, device, 1)?])
+}
+
 // Four calls, and which of them failed.
 fn four_calls<D: Device>(rt: &impl Abort, device: &mut D) -> [bool; 4] {
     [
@@ -39,11 +43,10 @@ fn seen_and_left(
     once.fail_at(call, pending);
     let failed = four_calls(rt, &mut once);
     assert!(rt; failed == [call == 1, call == 2, call == 3, call == 4]);
-    let seen = [byte_at(rt, &mut once, 0)?, byte_at(rt, &mut once, 1)?];
+    let seen = bytes(rt, &mut once)?;
     let mut device = once.into_device();
     device.crash(&[]);
-    let left = [byte_at(rt, &mut device, 0)?, byte_at(rt, &mut device, 1)?];
-    Ok((seen, left))
+    Ok((seen, bytes(rt, &mut device)?))
 }
 
 #[test]

@@ -1,4 +1,4 @@
-use Rattle.std.proofs.Common.{◌≡◌, ◌↔◌, List, IsTrue, true, sym, subst}
+use Rattle.std.proofs.Common.{◌≡◌, List, true, sym, subst}
 use Rattle.chess_entry.specs.declared.commands.Command.{Command}
 use Rattle.chess_lives.specs.Courses.{IsBatch}
 use Rattle.chess_lives.proofs.ServingLemmas.{EachOf-at}

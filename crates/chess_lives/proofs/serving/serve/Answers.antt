@@ -1,4 +1,4 @@
-use Rattle.std.proofs.Common.{◌≡◌, ℕ, sym, subst, arith, map}
+use Rattle.std.proofs.Common.{◌∙◌, ◌↔◌, ap, ◌≡◌, ℕ, sym, subst, arith, map}
 use Rattle.sector_dev.specs.Device.{State}
 use Rattle.chess_entry.specs.State.{TableState}
 use Rattle.chess_store.proofs.MeansLemmas.{one_table}
@@ -51,3 +51,15 @@ returns-in-Err-clause-served g c = λ model table means.
     (c.in-Err.ensures.readable model (λ image is. record { table = table; means = means image is }))
     c.in-Err.ensures.cause_refused
     (λ image is. means image (c.in-Err.ensures.images_refused model image is))
+
+pub returns-in-Ok-clause-model : goal.returns-in-Ok-clause-model
+returns-in-Ok-clause-model g c =
+    let state = g.D.Device.state in
+    let goes = c.in-Ok.ensures.goes in
+    let tally = c.submit_all-tally.ensures in
+    subst (λ (d : _). (state d).keeps_model ↔ (state c.args.device).keeps_model) (sym c.into_device.ensures)
+    (λ model. goes.model.0 (tally.model.0 model), λ model. tally.model.1 (goes.model.1 model))
+
+pub returns-in-Ok-clause-sectors : goal.returns-in-Ok-clause-sectors
+returns-in-Ok-clause-sectors g c =
+    ap g.D.Device.sector_count c.into_device.ensures ∙ c.submit_all-tally.ensures.sectors ∙ c.in-Ok.ensures.goes.size

@@ -1,6 +1,6 @@
 use Rattle.std.proofs.Common.{[], length, refl}
 use Rattle.sector_journal.specs.Switches.{switched_header}
-use Rattle.chess_store.proofs.CommitLemmas.{room_for_both, switch_lasts, tried_by, limits_of}
+use Rattle.chess_store.proofs.CommitLemmas.{switch_lasts, tried_by, limits_of}
 use Rattle.chess_store.proofs.WidenLemmas.{empty_batch}
 use Rattle.chess_store.proofs.widening.switch_halves.Goals as goal
 

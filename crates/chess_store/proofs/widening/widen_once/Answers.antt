@@ -1,4 +1,4 @@
-use Rattle.std.proofs.Common.{◌≤◌, length, arith}
+use Rattle.std.proofs.Common.{length, arith}
 use Rattle.sector_journal.specs.Switches.{widened_header}
 use Rattle.chess_store.proofs.WidenLemmas.{records_within, widen_lasts, widened_by}
 use Rattle.chess_store.proofs.widening.widen_once.Goals as goal

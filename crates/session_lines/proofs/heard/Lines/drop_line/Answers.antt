@@ -1,4 +1,4 @@
-use Rattle.std.proofs.Common.{◌≡◌, ◌∙◌, ◌∷◌, ◌++◌, ◌+◌, ◌<◌, ap, sym, subst, drop, length}
+use Rattle.std.proofs.Common.{◌≡◌, ◌∙◌, [], ◌∷◌, ◌++◌, ◌+◌, ◌<◌, ap, sym, subst, drop, length}
 use Rattle.std.proofs.lemmas.List.{take_rest}
 use Rattle.session_lines.specs.Heard.{Heard}
 use Rattle.session_lines.specs.Lines.{lines_of, HasNoFeed}
@@ -15,7 +15,7 @@ invariant_of-self c =
     c.in-Some.ensures.first
 
 pub returns-in-Some-clause-taken : goal.returns-in-Some-clause-taken
-returns-in-Some-clause-taken c =
+returns-in-Some-clause-taken c waits =
     let l = c.self.inside in
     let e : drop l.taken l.whole.items ≡ c.in-Some.part.now ++ 10 ∷ c.in-Some.field-0-1.now =
     sym (take_rest c.as_slice.result.now l.taken ∙ ap (drop l.taken) c.as_slice.ensures.value)
@@ -26,10 +26,22 @@ returns-in-Some-clause-taken c =
     c.in-Some.ensures.first)
 
 pub returns-in_default-clause-taken : goal.returns-in_default-clause-taken
-returns-in_default-clause-taken c =
+returns-in_default-clause-taken c waits =
     let l = c.self.inside in
     let free : HasNoFeed (drop l.taken l.whole.items) =
     subst HasNoFeed (take_rest c.as_slice.result.now l.taken ∙ ap (drop l.taken) c.as_slice.ensures.value)
     c.in_default.ensures.none in
     absurd (takes-none l.whole.items l.rest.items l.taken l.is_long c.self.invariant free
-    (subst (λ (h : Heard). 0 < length (lines_of h.bytes)) (sym c.self.view_is) c.requires))
+    (subst (λ (h : Heard). 0 < length (lines_of h.bytes)) (sym c.self.view_is) waits))
+
+pub returns-in-Some-clause-none : goal.returns-in-Some-clause-none
+returns-in-Some-clause-none c none =
+    let l = c.self.inside in
+    let e : drop l.taken l.whole.items ≡ c.in-Some.part.now ++ 10 ∷ c.in-Some.field-0-1.now =
+    sym (take_rest c.as_slice.result.now l.taken ∙ ap (drop l.taken) c.as_slice.ensures.value)
+    ∙ c.in-Some.ensures.split in
+    let first = takes-line l.whole.items c.in-Some.part.now c.in-Some.field-0-1.now l.rest.items l.taken l.is_long
+    c.self.invariant e c.in-Some.ensures.first in
+    let bad : [] ≡ first.0 ∷ lines_of (drop (l.taken + (length c.in-Some.part.now + 1)) l.whole.items ++ l.rest.items) =
+    sym none ∙ sym (ap (λ (h : Heard). lines_of h.bytes) c.self.view_is) ∙ first.1.lines in
+    absurd cc

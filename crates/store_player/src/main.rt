@@ -1,0 +1,44 @@
+//! Plays batches of commands on a store in memory, stops its device, crashes it and opens it again: for tests of whole
+//! lives by their lines. Each line of standard input is one of these; each that answers something writes it.
+//!
+//! - `create SECTORS GAMES PLIES`: a new device, and a store on it;
+//! - `say MOMENT NAME LINE`: one command more of the next batch, NAME `-` for a session without a name;
+//! - `submit`: the batch;
+//! - `open CALLS`: the store is opened again, on a device that serves so many calls more, `-` for all;
+//! - `crash FATES`: a crash that gives the pending writes their fates, `L` lost, `K` kept, `U` unreadable, and then an
+//!   opening;
+//! - `widen GAMES PLIES`.
+#![tactic(auto)]
+
+mod fault;
+mod lines;
+mod playing;
+
+use fault::Fault;
+use lines::read_line;
+use playing::Player;
+use std::io::{BufRead, BufReader};
+use std::process::ExitCode;
+
+fn main(rt: HostRuntime) -> ExitCode {
+    match run(&rt) {
+        Ok(()) => ExitCode::SUCCESS,
+        Err(fault) => {
+            let _ = eprintln!(rt; "{fault}");
+            ExitCode::FAILURE
+        }
+    }
+}
+
+fn run(rt: &HostRuntime) -> Result<(), Fault> {
+    let mut player = Player::new(rt.alloc());
+    for text in BufReader::new(rt.alloc(), rt.reader())?.lines(rt.alloc()) {
+        let text = text?;
+        let Some(line) = read_line(text.as_str()) else {
+            return Err(Fault::Input);
+        };
+        let answer = player.play(&line)?;
+        print!(rt; "{}", answer.as_str())?;
+    }
+    Ok(())
+}
