@@ -1,5 +1,5 @@
 //! The drill: a batch of moves, stopped at each of its device calls.
-ghost use Rattle.std.specs.Prelude.{◌≡◌, ◌≤◌, ◌+◌, IfOk, IfErr, length};
+ghost use Rattle.std.specs.Prelude.{◌≡◌, IfOk, length};
 ghost use Rattle.chess_board.specs.Legal.{EachOf};
 ghost use Rattle.chess_lives.specs.Courses.{IsBatch};
 ghost use Rattle.chess_lives.specs.Lives.{batches_of};
@@ -7,7 +7,7 @@ ghost use Rattle.chess_lives.specs.Lives.{batches_of};
 use crate::ends::Fault;
 use chess_bits::Colour;
 use chess_entry::{Act, Command, Text};
-use chess_lives::{Life, Plan, lives};
+use chess_lives::{Life, Lived, Plan, lives};
 use chess_store::{Store, StoreFault};
 use rec_codec::{Limits, Name};
 use sector_dev::{Fate, MemoryDevice};
@@ -133,7 +133,11 @@ fn kept_after(alloc: Global, calls: Option<u64>, way: u32) -> Result<u64, StoreF
         Ok(store) => store,
         Err(refused) => return Err(refused.fault),
     };
-    match lives(alloc, store.into_device(), &plan).report {
+    let Lived {
+        device: _left,
+        report,
+    } = lives(alloc, store.into_device(), &plan);
+    match report {
         Ok(report) => Ok(report.kept),
         Err(fault) => Err(fault),
     }
