@@ -3,3 +3,4 @@ pub mod Answer
 pub mod Run
 pub mod Turns
 pub mod End
+pub mod Faults

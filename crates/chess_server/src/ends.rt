@@ -1,11 +1,27 @@
 //! How a run of the program ends: its exit status, and what is told of a fault.
 ghost use Rattle.std.specs.Prelude.{◌≡◌, ◌≢◌};
 ghost use Rattle.clap.specs.Values.{kind_of};
-ghost use Rattle.chess_server.specs.End.{end_of, name_of, status_of};
+ghost use Rattle.chess_server.specs.End.{end_of, name_of, name_of_store, of_board, status_of};
 
 use crate::board_loop::BoardFault;
+use chess_store::StoreFault;
 use clap::Error;
 use clap::error::ErrorKind;
+
+/// What can break a run off.
+#[derive(Clone, Copy, Debug, PartialEq, Eq)]
+pub enum Fault {
+    /// The journal's file cannot be opened, made or lengthened, or another program has it open.
+    File,
+    /// A read of the input failed, or reads did not come to an end.
+    Read,
+    /// A write of the output failed.
+    Write,
+    /// The table's limits are above those that are asked for.
+    Limits,
+    /// The store refused.
+    Store(StoreFault),
+}
 
 /// How a run ends.
 #[derive(Clone, Copy, Debug, PartialEq, Eq)]
@@ -13,7 +29,7 @@ pub enum End {
     /// The work is done, or the help that was asked for is printed.
     Done,
     /// A fault broke the work off.
-    Fault(BoardFault),
+    Fault(Fault),
     /// The words of the command line ask for nothing that the program does.
     Usage,
 }
@@ -29,18 +45,46 @@ pub fn status(end: End) -> u8
     }
 }
 
-/// The name of a fault, which stands after `fault ` on standard error.
-pub fn name(fault: BoardFault) -> &'static str
-    ensures { result.now ≡ name_of fault }
+fn store_name(fault: StoreFault) -> &'static str
+    ensures { result.now ≡ name_of_store fault }
 {
     match fault {
-        BoardFault::Read => "Read",
-        BoardFault::Write => "Write",
+        StoreFault::Exists => "Exists",
+        StoreFault::TooSmall => "TooSmall",
+        StoreFault::NotOurs => "NotOurs",
+        StoreFault::Damaged => "Damaged",
+        StoreFault::Device { .. } => "Device",
+        StoreFault::NoMemory => "NoMemory",
+        StoreFault::Worn => "Worn",
+        StoreFault::Failed => "Failed",
     }
 }
 
-/// The end of a run of `board`.
-pub fn end_of_board(ended: Result<(), BoardFault>) -> End
+/// The name of a fault, which stands after `fault ` on standard error: that of the innermost.
+pub fn name(fault: Fault) -> &'static str
+    ensures { result.now ≡ name_of fault }
+{
+    match fault {
+        Fault::File => "File",
+        Fault::Read => "Read",
+        Fault::Write => "Write",
+        Fault::Limits => "Limits",
+        Fault::Store(fault) => store_name(fault),
+    }
+}
+
+/// What a fault of `board` is to the program.
+pub fn fault_of_board(fault: BoardFault) -> Fault
+    ensures { result ≡ of_board fault }
+{
+    match fault {
+        BoardFault::Read => Fault::Read,
+        BoardFault::Write => Fault::Write,
+    }
+}
+
+/// The end of a word's work.
+pub fn end_of_work(ended: Result<(), Fault>) -> End
     ensures { result ≡ end_of ended }
 {
     match ended {

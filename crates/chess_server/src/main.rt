@@ -1,9 +1,12 @@
-//! Answers lines of chess on standard input and output.
+//! A chess game server: its words.
 #![tactic(auto)]
 
 mod answer;
 mod board_loop;
+mod command_line;
+mod drill;
 mod ends;
+mod journals;
 mod line;
 #[cfg(test)]
 mod tests;
@@ -11,19 +14,20 @@ mod words;
 
 use board_loop::board;
 use clap::Error;
-use ends::{End, end_of_board, end_of_words, name, status};
-use std::alloc::{AllocError, Global};
+use drill::{Tally, drill};
+use ends::{End, Fault, end_of_words, end_of_work, fault_of_board, name, status};
+use journals::{format, widen};
 use std::env;
 use std::process::ExitCode;
 use words::{Word, no_text, read_words};
 
 fn main(rt: HostRuntime) -> ExitCode {
-    let end = match asked(&rt, rt.alloc()) {
-        Ok(Word::Board) => end_of_board(board(&mut rt.stdin(), &mut rt.stdout())),
-        Err(error) => {
-            let _ = error.print(&rt);
-            end_of_words(&error)
-        }
+    let end = match words_given(&rt) {
+        Ok(words) => match read_words(rt.alloc(), words.as_slice()) {
+            Ok(word) => end_of_work(do_work(&rt, word)),
+            Err(error) => end_with(&rt, &error),
+        },
+        Err(error) => end_with(&rt, &error),
     };
     if let End::Fault(fault) = end {
         let name = name(fault);
@@ -32,11 +36,35 @@ fn main(rt: HostRuntime) -> ExitCode {
     ExitCode::from(status(end))
 }
 
-/// What the command line asks for.
-fn asked(rt: &HostRuntime, alloc: Global) -> Result<Word, Error> {
+// The words of the command line.
+fn words_given(rt: &HostRuntime) -> Result<Vec<String>, Error> {
     let Ok(args) = env::args(rt) else {
-        return Err(no_text(alloc)?);
+        return Err(no_text(rt.alloc())?);
     };
-    let words: Vec<String> = args.collect(alloc)?;
-    read_words(alloc, words.as_slice())
+    Ok(args.collect(rt.alloc())?)
+}
+
+// Prints a text of the command line, as help.
+fn end_with(rt: &HostRuntime, error: &Error) -> End {
+    let _ = error.print(rt);
+    end_of_words(error)
+}
+
+// Does what a word asks for.
+fn do_work(rt: &HostRuntime, word: Word<'_>) -> Result<(), Fault> {
+    match word {
+        Word::Board => board(&mut rt.stdin(), &mut rt.stdout()).map_err(fault_of_board),
+        Word::Format(tables) => format(rt, rt.alloc(), &tables),
+        Word::Drill => tell_drill(rt),
+        Word::Widen(tables) => widen(rt, rt.alloc(), &tables),
+    }
+}
+
+// Plays the drill, and prints what came of it.
+fn tell_drill(rt: &HostRuntime) -> Result<(), Fault> {
+    let Tally { cases, none, all } = drill(rt.alloc())?;
+    match println!(rt; "drill {cases} none {none} all {all}") {
+        Ok(()) => Ok(()),
+        Err(_) => Err(Fault::Write),
+    }
 }

@@ -1,6 +1,6 @@
 //! The loop over readers and writers that give and take little, or fail.
 use crate::board_loop::{BoardFault, board};
-use crate::ends::{End, end_of_board, end_of_words, name, status};
+use crate::ends::{End, end_of_words, end_of_work, fault_of_board, name, status};
 use crate::words::{Word, read_words};
 use std::alloc::{AllocError, Global};
 use std::io;
@@ -226,8 +226,11 @@ fn breaks_off_where_a_read_fails(rt: HostRuntime) {
         } else {
             (Some("Read"), 1)
         };
-        assert_eq!(rt; told_of(end_of_board(ended)), told);
-        assert_eq!(rt; status(end_of_board(ended)), ends_with);
+        assert_eq!(rt; told_of(end_of_work(ended.map_err(fault_of_board))), told);
+        assert_eq!(rt;
+            status(end_of_work(ended.map_err(fault_of_board))),
+            ends_with
+        );
         assert_eq!(rt; written.as_slice(), text.as_bytes(), "at {kind:?}");
     }
 }
@@ -259,8 +262,11 @@ fn breaks_off_where_a_write_fails(rt: HostRuntime) {
         } else {
             (Some("Write"), 1)
         };
-        assert_eq!(rt; told_of(end_of_board(ended)), told);
-        assert_eq!(rt; status(end_of_board(ended)), ends_with);
+        assert_eq!(rt; told_of(end_of_work(ended.map_err(fault_of_board))), told);
+        assert_eq!(rt;
+            status(end_of_work(ended.map_err(fault_of_board))),
+            ends_with
+        );
         assert_eq!(rt; writer.taken.as_slice(), text.as_bytes(), "at {kind:?}");
     }
 }
@@ -276,11 +282,9 @@ fn words_of(alloc: Global, word: &str) -> Result<Vec<String>, AllocError> {
 #[test]
 fn reads_the_command_line(rt: HostRuntime) -> Result<(), Fail> {
     let alloc = rt.alloc();
-    assert_eq!(rt;
-        read_words(alloc, words_of(alloc, "board")?.as_slice()).ok(),
-        Some(Word::Board)
-    );
-    for unknown in ["serve", "--journal", ""] {
+    let words = words_of(alloc, "board")?;
+    assert!(rt; matches!(read_words(alloc, words.as_slice()), Ok(Word::Board)));
+    for unknown in ["lead", "--journal", ""] {
         match read_words(alloc, words_of(alloc, unknown)?.as_slice()) {
             Ok(_) => assert!(rt; false, "{unknown}"),
             Err(error) => assert_eq!(rt; status(end_of_words(&error)), 2, "{unknown}"),

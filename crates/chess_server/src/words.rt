@@ -1,64 +1,69 @@
 //! The words of the command line.
+ghost use Rattle.rec_codec.specs.declared.limits.Version.TheVariants.{Two};
+ghost use Rattle.rec_codec.specs.Limits.{IsInRange};
+
+use crate::command_line::command_line;
 use clap::error::ErrorKind;
-use clap::{Command, Error};
+use clap::{ArgMatches, Error};
+use rec_codec::{Limits, Version};
 use std::alloc::{AllocError, Global};
 
 /// What the program is to do.
-#[derive(Clone, Copy, Debug, PartialEq, Eq)]
-pub enum Word {
-    /// To answer the lines of standard input on standard output.
+#[derive(Clone, Copy)]
+pub enum Word<'a> {
+    /// To answer the lines of standard input on standard output, over one board in memory.
     Board,
+    /// To make a file a journal of the empty table.
+    Format(Tables<'a>),
+    /// To play the crashes of one batch in memory.
+    Drill,
+    /// To raise the limits of a journal's table.
+    Widen(Tables<'a>),
+}
+
+/// A journal's file, and the limits that its table is to have.
+#[derive(Clone, Copy)]
+pub struct Tables<'a> {
+    pub journal: &'a str,
+    pub limits: Limits,
+    ghost in_range: { IsInRange Two limits },
 }
 
 /// Reads the words, the program's own name first. An `Err` is a usage fault, or a request for help.
-pub fn read_words(alloc: Global, words: &[String]) -> Result<Word, Error> {
+pub fn read_words<'a>(alloc: Global, words: &'a [String]) -> Result<Word<'a>, Error> {
     let mut command = command_line(alloc)?;
     let matches = command.try_get_matches_from_mut(words)?;
-    match matches.subcommand_name() {
-        Some("board") => Ok(Word::Board),
-        _ => Err(command.error(ErrorKind::MissingSubcommand, "a word is missing")?),
+    match matches.subcommand().and_then(word_of) {
+        Some(word) => Ok(word),
+        None => Err(command.error(ErrorKind::MissingSubcommand, "a word is missing")?),
+    }
+}
+
+// What a word with its values asks for. A value that is wanted is there.
+fn word_of<'a>((word, values): (&'a str, &ArgMatches<'a>)) -> Option<Word<'a>> {
+    match word {
+        "board" => Some(Word::Board),
+        "format" => Some(Word::Format(tables_of(values)?)),
+        "drill" => Some(Word::Drill),
+        "widen" => Some(Word::Widen(tables_of(values)?)),
+        _ => None,
+    }
+}
+
+fn tables_of<'a>(values: &ArgMatches<'a>) -> Option<Tables<'a>> {
+    let journal = values.get_str("journal")?;
+    let limits = Limits {
+        games: values.get_one("games")?,
+        plies: values.get_one("plies")?,
+    };
+    if limits.is_in_range(Version::Two) {
+        Some(Tables { journal, limits })
+    } else {
+        None
     }
 }
 
 /// The fault of words that are no text.
 pub fn no_text(alloc: Global) -> Result<Error, AllocError> {
     command_line(alloc)?.error(ErrorKind::InvalidValue, "a word is not in UTF-8")
-}
-
-const ABOUT_BOARD: &str =
-    "Answers the lines of standard input on standard output, over one board in memory.";
-
-const HELP_OF_BOARD: &str = "\
-The board begins with the initial position. Each line gets one line as its answer:
-
-  move TEXT     TEXT names a legal move by its squares, as e2e4, e7e8q for a
-                promotion, or e1g1 for castling: the new position as FEN
-                other TEXT: no 9 BadMove
-                a counter of the position is 65535: no 20 TooLong
-  other lines   no 1 BadLine
-
-It makes no claim on the ends of a game.
-
-Limits: a line has at most 255 bytes before its line feed, a carriage return among
-them. A longer one is answered by bye LineTooLong, which ends the run. What follows
-the last line feed is no line.
-
-Exit status: 0 where the input has ended or a line was too long; 1 where a read or
-a write failed, with fault Read or fault Write on standard error; 2 for words that
-the program does not know.
-
-Example:
-  printf 'move e2e4\\nmove e2e4\\n' | chess_server board
-prints
-  rnbqkbnr/pppppppp/8/8/4P3/8/PPPP1PPP/RNBQKBNR b KQkq e3 0 1
-  no 9 BadMove";
-
-fn command_line<'a>(alloc: Global) -> Result<Command<'a>, AllocError> {
-    let board = Command::new(alloc, "board")
-        .about(ABOUT_BOARD)
-        .after_help(HELP_OF_BOARD);
-    Command::new(alloc, "chess_server")
-        .about("Answers lines of chess. Each word has its own --help.")
-        .subcommand_required(true)
-        .subcommand(board)
 }

@@ -1,0 +1,24 @@
+-- Which faults end the work of a word.
+use Rattle.std.specs.Prelude.{◌≤◌, ⊤}
+use Rattle.rec_codec.specs.declared.limits.Limits.{Limits}
+use Rattle.chess_store.specs.Faults as store
+use Rattle.chess_server.specs.declared.ends.Fault.{Fault}
+use Rattle.chess_server.specs.declared.ends.Fault.TheVariants as faults
+
+-- of opening a journal
+abbrev pub IsOpenFault : Fault → Type 0
+IsOpenFault faults.File = ⊤
+IsOpenFault (faults.Store fault) = store.IsOpenFault fault
+IsOpenFault _ = ⊥
+
+-- of `format`
+abbrev pub IsFormatFault : Fault → Type 0
+IsFormatFault faults.File = ⊤
+IsFormatFault faults.Write = ⊤
+IsFormatFault (faults.Store fault) = store.IsCreateFault fault
+IsFormatFault _ = ⊥
+
+-- no limit is below the present one
+pub record MayWiden (present wanted : Limits) : Type 0 where
+  pub games : present.games ≤ wanted.games
+  pub plies : present.plies ≤ wanted.plies

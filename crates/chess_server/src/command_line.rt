@@ -1,0 +1,150 @@
+//! The command line: each word with its values and its help.
+use clap::builder::ValueParser;
+use clap::{Arg, Command};
+use std::alloc::{AllocError, Global};
+
+const HELP_OF_BOARD: &str = "\
+The board begins with the initial position. Each line gets one line as its answer:
+
+  move TEXT     TEXT names a legal move by its squares, as e2e4, e7e8q for a
+                promotion, or e1g1 for castling: the new position as FEN
+                other TEXT: no 9 BadMove
+                a counter of the position is 65535: no 20 TooLong
+  other lines   no 1 BadLine
+
+It makes no claim on the ends of a game.
+
+Limits: a line has at most 255 bytes before its line feed, a carriage return among
+them. A longer one is answered by bye LineTooLong, which ends the run. What follows
+the last line feed is no line.
+
+Exit status: 0 where the input has ended or a line was too long; 1 where a read or
+a write failed, with fault Read or fault Write on standard error; 2 for words that
+the program does not know.
+
+Example:
+  printf 'move e2e4\\nmove e2e4\\n' | chess_server board
+prints
+  rnbqkbnr/pppppppp/8/8/4P3/8/PPPP1PPP/RNBQKBNR b KQkq e3 0 1
+  no 9 BadMove";
+
+const HELP_OF_FORMAT: &str = "\
+It makes the file where it isn't there, lengthens it with zero bytes where it is
+shorter than the limits need, and prints ok format S, S being the sectors of 512
+bytes that they need. A longer file is not cut. A file in which a journal may
+stand already is left as it is: fault Exists.
+
+Limits: 1 to 4096 games on the table at once, 1 to 20000 moves a game. They can be
+raised later by widen, never lowered.
+
+Exit status: 0; 1 with fault NAME on standard error: File (the file cannot be
+opened, made or lengthened, or another program has it open), Exists, Device (a
+read, a write or a sync failed), NoMemory, Write (the answer could not be
+printed); 2 for words that the program does not know.
+
+Example:
+  chess_server format --journal club.journal --games 4 --plies 60
+prints
+  ok format 212";
+
+const HELP_OF_DRILL: &str = "\
+On a device in memory two batches of commands are submitted: a game is opened and
+joined, then five moves are made. The second is stopped at each of its device calls,
+and each unsynced sector is lost, kept or left unreadable, in every combination; then
+the journal is opened again. It prints in how many cases there were, in how many no
+move shows and in how many all five do. No case shows some of them.
+
+Exit status: 0; 1 with fault NAME on standard error, as NoMemory; 2 for words that
+the program does not know.
+
+Example:
+  chess_server drill
+prints
+  drill 28 none 25 all 3";
+
+const HELP_OF_WIDEN: &str = "\
+It lengthens the file with zero bytes to the need of the new limits, raises the limits
+of the journal's table, and prints ok widen S, S being the sectors of 512 bytes that
+they need. Games and moves stay. A stop in the middle leaves the old limits or the new.
+
+Limits: 1 to 4096 games, 1 to 20000 moves a game, neither below the present one: that
+is fault Limits, and the file is untouched.
+
+Exit status: 0; 1 with fault NAME on standard error: File (the file isn't there, or
+another program has it open), NotOurs (no journal stands in it), Damaged, TooSmall,
+Limits, Device (a read, a write or a sync of the file failed), Worn, NoMemory, Write;
+2 for words that the program does not know.
+
+Example:
+  chess_server widen --journal club.journal --games 8 --plies 60
+prints
+  ok widen 216";
+
+fn journal_arg<'a>(alloc: Global) -> Arg<'a> {
+    Arg::new(alloc, "journal")
+        .long("journal")
+        .value_name("F")
+        .required(true)
+        .help("The journal's file")
+}
+
+fn number_arg<'a>(
+    alloc: Global,
+    name: &'a str,
+    value_name: &'a str,
+    (least, most): (u64, u64),
+    help: &'a str,
+) -> Arg<'a> {
+    Arg::new(alloc, name)
+        .long(name)
+        .value_name(value_name)
+        .required(true)
+        .value_parser(ValueParser::unsigned(least, most))
+        .help(help)
+}
+
+fn with_limits<'a>(alloc: Global, command: Command<'a>) -> Result<Command<'a>, AllocError> {
+    let games = "How many games the table holds, 1 to 4096";
+    let plies = "How many moves a game may have, 1 to 20000";
+    command
+        .arg(journal_arg(alloc))?
+        .arg(number_arg(alloc, "games", "G", (1, 4_096), games))?
+        .arg(number_arg(alloc, "plies", "P", (1, 20_000), plies))
+}
+
+fn board_command<'a>(alloc: Global) -> Command<'a> {
+    Command::new(alloc, "board")
+        .about("Answers the lines of standard input, over one board in memory")
+        .after_help(HELP_OF_BOARD)
+}
+
+fn format_command<'a>(alloc: Global) -> Result<Command<'a>, AllocError> {
+    let command = Command::new(alloc, "format")
+        .about("Makes a file a journal without games")
+        .after_help(HELP_OF_FORMAT);
+    with_limits(alloc, command)
+}
+
+fn drill_command<'a>(alloc: Global) -> Command<'a> {
+    Command::new(alloc, "drill")
+        .about("Plays every crash of one batch on a device in memory")
+        .after_help(HELP_OF_DRILL)
+}
+
+fn widen_command<'a>(alloc: Global) -> Result<Command<'a>, AllocError> {
+    let command = Command::new(alloc, "widen")
+        .about("Raises the limits of a journal's table")
+        .after_help(HELP_OF_WIDEN);
+    with_limits(alloc, command)
+}
+
+/// The program's command line.
+pub fn command_line<'a>(alloc: Global) -> Result<Command<'a>, AllocError> {
+    Command::new(alloc, "chess_server")
+        .about("A chess game server whose games last. Each word has its own --help.")
+        .subcommand_required(true)
+        .subcommand(board_command(alloc))?
+        .subcommand(format_command(alloc)?)?
+        .subcommand(drill_command(alloc))?
+        .subcommand(widen_command(alloc)?)
+}
