@@ -25,8 +25,8 @@ use Rattle.chess_hub.specs.Faults.{IsDevice, UnlessDevice, CountsFault}
 
 -- ---- the sessions and the table
 
--- A turn at a moment: lines that waited were taken, round the sessions by rising number; their commands were answered on
--- the store's table as one batch, and each session has the answers to its lines.
+-- A turn at a moment: lines that waited were taken, round the sessions by rising number; their commands were answered
+-- on the store's table as one batch, and each session has the answers to its lines.
 pub record HasTurned (at most : ℕ) (old new : Sessions) (before after : TableState) : Type 0 where
   pub taken : List Taken
   pub lines : AreTakenAs (turn_lines most (waiting_of old)) taken

@@ -43,10 +43,13 @@ fn ask<D: Device>(
     ensures tried { IsTried D.state D.sector_count D.failures store.old.journal.device store.new.journal.device result
         store.old.table store.new.table store.old.failed store.new.failed }
 {
+    // With it, the table's bounds are known.
+    let _limits = store.limits();
     if commands.is_empty() {
         return Ok(Vec::new(alloc));
     }
-    Ok(store.submit(commands)?)
+    let replies = store.submit(commands)?;
+    Ok(replies)
 }
 
 impl<D: Device> Hub<D> {
@@ -62,8 +65,8 @@ impl<D: Device> Hub<D> {
         }
     }
 
-    /// Begins a session, under a number that no open one has. `Busy` exactly where 64 are open, or more; `NoMemory` where
-    /// memory is refused. After both nothing has changed.
+    /// Begins a session, under a number that no open one has. `Busy` exactly where 64 are open, or more; `NoMemory`
+    /// where memory is refused. After both nothing has changed.
     pub fn connect(&mut self) -> Result<Sid, HubFault>
         ensures new { IfOk result (λ sid. session_at self.old.sessions sid ≡ None) }
         ensures opened { IfOk result (λ sid. Changes self.old.sessions self.new.sessions sid (Some fresh)) }
@@ -82,8 +85,8 @@ impl<D: Device> Hub<D> {
         self.sessions.is_open(sid)
     }
 
-    /// Takes bytes that an open session sends, at most 4,096. `LineTooLong` exactly where a line of it was too long before;
-    /// `NoMemory` where memory is refused. After both nothing has changed.
+    /// Takes bytes that an open session sends, at most 4,096. `LineTooLong` exactly where a line of it was too long
+    /// before; `NoMemory` where memory is refused. After both nothing has changed.
     pub fn feed(&mut self, sid: Sid, piece: &[u8]) -> Result<(), HubFault>
         requires open { IsSome (session_at self.old.sessions sid) }
         requires short { length piece.now ≤ 4096 }
@@ -98,16 +101,16 @@ impl<D: Device> Hub<D> {
         Ok(self.sessions.feed(sid, piece)?)
     }
 
-    /// Takes lines that wait, at most `most` of 1 to 64: round the sessions by rising number, one line of each, then the
-    /// second of each, and so on. Their commands go to the store as one batch, at this moment, and each session has the
-    /// answers to its lines. A `name` line is answered here, and the name holds for the session's lines after it; a line of
-    /// a session without a name asks by none. Without a command the store is not called.
+    /// Takes lines that wait, at most `most` of 1 to 64: round the sessions by rising number, one line of each, then
+    /// the second of each, and so on. Their commands go to the store as one batch, at this moment, and each session has
+    /// the answers to its lines. A `name` line is answered here, and the name holds for the session's lines after it; a
+    /// session without a name asks by none. Without a command the store is not called.
     ///
     /// After a fault every session is as it was, and no answer has left: `NoMemory`, where memory was refused to the
     /// sessions, and the store is as it was; or `Store`, the store's own, with what it leaves as `submit` says.
     ///
-    /// Where the store was kept, a crash at any moment of the turn leaves what means the table from before or that with the
-    /// whole batch; at `Ok` every image means the latter.
+    /// Where the store was kept, a crash at any moment of the turn leaves what means the table from before or that with
+    /// the whole batch; at `Ok` every image means the latter.
     pub fn turn(&mut self, at: u64, most: usize) -> Result<(), HubFault>
         requires some { 1 ≤ most }
         requires few { most ≤ 64 }
@@ -139,8 +142,8 @@ impl<D: Device> Hub<D> {
         Ok(())
     }
 
-    /// The oldest answer that an open session was not given, if there is one; behind all its answers, where a line was too
-    /// long and no line before that waits, once `bye LineTooLong`. It takes no memory.
+    /// The oldest answer that an open session was not given, if there is one; behind all its answers, where a line was
+    /// too long and no line before that waits, once `bye LineTooLong`. It takes no memory.
     pub fn output(&mut self, sid: Sid) -> Option<Reply>
         requires { IsSome (session_at self.old.sessions sid) }
         ensures given { IfSome (session_at self.old.sessions sid) (λ s. option_map said result ≡ first_due (due s)) }

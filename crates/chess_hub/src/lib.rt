@@ -1,5 +1,5 @@
-//! The hub: sessions over a store. What players send is cut into lines, which are taken in turn from all sessions; their
-//! commands go to the store as one batch, and each session is given the answers to its lines.
+//! The hub: sessions over a store. What players send is cut into lines, which are taken in turn from all sessions;
+//! their commands go to the store as one batch, and each session is given the answers to its lines.
 #![tactic(auto)]
 
 mod fault;
@@ -8,3 +8,6 @@ mod hub;
 pub use chess_sessions::Sid;
 pub use fault::HubFault;
 pub use hub::Hub;
+
+#[cfg(test)]
+mod tests;
