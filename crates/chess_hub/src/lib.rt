@@ -4,10 +4,12 @@
 
 mod fault;
 mod hub;
+mod laws;
 
 pub use chess_sessions::Sid;
 pub use fault::HubFault;
 pub use hub::Hub;
+pub use laws::law_of_sessions;
 
 #[cfg(test)]
 mod tests;
