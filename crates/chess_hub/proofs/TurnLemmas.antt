@@ -1,6 +1,6 @@
 -- What a batch and a turn leave.
-use Rattle.std.specs.Prelude.{ℕ, ◌≡◌, ◌≤◌, ◌↔◌, Bool, true, false, List, [], ◌∷◌, length, Option, None, Result, Ok, Err, OnOk, IfErr, IsErrOf, IsSomeAnd}
-use Rattle.std.proofs.Common.{refl, sym, ap, subst, arith}
+use Rattle.std.specs.Prelude.{ℕ, ◌≡◌, ◌↔◌, Bool, true, List, [], ◌∷◌, length, Option, None, Result, Ok, Err, OnOk, IfErr, IsSomeAnd}
+use Rattle.std.proofs.Common.{refl, sym, subst, arith}
 use Rattle.std.specs.Option.{MatchOption}
 use Rattle.rec_codec.specs.declared.header.Header.{Header}
 use Rattle.rec_codec.specs.declared.record.Entry.{Entry}
@@ -16,8 +16,7 @@ use Rattle.chess_sessions.specs.declared.sessions.Sessions.{Sessions}
 use Rattle.chess_sessions.specs.Session.{SessionState, session_at, IsUnchanged}
 use Rattle.chess_sessions.specs.Delivery.{Answered, AllAnswered, HasAnswered, own}
 use Rattle.chess_store.specs.declared.fault.StoreFault.{StoreFault}
-use Rattle.chess_store.specs.declared.fault.StoreFault.TheVariants as store
-use Rattle.chess_store.specs.Batch.{IsAnswered, AreAnswered, IsWornOut, act_count}
+use Rattle.chess_store.specs.Batch.{IsAnswered}
 use Rattle.chess_store.specs.Faults as faults
 use Rattle.chess_store.specs.Means.{MeansEither, AllMean, IsKept}
 use Rattle.chess_store.proofs.MeansLemmas.{kept_means}
@@ -26,7 +25,7 @@ use Rattle.chess_store.proofs.CallLemmas.{ok_was}
 use Rattle.chess_hub.specs.declared.fault.HubFault.{HubFault}
 use Rattle.chess_hub.specs.declared.fault.HubFault.TheVariants.{Busy, NoMemory, LineTooLong, Store}
 use Rattle.chess_hub.specs.Faults.{UnlessDevice, IsDevice, CountsFault}
-use Rattle.chess_hub.specs.Turning.{IsBatchFault, AreRefused, IsTurnFault, Lasts, IsTried}
+use Rattle.chess_hub.specs.Turning.{IsTurnFault, Lasts, IsTried}
 
 -- ---- the replies of a batch
 
@@ -38,67 +37,6 @@ answered_count [] before (reply ∷ replies) entries after is = absurd is
 answered_count (command ∷ commands) before [] entries after is = absurd is
 answered_count (command ∷ commands) before (reply ∷ replies) entries after is =
     omega (arith, answered_count commands is.between replies is.others after is.rest)
-
--- nothing is asked, and nothing is answered
-pub none_answered : (table : TableState) (commands : List Command) (replies : List Reply) → commands ≡ []
-    → replies ≡ [] → AreAnswered table commands replies table
-none_answered table commands replies none no_reply =
-    subst (λ (cs : List Command). AreAnswered table cs replies table) (sym none)
-    (subst (λ (rs : List Reply). AreAnswered table [] rs table) (sym no_reply)
-    (record { entries = []; answered = record { none = refl; same = refl } }))
-
--- ---- why a batch was refused
-
-works : (failed : Bool) (fault : StoreFault) → (failed ≡ true → fault ≡ store.Failed) → (fault ≡ store.Failed → ⊥)
-    → failed ≡ false
-works true fault was other = absurd (other (was refl))
-works false fault was other = refl
-
-by_fault : (fault : StoreFault) (seq : ℕ) (failed : Bool) (before after : TableState) (commands : List Command)
-    → (failed ≡ true → fault ≡ store.Failed) → (fault ≡ store.Failed → failed ≡ true)
-    → (fault ≡ store.Worn → (failed ≡ false) × IsWornOut seq before.entries (act_count commands))
-    → faults.IsSubmitFault fault → faults.MayLast fault before commands after
-    → IsBatchFault fault seq failed before after commands
-by_fault (store.Device pending) seq failed before after commands was is worn known last =
-    (works failed (store.Device pending) was (λ same. cc), last)
-by_fault store.Failed seq failed before after commands was is worn known last = (is refl, last)
-by_fault store.Worn seq failed before after commands was is worn known last =
-    let out = worn refl in (out.0, out.1, last)
-by_fault store.NoMemory seq failed before after commands was is worn known last =
-    (works failed store.NoMemory was (λ same. cc), last)
-by_fault store.Exists seq failed before after commands was is worn known last = absurd known
-by_fault store.TooSmall seq failed before after commands was is worn known last = absurd known
-by_fault store.NotOurs seq failed before after commands was is worn known last = absurd known
-by_fault store.Damaged seq failed before after commands was is worn known last = absurd known
-
-other_result : {T : Type 0} (r : Result T StoreFault) (x : T) → r ≡ Ok x → r ≡ Err store.Failed → ⊥
-other_result r x a b = cc
-
-same_fault : {T : Type 0} (r : Result T StoreFault) (one other : StoreFault) → r ≡ Err one → r ≡ Err other → one ≡ other
-same_fault r one other a b = cc
-
-pub batch_fault : {T : Type 0} (r : Result T StoreFault) (fault : StoreFault) (made : HubFault) (seq : ℕ)
-    (failed : Bool) (before after : TableState) (commands : List Command) → 1 ≤ length commands → r ≡ Err fault → made ≡ Store fault
-    → (IsErrOf r store.Failed ↔ (failed ≡ true))
-    → (IsErrOf r store.Worn ↔ ((failed ≡ false) × IsWornOut seq before.entries (act_count commands)))
-    → faults.IsSubmitFault fault → faults.MayLast fault before commands after
-    → IsTurnFault made ⊥ (λ refused. AreRefused refused seq failed before after commands)
-batch_fault r fault made seq failed before after commands some was is as_failed as_worn known last =
-    subst (λ (f : HubFault). IsTurnFault f ⊥ (λ refused. AreRefused refused seq failed before after commands)) (sym is)
-    (record {
-      some = some;
-      why = by_fault fault seq failed before after commands
-          (λ now. same_fault r fault store.Failed was (as_failed.1 now))
-          (λ same. as_failed.0 (subst (λ (f : StoreFault). r ≡ Err f) same was))
-          (λ same. as_worn.0 (subst (λ (f : StoreFault). r ≡ Err f) same was))
-          known last;
-    })
-
--- a store that answered had not failed
-pub worked : {T : Type 0} (r : Result T StoreFault) (x : T) (failed : Bool) → r ≡ Ok x
-    → (IsErrOf r store.Failed ↔ (failed ≡ true)) → failed ≡ false
-worked r x true was as_failed = let err : r ≡ Err store.Failed = as_failed.1 refl in absurd (other_result r x was err)
-worked r x false was as_failed = refl
 
 -- ---- what holds of a fault of the store holds of the hub's
 

@@ -6,7 +6,8 @@ use Rattle.chess_sessions.specs.Session.{said}
 use Rattle.chess_sessions.specs.Answers.{name_at, commands_of, AreAnswers}
 use Rattle.chess_sessions.specs.Delivery.{HaveRoom}
 use Rattle.chess_store.specs.Batch.{AreAnswered}
-use Rattle.chess_hub.specs.Turning.{AreRefused}
+use Rattle.chess_store.specs.declared.fault.StoreFault.{StoreFault}
+use Rattle.chess_hub.specs.Turning.{AsksFor, AreRefused}
 use Rattle.chess_hub.proofs.TurnLemmas.{lasts_same, lasts_passed, lasts_done, fault_passed, answered_since}
 use Rattle.chess_hub.proofs.hub.Hub.turn.Goals as goal
 
@@ -43,14 +44,18 @@ returns-in_err-replies-clause-fault g c =
     let asked : c.deref-3.result.now ≡ commands_of at (name_at s.sessions) taken =
     c.deref-3.ensures.value ∙ c.in_ok-commands.ensures.commands
     ∙ ap (λ (ts : List Taken). commands_of at (name_at s.sessions) ts) c.deref.ensures.value in
-    fault_passed c.ask.result r.result c.in_err-replies.field-0.0 e.0 _ _ _ c.in_err-replies.was e.1 e.2
-    c.ask.ensures.fault
-    (λ refused is. record {
+    let Was : StoreFault → Type 0 = λ refused. AreRefused refused s.store.journal.header.seq s.store.failed s.store.table
+    c.ask.new.store.table c.deref-3.result.now in
+    let Is : StoreFault → Type 0 = λ refused. AsksFor at c.args.most s.sessions (AreRefused refused
+    s.store.journal.header.seq s.store.failed s.store.table c.ask.new.store.table) in
+    let more : (refused : StoreFault) → Was refused → Is refused = λ refused is. record {
       taken = taken;
       lines = c.in_ok-taken.ensures.taken;
       those = subst (λ (cs : List Command). AreRefused refused s.store.journal.header.seq s.store.failed s.store.table
           c.ask.new.store.table cs) asked is;
-    })
+    } in
+    fault_passed c.ask.result r.result c.in_err-replies.field-0.0 e.0 _ Was Is c.in_err-replies.was e.1 e.2
+    c.ask.ensures.fault more
 
 pub returns-in_err-replies-clause-lasts : goal.returns-in_err-replies-clause-lasts
 returns-in_err-replies-clause-lasts g c = λ kept.
