@@ -20,7 +20,7 @@ use Rattle.chess_store.specs.declared.fault.StoreFault.TheVariants as store
 use Rattle.chess_store.specs.Means.{MeansEither, AllMean, IsKept}
 use Rattle.chess_store.specs.Batch.{AreAnswered, AreEntered, IsWornOut, act_count}
 use Rattle.chess_hub.specs.declared.fault.HubFault.{HubFault}
-use Rattle.chess_hub.specs.declared.fault.HubFault.TheVariants.{Busy, NoMemory, LineTooLong, Store}
+use Rattle.chess_hub.specs.declared.fault.HubFault.TheVariants.{NoMemory, Store}
 use Rattle.chess_hub.specs.Faults.{IsDevice, UnlessDevice, CountsFault}
 
 -- ---- the sessions and the table
