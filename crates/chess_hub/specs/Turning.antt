@@ -1,5 +1,5 @@
 -- What a turn does.
-use Rattle.std.specs.Prelude.{ℕ, ◌≡◌, ◌↔◌, Bool, true, false, List, [], map, Result, OnOk, IfErr}
+use Rattle.std.specs.Prelude.{ℕ, ◌≡◌, ◌≤◌, ◌↔◌, Bool, true, false, List, length, map, Result, OnOk, IfErr}
 use Rattle.rec_codec.specs.declared.header.Header.{Header}
 use Rattle.sector_dev.specs.Image.{Sectors}
 use Rattle.sector_dev.specs.Device.{State}
@@ -20,7 +20,7 @@ use Rattle.chess_store.specs.declared.fault.StoreFault.TheVariants as store
 use Rattle.chess_store.specs.Means.{MeansEither, AllMean, IsKept}
 use Rattle.chess_store.specs.Batch.{AreAnswered, AreEntered, IsWornOut, act_count}
 use Rattle.chess_hub.specs.declared.fault.HubFault.{HubFault}
-use Rattle.chess_hub.specs.declared.fault.HubFault.TheVariants.{Busy, NoMemory, LineTooLong, Store}
+use Rattle.chess_hub.specs.declared.fault.HubFault.TheVariants.{NoMemory, Store}
 use Rattle.chess_hub.specs.Faults.{IsDevice, UnlessDevice, CountsFault}
 
 -- ---- the sessions and the table
@@ -54,6 +54,12 @@ IsBatchFault store.Worn seq failed before after commands =
     (failed ≡ false) × IsWornOut seq before.entries (act_count commands) × (after ≡ before)
 IsBatchFault store.NoMemory seq failed before after commands = (failed ≡ false) × (after ≡ before)
 IsBatchFault fault seq failed before after commands = ⊥
+
+-- the store was called with these commands, and refused them
+pub record AreRefused (fault : StoreFault) (seq : ℕ) (failed : Bool) (before after : TableState)
+    (commands : List Command) : Type 0 where
+  pub some : 1 ≤ length commands
+  pub why : IsBatchFault fault seq failed before after commands
 
 -- Why a turn fails: memory was refused to the sessions, and `Same`, the store was not called; or the store refused the
 -- batch, for this reason.

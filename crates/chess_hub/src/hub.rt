@@ -5,7 +5,7 @@ ghost use Rattle.chess_sessions.specs.Session.{said, fresh, session_at, session_
 ghost use Rattle.chess_store.specs.Batch.{AreAnswered};
 ghost use Rattle.chess_store.specs.Means.{IsKept};
 ghost use Rattle.chess_hub.specs.Faults.{IsConnectFault, IsFeedFault};
-ghost use Rattle.chess_hub.specs.Turning.{HasTurned, AsksFor, IsBatchFault, IsTurnFault, Lasts, IsTried};
+ghost use Rattle.chess_hub.specs.Turning.{HasTurned, AsksFor, AreRefused, IsTurnFault, Lasts, IsTried};
 
 use crate::fault::HubFault;
 use chess_answer::Reply;
@@ -35,7 +35,7 @@ fn ask<D: Device>(
     ensures count { IfOk result (λ replies. length replies.items ≡ length commands.now) }
     ensures quiet { commands.now ≡ [] → store.new ≡ store.old }
     ensures works { OnOk result (store.old.failed ≡ true → commands.now ≡ []) }
-    ensures fault { IfErr result (λ fault. IsTurnFault fault ⊥ (λ refused. IsBatchFault refused
+    ensures fault { IfErr result (λ fault. IsTurnFault fault ⊥ (λ refused. AreRefused refused
         store.old.journal.header.seq store.old.failed store.old.table store.new.table commands.now)) }
     ensures lasts { IsKept (D.state store.old.journal.device) store.old.journal.header store.old.journal.compaction
         store.old.table → Lasts result (D.state store.old.journal.device) (D.state store.new.journal.device)
@@ -122,7 +122,7 @@ impl<D: Device> Hub<D> {
             (λ commands. self.old.store.failed ≡ true → commands ≡ [])) }
         ensures unchanged { OnErr result (IsUnchanged self.old.sessions self.new.sessions) }
         ensures fault { IfErr result (λ fault. IsTurnFault fault (self.new.store ≡ self.old.store)
-            (λ refused. AsksFor at most self.old.sessions (IsBatchFault refused self.old.store.journal.header.seq
+            (λ refused. AsksFor at most self.old.sessions (AreRefused refused self.old.store.journal.header.seq
             self.old.store.failed self.old.store.table self.new.store.table))) }
         ensures lasts { IsKept (D.state self.old.store.journal.device) self.old.store.journal.header
             self.old.store.journal.compaction self.old.store.table
