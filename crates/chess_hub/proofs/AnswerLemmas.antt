@@ -108,13 +108,13 @@ first-answered at session sid (Some (Act act)) name commands taken before merged
     )
 first-answered at session sid (Some (Called given)) name commands taken before merged table after replies entries answers
     is h k later = (
-  _,
-  k.0,
-  table,
-  k.1,
-  (refl, refl, refl),
-  later table replies entries k.0 h k.2,
-)
+      _,
+      k.0,
+      table,
+      k.1,
+      (refl, refl, refl),
+      later table replies entries k.0 h k.2,
+    )
 first-answered at session sid None name commands taken before merged table after replies entries answers is h k later = (
   _,
   k.0,

@@ -52,17 +52,17 @@ which-one (Connected other ∷ calls) a b e some =
           sym e ∙ ap (λ t. cond t (suc (begun_count calls)) (which a calls)) l in
           sym (eqb-true other a l) ∙ eqb-true other b (which-new b calls (other == b) new)
       | inr l ↦ elim (cases_Bool (other == b)) [
-          | inl r ↦
-              let new : which a (Connected other ∷ calls) ≡ suc (begun_count calls) =
-              e ∙ ap (λ t. cond t (suc (begun_count calls)) (which b calls)) r in
-              sym (eqb-true other a (which-new a calls (other == a) new)) ∙ eqb-true other b r
-          | inr r ↦
-              let here : which a (Connected other ∷ calls) ≡ which a calls =
-              ap (λ t. cond t (suc (begun_count calls)) (which a calls)) l in
-              let there : which b (Connected other ∷ calls) ≡ which b calls =
-              ap (λ t. cond t (suc (begun_count calls)) (which b calls)) r in
-              which-one calls a b (sym here ∙ e ∙ there) (subst (λ n. 1 ≤ n) here some)
-        ]
+        | inl r ↦
+            let new : which a (Connected other ∷ calls) ≡ suc (begun_count calls) =
+            e ∙ ap (λ t. cond t (suc (begun_count calls)) (which b calls)) r in
+            sym (eqb-true other a (which-new a calls (other == a) new)) ∙ eqb-true other b r
+        | inr r ↦
+            let here : which a (Connected other ∷ calls) ≡ which a calls =
+            ap (λ t. cond t (suc (begun_count calls)) (which a calls)) l in
+            let there : which b (Connected other ∷ calls) ≡ which b calls =
+            ap (λ t. cond t (suc (begun_count calls)) (which b calls)) r in
+            which-one calls a b (sym here ∙ e ∙ there) (subst (λ n. 1 ≤ n) here some)
+      ]
     ]
 which-one (Closed other ∷ calls) a b e some = which-one calls a b e some
 which-one (Fed other piece ∷ calls) a b e some = which-one calls a b e some

@@ -179,15 +179,15 @@ own-or-none calls at session (a ∷ answered) opens =
       })
       | inr e ↦ elim (own-or-none calls at session answered
           (All-tail (λ a. is_open a.taken.sid calls ≡ true) a answered opens)) [
-          | inl h ↦ inl h
-          | inr h ↦ inr (record {
-            text = rw e h.text;
-            count = sum_by-cons (λ (m : Merged). cond (m.session == session) 1 0) (merged_of calls at a.taken)
-                (lines_in calls at answered)
-                ∙ ap (λ t. cond t 1 0 + taken_count session (lines_in calls at answered)) e
-                ∙ ap (λ n. 0 + n) h.count;
-          })
-        ]
+            | inl h ↦ inl h
+            | inr h ↦ inr (record {
+              text = rw e h.text;
+              count = sum_by-cons (λ (m : Merged). cond (m.session == session) 1 0) (merged_of calls at a.taken)
+                  (lines_in calls at answered)
+                  ∙ ap (λ t. cond t 1 0 + taken_count session (lines_in calls at answered)) e
+                  ∙ ap (λ n. 0 + n) h.count;
+            })
+          ]
     ]
 
 pub answers-none : (session : ℕ) (merged lines : List Merged) (answers more : List Said) → length answers ≡ length merged →
