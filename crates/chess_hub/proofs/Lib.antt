@@ -1,0 +1,10 @@
+pub mod TurnLemmas
+pub mod HearingLemmas
+pub mod CallLemmas
+pub mod SlotLemmas
+pub mod CountLemmas
+pub mod AnswerLemmas
+pub mod TextLemmas
+pub mod SessionLemmas
+pub mod LawLemmas
+mod Examples

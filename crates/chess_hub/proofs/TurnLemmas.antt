@@ -1,0 +1,188 @@
+-- What a batch and a turn leave.
+use Rattle.std.specs.Prelude.{ℕ, ◌≡◌, ◌↔◌, Bool, true, List, [], ◌∷◌, length, Option, None, Result, Ok, Err, OnOk, IfErr, IsSomeAnd}
+use Rattle.std.proofs.Common.{refl, sym, subst, arith}
+use Rattle.std.specs.Option.{MatchOption}
+use Rattle.rec_codec.specs.declared.header.Header.{Header}
+use Rattle.rec_codec.specs.declared.record.Entry.{Entry}
+use Rattle.sector_dev.specs.Image.{Sectors}
+use Rattle.sector_dev.specs.Device.{State, IsCoherent}
+use Rattle.sector_dev.specs.Runs.{LeavesOnly}
+use Rattle.sector_journal.specs.declared.compactions.Compaction.{Compaction}
+use Rattle.chess_entry.specs.declared.commands.Command.{Command}
+use Rattle.chess_entry.specs.State.{TableState}
+use Rattle.chess_entry.specs.Table.{IsTable}
+use Rattle.chess_answer.specs.declared.reads.Reply.{Reply}
+use Rattle.chess_sessions.specs.declared.sessions.Sessions.{Sessions}
+use Rattle.chess_sessions.specs.Session.{SessionState, session_at, IsUnchanged}
+use Rattle.chess_sessions.specs.Delivery.{Answered, AllAnswered, HasAnswered, own}
+use Rattle.chess_store.specs.declared.fault.StoreFault.{StoreFault}
+use Rattle.chess_store.specs.Batch.{IsAnswered}
+use Rattle.chess_store.specs.Faults as faults
+use Rattle.chess_store.specs.Means.{MeansEither, AllMean, IsKept}
+use Rattle.chess_store.proofs.MeansLemmas.{kept_means}
+use Rattle.chess_store.proofs.RunLemmas.{same_leaves, same_either}
+use Rattle.chess_store.proofs.CallLemmas.{ok_was}
+use Rattle.chess_hub.specs.declared.fault.HubFault.{HubFault}
+use Rattle.chess_hub.specs.declared.fault.HubFault.TheVariants.{Busy, NoMemory, LineTooLong, Store}
+use Rattle.chess_hub.specs.Faults.{UnlessDevice, IsDevice, CountsFault}
+use Rattle.chess_hub.specs.Turning.{IsTurnFault, Lasts, IsTried}
+
+-- ---- the replies of a batch
+
+-- one for each command
+pub answered_count : (commands : List Command) (before : TableState) (replies : List Reply) (entries : List Entry)
+    (after : TableState) → IsAnswered before commands replies entries after → length replies ≡ length commands
+answered_count [] before [] entries after is = refl
+answered_count [] before (reply ∷ replies) entries after is = absurd is
+answered_count (command ∷ commands) before [] entries after is = absurd is
+answered_count (command ∷ commands) before (reply ∷ replies) entries after is =
+    omega (arith, answered_count commands is.between replies is.others after is.rest)
+
+-- ---- what holds of a fault of the store holds of the hub's
+
+pub unless_of : (fault : StoreFault) (made : HubFault) (P : Type 0) → made ≡ Store fault
+    → faults.UnlessDevice fault P → UnlessDevice made P
+unless_of fault made P is holds = subst (λ (f : HubFault). UnlessDevice f P) (sym is) holds
+
+pub fails_of : (fault : StoreFault) (made : HubFault) (P : Type 0) → made ≡ Store fault
+    → (faults.IsDevice fault → P) → IsDevice made → P
+fails_of fault made P is holds = subst (λ (f : HubFault). IsDevice f → P) (sym is) holds
+
+pub counts_of : (fault : StoreFault) (made : HubFault) (old new : ℕ) → made ≡ Store fault
+    → faults.CountsFault fault old new → CountsFault made old new
+counts_of fault made old new is holds = subst (λ (f : HubFault). CountsFault f old new) (sym is) holds
+
+module _ {T : Type 0} where
+  pub lasts_refused : (made : Result T HubFault) (y : HubFault) (fault : StoreFault) (old new : State) (header : Header)
+      (compaction : Compaction) (before after : TableState) → made ≡ Err y → y ≡ Store fault
+      → LeavesOnly old new (MeansEither before after)
+      → ((image : Sectors) → new.image image → MeansEither before after image)
+      → faults.UnlessDevice fault (IsKept new header compaction after)
+      → Lasts made old new header compaction before after
+  lasts_refused made y fault old new header compaction before after is same leaves either kept =
+      subst (λ (r : Result T HubFault). Lasts r old new header compaction before after) (sym is) (record {
+        any_moment = leaves;
+        either = either;
+        means = tt;
+        kept = tt;
+        kept_err = unless_of fault y (IsKept new header compaction after) same kept;
+      })
+
+  pub tried_refused : {D : Type 0} (state : D → State) (sector_count failures : D → ℕ) (old new : D)
+      (made : Result T HubFault) (y : HubFault) (fault : StoreFault) (before after : TableState)
+      (failed new_failed : Bool) → made ≡ Err y → y ≡ Store fault
+      → ((state new).keeps_model ↔ (state old).keeps_model) → sector_count new ≡ sector_count old
+      → after.limits ≡ before.limits → IsTable after → (after ≡ before → new ≡ old)
+      → (faults.IsDevice fault → new_failed ≡ true)
+      → faults.UnlessDevice fault ((new ≡ old) × (after ≡ before) × (new_failed ≡ failed))
+      → faults.CountsFault fault (failures old) (failures new)
+      → IsTried state sector_count failures old new made before after failed new_failed
+  tried_refused state sector_count failures old new made y fault before after failed new_failed is same model size limits
+      bounds idle fails unchanged counts =
+      subst (λ (r : Result T HubFault). IsTried state sector_count failures old new r before after failed new_failed)
+      (sym is) (record {
+        model = model;
+        size = size;
+        limits = limits;
+        bounds = bounds;
+        idle = idle;
+        works = tt;
+        fails = fails_of fault y (new_failed ≡ true) same fails;
+        unchanged = unless_of fault y ((new ≡ old) × (after ≡ before) × (new_failed ≡ failed)) same unchanged;
+        cause = tt;
+        cause_err = counts_of fault y (failures old) (failures new) same counts;
+      })
+
+  -- nothing was asked of the store
+  pub lasts_same : (made : Result T HubFault) (y : HubFault) (sectors : ℕ) (now : State) (header : Header)
+      (compaction : Compaction) (table : TableState) → IsCoherent sectors now → made ≡ Err y → y ≡ NoMemory
+      → IsKept now header compaction table → Lasts made now now header compaction table table
+  lasts_same made y sectors now header compaction table coherent is same kept =
+      subst (λ (r : Result T HubFault). Lasts r now now header compaction table table) (sym is) (record {
+        any_moment = same_leaves sectors now now header compaction table table coherent refl kept;
+        either = same_either now now header compaction table table refl kept;
+        means = tt;
+        kept = tt;
+        kept_err = subst (λ (f : HubFault). UnlessDevice f (IsKept now header compaction table)) (sym same) kept;
+      })
+
+  pub lasts_idle : (x : T) (sectors : ℕ) (now : State) (header : Header) (compaction : Compaction) (table : TableState)
+      → IsCoherent sectors now → IsKept now header compaction table
+      → Lasts {T = T} (Ok x) now now header compaction table table
+  lasts_idle x sectors now header compaction table coherent kept = record {
+    any_moment = same_leaves sectors now now header compaction table table coherent refl kept;
+    either = same_either now now header compaction table table refl kept;
+    means = kept_means now header compaction table kept;
+    kept = kept;
+    kept_err = tt;
+  }
+
+  pub lasts_answered : (given : Result T StoreFault) (x : T) (old new : State) (header : Header) (compaction : Compaction)
+      (before after : TableState) → given ≡ Ok x → LeavesOnly old new (MeansEither before after)
+      → ((image : Sectors) → new.image image → MeansEither before after image)
+      → OnOk given (AllMean new after) → OnOk given (IsKept new header compaction after)
+      → Lasts {T = T} (Ok x) old new header compaction before after
+  lasts_answered given x old new header compaction before after was leaves either means kept = record {
+    any_moment = leaves;
+    either = either;
+    means = ok_was given x (AllMean new after) was means;
+    kept = ok_was given x (IsKept new header compaction after) was kept;
+    kept_err = tt;
+  }
+
+-- ---- the turn
+
+-- a fault of the batch is one of the turn
+pub turn_fault : (fault : HubFault) (Same : Type 0) (P Q : StoreFault → Type 0) → ((refused : StoreFault) → P refused
+    → Q refused) → IsTurnFault fault ⊥ P → IsTurnFault fault Same Q
+turn_fault Busy Same P Q more is = is
+turn_fault NoMemory Same P Q more is = absurd is
+turn_fault LineTooLong Same P Q more is = is
+turn_fault (Store refused) Same P Q more is = more refused is
+
+module _ {S T : Type 0} where
+  pub lasts_passed : (given : Result S HubFault) (made : Result T HubFault) (fault y : HubFault) (old new : State)
+      (header : Header) (compaction : Compaction) (before after : TableState) → given ≡ Err fault → made ≡ Err y
+      → y ≡ fault → Lasts given old new header compaction before after
+      → Lasts made old new header compaction before after
+  lasts_passed given made fault y old new header compaction before after was is same lasts =
+      let l : Lasts {T = S} (Err fault) old new header compaction before after =
+      subst (λ (r : Result S HubFault). Lasts r old new header compaction before after) was lasts in
+      subst (λ (r : Result T HubFault). Lasts r old new header compaction before after) (sym is) (record {
+        any_moment = l.any_moment;
+        either = l.either;
+        means = tt;
+        kept = tt;
+        kept_err = subst (λ (f : HubFault). UnlessDevice f (IsKept new header compaction after)) (sym same) l.kept_err;
+      })
+
+  pub lasts_done : (given : Result S HubFault) (x : S) (z : T) (old new : State) (header : Header)
+      (compaction : Compaction) (before after : TableState) → given ≡ Ok x
+      → Lasts given old new header compaction before after
+      → Lasts {T = T} (Ok z) old new header compaction before after
+  lasts_done given x z old new header compaction before after was lasts =
+      let l : Lasts {T = S} (Ok x) old new header compaction before after =
+      subst (λ (r : Result S HubFault). Lasts r old new header compaction before after) was lasts in
+      record {
+        any_moment = l.any_moment;
+        either = l.either;
+        means = l.means;
+        kept = l.kept;
+        kept_err = tt;
+      }
+
+  pub fault_passed : (given : Result S HubFault) (made : Result T HubFault) (fault y : HubFault) (Same : Type 0)
+      (P Q : StoreFault → Type 0) → given ≡ Err fault → made ≡ Err y → y ≡ fault
+      → IfErr given (λ f. IsTurnFault f ⊥ P) → ((refused : StoreFault) → P refused → Q refused)
+      → IfErr made (λ f. IsTurnFault f Same Q)
+  fault_passed given made fault y Same P Q was is same holds more =
+      let h : IsTurnFault fault ⊥ P = subst (λ (r : Result S HubFault). IfErr r (λ f. IsTurnFault f ⊥ P)) was holds in
+      subst (λ (r : Result T HubFault). IfErr r (λ f. IsTurnFault f Same Q)) (sym is)
+      (subst (λ (f : HubFault). IsTurnFault f Same Q) (sym same) (turn_fault fault Same P Q more h))
+
+-- sessions that were as they were before they were answered
+pub answered_since : (at : ℕ) (answered : List Answered) (old mid new : Sessions) → IsUnchanged old mid
+    → AllAnswered at answered mid new → AllAnswered at answered old new
+answered_since at answered old mid new same all = λ sid.
+    subst (λ (was : Option SessionState). MatchOption was (session_at new sid ≡ None)
+    (λ s. IsSomeAnd (session_at new sid) (HasAnswered at (own sid answered) s))) (same sid) (all sid)

@@ -1,0 +1,5 @@
+pub mod Faults
+pub mod Turning
+pub mod Calls
+pub mod Sessions
+pub mod Law

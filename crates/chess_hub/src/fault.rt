@@ -1,0 +1,67 @@
+use chess_sessions::ConnectFault;
+use chess_store::StoreFault;
+use session_lines::FeedFault;
+use std::alloc::AllocError;
+
+/// Why a hub refuses a call.
+#[derive(Clone, Copy, Debug, PartialEq, Eq)]
+pub enum HubFault {
+    /// There are as many sessions as there may be.
+    Busy,
+    /// Memory was refused.
+    NoMemory,
+    /// A line of the session was too long.
+    LineTooLong,
+    /// The store refused a batch.
+    Store(StoreFault),
+}
+
+impl From<AllocError> for HubFault {
+    ghost use Rattle.std.specs.Prelude.{◌≡◌};
+    ghost use Rattle.chess_hub.specs.declared.fault.HubFault.TheVariants.{NoMemory};
+
+    ghost from_gives = { λ _ fault. fault ≡ NoMemory };
+
+    fn from(_: AllocError) -> HubFault {
+        HubFault::NoMemory
+    }
+}
+
+impl From<ConnectFault> for HubFault {
+    ghost use Rattle.std.specs.Prelude.{◌≡◌};
+    ghost use Rattle.chess_hub.specs.Faults.{of_connect};
+
+    ghost from_gives = { λ fault made. made ≡ of_connect fault };
+
+    fn from(fault: ConnectFault) -> HubFault {
+        match fault {
+            ConnectFault::Busy => HubFault::Busy,
+            ConnectFault::NoMemory => HubFault::NoMemory,
+        }
+    }
+}
+
+impl From<FeedFault> for HubFault {
+    ghost use Rattle.std.specs.Prelude.{◌≡◌};
+    ghost use Rattle.chess_hub.specs.Faults.{of_feed};
+
+    ghost from_gives = { λ fault made. made ≡ of_feed fault };
+
+    fn from(fault: FeedFault) -> HubFault {
+        match fault {
+            FeedFault::NoMemory => HubFault::NoMemory,
+            FeedFault::LineTooLong => HubFault::LineTooLong,
+        }
+    }
+}
+
+impl From<StoreFault> for HubFault {
+    ghost use Rattle.std.specs.Prelude.{◌≡◌};
+    ghost use Rattle.chess_hub.specs.declared.fault.HubFault.TheVariants.{Store};
+
+    ghost from_gives = { λ fault made. made ≡ Store fault };
+
+    fn from(fault: StoreFault) -> HubFault {
+        HubFault::Store(fault)
+    }
+}

@@ -1,0 +1,182 @@
+//! A hub.
+ghost use Rattle.std.specs.Prelude.{ℕ, ◌≡◌, ◌≤◌, ◌↔◌, true, false, [], Some, None, length, option_map, IsTrue, IsSome, IfSome, IfOk, IfErr, OnOk, OnErr, IsErrOf};
+ghost use Rattle.session_lines.specs.Heard.{heard_more};
+ghost use Rattle.chess_sessions.specs.Session.{said, fresh, session_at, session_count, Changes, IsUnchanged, due, first_due, given_one};
+ghost use Rattle.chess_store.specs.Batch.{AreAnswered};
+ghost use Rattle.chess_store.specs.Means.{IsKept};
+ghost use Rattle.chess_hub.specs.Faults.{IsConnectFault, IsFeedFault};
+ghost use Rattle.chess_hub.specs.Turning.{HasTurned, AsksFor, AreRefused, IsTurnFault, Lasts, IsTried};
+
+use crate::fault::HubFault;
+use chess_answer::Reply;
+use chess_entry::Command;
+use chess_sessions::{Sessions, Sid};
+use chess_store::Store;
+use sector_dev::Device;
+use std::alloc::Global;
+
+/// Sessions over a store, which it keeps.
+#[derive(Drop)]
+pub struct Hub<D: Device> {
+    alloc: Global,
+    sessions: Sessions,
+    store: Store<D>,
+}
+
+// Submits commands, at most 64; without one the store is not called.
+fn ask<D: Device>(
+    alloc: Global,
+    store: &mut Store<D>,
+    commands: &[Command],
+) -> Result<Vec<Reply>, HubFault>
+    requires few { length commands.now ≤ 64 }
+    ensures replies { IfOk result (λ replies.
+        AreAnswered store.old.table commands.now replies.items store.new.table) }
+    ensures count { IfOk result (λ replies. length replies.items ≡ length commands.now) }
+    ensures quiet { commands.now ≡ [] → store.new ≡ store.old }
+    ensures works { OnOk result (store.old.failed ≡ true → commands.now ≡ []) }
+    ensures fault { IfErr result (λ fault. IsTurnFault fault ⊥ (λ refused. AreRefused refused
+        store.old.journal.header.seq store.old.failed store.old.table store.new.table commands.now)) }
+    ensures lasts { IsKept (D.state store.old.journal.device) store.old.journal.header store.old.journal.compaction
+        store.old.table → Lasts result (D.state store.old.journal.device) (D.state store.new.journal.device)
+        store.new.journal.header store.new.journal.compaction store.old.table store.new.table }
+    ensures tried { IsTried D.state D.sector_count D.failures store.old.journal.device store.new.journal.device result
+        store.old.table store.new.table store.old.failed store.new.failed }
+{
+    // With it, the table's bounds are known.
+    let _limits = store.limits();
+    if commands.is_empty() {
+        return Ok(Vec::new(alloc));
+    }
+    let replies = store.submit(commands)?;
+    Ok(replies)
+}
+
+impl<D: Device> Hub<D> {
+    /// A hub without sessions, over a store, which it keeps.
+    pub fn new(alloc: Global, store: Store<D>) -> Self
+        ensures none { (sid : ℕ) → session_at result.sessions sid ≡ None }
+        ensures store { result.store ≡ store }
+    {
+        Hub {
+            alloc,
+            sessions: Sessions::new(alloc),
+            store,
+        }
+    }
+
+    /// Begins a session, under a number that no open one has. `Busy` exactly where 64 are open, or more; `NoMemory`
+    /// where memory is refused. After both nothing has changed.
+    pub fn connect(&mut self) -> Result<Sid, HubFault>
+        ensures new { IfOk result (λ sid. session_at self.old.sessions sid ≡ None) }
+        ensures opened { IfOk result (λ sid. Changes self.old.sessions self.new.sessions sid (Some fresh)) }
+        ensures busy { IsErrOf result HubFault.Busy ↔ (64 ≤ session_count self.old.sessions) }
+        ensures refused { OnErr result (IsUnchanged self.old.sessions self.new.sessions) }
+        ensures fault { IfErr result IsConnectFault }
+        ensures store { self.new.store ≡ self.old.store }
+    {
+        Ok(self.sessions.connect()?)
+    }
+
+    /// Whether a session of this number is open.
+    pub fn is_open(&self, sid: Sid) -> bool
+        ensures { IsTrue result ↔ IsSome (session_at self.now.sessions sid) }
+    {
+        self.sessions.is_open(sid)
+    }
+
+    /// Takes bytes that an open session sends, at most 4,096. `LineTooLong` exactly where a line of it was too long
+    /// before; `NoMemory` where memory is refused. After both nothing has changed.
+    pub fn feed(&mut self, sid: Sid, piece: &[u8]) -> Result<(), HubFault>
+        requires open { IsSome (session_at self.old.sessions sid) }
+        requires short { length piece.now ≤ 4096 }
+        ensures fed { IfSome (session_at self.old.sessions sid) (λ s. OnOk result (Changes self.old.sessions
+            self.new.sessions sid (Some (record s { heard = heard_more s.heard piece.now })))) }
+        ensures refused { OnErr result (IsUnchanged self.old.sessions self.new.sessions) }
+        ensures long { IfSome (session_at self.old.sessions sid) (λ s.
+            IsErrOf result HubFault.LineTooLong ↔ (s.heard.is_long ≡ true)) }
+        ensures fault { IfErr result IsFeedFault }
+        ensures store { self.new.store ≡ self.old.store }
+    {
+        Ok(self.sessions.feed(sid, piece)?)
+    }
+
+    /// Takes lines that wait, at most `most` of 1 to 64: round the sessions by rising number, one line of each, then
+    /// the second of each, and so on. Their commands go to the store as one batch, at this moment, and each session has
+    /// the answers to its lines. A `name` line is answered here, and the name holds for the session's lines after it; a
+    /// session without a name asks by none. Without a command the store is not called.
+    ///
+    /// After a fault every session is as it was, and no answer has left: `NoMemory`, where memory was refused to the
+    /// sessions, and the store is as it was; or `Store`, the store's own, with what it leaves as `submit` says.
+    ///
+    /// Where the store was kept, a crash at any moment of the turn leaves what means the table from before or that with
+    /// the whole batch; at `Ok` every image means the latter.
+    pub fn turn(&mut self, at: u64, most: usize) -> Result<(), HubFault>
+        requires some { 1 ≤ most }
+        requires few { most ≤ 64 }
+        ensures turned { OnOk result (HasTurned at most self.old.sessions self.new.sessions
+            self.old.store.table self.new.store.table) }
+        ensures quiet { OnOk result (AsksFor at most self.old.sessions
+            (λ commands. commands ≡ [] → self.new.store ≡ self.old.store)) }
+        ensures works { OnOk result (AsksFor at most self.old.sessions
+            (λ commands. self.old.store.failed ≡ true → commands ≡ [])) }
+        ensures unchanged { OnErr result (IsUnchanged self.old.sessions self.new.sessions) }
+        ensures fault { IfErr result (λ fault. IsTurnFault fault (self.new.store ≡ self.old.store)
+            (λ refused. AsksFor at most self.old.sessions (AreRefused refused self.old.store.journal.header.seq
+            self.old.store.failed self.old.store.table self.new.store.table))) }
+        ensures lasts { IsKept (D.state self.old.store.journal.device) self.old.store.journal.header
+            self.old.store.journal.compaction self.old.store.table
+            → Lasts result (D.state self.old.store.journal.device) (D.state self.new.store.journal.device)
+            self.new.store.journal.header self.new.store.journal.compaction self.old.store.table self.new.store.table }
+        ensures tried { IsTried D.state D.sector_count D.failures self.old.store.journal.device
+            self.new.store.journal.device result self.old.store.table self.new.store.table self.old.store.failed
+            self.new.store.failed }
+    {
+        // With it, the table's bounds are known.
+        let _limits = self.store.limits();
+        let taken = self.sessions.next_lines(most)?;
+        let commands = self.sessions.commands(at, &taken)?;
+        self.sessions.reserve(&taken)?;
+        let replies = ask(self.alloc, &mut self.store, &commands)?;
+        self.sessions.deliver(at, &taken, replies);
+        Ok(())
+    }
+
+    /// The oldest answer that an open session was not given, if there is one; behind all its answers, where a line was
+    /// too long and no line before that waits, once `bye LineTooLong`. It takes no memory.
+    pub fn output(&mut self, sid: Sid) -> Option<Reply>
+        requires { IsSome (session_at self.old.sessions sid) }
+        ensures given { IfSome (session_at self.old.sessions sid) (λ s. option_map said result ≡ first_due (due s)) }
+        ensures after { IfSome (session_at self.old.sessions sid) (λ s.
+            Changes self.old.sessions self.new.sessions sid (Some (given_one s))) }
+        ensures store { self.new.store ≡ self.old.store }
+    {
+        self.sessions.output(sid)
+    }
+
+    /// How many bytes an open session has sent that were not taken, line feeds too; of a line that is too long none. It
+    /// takes no memory.
+    pub fn waiting(&self, sid: Sid) -> usize
+        requires { IsSome (session_at self.now.sessions sid) }
+        ensures { IfSome (session_at self.now.sessions sid) (λ s. result ≡ length s.heard.bytes) }
+    {
+        self.sessions.waiting(sid)
+    }
+
+    /// Whether an open session was given `bye LineTooLong`. It takes no memory.
+    pub fn ended(&self, sid: Sid) -> bool
+        requires { IsSome (session_at self.now.sessions sid) }
+        ensures { IfSome (session_at self.now.sessions sid) (λ s. result ≡ s.has_left) }
+    {
+        self.sessions.ended(sid)
+    }
+
+    /// Ends an open session, with all that waits of it. It takes no memory.
+    pub fn close(&mut self, sid: Sid)
+        requires { IsSome (session_at self.old.sessions sid) }
+        ensures closed { Changes self.old.sessions self.new.sessions sid None }
+        ensures store { self.new.store ≡ self.old.store }
+    {
+        self.sessions.close(sid);
+    }
+}
