@@ -1,5 +1,5 @@
 -- The lines of a turn are answered one after the other, as a batch of commands and lines that ask nothing of the table.
-use Rattle.std.proofs.Common.{◌≡◌, ℕ, suc, true, false, List, [], ◌∷◌, ◌++◌, length, map, refl, ap, sym, subst, ◌∙◌, append_assoc, append-nil, Option, Some, None}
+use Rattle.std.proofs.Common.{◌≡◌, ℕ, true, List, [], ◌∷◌, ◌++◌, map, refl, ap, sym, subst, ◌∙◌, append_assoc, append-nil, Option, Some, None}
 use Rattle.std.specs.Prelude.{◌==◌, cond}
 use Rattle.std.specs.List.{All}
 use Rattle.std.specs.Option.{MatchOption}
@@ -13,9 +13,9 @@ use Rattle.chess_answer.specs.declared.reads.Reply.{Reply}
 use Rattle.chess_sessions.specs.declared.taking.Taken.{Taken}
 use Rattle.chess_sessions.specs.Session.{Said, said}
 use Rattle.chess_sessions.specs.Answers.{alone, given_name, renamed, names_after, asked, commands_of, own_answer, AreAnswers}
-use Rattle.chess_store.specs.Batch.{IsAnswered, IsOutcome, IsOutcomeThen}
+use Rattle.chess_store.specs.Batch.{IsAnswered, IsOutcome}
 use Rattle.chess_hub.specs.Calls.{Call, is_open, which}
-use Rattle.chess_hub.specs.Sessions.{Merged, name_from, IsLineAnswered, AreAnsweredAfter}
+use Rattle.chess_hub.specs.Sessions.{Merged, name_from, AreAnsweredAfter}
 use Rattle.chess_hub.proofs.CallLemmas.{same-session}
 
 -- a line that a turn at a moment took, as it stands in the merged list

@@ -1,15 +1,15 @@
 -- How many lines a turn takes of a session, and which lines those are.
 use Rattle.std.proofs.Common.{◌≡◌, ◌≢◌, ℕ, zero, suc, ◌+◌, ◌<◌, ◌≤◌, true, false, List, [], ◌∷◌, ◌++◌, length, map, take, get_or, refl, ap, sym, subst, ◌∙◌, arith, Option, Some, None, inl, inr}
 use Rattle.std.specs.Prelude.{Bool, ◌==◌, cond, count_by, option_map, slice_get}
-use Rattle.std.specs.List.{cons_option, AllZip}
+use Rattle.std.specs.List.{cons_option}
 use Rattle.std.proofs.lemmas.Bool.{cases_lt, ne_eqb}
 use Rattle.std.proofs.lemmas.List.Sums.{sum_by-cons, sum_by-append, sum_by-take-le}
 use Rattle.std.proofs.lemmas.Option.{slice_get_past}
-use Rattle.slab.specs.Slab.{Slab, get, entries_from, entries}
+use Rattle.slab.specs.Slab.{Slab, get, entries_from}
 use Rattle.session_lines.specs.Lines.{lines_of}
 use Rattle.chess_sessions.specs.declared.sessions.Session.{Session}
 use Rattle.chess_sessions.specs.declared.taking.Taken.{Taken}
-use Rattle.chess_sessions.specs.Turn.{Waiting, SessionLine, session_line, lines_at, rounds, turn_lines, waiting, waiting_in, IsTakenAs, AreTakenAs}
+use Rattle.chess_sessions.specs.Turn.{SessionLine, session_line, lines_at, rounds, turn_lines, waiting, waiting_in, AreTakenAs}
 
 -- how many lines are of a session
 abbrev pub lines_count : ℕ → List SessionLine → ℕ

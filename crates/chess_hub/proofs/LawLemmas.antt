@@ -1,34 +1,33 @@
 -- What holds after any calls, and that each call keeps it.
-use Rattle.std.proofs.Common.{◌≡◌, ◌≢◌, ◌↔◌, ℕ, suc, ◌+◌, ◌<◌, ◌≤◌, true, false, List, [], ◌∷◌, ◌++◌, length, map, drop, get_or, refl, ap, sym, subst, ◌∙◌, arith, append-nil, inl, inr, Option, Some, None}
-use Rattle.std.specs.Prelude.{Bool, ◌==◌, ◌&&◌, cond, count_by, option_map, is_some, IsSome, IsSomeAnd}
-use Rattle.std.specs.List.{All, AllZip, Contains}
+use Rattle.std.proofs.Common.{◌≡◌, ◌≢◌, ℕ, suc, ◌+◌, ◌≤◌, true, false, List, [], ◌∷◌, ◌++◌, length, map, drop, get_or, refl, ap, sym, subst, ◌∙◌, arith, inl, inr, Option, Some, None}
+use Rattle.std.specs.Prelude.{◌==◌, ◌&&◌, cond, option_map, is_some, IsSome, IsSomeAnd}
+use Rattle.std.specs.List.{All, AllZip}
 use Rattle.std.specs.Option.{MatchOption}
 use Rattle.std.proofs.lemmas.Bool.{cases_Bool, cases_eq, eqb-true}
 use Rattle.std.proofs.lemmas.List.Elements.{All-nil, All-append, All-map, All-weaker, All-head, All-tail, All-cons}
-use Rattle.std.proofs.lemmas.List.Sums.{sum_by-cons, length-filter}
-use Rattle.slab.specs.Slab.{Slab, get, entries}
+use Rattle.std.proofs.lemmas.List.Sums.{sum_by-cons}
+use Rattle.slab.specs.Slab.{get, entries}
 use Rattle.session_lines.specs.Lines.{lines_of, has_long_line}
 use Rattle.session_lines.specs.Heard.{heard_more}
-use Rattle.chess_answer.specs.declared.reads.Reply.{Reply}
 use Rattle.chess_entry.specs.State.{TableState}
 use Rattle.chess_sessions.specs.declared.sessions.Session.{Session}
 use Rattle.chess_sessions.specs.declared.sessions.Sessions.{Sessions}
 use Rattle.chess_sessions.specs.declared.taking.Taken.{Taken}
-use Rattle.chess_sessions.specs.Session.{Said, SessionState, said, shown, session_at, fresh, Changes, IsUnchanged, due, farewell, first_due, given_one, is_none_waiting}
-use Rattle.chess_sessions.specs.Turn.{Waiting, SessionLine, turn_lines, waiting, waiting_in, waiting_of, IsTakenAs, AreTakenAs}
-use Rattle.chess_sessions.specs.Answers.{name_of, name_at, commands_of, AreAnswers}
-use Rattle.chess_sessions.specs.Delivery.{Answered, own, name_over, HasAnswered, AllAnswered}
+use Rattle.chess_sessions.specs.Session.{Said, SessionState, shown, session_at, fresh, Changes, due, farewell, first_due, given_one, is_none_waiting}
+use Rattle.chess_sessions.specs.Turn.{Waiting, SessionLine, turn_lines, waiting, waiting_of, AreTakenAs}
+use Rattle.chess_sessions.specs.Answers.{name_of, name_at}
+use Rattle.chess_sessions.specs.Delivery.{Answered, own, HasAnswered}
 use Rattle.chess_sessions.proofs.TakingLemmas.{open-turn, open-taken}
 use Rattle.chess_hub.specs.Calls.{Call, Connected, Closed, Fed, Turned, Given, is_open, begun_count, which, input_of, given_to}
-use Rattle.chess_hub.specs.Sessions.{Merged, AreOpenIn, IsMergedAs, MergesTurn, AreMerged, AreAnsweredAfter, taken_count, name_from, answers_to, lines_left, waiting_lines, session_text}
+use Rattle.chess_hub.specs.Sessions.{Merged, AreOpenIn, IsMergedAs, AreMerged, AreAnsweredAfter, taken_count, name_from, answers_to, lines_left, waiting_lines, session_text}
 use Rattle.chess_hub.specs.Turning.{HasTurned}
-use Rattle.chess_hub.specs.Law.{HubState, Steps, Stays, Leads, HasItsText, IsFront, GiveTexts, LawOfSessions}
+use Rattle.chess_hub.specs.Law.{HubState, Steps, Stays, Leads, HasItsText, IsFront, LawOfSessions}
 use Rattle.chess_hub.proofs.CallLemmas.{which-begun, View, view, view-connected, view-connected-other, open-closed, view-closed-other, view-fed, view-fed-other, view-given, view-given-other}
 use Rattle.chess_hub.proofs.SlotLemmas.{map-agree, keys, keys-rise, keys-are, entries-are}
 use Rattle.chess_hub.proofs.CountLemmas.{taken_of, line_count, taken-few}
 use Rattle.chess_hub.proofs.HearingLemmas.{hearing-waits}
 use Rattle.chess_hub.proofs.AnswerLemmas.{merged_of, AllOpen, AreNames, name_from-append, answered-append, lines-answered}
-use Rattle.chess_hub.proofs.TextLemmas.{lines_in, says, AnsweredOpen, answers-more, count-more, name-own, answered-long, HaveBegun, HasNumber, AddsNone, own-or-none, answers-none, count-none}
+use Rattle.chess_hub.proofs.TextLemmas.{lines_in, says, AnsweredOpen, answers-more, count-more, name-own, answered-long, HaveBegun, own-or-none, answers-none, count-none}
 use Rattle.chess_hub.proofs.SessionLemmas.{IsSession, IsOne, text_of, session-text, session-begins, session-fed, session-given, Adds, session-turned}
 
 -- What holds after calls, with a merged list and answers to it.

@@ -1,12 +1,11 @@
 -- What the lines of a turn add to the texts and the names of the sessions.
-use Rattle.std.proofs.Common.{◌≡◌, ℕ, suc, ◌+◌, true, false, List, [], ◌∷◌, ◌++◌, length, map, refl, ap, sym, subst, ◌∙◌, arith, append-nil, ◌⊎◌, inl, inr, ◌<◌, ◌≤◌, Option}
-use Rattle.std.specs.Prelude.{Bool, ◌==◌, cond, count_by, filter}
+use Rattle.std.proofs.Common.{◌≡◌, ℕ, suc, ◌+◌, true, false, List, [], ◌∷◌, ◌++◌, length, map, refl, ap, ◌∙◌, arith, append-nil, ◌⊎◌, inl, inr, ◌<◌, ◌≤◌, Option}
+use Rattle.std.specs.Prelude.{◌==◌, cond, filter}
 use Rattle.std.specs.List.{All, zip}
 use Rattle.std.proofs.lemmas.Bool.{cases_Bool, eqb-true, ne_eqb}
 use Rattle.std.proofs.lemmas.List.Elements.{All-head, All-tail}
-use Rattle.std.proofs.lemmas.List.Sums.{sum_by-cons, sum_by-append, length-filter}
+use Rattle.std.proofs.lemmas.List.Sums.{sum_by-cons, sum_by-append}
 use Rattle.chess_entry.specs.State.{TableState}
-use Rattle.chess_sessions.specs.declared.taking.Taken.{Taken}
 use Rattle.chess_sessions.specs.Session.{Said}
 use Rattle.chess_sessions.specs.Answers.{given_name, renamed}
 use Rattle.chess_sessions.specs.Delivery.{Answered, own, name_over}
