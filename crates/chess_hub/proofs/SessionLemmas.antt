@@ -12,7 +12,8 @@ use Rattle.chess_hub.proofs.CallLemmas.{View}
 use Rattle.chess_hub.proofs.HearingLemmas.{IsHearing, hearing-none, hearing-waits, hearing-more, hearing-drops, hearing-count}
 use Rattle.chess_hub.proofs.TextLemmas.{says, HaveBegun, none-new, count-new, name-new}
 
--- How what was given and what is to be given stand to the answers: whether the farewell was given, and whether it may be.
+-- How what was given and what is to be given stand to the answers: whether the farewell was given, and whether it may
+-- be.
 abbrev pub IsTold : Bool → Bool → List Said → List Said → List Said → Type 0
 IsTold false is_done given answers all = given ++ answers ≡ all
 IsTold true is_done given answers all = (given ≡ all ++ farewell ∷ []) × (answers ≡ []) × (is_done ≡ true)
