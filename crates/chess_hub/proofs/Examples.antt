@@ -50,7 +50,8 @@ unfolding takes pieces two ended
 three_lines = refl
 
 taken_three : List Merged
-taken_three = line 1 1000 (Some (Called (codes "ann"))) ∷ line 2 1000 (Some (Called (codes "bob"))) ∷ line 1 1000 None ∷ []
+taken_three =
+    line 1 1000 (Some (Called (codes "ann"))) ∷ line 2 1000 (Some (Called (codes "bob"))) ∷ line 1 1000 None ∷ []
 
 fourth_line : takes 3 (Turned 1000 3 ∷ pieces) taken_three (0 ∷ 1 ∷ []) ≡ session_line 1 (codes "join 1") ∷ []
 unfolding takes pieces two ended taken_three line

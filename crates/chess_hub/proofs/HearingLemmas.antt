@@ -16,7 +16,8 @@ use Rattle.chess_sessions.specs.Delivery.{DropsLine, DropsLines}
 
 -- ---- what is kept of an input has its lines
 
-onto-no_feed : (b : ℕ) (parts : List (List ℕ)) → is_feed b ≡ false → All HasNoFeed parts → All HasNoFeed (onto_first b parts)
+onto-no_feed : (b : ℕ) (parts : List (List ℕ)) → is_feed b ≡ false → All HasNoFeed parts →
+    All HasNoFeed (onto_first b parts)
 onto-no_feed b [] e h =
     All-cons HasNoFeed (b ∷ []) [] (All-cons (λ b. is_feed b ≡ false) b [] e (All-nil (λ b. is_feed b ≡ false)))
     (All-nil HasNoFeed)
@@ -129,7 +130,8 @@ hearing-drops zero input count old new is few drops =
 hearing-drops (suc k) input count old new is few drops =
     let between = drops.0 in
     let one : DropsLine between new = drops.2 in
-    let before : IsHearing input (count + k) between = hearing-drops k input count old between is (omega arith) drops.1 in
+    let before : IsHearing input (count + k) between =
+    hearing-drops k input count old between is (omega arith) drops.1 in
     let left : length (lines_of between.bytes) ≡ length (lines_of input) - (count + k) =
     ap length (hearing-waits input (count + k) between before) ∙ length-drop (count + k) (lines_of input) in
     let line = one.taken (omega arith) in

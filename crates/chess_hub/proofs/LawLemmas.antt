@@ -56,8 +56,8 @@ holds-none table s none same = record {
   past = λ session. record { left = []; whole = refl };
 }
 
-holds-stays : (table : TableState) (calls : List Call) (old new : HubState) (merged : List Merged) (answers : List Said) →
-    Holds table calls old merged answers → Stays old new → Holds table calls new merged answers
+holds-stays : (table : TableState) (calls : List Call) (old new : HubState) (merged : List Merged)
+    (answers : List Said) → Holds table calls old merged answers → Stays old new → Holds table calls new merged answers
 holds-stays table calls old new merged answers h stays = record {
   are_merged = h.are_merged;
   answered = subst (AreAnsweredAfter [] table merged answers) (sym stays.table) h.answered;
@@ -68,8 +68,8 @@ holds-stays table calls old new merged answers h stays = record {
 
 -- ---- one session changes
 
-each-changed : (calls next : List Call) (sid : ℕ) (old new : Sessions) (now : Option SessionState) (merged : List Merged)
-    (answers : List Said) → Changes old new sid now → IsOne (view next sid) merged answers now →
+each-changed : (calls next : List Call) (sid : ℕ) (old new : Sessions) (now : Option SessionState)
+    (merged : List Merged) (answers : List Said) → Changes old new sid now → IsOne (view next sid) merged answers now →
     ((other : ℕ) → other ≢ sid → view next other ≡ view calls other) →
     ((other : ℕ) → IsOne (view calls other) merged answers (session_at old other)) →
     (other : ℕ) → IsOne (view next other) merged answers (session_at new other)
@@ -88,8 +88,8 @@ holds-connected : (table : TableState) (calls : List Call) (sid : ℕ) (old new 
 holds-connected table calls sid old new merged answers h changes same = record {
   are_merged = h.are_merged;
   answered = subst (AreAnsweredAfter [] table merged answers) (sym same) h.answered;
-  begun = All-weaker (λ m. m.session ≤ begun_count calls) (λ m. m.session ≤ suc (begun_count calls)) (λ m l. omega arith)
-      merged h.begun;
+  begun = All-weaker (λ m. m.session ≤ begun_count calls) (λ m. m.session ≤ suc (begun_count calls))
+      (λ m l. omega arith) merged h.begun;
   each = each-changed calls (Connected sid ∷ calls) sid old.sessions new.sessions (Some fresh) merged answers changes
       (subst (λ v. IsSession v merged answers fresh) (sym (view-connected calls sid))
       (session-begins (begun_count calls) merged answers h.begun))
@@ -111,8 +111,8 @@ holds-closed table calls sid old new merged answers h changes same = record {
 }
 
 -- the session of a number, where it is open
-here-is : (v : View) (merged : List Merged) (answers : List Said) (o : Option SessionState) (s : SessionState) → o ≡ Some s →
-    IsOne v merged answers o → IsSession v merged answers s
+here-is : (v : View) (merged : List Merged) (answers : List Said) (o : Option SessionState) (s : SessionState) →
+    o ≡ Some s → IsOne v merged answers o → IsSession v merged answers s
 here-is v merged answers o s e is = subst (IsOne v merged answers) e is
 
 front-of : (v : View) (merged : List Merged) (answers : List Said) (s : SessionState) → IsSession v merged answers s →
@@ -140,9 +140,10 @@ holds-fed : (table : TableState) (calls : List Call) (sid : ℕ) (piece : List �
 holds-fed table calls sid piece old new merged answers s h was short changes same =
     let is : IsSession (view calls sid) merged answers s =
     here-is (view calls sid) merged answers (session_at old.sessions sid) s was (h.each sid) in
-    let now : IsSession (view (Fed sid piece ∷ calls) sid) merged answers (record s { heard = heard_more s.heard piece }) =
-    subst (λ v. IsSession v merged answers (record s { heard = heard_more s.heard piece })) (sym (view-fed calls sid piece))
-    (session-fed (view calls sid) merged answers s piece is short) in
+    let now : IsSession (view (Fed sid piece ∷ calls) sid) merged answers
+    (record s { heard = heard_more s.heard piece }) =
+    subst (λ v. IsSession v merged answers (record s { heard = heard_more s.heard piece }))
+    (sym (view-fed calls sid piece)) (session-fed (view calls sid) merged answers s piece is short) in
     record {
       are_merged = h.are_merged;
       answered = subst (AreAnsweredAfter [] table merged answers) (sym same) h.answered;
@@ -169,16 +170,16 @@ holds-given table calls sid answer old new merged answers s h was first changes 
       are_merged = h.are_merged;
       answered = subst (AreAnsweredAfter [] table merged answers) (sym same) h.answered;
       begun = h.begun;
-      each = each-changed calls (Given sid answer ∷ calls) sid old.sessions new.sessions (Some (given_one s)) merged answers
-          changes now (λ other ne. view-given-other calls sid other answer is.opens ne) h.each;
+      each = each-changed calls (Given sid answer ∷ calls) sid old.sessions new.sessions (Some (given_one s)) merged
+          answers changes now (λ other ne. view-given-other calls sid other answer is.opens ne) h.each;
       past = past-changed calls (Given sid answer ∷ calls) sid merged answers (given_one s) now refl
           (λ session e. rw e (h.past session));
     }
 
 -- ---- a turn: which sessions are open
 
-opens-same : (v : View) (merged : List Merged) (answers : List Said) (o : Option SessionState) → IsOne v merged answers o →
-    v.is_open ≡ is_some o
+opens-same : (v : View) (merged : List Merged) (answers : List Said) (o : Option SessionState) →
+    IsOne v merged answers o → v.is_open ≡ is_some o
 opens-same v merged answers None is = is
 opens-same v merged answers (Some s) is = is.opens
 
@@ -217,9 +218,11 @@ entry-waits : (table : TableState) (calls : List Call) (s : HubState) (merged : 
     waiting_lines calls merged e.0 ≡ waiting e
 entry-waits table calls s merged answers h e found =
     let is : IsSession (view calls e.0) merged answers (shown e.1) =
-    here-is (view calls e.0) merged answers (session_at s.sessions e.0) (shown e.1) (ap (option_map shown) found) (h.each e.0) in
+    here-is (view calls e.0) merged answers (session_at s.sessions e.0) (shown e.1)
+    (ap (option_map shown) found) (h.each e.0) in
     ap (waits e.0)
-    (sym (hearing-waits (input_of (which e.0 calls) calls) (taken_count (which e.0 calls) merged) (shown e.1).heard is.hearing))
+    (sym (hearing-waits (input_of (which e.0 calls) calls) (taken_count (which e.0 calls) merged) (shown e.1).heard
+    is.hearing))
 
 waiting-same : (table : TableState) (calls : List Call) (s : HubState) (merged : List Merged) (answers : List Said) →
     Holds table calls s merged answers →
@@ -248,8 +251,8 @@ names-are : (table : TableState) (calls : List Call) (s : HubState) (merged : Li
 names-are table calls s merged answers h sid opens =
     name-is (view calls sid) merged answers (session_at s.sessions sid) (h.each sid) opens
   where
-    name-is : (v : View) (merged : List Merged) (answers : List Said) (o : Option SessionState) → IsOne v merged answers o →
-        v.is_open ≡ true → name_of o ≡ name_from v.session None merged
+    name-is : (v : View) (merged : List Merged) (answers : List Said) (o : Option SessionState) →
+        IsOne v merged answers o → v.is_open ≡ true → name_of o ≡ name_from v.session None merged
     name-is v merged answers None is opens = absurd (let bad : false ≡ true = sym is ∙ opens in cc)
     name-is v merged answers (Some s) is opens = is.name
 
@@ -309,9 +312,10 @@ open-front : (v : View) (merged : List Merged) (answers : List Said) (o : Option
 open-front v merged answers None opens is = absurd (let bad : false ≡ true = sym is ∙ opens in cc)
 open-front v merged answers (Some s) opens is = front-of v merged answers s is
 
-past-turned : (calls : List Call) (at session : ℕ) (merged : List Merged) (answers : List Said) (answered : List Answered)
-    (new : Sessions) → length answers ≡ length merged → AnsweredOpen calls answered →
-    ((sid : ℕ) → IsOne (view calls sid) (merged ++ lines_in calls at answered) (answers ++ says answered) (session_at new sid)) →
+past-turned : (calls : List Call) (at session : ℕ) (merged : List Merged) (answers : List Said)
+    (answered : List Answered) (new : Sessions) → length answers ≡ length merged → AnsweredOpen calls answered →
+    ((sid : ℕ) → IsOne (view calls sid) (merged ++ lines_in calls at answered) (answers ++ says answered)
+    (session_at new sid)) →
     IsFront (given_to session calls) (session_text calls merged answers session) →
     IsFront (given_to session calls)
     (session_text calls (merged ++ lines_in calls at answered) (answers ++ says answered) session)
@@ -347,7 +351,8 @@ holds-turned table calls at most old new merged answers h turn =
     let others = answers ++ says answered in
     let long : length answers ≡ length merged = answered-long [] table merged answers old.table h.answered in
     let lines : map (merged_of calls at) turn.taken ≡ lines_in calls at answered =
-    ap (map (merged_of calls at)) (sym turn.whose) ∙ map-over (λ (a : Answered). a.taken) (merged_of calls at) answered in
+    ap (map (merged_of calls at)) (sym turn.whose)
+    ∙ map-over (λ (a : Answered). a.taken) (merged_of calls at) answered in
     let opens : AllOpen calls turn.taken = taken-open table calls old merged answers most turn.taken h turn.lines in
     let all : AnsweredOpen calls answered =
     all-mapped (λ (t : Taken). is_open t.sid calls ≡ true) (λ (a : Answered). a.taken) answered
@@ -374,8 +379,8 @@ holds-turned table calls at most old new merged answers h turn =
               (merged-as calls at (turn_lines most (waiting_of old.sessions)) turn.taken turn.lines));
           whole = refl;
         };
-        answered = answered-append [] table merged (lines_in calls at answered) answers (says answered) old.table new.table
-            h.answered
+        answered = answered-append [] table merged (lines_in calls at answered) answers (says answered) old.table
+            new.table h.answered
             (subst (λ ls. AreAnsweredAfter merged old.table ls (says answered) new.table) lines
             (lines-answered calls at (name_at old.sessions) merged turn.taken new.table
             (names-are table calls old merged answers h) opens old.table turn.replies turn.batch.entries (says answered)
@@ -384,7 +389,8 @@ holds-turned table calls at most old new merged answers h turn =
             (All-map (λ m. m.session ≤ begun_count calls) (λ (a : Answered). merged_of calls at a.taken) answered
             (λ k d within. which-begun (get_or answered k d).taken.sid calls));
         each = each;
-        past = λ session. past-turned calls at session merged answers answered new.sessions long all each (h.past session);
+        past = λ session.
+            past-turned calls at session merged answers answered new.sessions long all each (h.past session);
       };
     }
 

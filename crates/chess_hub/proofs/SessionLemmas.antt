@@ -91,8 +91,8 @@ session-fed v merged answers s piece is short = record {
   hearing = hearing-more v.input piece (taken_count v.session merged) s.heard is.hearing short;
   told = fed-told s.has_left (is_done s.heard) (is_done (heard_more s.heard piece)) v.given s.answers
       (answers_to v.session merged answers)
-      (λ e. (let long : s.heard.is_long ≡ true = (and_parts s.heard.is_long (is_none_waiting (lines_of s.heard.bytes)) e).0 in
-      cc)) is.told;
+      (λ e. (let long : s.heard.is_long ≡ true =
+      (and_parts s.heard.is_long (is_none_waiting (lines_of s.heard.bytes)) e).0 in cc)) is.told;
 }
 
 -- ---- it is given an answer
@@ -165,7 +165,8 @@ none-waits : (lines : List (List ℕ)) → is_none_waiting lines ≡ true → le
 none-waits [] e = refl
 none-waits (line ∷ lines) e = absurd (let bad : false ≡ true = e in cc)
 
-none-taken : (lines : List Answered) (h : Heard) → length lines ≤ length (lines_of h.bytes) → is_done h ≡ true → lines ≡ []
+none-taken : (lines : List Answered) (h : Heard) → length lines ≤ length (lines_of h.bytes) → is_done h ≡ true →
+    lines ≡ []
 none-taken lines h few done =
     let none : length (lines_of h.bytes) ≡ 0 =
     none-waits (lines_of h.bytes) ((and_parts h.is_long (is_none_waiting (lines_of h.bytes)) done).1) in
@@ -185,8 +186,8 @@ turned-told true old new lines given before after all more few drops is adds h =
       ap is_done same ∙ h.2,
     )
 
-pub session-turned : (at : ℕ) (v : View) (lines : List Answered) (merged more : List Merged) (answers others : List Said)
-    (s t : SessionState) → IsSession v merged answers s → Adds at v.session lines merged answers more others →
+pub session-turned : (at : ℕ) (v : View) (lines : List Answered) (merged more : List Merged)
+    (answers others : List Said) (s t : SessionState) → IsSession v merged answers s → Adds at v.session lines merged answers more others →
     length lines ≤ length (lines_of s.heard.bytes) → HasAnswered at lines s t → IsSession v more others t
 session-turned at v lines merged more answers others s t is adds few has =
     let count = taken_count v.session merged in
@@ -198,7 +199,7 @@ session-turned at v lines merged more answers others s t is adds few has =
       name = has.name ∙ ap (λ name. name_over at name lines) is.name ∙ sym adds.name;
       hearing = subst (λ n. IsHearing v.input n t.heard) (sym adds.count)
           (hearing-drops (length lines) v.input count s.heard t.heard is.hearing within has.heard);
-      told = subst (λ left. IsTold left (is_done t.heard) v.given t.answers (answers_to v.session more others)) (sym has.left)
-          (turned-told s.has_left s.heard t.heard lines v.given s.answers t.answers (answers_to v.session merged answers)
-          (answers_to v.session more others) few has.heard has.answers adds.text is.told);
+      told = subst (λ left. IsTold left (is_done t.heard) v.given t.answers (answers_to v.session more others))
+          (sym has.left) (turned-told s.has_left s.heard t.heard lines v.given s.answers t.answers
+          (answers_to v.session merged answers) (answers_to v.session more others) few has.heard has.answers adds.text is.told);
     }
