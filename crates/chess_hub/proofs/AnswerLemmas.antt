@@ -1,5 +1,5 @@
 -- The lines of a turn are answered one after the other, as a batch of commands and lines that ask nothing of the table.
-use Rattle.std.proofs.Common.{◌≡◌, ℕ, suc, true, false, List, [], ◌∷◌, ◌++◌, length, map, refl, ap, sym, subst, ◌∙◌, append_assoc, append-nil, Option, Some, None}
+use Rattle.std.proofs.Common.{◌≡◌, ℕ, true, List, [], ◌∷◌, ◌++◌, map, refl, ap, sym, subst, ◌∙◌, append_assoc, append-nil, Option, Some, None}
 use Rattle.std.specs.Prelude.{◌==◌, cond}
 use Rattle.std.specs.List.{All}
 use Rattle.std.specs.Option.{MatchOption}
@@ -13,9 +13,9 @@ use Rattle.chess_answer.specs.declared.reads.Reply.{Reply}
 use Rattle.chess_sessions.specs.declared.taking.Taken.{Taken}
 use Rattle.chess_sessions.specs.Session.{Said, said}
 use Rattle.chess_sessions.specs.Answers.{alone, given_name, renamed, names_after, asked, commands_of, own_answer, AreAnswers}
-use Rattle.chess_store.specs.Batch.{IsAnswered, IsOutcome, IsOutcomeThen}
+use Rattle.chess_store.specs.Batch.{IsAnswered, IsOutcome}
 use Rattle.chess_hub.specs.Calls.{Call, is_open, which}
-use Rattle.chess_hub.specs.Sessions.{Merged, name_from, IsLineAnswered, AreAnsweredAfter}
+use Rattle.chess_hub.specs.Sessions.{Merged, name_from, AreAnsweredAfter}
 use Rattle.chess_hub.proofs.CallLemmas.{same-session}
 
 -- a line that a turn at a moment took, as it stands in the merged list
@@ -88,8 +88,8 @@ first-answered : (at session sid : ℕ) (line : Option Line) (name : Option (Lis
     FirstAnswer (own_answer at line) (AreAnswers at taken) (map said replies) answers →
     Later at commands taken (before ++ record { session = session; at = at; line = line } ∷ []) merged after →
     AreAnsweredAfter before table (record { session = session; at = at; line = line } ∷ merged) answers after
-first-answered at session sid (Some (Act act)) name commands taken before merged table after [] entries answers is h k later =
-    absurd h
+first-answered at session sid (Some (Act act)) name commands taken before merged table after [] entries answers is h k
+    later = absurd h
 first-answered at session sid (Some (Act act)) name commands taken before merged table after (reply ∷ replies) entries
     answers is h k later =
     let first : said reply ≡ k.0 = (let e : said reply ∷ map said replies ≡ k.0 ∷ k.1 = k.3 in cc) in
@@ -106,8 +106,8 @@ first-answered at session sid (Some (Act act)) name commands taken before merged
       ),
       later h.between replies h.others k.2 h.rest (subst (λ rs. AreAnswers at taken rs k.2) (sym others) k.5),
     )
-first-answered at session sid (Some (Called given)) name commands taken before merged table after replies entries answers
-    is h k later = (
+first-answered at session sid (Some (Called given)) name commands taken before merged table after replies entries
+    answers is h k later = (
       _,
       k.0,
       table,
@@ -115,14 +115,15 @@ first-answered at session sid (Some (Called given)) name commands taken before m
       (refl, refl, refl),
       later table replies entries k.0 h k.2,
     )
-first-answered at session sid None name commands taken before merged table after replies entries answers is h k later = (
-  _,
-  k.0,
-  table,
-  k.1,
-  (refl, refl, refl),
-  later table replies entries k.0 h k.2,
-)
+first-answered at session sid None name commands taken before merged table after replies entries answers is h k
+    later = (
+      _,
+      k.0,
+      table,
+      k.1,
+      (refl, refl, refl),
+      later table replies entries k.0 h k.2,
+    )
 
 -- none is left
 none-answered : (at : ℕ) (before : List Merged) (table after : TableState) (replies : List Reply) (entries : List Entry)
@@ -131,14 +132,14 @@ none-answered : (at : ℕ) (before : List Merged) (table after : TableState) (re
 none-answered at before table after [] entries answers h k = (k.1, h.same)
 none-answered at before table after (reply ∷ replies) entries answers h k = absurd h
 
-pub lines-answered : (calls : List Call) (at : ℕ) (names : ℕ → Option (List ℕ)) (before : List Merged) (taken : List Taken)
-    (after : TableState) → AreNames calls before names → AllOpen calls taken →
+pub lines-answered : (calls : List Call) (at : ℕ) (names : ℕ → Option (List ℕ)) (before : List Merged)
+    (taken : List Taken) (after : TableState) → AreNames calls before names → AllOpen calls taken →
     Later at (commands_of at names taken) taken before (map (merged_of calls at) taken) after
 lines-answered calls at names before [] after are opens table replies entries answers h k =
     none-answered at before table after replies entries answers h k
 lines-answered calls at names before (t ∷ taken) after are opens table replies entries answers h k =
     let here : is_open t.sid calls ≡ true = All-head (λ t. is_open t.sid calls ≡ true) t taken opens in
-    first-answered at (which t.sid calls) t.sid t.line (names t.sid) (commands_of at (names_after at names t) taken) taken
-    before (map (merged_of calls at) taken) table after replies entries answers (are t.sid here) h k
+    first-answered at (which t.sid calls) t.sid t.line (names t.sid) (commands_of at (names_after at names t) taken)
+    taken before (map (merged_of calls at) taken) table after replies entries answers (are t.sid here) h k
     (lines-answered calls at (names_after at names t) (before ++ merged_of calls at t ∷ []) taken after
     (names-step calls at before names t here are) (All-tail (λ t. is_open t.sid calls ≡ true) t taken opens))

@@ -1,6 +1,6 @@
 -- Which session has a number.
 use Rattle.std.proofs.Common.{◌≡◌, ◌≢◌, ℕ, suc, ◌≤◌, ◌<◌, Bool, true, false, List, [], ◌∷◌, ◌++◌, refl, ap, sym, subst, ◌∙◌, arith, inl, inr}
-use Rattle.std.specs.Prelude.{◌==◌, ◌||◌, ◌&&◌, not, cond}
+use Rattle.std.specs.Prelude.{◌==◌, ◌||◌, not, cond}
 use Rattle.std.proofs.lemmas.Bool.{cases_Bool, cases_eq, eqb-true, eq-eqb, ne_eqb, and_parts}
 use Rattle.chess_sessions.specs.Session.{Said}
 use Rattle.chess_hub.specs.Calls.{Call, Connected, Closed, Fed, Turned, Given, is_open, begun_count, which, input_of, given_to}
@@ -32,10 +32,11 @@ open-begun sid (Fed other piece ∷ calls) opens = open-begun sid calls opens
 open-begun sid (Turned at most ∷ calls) opens = open-begun sid calls opens
 open-begun sid (Given other answer ∷ calls) opens = open-begun sid calls opens
 
-which-new : (sid : ℕ) (calls : List Call) (test : Bool) → cond test (suc (begun_count calls)) (which sid calls) ≡ suc (begun_count calls) →
-    test ≡ true
+which-new : (sid : ℕ) (calls : List Call) (test : Bool) →
+    cond test (suc (begun_count calls)) (which sid calls) ≡ suc (begun_count calls) → test ≡ true
 which-new sid calls true e = refl
-which-new sid calls false e = absurd (let h : which sid calls ≤ begun_count calls = which-begun sid calls in omega arith)
+which-new sid calls false e =
+    absurd (let h : which sid calls ≤ begun_count calls = which-begun sid calls in omega arith)
 
 not-new : (sid session : ℕ) (calls : List Call) → begun_count calls < session → (which sid calls == session) ≡ false
 not-new sid session calls l =
@@ -144,8 +145,10 @@ pub view-connected : (calls : List Call) (sid : ℕ) → view (Connected sid ∷
     ≡ record { is_open = true; session = suc (begun_count calls); input = []; given = [] }
 unfolding after-connect
 view-connected calls sid =
-    let input : input_of (suc (begun_count calls)) calls ≡ [] = input-new (suc (begun_count calls)) calls (omega arith) in
-    let given : given_to (suc (begun_count calls)) calls ≡ [] = given-new (suc (begun_count calls)) calls (omega arith) in
+    let input : input_of (suc (begun_count calls)) calls ≡ [] =
+    input-new (suc (begun_count calls)) calls (omega arith) in
+    let given : given_to (suc (begun_count calls)) calls ≡ [] =
+    given-new (suc (begun_count calls)) calls (omega arith) in
     ap (after-connect calls sid) (same sid) ∙ rw (input, given) refl
 
 pub view-connected-other : (calls : List Call) (sid other : ℕ) → other ≢ sid →

@@ -1,15 +1,15 @@
 -- How many lines a turn takes of a session, and which lines those are.
 use Rattle.std.proofs.Common.{◌≡◌, ◌≢◌, ℕ, zero, suc, ◌+◌, ◌<◌, ◌≤◌, true, false, List, [], ◌∷◌, ◌++◌, length, map, take, get_or, refl, ap, sym, subst, ◌∙◌, arith, Option, Some, None, inl, inr}
 use Rattle.std.specs.Prelude.{Bool, ◌==◌, cond, count_by, option_map, slice_get}
-use Rattle.std.specs.List.{cons_option, AllZip}
+use Rattle.std.specs.List.{cons_option}
 use Rattle.std.proofs.lemmas.Bool.{cases_lt, ne_eqb}
 use Rattle.std.proofs.lemmas.List.Sums.{sum_by-cons, sum_by-append, sum_by-take-le}
 use Rattle.std.proofs.lemmas.Option.{slice_get_past}
-use Rattle.slab.specs.Slab.{Slab, get, entries_from, entries}
+use Rattle.slab.specs.Slab.{Slab, get, entries_from}
 use Rattle.session_lines.specs.Lines.{lines_of}
 use Rattle.chess_sessions.specs.declared.sessions.Session.{Session}
 use Rattle.chess_sessions.specs.declared.taking.Taken.{Taken}
-use Rattle.chess_sessions.specs.Turn.{Waiting, SessionLine, session_line, lines_at, rounds, turn_lines, waiting, waiting_in, IsTakenAs, AreTakenAs}
+use Rattle.chess_sessions.specs.Turn.{SessionLine, session_line, lines_at, rounds, turn_lines, waiting, waiting_in, AreTakenAs}
 
 -- how many lines are of a session
 abbrev pub lines_count : ℕ → List SessionLine → ℕ
@@ -54,7 +54,8 @@ count-line sid other (Some text) lines =
 abbrev pub round_from : ℕ → ℕ → List (Option Session) → List SessionLine
 round_from place key slots = lines_at place (map waiting (entries_from key slots))
 
-count-past : (sid place key : ℕ) (slots : List (Option Session)) → sid < key → lines_count sid (round_from place key slots) ≡ 0
+count-past : (sid place key : ℕ) (slots : List (Option Session)) → sid < key →
+    lines_count sid (round_from place key slots) ≡ 0
 count-past sid place key [] l = refl
 count-past sid place key (None ∷ slots) l = count-past sid place (key + 1) slots (omega arith)
 count-past sid place key (Some s ∷ slots) l =
@@ -70,8 +71,8 @@ pub record IsOneOf (sid place : ℕ) (s : Session) (lines : List SessionLine) : 
 one-here : (sid place : ℕ) (s : Session) (lines : List SessionLine) → lines_count sid lines ≡ 0 →
     IsOneOf sid place s (cons_option (option_map (session_line sid) (slice_get (lines_of s.lines.bytes) place)) lines)
 one-here sid place s lines e = record {
-  one = (let l : lines_count sid (cons_option (option_map (session_line sid) (slice_get (lines_of s.lines.bytes) place)) lines)
-      ≤ 1 + lines_count sid lines = count-line sid sid (slice_get (lines_of s.lines.bytes) place) lines in omega arith);
+  one = (let l : lines_count sid
+      (cons_option (option_map (session_line sid) (slice_get (lines_of s.lines.bytes) place)) lines) ≤ 1 + lines_count sid lines = count-line sid sid (slice_get (lines_of s.lines.bytes) place) lines in omega arith);
   none = λ few. ap (λ o. lines_count sid (cons_option (option_map (session_line sid) o) lines))
       (slice_get_past (lines_of s.lines.bytes) place few) ∙ e;
 }
@@ -94,7 +95,8 @@ one-from sid place key (suc k) (None ∷ slots) s e found =
 one-from sid place key (suc k) (Some other ∷ slots) s e found =
     let rest : IsOneOf sid place s (round_from place (key + 1) slots) =
     one-from sid place (key + 1) k slots s (omega arith) found in
-    let same : lines_count sid (round_from place key (Some other ∷ slots)) ≡ lines_count sid (round_from place (key + 1) slots) =
+    let same : lines_count sid (round_from place key (Some other ∷ slots))
+    ≡ lines_count sid (round_from place (key + 1) slots) =
     count-other sid key (slice_get (lines_of other.lines.bytes) place) (round_from place (key + 1) slots)
     (λ f. let at : key ≡ sid = f in omega arith) in
     record { one = subst (λ n. n ≤ 1) (sym same) rest.one; none = λ few. same ∙ rest.none few }
@@ -136,7 +138,8 @@ pub taken-few : (sid most : ℕ) (slab : Slab Session) (s : Session) (taken : Li
 taken-few sid most slab s taken found zip =
     let e : taken_of sid taken ≡ lines_count sid (turn_lines most (waiting_in slab)) =
     taken-counted sid (turn_lines most (waiting_in slab)) taken zip in
-    let cut : lines_count sid (take most (rounds most (waiting_in slab))) ≤ lines_count sid (rounds most (waiting_in slab)) =
+    let cut : lines_count sid (take most (rounds most (waiting_in slab)))
+    ≤ lines_count sid (rounds most (waiting_in slab)) =
     sum_by-take-le (λ (l : SessionLine). cond (l.sid == sid) 1 0) (rounds most (waiting_in slab)) most in
     let few : lines_count sid (rounds most (waiting_in slab)) ≤ line_count s = (rounds-few sid most slab s found).1 in
     omega arith

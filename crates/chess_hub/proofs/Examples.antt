@@ -1,13 +1,13 @@
 -- Worked lists of calls, computed: which lines the turns take, whose they are, and what the texts are.
-use Rattle.std.specs.Prelude.{ℕ, ◌≡◌, Bool, true, false, List, [], ◌∷◌, ◌++◌, Option, Some, None, map, codes, refl}
+use Rattle.std.specs.Prelude.{ℕ, ◌≡◌, true, false, List, [], ◌∷◌, ◌++◌, Option, Some, None, map, codes, refl}
 use Rattle.std.proofs.Common.{replicate}
 use Rattle.chess_line.specs.declared.lines.Line.{Line}
 use Rattle.chess_line.specs.declared.lines.Line.TheVariants.{Called}
 use Rattle.chess_sessions.specs.Session.{Said, farewell}
 use Rattle.chess_sessions.specs.Turn.{SessionLine, session_line, turn_lines}
 use Rattle.chess_sessions.specs.Answers.{alone}
-use Rattle.chess_hub.specs.Calls.{Call, Connected, Closed, Fed, Turned, Given, is_open, begun_count, which, input_of, given_to}
-use Rattle.chess_hub.specs.Sessions.{Merged, lines_left, waiting_lines, name_from, answers_to, is_done_in, session_text}
+use Rattle.chess_hub.specs.Calls.{Call, Connected, Closed, Fed, Turned, Given, is_open, which, given_to}
+use Rattle.chess_hub.specs.Sessions.{Merged, waiting_lines, name_from, is_done_in, session_text}
 
 -- text and a line feed
 ended : List ℕ → List ℕ
@@ -50,7 +50,8 @@ unfolding takes pieces two ended
 three_lines = refl
 
 taken_three : List Merged
-taken_three = line 1 1000 (Some (Called (codes "ann"))) ∷ line 2 1000 (Some (Called (codes "bob"))) ∷ line 1 1000 None ∷ []
+taken_three =
+    line 1 1000 (Some (Called (codes "ann"))) ∷ line 2 1000 (Some (Called (codes "bob"))) ∷ line 1 1000 None ∷ []
 
 fourth_line : takes 3 (Turned 1000 3 ∷ pieces) taken_three (0 ∷ 1 ∷ []) ≡ session_line 1 (codes "join 1") ∷ []
 unfolding takes pieces two ended taken_three line

@@ -1,7 +1,7 @@
 -- What was taken of a session's input, and what waits.
-use Rattle.std.proofs.Common.{◌≡◌, ℕ, zero, suc, ◌<◌, ◌≤◌, ◌-◌, ◌+◌, Bool, true, false, List, [], ◌∷◌, ◌++◌, length, drop, map, refl, ap, sym, subst, ◌∙◌, arith, append_assoc, length-append, length-drop, inl, inr}
+use Rattle.std.proofs.Common.{◌≡◌, ℕ, zero, suc, ◌≤◌, ◌-◌, ◌+◌, true, false, List, [], ◌∷◌, ◌++◌, length, drop, map, refl, ap, sym, subst, ◌∙◌, arith, append_assoc, length-append, length-drop, inl, inr}
 use Rattle.std.specs.Prelude.{cond}
-use Rattle.std.specs.List.{All, slice_split, onto_first}
+use Rattle.std.specs.List.{All, onto_first}
 use Rattle.std.specs.Io.BufRead.{strip_last}
 use Rattle.std.proofs.lemmas.Bool.{cases_Bool}
 use Rattle.std.proofs.lemmas.Bool.Decides.{nat_tests}
@@ -16,7 +16,8 @@ use Rattle.chess_sessions.specs.Delivery.{DropsLine, DropsLines}
 
 -- ---- what is kept of an input has its lines
 
-onto-no_feed : (b : ℕ) (parts : List (List ℕ)) → is_feed b ≡ false → All HasNoFeed parts → All HasNoFeed (onto_first b parts)
+onto-no_feed : (b : ℕ) (parts : List (List ℕ)) → is_feed b ≡ false → All HasNoFeed parts →
+    All HasNoFeed (onto_first b parts)
 onto-no_feed b [] e h =
     All-cons HasNoFeed (b ∷ []) [] (All-cons (λ b. is_feed b ≡ false) b [] e (All-nil (λ b. is_feed b ≡ false)))
     (All-nil HasNoFeed)
@@ -129,7 +130,8 @@ hearing-drops zero input count old new is few drops =
 hearing-drops (suc k) input count old new is few drops =
     let between = drops.0 in
     let one : DropsLine between new = drops.2 in
-    let before : IsHearing input (count + k) between = hearing-drops k input count old between is (omega arith) drops.1 in
+    let before : IsHearing input (count + k) between =
+    hearing-drops k input count old between is (omega arith) drops.1 in
     let left : length (lines_of between.bytes) ≡ length (lines_of input) - (count + k) =
     ap length (hearing-waits input (count + k) between before) ∙ length-drop (count + k) (lines_of input) in
     let line = one.taken (omega arith) in

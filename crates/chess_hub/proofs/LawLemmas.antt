@@ -1,34 +1,33 @@
 -- What holds after any calls, and that each call keeps it.
-use Rattle.std.proofs.Common.{◌≡◌, ◌≢◌, ◌↔◌, ℕ, suc, ◌+◌, ◌<◌, ◌≤◌, true, false, List, [], ◌∷◌, ◌++◌, length, map, drop, get_or, refl, ap, sym, subst, ◌∙◌, arith, append-nil, inl, inr, Option, Some, None}
-use Rattle.std.specs.Prelude.{Bool, ◌==◌, ◌&&◌, cond, count_by, option_map, is_some, IsSome, IsSomeAnd}
-use Rattle.std.specs.List.{All, AllZip, Contains}
+use Rattle.std.proofs.Common.{◌≡◌, ◌≢◌, ℕ, suc, ◌+◌, ◌≤◌, true, false, List, [], ◌∷◌, ◌++◌, length, map, drop, get_or, refl, ap, sym, subst, ◌∙◌, arith, inl, inr, Option, Some, None}
+use Rattle.std.specs.Prelude.{◌==◌, ◌&&◌, cond, option_map, is_some, IsSome, IsSomeAnd}
+use Rattle.std.specs.List.{All, AllZip}
 use Rattle.std.specs.Option.{MatchOption}
 use Rattle.std.proofs.lemmas.Bool.{cases_Bool, cases_eq, eqb-true}
 use Rattle.std.proofs.lemmas.List.Elements.{All-nil, All-append, All-map, All-weaker, All-head, All-tail, All-cons}
-use Rattle.std.proofs.lemmas.List.Sums.{sum_by-cons, length-filter}
-use Rattle.slab.specs.Slab.{Slab, get, entries}
+use Rattle.std.proofs.lemmas.List.Sums.{sum_by-cons}
+use Rattle.slab.specs.Slab.{get, entries}
 use Rattle.session_lines.specs.Lines.{lines_of, has_long_line}
 use Rattle.session_lines.specs.Heard.{heard_more}
-use Rattle.chess_answer.specs.declared.reads.Reply.{Reply}
 use Rattle.chess_entry.specs.State.{TableState}
 use Rattle.chess_sessions.specs.declared.sessions.Session.{Session}
 use Rattle.chess_sessions.specs.declared.sessions.Sessions.{Sessions}
 use Rattle.chess_sessions.specs.declared.taking.Taken.{Taken}
-use Rattle.chess_sessions.specs.Session.{Said, SessionState, said, shown, session_at, fresh, Changes, IsUnchanged, due, farewell, first_due, given_one, is_none_waiting}
-use Rattle.chess_sessions.specs.Turn.{Waiting, SessionLine, turn_lines, waiting, waiting_in, waiting_of, IsTakenAs, AreTakenAs}
-use Rattle.chess_sessions.specs.Answers.{name_of, name_at, commands_of, AreAnswers}
-use Rattle.chess_sessions.specs.Delivery.{Answered, own, name_over, HasAnswered, AllAnswered}
+use Rattle.chess_sessions.specs.Session.{Said, SessionState, shown, session_at, fresh, Changes, due, farewell, first_due, given_one, is_none_waiting}
+use Rattle.chess_sessions.specs.Turn.{Waiting, SessionLine, turn_lines, waiting, waiting_of, AreTakenAs}
+use Rattle.chess_sessions.specs.Answers.{name_of, name_at}
+use Rattle.chess_sessions.specs.Delivery.{Answered, own, HasAnswered}
 use Rattle.chess_sessions.proofs.TakingLemmas.{open-turn, open-taken}
 use Rattle.chess_hub.specs.Calls.{Call, Connected, Closed, Fed, Turned, Given, is_open, begun_count, which, input_of, given_to}
-use Rattle.chess_hub.specs.Sessions.{Merged, AreOpenIn, IsMergedAs, MergesTurn, AreMerged, AreAnsweredAfter, taken_count, name_from, answers_to, lines_left, waiting_lines, session_text}
+use Rattle.chess_hub.specs.Sessions.{Merged, AreOpenIn, IsMergedAs, AreMerged, AreAnsweredAfter, taken_count, name_from, answers_to, lines_left, waiting_lines, session_text}
 use Rattle.chess_hub.specs.Turning.{HasTurned}
-use Rattle.chess_hub.specs.Law.{HubState, Steps, Stays, Leads, HasItsText, IsFront, GiveTexts, LawOfSessions}
+use Rattle.chess_hub.specs.Law.{HubState, Steps, Stays, Leads, HasItsText, IsFront, LawOfSessions}
 use Rattle.chess_hub.proofs.CallLemmas.{which-begun, View, view, view-connected, view-connected-other, open-closed, view-closed-other, view-fed, view-fed-other, view-given, view-given-other}
 use Rattle.chess_hub.proofs.SlotLemmas.{map-agree, keys, keys-rise, keys-are, entries-are}
 use Rattle.chess_hub.proofs.CountLemmas.{taken_of, line_count, taken-few}
 use Rattle.chess_hub.proofs.HearingLemmas.{hearing-waits}
 use Rattle.chess_hub.proofs.AnswerLemmas.{merged_of, AllOpen, AreNames, name_from-append, answered-append, lines-answered}
-use Rattle.chess_hub.proofs.TextLemmas.{lines_in, says, AnsweredOpen, answers-more, count-more, name-own, answered-long, HaveBegun, HasNumber, AddsNone, own-or-none, answers-none, count-none}
+use Rattle.chess_hub.proofs.TextLemmas.{lines_in, says, AnsweredOpen, answers-more, count-more, name-own, answered-long, HaveBegun, own-or-none, answers-none, count-none}
 use Rattle.chess_hub.proofs.SessionLemmas.{IsSession, IsOne, text_of, session-text, session-begins, session-fed, session-given, Adds, session-turned}
 
 -- What holds after calls, with a merged list and answers to it.
@@ -57,8 +56,8 @@ holds-none table s none same = record {
   past = λ session. record { left = []; whole = refl };
 }
 
-holds-stays : (table : TableState) (calls : List Call) (old new : HubState) (merged : List Merged) (answers : List Said) →
-    Holds table calls old merged answers → Stays old new → Holds table calls new merged answers
+holds-stays : (table : TableState) (calls : List Call) (old new : HubState) (merged : List Merged)
+    (answers : List Said) → Holds table calls old merged answers → Stays old new → Holds table calls new merged answers
 holds-stays table calls old new merged answers h stays = record {
   are_merged = h.are_merged;
   answered = subst (AreAnsweredAfter [] table merged answers) (sym stays.table) h.answered;
@@ -69,8 +68,8 @@ holds-stays table calls old new merged answers h stays = record {
 
 -- ---- one session changes
 
-each-changed : (calls next : List Call) (sid : ℕ) (old new : Sessions) (now : Option SessionState) (merged : List Merged)
-    (answers : List Said) → Changes old new sid now → IsOne (view next sid) merged answers now →
+each-changed : (calls next : List Call) (sid : ℕ) (old new : Sessions) (now : Option SessionState)
+    (merged : List Merged) (answers : List Said) → Changes old new sid now → IsOne (view next sid) merged answers now →
     ((other : ℕ) → other ≢ sid → view next other ≡ view calls other) →
     ((other : ℕ) → IsOne (view calls other) merged answers (session_at old other)) →
     (other : ℕ) → IsOne (view next other) merged answers (session_at new other)
@@ -89,8 +88,8 @@ holds-connected : (table : TableState) (calls : List Call) (sid : ℕ) (old new 
 holds-connected table calls sid old new merged answers h changes same = record {
   are_merged = h.are_merged;
   answered = subst (AreAnsweredAfter [] table merged answers) (sym same) h.answered;
-  begun = All-weaker (λ m. m.session ≤ begun_count calls) (λ m. m.session ≤ suc (begun_count calls)) (λ m l. omega arith)
-      merged h.begun;
+  begun = All-weaker (λ m. m.session ≤ begun_count calls) (λ m. m.session ≤ suc (begun_count calls))
+      (λ m l. omega arith) merged h.begun;
   each = each-changed calls (Connected sid ∷ calls) sid old.sessions new.sessions (Some fresh) merged answers changes
       (subst (λ v. IsSession v merged answers fresh) (sym (view-connected calls sid))
       (session-begins (begun_count calls) merged answers h.begun))
@@ -112,8 +111,8 @@ holds-closed table calls sid old new merged answers h changes same = record {
 }
 
 -- the session of a number, where it is open
-here-is : (v : View) (merged : List Merged) (answers : List Said) (o : Option SessionState) (s : SessionState) → o ≡ Some s →
-    IsOne v merged answers o → IsSession v merged answers s
+here-is : (v : View) (merged : List Merged) (answers : List Said) (o : Option SessionState) (s : SessionState) →
+    o ≡ Some s → IsOne v merged answers o → IsSession v merged answers s
 here-is v merged answers o s e is = subst (IsOne v merged answers) e is
 
 front-of : (v : View) (merged : List Merged) (answers : List Said) (s : SessionState) → IsSession v merged answers s →
@@ -141,9 +140,10 @@ holds-fed : (table : TableState) (calls : List Call) (sid : ℕ) (piece : List �
 holds-fed table calls sid piece old new merged answers s h was short changes same =
     let is : IsSession (view calls sid) merged answers s =
     here-is (view calls sid) merged answers (session_at old.sessions sid) s was (h.each sid) in
-    let now : IsSession (view (Fed sid piece ∷ calls) sid) merged answers (record s { heard = heard_more s.heard piece }) =
-    subst (λ v. IsSession v merged answers (record s { heard = heard_more s.heard piece })) (sym (view-fed calls sid piece))
-    (session-fed (view calls sid) merged answers s piece is short) in
+    let now : IsSession (view (Fed sid piece ∷ calls) sid) merged answers
+    (record s { heard = heard_more s.heard piece }) =
+    subst (λ v. IsSession v merged answers (record s { heard = heard_more s.heard piece }))
+    (sym (view-fed calls sid piece)) (session-fed (view calls sid) merged answers s piece is short) in
     record {
       are_merged = h.are_merged;
       answered = subst (AreAnsweredAfter [] table merged answers) (sym same) h.answered;
@@ -170,16 +170,16 @@ holds-given table calls sid answer old new merged answers s h was first changes 
       are_merged = h.are_merged;
       answered = subst (AreAnsweredAfter [] table merged answers) (sym same) h.answered;
       begun = h.begun;
-      each = each-changed calls (Given sid answer ∷ calls) sid old.sessions new.sessions (Some (given_one s)) merged answers
-          changes now (λ other ne. view-given-other calls sid other answer is.opens ne) h.each;
+      each = each-changed calls (Given sid answer ∷ calls) sid old.sessions new.sessions (Some (given_one s)) merged
+          answers changes now (λ other ne. view-given-other calls sid other answer is.opens ne) h.each;
       past = past-changed calls (Given sid answer ∷ calls) sid merged answers (given_one s) now refl
           (λ session e. rw e (h.past session));
     }
 
 -- ---- a turn: which sessions are open
 
-opens-same : (v : View) (merged : List Merged) (answers : List Said) (o : Option SessionState) → IsOne v merged answers o →
-    v.is_open ≡ is_some o
+opens-same : (v : View) (merged : List Merged) (answers : List Said) (o : Option SessionState) →
+    IsOne v merged answers o → v.is_open ≡ is_some o
 opens-same v merged answers None is = is
 opens-same v merged answers (Some s) is = is.opens
 
@@ -218,9 +218,11 @@ entry-waits : (table : TableState) (calls : List Call) (s : HubState) (merged : 
     waiting_lines calls merged e.0 ≡ waiting e
 entry-waits table calls s merged answers h e found =
     let is : IsSession (view calls e.0) merged answers (shown e.1) =
-    here-is (view calls e.0) merged answers (session_at s.sessions e.0) (shown e.1) (ap (option_map shown) found) (h.each e.0) in
+    here-is (view calls e.0) merged answers (session_at s.sessions e.0) (shown e.1)
+    (ap (option_map shown) found) (h.each e.0) in
     ap (waits e.0)
-    (sym (hearing-waits (input_of (which e.0 calls) calls) (taken_count (which e.0 calls) merged) (shown e.1).heard is.hearing))
+    (sym (hearing-waits (input_of (which e.0 calls) calls) (taken_count (which e.0 calls) merged) (shown e.1).heard
+    is.hearing))
 
 waiting-same : (table : TableState) (calls : List Call) (s : HubState) (merged : List Merged) (answers : List Said) →
     Holds table calls s merged answers →
@@ -249,8 +251,8 @@ names-are : (table : TableState) (calls : List Call) (s : HubState) (merged : Li
 names-are table calls s merged answers h sid opens =
     name-is (view calls sid) merged answers (session_at s.sessions sid) (h.each sid) opens
   where
-    name-is : (v : View) (merged : List Merged) (answers : List Said) (o : Option SessionState) → IsOne v merged answers o →
-        v.is_open ≡ true → name_of o ≡ name_from v.session None merged
+    name-is : (v : View) (merged : List Merged) (answers : List Said) (o : Option SessionState) →
+        IsOne v merged answers o → v.is_open ≡ true → name_of o ≡ name_from v.session None merged
     name-is v merged answers None is opens = absurd (let bad : false ≡ true = sym is ∙ opens in cc)
     name-is v merged answers (Some s) is opens = is.name
 
@@ -310,9 +312,10 @@ open-front : (v : View) (merged : List Merged) (answers : List Said) (o : Option
 open-front v merged answers None opens is = absurd (let bad : false ≡ true = sym is ∙ opens in cc)
 open-front v merged answers (Some s) opens is = front-of v merged answers s is
 
-past-turned : (calls : List Call) (at session : ℕ) (merged : List Merged) (answers : List Said) (answered : List Answered)
-    (new : Sessions) → length answers ≡ length merged → AnsweredOpen calls answered →
-    ((sid : ℕ) → IsOne (view calls sid) (merged ++ lines_in calls at answered) (answers ++ says answered) (session_at new sid)) →
+past-turned : (calls : List Call) (at session : ℕ) (merged : List Merged) (answers : List Said)
+    (answered : List Answered) (new : Sessions) → length answers ≡ length merged → AnsweredOpen calls answered →
+    ((sid : ℕ) → IsOne (view calls sid) (merged ++ lines_in calls at answered) (answers ++ says answered)
+    (session_at new sid)) →
     IsFront (given_to session calls) (session_text calls merged answers session) →
     IsFront (given_to session calls)
     (session_text calls (merged ++ lines_in calls at answered) (answers ++ says answered) session)
@@ -348,7 +351,8 @@ holds-turned table calls at most old new merged answers h turn =
     let others = answers ++ says answered in
     let long : length answers ≡ length merged = answered-long [] table merged answers old.table h.answered in
     let lines : map (merged_of calls at) turn.taken ≡ lines_in calls at answered =
-    ap (map (merged_of calls at)) (sym turn.whose) ∙ map-over (λ (a : Answered). a.taken) (merged_of calls at) answered in
+    ap (map (merged_of calls at)) (sym turn.whose)
+    ∙ map-over (λ (a : Answered). a.taken) (merged_of calls at) answered in
     let opens : AllOpen calls turn.taken = taken-open table calls old merged answers most turn.taken h turn.lines in
     let all : AnsweredOpen calls answered =
     all-mapped (λ (t : Taken). is_open t.sid calls ≡ true) (λ (a : Answered). a.taken) answered
@@ -375,8 +379,8 @@ holds-turned table calls at most old new merged answers h turn =
               (merged-as calls at (turn_lines most (waiting_of old.sessions)) turn.taken turn.lines));
           whole = refl;
         };
-        answered = answered-append [] table merged (lines_in calls at answered) answers (says answered) old.table new.table
-            h.answered
+        answered = answered-append [] table merged (lines_in calls at answered) answers (says answered) old.table
+            new.table h.answered
             (subst (λ ls. AreAnsweredAfter merged old.table ls (says answered) new.table) lines
             (lines-answered calls at (name_at old.sessions) merged turn.taken new.table
             (names-are table calls old merged answers h) opens old.table turn.replies turn.batch.entries (says answered)
@@ -385,7 +389,8 @@ holds-turned table calls at most old new merged answers h turn =
             (All-map (λ m. m.session ≤ begun_count calls) (λ (a : Answered). merged_of calls at a.taken) answered
             (λ k d within. which-begun (get_or answered k d).taken.sid calls));
         each = each;
-        past = λ session. past-turned calls at session merged answers answered new.sessions long all each (h.past session);
+        past = λ session.
+            past-turned calls at session merged answers answered new.sessions long all each (h.past session);
       };
     }
 

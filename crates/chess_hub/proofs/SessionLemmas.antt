@@ -1,6 +1,6 @@
 -- What holds of one session after calls, and how each kind of call keeps it.
-use Rattle.std.proofs.Common.{◌≡◌, ℕ, suc, ◌+◌, ◌<◌, ◌≤◌, true, false, List, [], ◌∷◌, ◌++◌, length, drop, map, refl, ap, sym, subst, ◌∙◌, arith, append_assoc, append-nil, Option, Some, None}
-use Rattle.std.specs.Prelude.{Bool, ◌==◌, ◌&&◌, ◌||◌, not, cond}
+use Rattle.std.proofs.Common.{◌≡◌, ℕ, suc, ◌+◌, ◌≤◌, true, false, List, [], ◌∷◌, ◌++◌, length, drop, refl, ap, sym, subst, ◌∙◌, arith, append_assoc, append-nil, Option, Some, None}
+use Rattle.std.specs.Prelude.{Bool, ◌&&◌, ◌||◌, not, cond}
 use Rattle.std.proofs.lemmas.Bool.{and_parts}
 use Rattle.std.proofs.lemmas.List.{nil_from_length}
 use Rattle.session_lines.specs.Lines.{lines_of, has_long_line}
@@ -12,7 +12,8 @@ use Rattle.chess_hub.proofs.CallLemmas.{View}
 use Rattle.chess_hub.proofs.HearingLemmas.{IsHearing, hearing-none, hearing-waits, hearing-more, hearing-drops, hearing-count}
 use Rattle.chess_hub.proofs.TextLemmas.{says, HaveBegun, none-new, count-new, name-new}
 
--- How what was given and what is to be given stand to the answers: whether the farewell was given, and whether it may be.
+-- How what was given and what is to be given stand to the answers: whether the farewell was given, and whether it may
+-- be.
 abbrev pub IsTold : Bool → Bool → List Said → List Said → List Said → Type 0
 IsTold false is_done given answers all = given ++ answers ≡ all
 IsTold true is_done given answers all = (given ≡ all ++ farewell ∷ []) × (answers ≡ []) × (is_done ≡ true)
@@ -90,8 +91,8 @@ session-fed v merged answers s piece is short = record {
   hearing = hearing-more v.input piece (taken_count v.session merged) s.heard is.hearing short;
   told = fed-told s.has_left (is_done s.heard) (is_done (heard_more s.heard piece)) v.given s.answers
       (answers_to v.session merged answers)
-      (λ e. (let long : s.heard.is_long ≡ true = (and_parts s.heard.is_long (is_none_waiting (lines_of s.heard.bytes)) e).0 in
-      cc)) is.told;
+      (λ e. (let long : s.heard.is_long ≡ true =
+      (and_parts s.heard.is_long (is_none_waiting (lines_of s.heard.bytes)) e).0 in cc)) is.told;
 }
 
 -- ---- it is given an answer
@@ -164,7 +165,8 @@ none-waits : (lines : List (List ℕ)) → is_none_waiting lines ≡ true → le
 none-waits [] e = refl
 none-waits (line ∷ lines) e = absurd (let bad : false ≡ true = e in cc)
 
-none-taken : (lines : List Answered) (h : Heard) → length lines ≤ length (lines_of h.bytes) → is_done h ≡ true → lines ≡ []
+none-taken : (lines : List Answered) (h : Heard) → length lines ≤ length (lines_of h.bytes) → is_done h ≡ true →
+    lines ≡ []
 none-taken lines h few done =
     let none : length (lines_of h.bytes) ≡ 0 =
     none-waits (lines_of h.bytes) ((and_parts h.is_long (is_none_waiting (lines_of h.bytes)) done).1) in
@@ -184,8 +186,8 @@ turned-told true old new lines given before after all more few drops is adds h =
       ap is_done same ∙ h.2,
     )
 
-pub session-turned : (at : ℕ) (v : View) (lines : List Answered) (merged more : List Merged) (answers others : List Said)
-    (s t : SessionState) → IsSession v merged answers s → Adds at v.session lines merged answers more others →
+pub session-turned : (at : ℕ) (v : View) (lines : List Answered) (merged more : List Merged)
+    (answers others : List Said) (s t : SessionState) → IsSession v merged answers s → Adds at v.session lines merged answers more others →
     length lines ≤ length (lines_of s.heard.bytes) → HasAnswered at lines s t → IsSession v more others t
 session-turned at v lines merged more answers others s t is adds few has =
     let count = taken_count v.session merged in
@@ -197,7 +199,7 @@ session-turned at v lines merged more answers others s t is adds few has =
       name = has.name ∙ ap (λ name. name_over at name lines) is.name ∙ sym adds.name;
       hearing = subst (λ n. IsHearing v.input n t.heard) (sym adds.count)
           (hearing-drops (length lines) v.input count s.heard t.heard is.hearing within has.heard);
-      told = subst (λ left. IsTold left (is_done t.heard) v.given t.answers (answers_to v.session more others)) (sym has.left)
-          (turned-told s.has_left s.heard t.heard lines v.given s.answers t.answers (answers_to v.session merged answers)
-          (answers_to v.session more others) few has.heard has.answers adds.text is.told);
+      told = subst (λ left. IsTold left (is_done t.heard) v.given t.answers (answers_to v.session more others))
+          (sym has.left) (turned-told s.has_left s.heard t.heard lines v.given s.answers t.answers
+          (answers_to v.session merged answers) (answers_to v.session more others) few has.heard has.answers adds.text is.told);
     }

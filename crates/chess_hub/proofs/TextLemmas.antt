@@ -1,12 +1,11 @@
 -- What the lines of a turn add to the texts and the names of the sessions.
-use Rattle.std.proofs.Common.{◌≡◌, ℕ, suc, ◌+◌, true, false, List, [], ◌∷◌, ◌++◌, length, map, refl, ap, sym, subst, ◌∙◌, arith, append-nil, ◌⊎◌, inl, inr, ◌<◌, ◌≤◌, Option}
-use Rattle.std.specs.Prelude.{Bool, ◌==◌, cond, count_by, filter}
+use Rattle.std.proofs.Common.{◌≡◌, ℕ, suc, ◌+◌, true, false, List, [], ◌∷◌, ◌++◌, length, map, refl, ap, ◌∙◌, arith, append-nil, ◌⊎◌, inl, inr, ◌<◌, ◌≤◌, Option}
+use Rattle.std.specs.Prelude.{◌==◌, cond, filter}
 use Rattle.std.specs.List.{All, zip}
 use Rattle.std.proofs.lemmas.Bool.{cases_Bool, eqb-true, ne_eqb}
 use Rattle.std.proofs.lemmas.List.Elements.{All-head, All-tail}
-use Rattle.std.proofs.lemmas.List.Sums.{sum_by-cons, sum_by-append, length-filter}
+use Rattle.std.proofs.lemmas.List.Sums.{sum_by-cons, sum_by-append}
 use Rattle.chess_entry.specs.State.{TableState}
-use Rattle.chess_sessions.specs.declared.taking.Taken.{Taken}
 use Rattle.chess_sessions.specs.Session.{Said}
 use Rattle.chess_sessions.specs.Answers.{given_name, renamed}
 use Rattle.chess_sessions.specs.Delivery.{Answered, own, name_over}
@@ -36,8 +35,8 @@ answers-append session (x ∷ xs) ys (a ∷ ps) qs e =
     elim (x.session == session) as (λ t. map (λ (p : Merged × Said). p.1)
     (cond t ((x, a) ∷ filter (λ (p : Merged × Said). p.0.session == session) (zip (xs ++ ys) (ps ++ qs)))
     (filter (λ (p : Merged × Said). p.0.session == session) (zip (xs ++ ys) (ps ++ qs))))
-    ≡ map (λ (p : Merged × Said). p.1) (cond t ((x, a) ∷ filter (λ (p : Merged × Said). p.0.session == session) (zip xs ps))
-    (filter (λ (p : Merged × Said). p.0.session == session) (zip xs ps))) ++ answers_to session ys qs) [
+    ≡ map (λ (p : Merged × Said). p.1)
+    (cond t ((x, a) ∷ filter (λ (p : Merged × Said). p.0.session == session) (zip xs ps)) (filter (λ (p : Merged × Said). p.0.session == session) (zip xs ps))) ++ answers_to session ys qs) [
       | true ↦ ap (λ zs. a ∷ zs) rest
       | false ↦ rest
     ]
@@ -52,7 +51,8 @@ answers-own calls at sid (a ∷ answered) opens =
     same-session calls a.taken.sid sid (All-head (λ a. is_open a.taken.sid calls ≡ true) a answered opens) in
     ap (λ t. map (λ (p : Merged × Said). p.1) (cond t ((merged_of calls at a.taken, a.said)
     ∷ filter (λ (p : Merged × Said). p.0.session == which sid calls) (zip (lines_in calls at answered) (says answered)))
-    (filter (λ (p : Merged × Said). p.0.session == which sid calls) (zip (lines_in calls at answered) (says answered))))) test
+    (filter (λ (p : Merged × Said). p.0.session == which sid calls) (zip (lines_in calls at answered) (says answered)))))
+    test
     ∙ elim (a.taken.sid == sid) as (λ t. map (λ (p : Merged × Said). p.1) (cond t ((merged_of calls at a.taken, a.said)
     ∷ filter (λ (p : Merged × Said). p.0.session == which sid calls) (zip (lines_in calls at answered) (says answered)))
     (filter (λ (p : Merged × Said). p.0.session == which sid calls) (zip (lines_in calls at answered) (says answered))))
@@ -62,7 +62,8 @@ answers-own calls at sid (a ∷ answered) opens =
     ]
 
 -- a session has the answers to its own lines more
-pub answers-more : (calls : List Call) (at sid : ℕ) (merged : List Merged) (answers : List Said) (answered : List Answered) →
+pub answers-more : (calls : List Call) (at sid : ℕ) (merged : List Merged) (answers : List Said)
+    (answered : List Answered) →
     length answers ≡ length merged → AnsweredOpen calls answered →
     answers_to (which sid calls) (merged ++ lines_in calls at answered) (answers ++ says answered)
     ≡ answers_to (which sid calls) merged answers ++ says (own sid answered)
@@ -106,8 +107,8 @@ name-own calls at sid name (a ∷ answered) opens =
     same-session calls a.taken.sid sid (All-head (λ a. is_open a.taken.sid calls ≡ true) a answered opens) in
     ap (λ t. name_from (which sid calls) (cond t (renamed (given_name at a.taken.line) name) name)
     (lines_in calls at answered)) test
-    ∙ elim (a.taken.sid == sid) as (λ t. name_from (which sid calls) (cond t (renamed (given_name at a.taken.line) name) name)
-    (lines_in calls at answered) ≡ name_over at name (cond t (a ∷ own sid answered) (own sid answered))) [
+    ∙ elim (a.taken.sid == sid) as
+    (λ t. name_from (which sid calls) (cond t (renamed (given_name at a.taken.line) name) name) (lines_in calls at answered) ≡ name_over at name (cond t (a ∷ own sid answered) (own sid answered))) [
       | true ↦ name-own calls at sid (renamed (given_name at a.taken.line) name) answered all
       | false ↦ name-own calls at sid name answered all
     ]
@@ -131,7 +132,8 @@ none-new session count [] answers l h = refl
 none-new session count (m ∷ merged) [] l h = refl
 none-new session count (m ∷ merged) (answer ∷ answers) l h =
     let here : m.session ≤ count = All-head (λ m. m.session ≤ count) m merged h in
-    let test : (m.session == session) ≡ false = ne_eqb m.session session (λ e. let e : m.session ≡ session = e in omega arith) in
+    let test : (m.session == session) ≡ false =
+    ne_eqb m.session session (λ e. let e : m.session ≡ session = e in omega arith) in
     let rest : answers_to session merged answers ≡ [] =
     none-new session count merged answers l (All-tail (λ m. m.session ≤ count) m merged h) in
     rw test rest
@@ -141,7 +143,8 @@ pub count-new : (session count : ℕ) (merged : List Merged) → count < session
 count-new session count [] l h = refl
 count-new session count (m ∷ merged) l h =
     let here : m.session ≤ count = All-head (λ m. m.session ≤ count) m merged h in
-    let test : (m.session == session) ≡ false = ne_eqb m.session session (λ e. let e : m.session ≡ session = e in omega arith) in
+    let test : (m.session == session) ≡ false =
+    ne_eqb m.session session (λ e. let e : m.session ≡ session = e in omega arith) in
     sum_by-cons (λ (m : Merged). cond (m.session == session) 1 0) m merged
     ∙ ap (λ t. cond t 1 0 + taken_count session merged) test
     ∙ ap (λ n. 0 + n) (count-new session count merged l (All-tail (λ m. m.session ≤ count) m merged h))
@@ -151,7 +154,8 @@ pub name-new : (session count : ℕ) (name : Option (List ℕ)) (merged : List M
 name-new session count name [] l h = refl
 name-new session count name (m ∷ merged) l h =
     let here : m.session ≤ count = All-head (λ m. m.session ≤ count) m merged h in
-    let test : (m.session == session) ≡ false = ne_eqb m.session session (λ e. let e : m.session ≡ session = e in omega arith) in
+    let test : (m.session == session) ≡ false =
+    ne_eqb m.session session (λ e. let e : m.session ≡ session = e in omega arith) in
     ap (λ t. name_from session (cond t (renamed (given_name m.at m.line) name) name) merged) test
     ∙ name-new session count name merged l (All-tail (λ m. m.session ≤ count) m merged h)
 
@@ -190,8 +194,9 @@ own-or-none calls at session (a ∷ answered) opens =
           ]
     ]
 
-pub answers-none : (session : ℕ) (merged lines : List Merged) (answers more : List Said) → length answers ≡ length merged →
-    AddsNone session lines more → answers_to session (merged ++ lines) (answers ++ more) ≡ answers_to session merged answers
+pub answers-none : (session : ℕ) (merged lines : List Merged) (answers more : List Said) →
+    length answers ≡ length merged → AddsNone session lines more →
+    answers_to session (merged ++ lines) (answers ++ more) ≡ answers_to session merged answers
 answers-none session merged lines answers more e none =
     answers-append session merged lines answers more e ∙ ap (λ zs. answers_to session merged answers ++ zs) none.text
     ∙ append-nil (answers_to session merged answers)

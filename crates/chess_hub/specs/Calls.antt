@@ -1,5 +1,5 @@
--- What sessions were called for, told by the calls alone: who began and who closed, who sent which bytes, where the turns
--- fell, and who was given what. The newest call stands first.
+-- What sessions were called for, told by the calls alone: who began and who closed, who sent which bytes, where the
+-- turns fell, and who was given what. The newest call stands first.
 use Rattle.std.specs.Prelude.{ℕ, suc, ◌==◌, ◌||◌, ◌&&◌, not, Bool, false, if◌then◌else◌, List, [], ◌∷◌, ◌++◌}
 use Rattle.chess_sessions.specs.Session.{Said}
 
@@ -33,8 +33,8 @@ begun_count (Fed other piece ∷ calls) = begun_count calls
 begun_count (Turned at most ∷ calls) = begun_count calls
 begun_count (Given other answer ∷ calls) = begun_count calls
 
--- Which session has a number, or had it last: 1 is the first that began, 2 the next, and so on, and 0 is none. So a number
--- that is given again is another session's.
+-- Which session has a number, or had it last: 1 is the first that began, 2 the next, and so on, and 0 is none. So a
+-- number that is given again is another session's.
 abbrev pub which : ℕ → List Call → ℕ
 which sid [] = 0
 which sid (Connected other ∷ calls) = if other == sid then suc (begun_count calls) else which sid calls

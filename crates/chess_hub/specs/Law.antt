@@ -8,8 +8,8 @@ use Rattle.chess_hub.specs.Turning.{HasTurned}
 use Rattle.chess_hub.specs.Calls.{Call, Connected, Closed, Fed, Turned, Given, is_open, which, given_to}
 use Rattle.chess_hub.specs.Sessions.{Merged, AreMerged, AreAnsweredAfter, session_text}
 
--- The sessions of a hub, and the table that its answers have led to: its store's, until the device fails. From then on no
--- command is answered, and the turns go on over that table.
+-- The sessions of a hub, and the table that its answers have led to: its store's, until the device fails. From then on
+-- no command is answered, and the turns go on over that table.
 pub record HubState : Type 0 where
   pub sessions : Sessions
   pub table : TableState
@@ -52,8 +52,8 @@ pub record IsFront (given text : List Said) : Type 0 where
   pub left : List Said
   pub whole : given ++ left ≡ text
 
--- The calls have a merged list and answers to it, by the verdicts on the table; each open session has its text, and each
--- that was closed was given the beginning of its own.
+-- The calls have a merged list and answers to it, by the verdicts on the table; each open session has its text, and
+-- each that was closed was given the beginning of its own.
 pub record GiveTexts (table : TableState) (calls : List Call) (s : HubState) : Type 0 where
   pub merged : List Merged
   pub are_merged : AreMerged calls merged

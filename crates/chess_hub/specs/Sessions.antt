@@ -74,7 +74,8 @@ name_from session name [] = name
 name_from session name (m ∷ merged) =
     name_from session (if m.session == session then renamed (given_name m.at m.line) name else name) merged
 
--- The answer to a line of a session with this name, and the table after it: to an act by the verdict on the table before.
+-- The answer to a line of a session with this name, and the table after it: to an act by the verdict on the table
+-- before.
 abbrev pub IsLineAnswered : TableState → Option (List ℕ) → ℕ → Option Line → Said → TableState → Type 0
 IsLineAnswered table name at (Some (Act act)) answer after =
     (reply : Reply) × (entries : List Entry)
