@@ -14,7 +14,7 @@ use Rattle.chess_entry.specs.State.{GameState, TableState}
 use Rattle.chess_entry.specs.Games.{table_of}
 use Rattle.chess_entry.specs.Follow.{follow}
 use Rattle.chess_entry.specs.Lawful.{IsLawful}
-use Rattle.chess_entry.specs.Table.{IsTable, IsOnTable, followed}
+use Rattle.chess_entry.specs.Table.{IsOnTable, followed}
 use Rattle.chess_store.specs.declared.fault.StoreFault.{StoreFault}
 use Rattle.chess_store.specs.declared.fault.StoreFault.TheVariants.{Exists, TooSmall, NotOurs, Damaged, Device, NoMemory, Worn, Failed}
 use Rattle.chess_store.specs.Batch.{IsAnswered}

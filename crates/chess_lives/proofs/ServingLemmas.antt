@@ -1,7 +1,7 @@
 -- Batches that are submitted one after the other.
 use Rattle.std.specs.Prelude.{ℕ, ◌≡◌, ◌≤◌, ◌<◌, ◌+◌, ◌-◌, ◌^◌, zero, suc, min, List, [], ◌∷◌, ◌++◌, length, map, take, get_or, count_by, Option, Some, None}
-use Rattle.std.proofs.Common.{arith, ap, sym, subst, ◌∙◌, refl, inl, inr, append_assoc, length-append}
-use Rattle.std.proofs.lemmas.List.{map-append, append-nil, take_more, take_all}
+use Rattle.std.proofs.Common.{arith, ap, sym, subst, ◌∙◌, refl, inl, inr, length-append}
+use Rattle.std.proofs.lemmas.List.{map-append, append-nil, take_more}
 use Rattle.chess_board.specs.Legal.{EachOf}
 use Rattle.rec_codec.specs.declared.record.Entry.{Entry}
 use Rattle.sector_dev.specs.Image.{Sectors}
@@ -15,11 +15,11 @@ use Rattle.rec_codec.specs.declared.header.Header.{Header}
 use Rattle.sector_journal.specs.declared.compactions.Compaction.{Compaction}
 use Rattle.sector_journal.specs.Stands.{content}
 use Rattle.chess_store.specs.Batch.{IsAnswered, IsWornOut, act_count}
-use Rattle.chess_store.proofs.BatchLemmas.{Come, answered_comes}
+use Rattle.chess_store.proofs.BatchLemmas.{answered_comes}
 use Rattle.chess_store.specs.declared.fault.StoreFault.{StoreFault}
 use Rattle.chess_store.specs.declared.fault.StoreFault.TheVariants.{Exists, TooSmall, NotOurs, Damaged, Device, NoMemory, Worn, Failed}
 use Rattle.chess_store.specs.Faults.{IsSubmitFault, IsOpenFault, IsDevice, IsOfTheCall, CountsFault, MayLast}
-use Rattle.chess_store.specs.Means.{Means, MeansEither, AllMean, IsKept}
+use Rattle.chess_store.specs.Means.{MeansEither, AllMean, IsKept}
 use Rattle.chess_lives.specs.declared.plan.LifeReport.{LifeReport}
 use Rattle.chess_lives.specs.declared.serving.Tally.{Tally}
 use Rattle.chess_lives.specs.Courses.{Batch, entries_of, list_of, is_unsent, unsent_in}

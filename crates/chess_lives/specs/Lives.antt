@@ -1,5 +1,5 @@
 -- What comes of the lives of a store, one after the other.
-use Rattle.std.specs.Prelude.{ℕ, ◌≡◌, ◌⊎◌, ◌+◌, ◌-◌, ◌^◌, min, List, [], ◌∷◌, ◌++◌, map, length, Option, Some, None, IsSome}
+use Rattle.std.specs.Prelude.{ℕ, ◌≡◌, ◌⊎◌, ◌+◌, ◌-◌, ◌^◌, min, List, [], ◌∷◌, map, length, Option, Some, None, IsSome}
 use Rattle.chess_board.specs.Line.{IsLegalLine}
 use Rattle.chess_board.specs.Legal.{EachOf}
 use Rattle.rec_codec.specs.declared.limits.Limits.{Limits}

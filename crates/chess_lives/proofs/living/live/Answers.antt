@@ -1,4 +1,4 @@
-use Rattle.std.proofs.Common.{ℕ, ◌≡◌, ◌∙◌, ap, sym, subst, arith, List, Option, IfSome, map, Vec, Global}
+use Rattle.std.proofs.Common.{ℕ, ◌∙◌, sym, subst, arith, List, Option, IfSome, map, Vec, Global}
 use Rattle.sector_dev.specs.Image.{Sectors}
 use Rattle.chess_entry.specs.Games.{table_of}
 use Rattle.chess_entry.specs.declared.commands.Command.{Command}

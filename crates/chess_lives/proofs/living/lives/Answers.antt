@@ -1,4 +1,4 @@
-use Rattle.std.proofs.Common.{ℕ, ◌≡◌, ◌∙◌, ◌+◌, ◌++◌, [], ◌∷◌, Some, Ok, Err, Result, ap, sym, subst, arith, List, length, length-append, take, IfOk, IfErr}
+use Rattle.std.proofs.Common.{◌≡◌, ◌∙◌, ◌+◌, ◌++◌, [], ◌∷◌, Some, Result, ap, sym, subst, arith, List, length, length-append, take, IfOk, IfErr}
 use Rattle.std.proofs.lemmas.List.{take_all}
 use Rattle.chess_entry.specs.State.{TableState}
 use Rattle.chess_entry.specs.Games.{table_of}
@@ -8,7 +8,6 @@ use Rattle.chess_store.specs.Faults.{IsDevice, CountsFault}
 use Rattle.sector_dev.specs.Device.{HasRisen}
 use Rattle.chess_lives.specs.declared.plan.Life.{Life}
 use Rattle.chess_lives.specs.declared.plan.LifeReport.{LifeReport}
-use Rattle.chess_lives.specs.declared.plan.Report.{Report}
 use Rattle.chess_lives.specs.Lives.{IsBegun, IsLifeThen, IsReport}
 use Rattle.chess_lives.specs.Stops.{IsStopped, IsCutShort, IsLivesFault}
 use Rattle.chess_lives.specs.Serving.{IsShown, EndsUnopened}

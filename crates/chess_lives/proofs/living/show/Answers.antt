@@ -1,5 +1,4 @@
 use Rattle.std.proofs.Common.{◌≡◌, ◌∙◌, arith, ap, sym, subst}
-use Rattle.sector_dev.specs.Image.{Sectors}
 use Rattle.chess_entry.specs.State.{TableState}
 use Rattle.chess_entry.specs.Table.{IsTable}
 use Rattle.chess_store.proofs.MeansLemmas.{one_table}

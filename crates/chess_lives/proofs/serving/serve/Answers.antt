@@ -1,5 +1,4 @@
 use Rattle.std.proofs.Common.{◌∙◌, ◌↔◌, ap, ◌≡◌, ℕ, sym, subst, arith, map}
-use Rattle.sector_dev.specs.Device.{State}
 use Rattle.chess_entry.specs.State.{TableState}
 use Rattle.chess_store.proofs.MeansLemmas.{one_table}
 use Rattle.chess_store.specs.Means.{IsKept}

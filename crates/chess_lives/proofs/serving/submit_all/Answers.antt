@@ -1,9 +1,8 @@
-use Rattle.std.proofs.Common.{ℕ, ◌≡◌, ◌≤◌, ◌∙◌, ◌+◌, ◌-◌, ◌^◌, min, Some, Err, ap, sym, subst, arith, List, length, map, take, true, false, count_by, inl}
+use Rattle.std.proofs.Common.{ℕ, ◌≡◌, ◌≤◌, ◌∙◌, ◌+◌, ◌-◌, ◌^◌, min, Some, Err, ap, sym, subst, List, length, map, take, true, count_by}
 use Rattle.std.proofs.lemmas.List.{take_all}
 use Rattle.chess_entry.specs.declared.commands.Command.{Command}
 use Rattle.chess_answer.specs.declared.reads.Reply.{Reply}
 use Rattle.chess_store.specs.declared.fault.StoreFault.{StoreFault}
-use Rattle.chess_store.specs.declared.fault.StoreFault.TheVariants.{Failed}
 use Rattle.chess_store.specs.Batch.{IsAnswered, IsWornOut, act_count}
 use Rattle.chess_store.specs.Faults.{UnlessDevice, CountsFault, MayLast}
 use Rattle.chess_store.specs.Means.{IsKept}
