@@ -6,11 +6,16 @@ use Rattle.rec_codec.specs.declared.limits.Limits.{Limits}
 use Rattle.rec_codec.specs.declared.limits.Version.TheVariants.{Two}
 use Rattle.rec_codec.specs.Limits.{IsInRange}
 use Rattle.rec_codec.specs.declared.record.Entry.{Entry}
+use Rattle.chess_entry.specs.declared.commands.Command.{Command}
 use Rattle.chess_entry.specs.State.{TableState}
 use Rattle.chess_entry.specs.Games.{table_of}
 use Rattle.chess_entry.specs.Follow.{follow}
 use Rattle.chess_entry.specs.Lawful.{IsEntered, IsLawful}
 use Rattle.chess_entry.specs.Table.{IsEnteredOn, AreEnteredOn, followed}
+use Rattle.chess_answer.specs.declared.reads.Reply.{Reply}
+use Rattle.chess_store.specs.Batch.{IsAnswered}
+use Rattle.chess_store.proofs.BatchLemmas.{answered_comes}
+use Rattle.chess_lives.specs.Laws.{IsLonger}
 use Rattle.chess_entry.proofs.LawOfFollow.{law}
 use Rattle.chess_entry.proofs.LawfulLists.{IsLawful-more}
 use Rattle.chess_entry.proofs.MeaningMore.{AreEnteredOn-first, AreEnteredOn-rest}
@@ -44,3 +49,13 @@ Gives-more limits k (x ∷ xs) table in_range gives on =
     } in
     subst (λ (all : List Entry). Gives limits all (followed (follow table x) xs)) (append_assoc k (x ∷ []) xs)
     (Gives-more limits (k ++ x ∷ []) xs (follow table x) in_range next (AreEnteredOn-rest table x xs on))
+
+-- with the entries of a batch that was answered
+pub longer : (limits : Limits) (k : List Entry) (commands : List Command) (replies : List Reply) (entries : List Entry)
+    (after : TableState) → IsInRange Two limits → IsLawful limits k
+    → IsAnswered (table_of limits k) commands replies entries after → IsLonger limits k entries after
+longer limits k commands replies entries after in_range lawful is =
+    let come = answered_comes commands (table_of limits k) replies entries after is in
+    let more = Gives-more limits k entries (table_of limits k) in_range (record { lawful = lawful; is = refl })
+    come.entered in
+    record { lawful = more.lawful; table = come.is ∙ more.is }

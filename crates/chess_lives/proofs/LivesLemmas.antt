@@ -14,11 +14,11 @@ use Rattle.chess_entry.specs.State.{GameState, TableState}
 use Rattle.chess_entry.specs.Games.{table_of}
 use Rattle.chess_entry.specs.Follow.{follow}
 use Rattle.chess_entry.specs.Lawful.{IsLawful}
-use Rattle.chess_entry.specs.Table.{IsTable, IsOnTable, followed}
+use Rattle.chess_entry.specs.Table.{IsOnTable, followed}
 use Rattle.chess_store.specs.declared.fault.StoreFault.{StoreFault}
 use Rattle.chess_store.specs.declared.fault.StoreFault.TheVariants.{Exists, TooSmall, NotOurs, Damaged, Device, NoMemory, Worn, Failed}
 use Rattle.chess_store.specs.Batch.{IsAnswered}
-use Rattle.chess_store.specs.Faults.{IsOfTheCall, CountsFault}
+use Rattle.chess_store.specs.Faults.{IsDevice}
 use Rattle.chess_store.specs.Means.{Means, MeansEither, AllMean}
 use Rattle.chess_store.proofs.BatchLemmas.{answered_comes}
 use Rattle.chess_lives.specs.declared.plan.Life.{Life}
@@ -26,7 +26,7 @@ use Rattle.chess_lives.specs.declared.plan.LifeReport.{LifeReport}
 use Rattle.chess_lives.specs.declared.plan.Report.{Report}
 use Rattle.chess_lives.specs.Courses.{Batch, Course, IsCourse, IsLeft, AreJudged, acknowledged, accepted, entries_of, list_of}
 use Rattle.chess_lives.specs.Lives.{HasFailed, EndsBy, IsLife, IsLifeThen, AreLives, IsBegun, IsReport, HasLegalMoves, batches_of}
-use Rattle.chess_lives.specs.Stops.{IsReturned, IsStopped, IsCutShort, MeansLeft, first_batches, IsFirstUnarmed}
+use Rattle.chess_lives.specs.Stops.{IsReturned, IsPendingOf, IsFirstWorn, IsStopped, IsCutShort, MeansLeft, first_batches, IsFirstUnarmed}
 use Rattle.chess_lives.specs.Serving.{AreJudgedOn, ArePending, IsCourseOn, EndsWith, EndsUnopened, WasRefused, WasOpened, IsServed, IsShown, returned}
 use Rattle.chess_lives.proofs.LawfulEntries.{Gives, Gives-more}
 
@@ -90,103 +90,110 @@ given_course limits k batches course left kept entered in_range lawful on =
     let failed = are_given limits (acknowledged k course) (list_of course.failed) kept entered in_range answered.gives
     on.failed in
     record {
-      is_course = record { order = on.order; answered = answered.judged; failed = failed.judged };
+      is_course = record { order = on.order; answered = answered.judged; failed = failed.judged; some = on.some };
       answered = answered.gives;
       all = failed.gives;
     }
 
--- what a stop leaves, which is lawful
-record IsKept (limits : Limits) (k : List Entry) (course : Course) (image : Sectors) : Type 0 where
-  left : MeansLeft limits k course image
-  lawful : IsLawful limits left.next
-
 what_is_left : (limits : Limits) (k : List Entry) (batches : List (List Command)) (course : Course)
     (left : List (List Command)) (kept entered : TableState) (image : Sectors)
     → IsGivenCourse limits k batches course left kept entered → MeansEither kept entered image
-    → IsKept limits k course image
+    → MeansLeft limits k course image
 what_is_left limits k batches course left kept entered image given (inl means) = record {
-  left = record {
-    next = acknowledged k course;
-    is_left = inl refl;
-    means = subst (λ (t : TableState). Means image t) given.answered.is means;
-  };
+  next = acknowledged k course;
+  is_left = inl refl;
   lawful = given.answered.lawful;
+  means = subst (λ (t : TableState). Means image t) given.answered.is means;
 }
 what_is_left limits k batches course left kept entered image given (inr means) = record {
-  left = record {
-    next = accepted k course;
-    is_left = inr refl;
-    means = subst (λ (t : TableState). Means image t) given.all.is means;
-  };
+  next = accepted k course;
+  is_left = inr refl;
   lawful = given.all.lawful;
+  means = subst (λ (t : TableState). Means image t) given.all.is means;
 }
 
 -- ---- why a life ends
 
-abbrev EndedBy : Option StoreFault → ℕ → ℕ → Type 0
-EndedBy None failures after = after ≡ failures
-EndedBy (Some (Device pending)) failures after = HasRisen failures after
-EndedBy (Some NoMemory) failures after = after ≡ failures
-EndedBy (Some Worn) failures after = after ≡ failures
-EndedBy (Some fault) failures after = ⊥
+-- it is the fault that ended the life, and the device's only where its calls were not limited
+pub record IsPassedOn (calls : Option ℕ) (fault : Option StoreFault) (f : StoreFault) : Type 0 where
+  pub is : fault ≡ Some f
+  pub unarmed : IsDevice f → calls ≡ None
 
-ended-opened : (fault : Option StoreFault) (failed : Option Batch) (left : List (List Command)) (failures after : ℕ)
-    → EndsWith fault failed left failures after → EndedBy fault failures after
-ended-opened None failed left failures after ends = ends.2
-ended-opened (Some (Device pending)) failed left failures after ends = ends.1
-ended-opened (Some NoMemory) failed left failures after ends = ends.1
-ended-opened (Some Worn) failed left failures after ends = ends.1
-ended-opened (Some Failed) failed left failures after ends = absurd ends
-ended-opened (Some Exists) failed left failures after ends = absurd ends
-ended-opened (Some TooSmall) failed left failures after ends = absurd ends
-ended-opened (Some NotOurs) failed left failures after ends = absurd ends
-ended-opened (Some Damaged) failed left failures after ends = absurd ends
+never_device : (x f : StoreFault) → (IsDevice x → ⊥) → Some x ≡ Some f → IsDevice f → ⊥
+never_device x f never is device =
+    let same : f ≡ x = cc in
+    never (subst (λ (y : StoreFault). IsDevice y) same device)
 
-ended-refused : (fault : Option StoreFault) (failures after : ℕ) → EndsUnopened fault failures after
-    → EndedBy fault failures after
-ended-refused None failures after ends = absurd ends
-ended-refused (Some (Device pending)) failures after ends = ends
-ended-refused (Some NoMemory) failures after ends = ends
-ended-refused (Some Worn) failures after ends = absurd ends
-ended-refused (Some Failed) failures after ends = absurd ends
-ended-refused (Some Exists) failures after ends = absurd ends
-ended-refused (Some TooSmall) failures after ends = absurd ends
-ended-refused (Some NotOurs) failures after ends = absurd ends
-ended-refused (Some Damaged) failures after ends = absurd ends
+passed_as : (n : ℕ) (x f : StoreFault) → (IsDevice x → ⊥) → Some x ≡ Some f → IsPassedOn (Some n) (Some x) f
+passed_as n x f never is = record { is = is; unarmed = λ device. absurd (never_device x f never is device) }
 
-ended : (table : TableState) (course : Course) (left : List (List Command)) (report : LifeReport)
-    (fault : Option StoreFault) (failures after : ℕ)
+pub passed_on : (calls : Option ℕ) (fault : Option StoreFault) (f : StoreFault) → returned calls fault ≡ Some f
+    → IsPassedOn calls fault f
+passed_on None None f is = absurd (cc)
+passed_on (Some n) None f is = absurd (cc)
+passed_on None (Some x) f is = record { is = is; unarmed = λ device. refl }
+passed_on (Some n) (Some (Device pending)) f is = absurd (cc)
+passed_on (Some n) (Some NoMemory) f is = passed_as n NoMemory f (λ none. none) is
+passed_on (Some n) (Some Worn) f is = passed_as n Worn f (λ none. none) is
+passed_on (Some n) (Some Failed) f is = passed_as n Failed f (λ none. none) is
+passed_on (Some n) (Some Exists) f is = passed_as n Exists f (λ none. none) is
+passed_on (Some n) (Some TooSmall) f is = passed_as n TooSmall f (λ none. none) is
+passed_on (Some n) (Some NotOurs) f is = passed_as n NotOurs f (λ none. none) is
+passed_on (Some n) (Some Damaged) f is = passed_as n Damaged f (λ none. none) is
+
+pending_is : (pending : ℕ) (answered : List Batch) (failed : Option Batch) → ArePending pending failed
+    → IsPendingOf pending answered failed
+pending_is pending answered None are = absurd are
+pending_is pending answered (Some batch) are = are
+
+-- a store was opened, and a batch failed
+returned-opened : (f : StoreFault) (IsUnarmed : Type 0) (k : List Entry) (course : Course) (left : List (List Command))
+    (now : State) (failures after : ℕ) → EndsWith (Some f) course.failed left failures after → (IsDevice f → IsUnarmed)
+    → (f ≡ Worn → IsFirstWorn now (length (acknowledged k course)) left)
+    → IsReturned f IsUnarmed k course left now failures after
+returned-opened (Device pending) IsUnarmed k course left now failures after ends unarmed worn =
+    (unarmed tt, pending_is pending course.answered course.failed ends.0, ends.1)
+returned-opened NoMemory IsUnarmed k course left now failures after ends unarmed worn = ends
+returned-opened Worn IsUnarmed k course left now failures after ends unarmed worn = (ends.0, worn refl, ends.1)
+returned-opened Failed IsUnarmed k course left now failures after ends unarmed worn = absurd ends
+returned-opened Exists IsUnarmed k course left now failures after ends unarmed worn = absurd ends
+returned-opened TooSmall IsUnarmed k course left now failures after ends unarmed worn = absurd ends
+returned-opened NotOurs IsUnarmed k course left now failures after ends unarmed worn = absurd ends
+returned-opened Damaged IsUnarmed k course left now failures after ends unarmed worn = absurd ends
+
+-- none was opened
+returned-refused : (f : StoreFault) (IsUnarmed : Type 0) (k : List Entry) (course : Course) (left : List (List Command))
+    (now : State) (failures after : ℕ) → EndsUnopened (Some f) failures after → (IsDevice f → IsUnarmed)
+    → course.answered ≡ [] → course.failed ≡ None → IsReturned f IsUnarmed k course left now failures after
+returned-refused (Device pending) IsUnarmed k course left now failures after ends unarmed answered failed = (
+  unarmed tt,
+  subst (λ (b : Option Batch). IsPendingOf pending course.answered b) (sym failed) (ends.0, answered),
+  ends.1,
+)
+returned-refused NoMemory IsUnarmed k course left now failures after ends unarmed answered failed = (failed, ends)
+returned-refused Worn IsUnarmed k course left now failures after ends unarmed answered failed = absurd ends
+returned-refused Failed IsUnarmed k course left now failures after ends unarmed answered failed = absurd ends
+returned-refused Exists IsUnarmed k course left now failures after ends unarmed answered failed = absurd ends
+returned-refused TooSmall IsUnarmed k course left now failures after ends unarmed answered failed = absurd ends
+returned-refused NotOurs IsUnarmed k course left now failures after ends unarmed answered failed = absurd ends
+returned-refused Damaged IsUnarmed k course left now failures after ends unarmed answered failed = absurd ends
+
+returned-some : (table : TableState) (k : List Entry) (course : Course) (left : List (List Command))
+    (report : LifeReport) (calls : Option ℕ) (fault : Option StoreFault) (f : StoreFault) (now : State)
+    (failures after : ℕ) → returned calls fault ≡ Some f
+    → (fault ≡ Some Worn → IsFirstWorn now (length (acknowledged k course)) left)
     → WasRefused course report fault failures after ⊎ WasOpened table course left report fault failures after
-    → EndedBy fault failures after
-ended table course left report fault failures after (inl refused) = ended-refused fault failures after refused.ends
-ended table course left report fault failures after (inr opened) =
-    ended-opened fault course.failed left failures after opened.ends
-
-returned-as : (fault f : StoreFault) (IsUnarmed : Type 0) (failures after : ℕ) → Some fault ≡ Some f
-    → IsReturned fault IsUnarmed failures after → IsReturned f IsUnarmed failures after
-returned-as fault f IsUnarmed failures after is h =
-    let same : fault ≡ f = cc in
-    subst (λ (x : StoreFault). IsReturned x IsUnarmed failures after) same h
-
-returned-some : (calls : Option ℕ) (fault : Option StoreFault) (f : StoreFault) (failures after : ℕ)
-    → returned calls fault ≡ Some f → EndedBy fault failures after → IsReturned f (calls ≡ None) failures after
-returned-some None None f failures after is ended = absurd (cc)
-returned-some (Some n) None f failures after is ended = absurd (cc)
-returned-some None (Some (Device pending)) f failures after is ended =
-    returned-as (Device pending) f (None ≡ None) failures after is (refl, ended)
-returned-some (Some n) (Some (Device pending)) f failures after is ended = absurd (cc)
-returned-some None (Some NoMemory) f failures after is ended =
-    returned-as NoMemory f (None ≡ None) failures after is ended
-returned-some (Some n) (Some NoMemory) f failures after is ended =
-    returned-as NoMemory f (Some n ≡ None) failures after is ended
-returned-some None (Some Worn) f failures after is ended = returned-as Worn f (None ≡ None) failures after is ended
-returned-some (Some n) (Some Worn) f failures after is ended =
-    returned-as Worn f (Some n ≡ None) failures after is ended
-returned-some calls (Some Failed) f failures after is ended = absurd ended
-returned-some calls (Some Exists) f failures after is ended = absurd ended
-returned-some calls (Some TooSmall) f failures after is ended = absurd ended
-returned-some calls (Some NotOurs) f failures after is ended = absurd ended
-returned-some calls (Some Damaged) f failures after is ended = absurd ended
+    → IsReturned f (calls ≡ None) k course left now failures after
+returned-some table k course left report calls fault f now failures after is worn (inl refused) =
+    let passed = passed_on calls fault f is in
+    returned-refused f (calls ≡ None) k course left now failures after
+    (subst (λ (x : Option StoreFault). EndsUnopened x failures after) passed.is refused.ends) passed.unarmed
+    refused.answered refused.failed
+returned-some table k course left report calls fault f now failures after is worn (inr opened) =
+    let passed = passed_on calls fault f is in
+    returned-opened f (calls ≡ None) k course left now failures after
+    (subst (λ (x : Option StoreFault). EndsWith x course.failed left failures after) passed.is opened.ends)
+    passed.unarmed (λ same. worn (passed.is ∙ ap (λ (x : StoreFault). Some x) same))
 
 -- no fault, or the device's where its calls were limited
 record IsStop (calls : Option ℕ) (fault : Option StoreFault) : Type 0 where
@@ -228,10 +235,16 @@ fails_opening life fault failures after (inl none) ends =
     absurd (subst (λ (f : Option StoreFault). EndsUnopened f failures after) none ends)
 fails_opening life fault failures after (inr stop) ends = record {
   armed = stop.armed;
-  risen = subst (λ (f : Option StoreFault). EndsUnopened f failures after) stop.is ends;
+  risen = (subst (λ (f : Option StoreFault). EndsUnopened f failures after) stop.is ends).1;
 }
 
 -- ---- one life
+
+-- the games of a table are of legal moves
+are_legal : (table : TableState) (games : List GameState) → EachOf (IsOnTable table) games
+    → EachOf HasLegalMoves games
+are_legal table [] each = tt
+are_legal table (game ∷ games) each = (each.0.game.played.legal, are_legal table games each.1)
 
 -- a life at whose end a crash left this image
 pub record IsLivedTo (limits : Limits) (k : List Entry) (failures : ℕ) (life : Life) (report : LifeReport) (after : ℕ)
@@ -254,10 +267,11 @@ nothing_left k course next answered failed is =
 
 is_life : (limits : Limits) (k : List Entry) (failures : ℕ) (life : Life) (report : LifeReport)
     (fault : Option StoreFault) (course : Course) (left : List (List Command)) (next : List Entry) (after : ℕ)
-    → (fault ≡ None) ⊎ IsStop life.calls fault → IsCourse limits k (batches_of life) course left → IsLeft k course next
+    → (fault ≡ None) ⊎ IsStop life.calls fault → IsLawful limits k → IsCourse limits k (batches_of life) course left
+    → IsLeft k course next
     → WasRefused course report fault failures after ⊎ WasOpened (table_of limits k) course left report fault failures after
     → IsLife limits k failures life report next after
-is_life limits k failures life report fault course left next after stop is_course is_left (inl refused) = inl (record {
+is_life limits k failures life report fault course left next after stop lawful is_course is_left (inl refused) = inl (record {
   failed = fails_opening life fault failures after stop refused.ends;
   opened = refused.opened;
   acknowledged = refused.acknowledged;
@@ -265,7 +279,9 @@ is_life limits k failures life report fault course left next after stop is_cours
   unsent = refused.unsent;
   kept = nothing_left k course next refused.answered refused.failed is_left;
 })
-is_life limits k failures life report fault course left next after stop is_course is_left (inr opened) = inr (record {
+is_life limits k failures life report fault course left next after stop lawful is_course is_left (inr opened) = inr (record {
+  lawful = lawful;
+  legal = are_legal (table_of limits k) (table_of limits k).games opened.is_table.games;
   course = course;
   left = left;
   is_course = is_course;
@@ -287,11 +303,11 @@ lived_to limits k failures life report fault now after image in_range lawful ser
     let kept = what_is_left limits k (batches_of life) served.course served.left served.kept served.accepted image given
     (served.each image possible) in
     record {
-      next = kept.left.next;
-      life_is = is_life limits k failures life report fault served.course served.left kept.left.next after
-          (returned-none life.calls fault none) given.is_course kept.left.is_left served.how;
+      next = kept.next;
+      life_is = is_life limits k failures life report fault served.course served.left kept.next after
+          (returned-none life.calls fault none) lawful given.is_course kept.is_left served.how;
       lawful = kept.lawful;
-      means = kept.left.means;
+      means = kept.means;
     }
 
 pub life_stopped : (limits : Limits) (k : List Entry) (failures : ℕ) (life : Life) (report : LifeReport)
@@ -305,11 +321,13 @@ life_stopped limits k failures life report fault f now after in_range lawful ser
       course = served.course;
       left = served.left;
       is_course = given.is_course;
-      returned = returned-some life.calls fault f failures after some
-          (ended (table_of limits k) served.course served.left report fault failures after served.how);
+      returned = returned-some (table_of limits k) k served.course served.left report life.calls fault f now failures
+          after some
+          (λ worn. subst (λ (n : ℕ). IsFirstWorn now n served.left)
+          (ap (λ (t : TableState). t.entries) given.answered.is) (served.worn worn)) served.how;
       each = λ image possible.
-          (what_is_left limits k (batches_of life) served.course served.left served.kept served.accepted image given
-          (served.each image possible)).left;
+          what_is_left limits k (batches_of life) served.course served.left served.kept served.accepted image given
+          (served.each image possible);
     }
 
 -- ---- lives
@@ -360,18 +378,20 @@ are_over-more limits k failures over reports now new count after life report so_
 
 -- a fault that was returned at the start of a life, before any batch, or in the last opening
 stopped_at_start : (limits : Limits) (k : List Entry) (failures : ℕ) (lives : List Life) (fault : StoreFault)
-    (now : State) (after : ℕ) → IsReturned fault (IsFirstUnarmed lives) failures after → AllMean now (table_of limits k)
-    → IsStopped limits k failures lives fault now after
-stopped_at_start limits k failures lives fault now after is_returned means =
+    (now : State) (after : ℕ) → EndsUnopened (Some fault) failures after → (IsDevice fault → IsFirstUnarmed lives)
+    → IsLawful limits k → AllMean now (table_of limits k) → IsStopped limits k failures lives fault now after
+stopped_at_start limits k failures lives fault now after ends unarmed lawful means =
     let course : Course = record { answered = []; failed = None } in
     record {
       course = course;
       left = first_batches lives;
-      is_course = record { order = refl; answered = tt; failed = tt };
-      returned = is_returned;
+      is_course = record { order = refl; answered = tt; failed = tt; some = tt };
+      returned = returned-refused fault (IsFirstUnarmed lives) k course (first_batches lives) now failures after ends
+          unarmed refl refl;
       each = λ image possible. record {
         next = acknowledged k course;
         is_left = inl refl;
+        lawful = subst (λ (es : List Entry). IsLawful limits es) (sym (append-nil k)) lawful;
         means = subst (λ (es : List Entry). Means image (table_of limits es)) (sym (append-nil k))
             (means image possible);
       };
@@ -417,15 +437,16 @@ cut_at_start limits k failures lives now begun = record {
   last = k;
   count = failures;
   are_lives = (refl, refl);
-  stopped = stopped_at_start limits k failures lives NoMemory now failures refl begun.means;
+  stopped = stopped_at_start limits k failures lives NoMemory now failures refl (λ device. absurd device)
+      begun.lawful begun.means;
 }
 
 -- it was returned by the last opening
 pub cut_at_end : (limits : Limits) (k : List Entry) (failures : ℕ) (lives : List Life) (reports : List LifeReport)
     (now new : State) (count after : ℕ) (fault : StoreFault)
     → (so_far : AreOver limits k failures lives reports now count) → AllMean new (table_of limits so_far.last)
-    → IsReturned fault (Unit {0}) count after → IsCutShort limits k failures lives fault new after
-cut_at_end limits k failures lives reports now new count after fault so_far means is_returned = record {
+    → EndsUnopened (Some fault) count after → IsCutShort limits k failures lives fault new after
+cut_at_end limits k failures lives reports now new count after fault so_far means ends = record {
   over = lives;
   others = [];
   order = sym (append-nil lives);
@@ -433,26 +454,9 @@ cut_at_end limits k failures lives reports now new count after fault so_far mean
   last = so_far.last;
   count = count;
   are_lives = so_far.are_lives;
-  stopped = stopped_at_start limits so_far.last count [] fault new after is_returned means;
+  stopped = stopped_at_start limits so_far.last count [] fault new after ends (λ device. tt)
+      so_far.begun.lawful means;
 }
-
--- the games of a table are of legal moves
-are_legal : (table : TableState) (games : List GameState) → EachOf (IsOnTable table) games
-    → EachOf HasLegalMoves games
-are_legal table [] each = tt
-are_legal table (game ∷ games) each = (each.0.game.played.legal, are_legal table games each.1)
-
--- the last opening was refused
-pub refused_last : (fault : StoreFault) (failures after : ℕ) → IsOfTheCall fault → CountsFault fault failures after
-    → IsReturned fault (Unit {0}) failures after
-refused_last (Device pending) failures after may counts = (tt, counts.0)
-refused_last NoMemory failures after may counts = counts
-refused_last Worn failures after may counts = absurd may
-refused_last Failed failures after may counts = absurd may
-refused_last Exists failures after may counts = absurd may
-refused_last TooSmall failures after may counts = absurd may
-refused_last NotOurs failures after may counts = absurd may
-refused_last Damaged failures after may counts = absurd may
 
 -- what the last opening shows is the report of the lives
 pub is_report : (limits : Limits) (k : List Entry) (failures : ℕ) (lives : List Life) (reports : List LifeReport)
@@ -477,6 +481,10 @@ pub IfOk-both : {T E : Type 0} (r : Result T E) (P Q R : T → Type 0) → IfOk 
     → ((x : T) → P x → Q x → R x) → IfOk r R
 IfOk-both (Ok x) P Q R p q both = both x p q
 IfOk-both (Err e) P Q R p q both = tt
+
+pub IfOk-map : {T E : Type 0} (r : Result T E) (P Q : T → Type 0) → IfOk r P → ((x : T) → P x → Q x) → IfOk r Q
+IfOk-map (Ok x) P Q p next = next x p
+IfOk-map (Err e) P Q p next = tt
 
 pub IfErr-map : {T E : Type 0} (r : Result T E) (P Q : E → Type 0) → IfErr r P → ((e : E) → P e → Q e) → IfErr r Q
 IfErr-map (Ok x) P Q p next = tt

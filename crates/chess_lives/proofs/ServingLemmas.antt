@@ -1,7 +1,7 @@
 -- Batches that are submitted one after the other.
 use Rattle.std.specs.Prelude.{ℕ, ◌≡◌, ◌≤◌, ◌<◌, ◌+◌, ◌-◌, ◌^◌, zero, suc, min, List, [], ◌∷◌, ◌++◌, length, map, take, get_or, count_by, Option, Some, None}
-use Rattle.std.proofs.Common.{arith, ap, sym, subst, ◌∙◌, refl, inl, inr, append_assoc, length-append}
-use Rattle.std.proofs.lemmas.List.{map-append, append-nil, take_more, take_all}
+use Rattle.std.proofs.Common.{arith, ap, sym, subst, ◌∙◌, refl, inl, inr, length-append}
+use Rattle.std.proofs.lemmas.List.{map-append, append-nil, take_more}
 use Rattle.chess_board.specs.Legal.{EachOf}
 use Rattle.rec_codec.specs.declared.record.Entry.{Entry}
 use Rattle.sector_dev.specs.Image.{Sectors}
@@ -11,16 +11,20 @@ use Rattle.chess_entry.specs.State.{TableState}
 use Rattle.chess_entry.specs.Table.{IsTable, followed}
 use Rattle.chess_entry.specs.Follow.{follow}
 use Rattle.chess_answer.specs.declared.reads.Reply.{Reply}
-use Rattle.chess_store.specs.Batch.{IsAnswered}
-use Rattle.chess_store.proofs.BatchLemmas.{Come, answered_comes}
+use Rattle.rec_codec.specs.declared.header.Header.{Header}
+use Rattle.sector_journal.specs.declared.compactions.Compaction.{Compaction}
+use Rattle.sector_journal.specs.Stands.{content}
+use Rattle.chess_store.specs.Batch.{IsAnswered, IsWornOut, act_count}
+use Rattle.chess_store.proofs.BatchLemmas.{answered_comes}
 use Rattle.chess_store.specs.declared.fault.StoreFault.{StoreFault}
 use Rattle.chess_store.specs.declared.fault.StoreFault.TheVariants.{Exists, TooSmall, NotOurs, Damaged, Device, NoMemory, Worn, Failed}
-use Rattle.chess_store.specs.Faults.{IsSubmitFault, IsOfTheCall, CountsFault, MayLast}
-use Rattle.chess_store.specs.Means.{Means, MeansEither, AllMean}
+use Rattle.chess_store.specs.Faults.{IsSubmitFault, IsOpenFault, IsDevice, IsOfTheCall, CountsFault, MayLast}
+use Rattle.chess_store.specs.Means.{MeansEither, AllMean, IsKept}
 use Rattle.chess_lives.specs.declared.plan.LifeReport.{LifeReport}
 use Rattle.chess_lives.specs.declared.serving.Tally.{Tally}
 use Rattle.chess_lives.specs.Courses.{Batch, entries_of, list_of, is_unsent, unsent_in}
-use Rattle.chess_lives.specs.Serving.{AreJudgedOn, ArePending, EndsWith, EndsUnopened, IsTallied, HasRoomFor, pending_of, IsServed}
+use Rattle.chess_lives.specs.Serving.{AreJudgedOn, ArePending, EndsWith, EndsUnopened, CountsEnd, IsTallied, HasRoomFor, pending_of, IsServed}
+use Rattle.chess_lives.specs.Stops.{IsFirstWorn, IsWornBefore, IsLivesFault}
 
 -- the batches so far, all of them answered
 pub record SoFar (before : TableState) (done : List (List Command)) (now : TableState) (shown refused : ℕ)
@@ -132,6 +136,22 @@ around-at {A = A} {B = B} f (y ∷ ys) (suc i) x lt is =
     let more = around-at f ys i x (omega arith) is in
     record { rest = more.rest; is = ap (λ (zs : List B). f y ∷ zs) more.is }
 
+-- ---- a batch that is worn out
+
+-- where every image stands for the store's records, each has the number of its header
+pub worn_before : (now : State) (header : Header) (compaction : Compaction) (table : TableState)
+    (commands : List Command) → IsKept now header compaction table
+    → IsWornOut header.seq table.entries (act_count commands) → IsWornBefore now table.entries commands
+worn_before now header compaction table commands kept worn = record {
+  number = header.seq;
+  each = λ image is. record {
+    content = content header kept.base kept.tail;
+    shows = kept.keeps.all image is;
+    is = refl;
+  };
+  worn = worn;
+}
+
 -- ---- the end of the batches
 
 module _ (before : TableState) (failures : ℕ) (WasKept : Type 0) (state : State) (after : ℕ) where
@@ -148,10 +168,12 @@ module _ (before : TableState) (failures : ℕ) (WasKept : Type 0) (state : Stat
       order = so_far.order ∙ sym (append-nil (map (λ b. b.commands) so_far.answered));
       answered = so_far.judged;
       failed = refl;
+      some = tt;
     };
     ends = (refl, refl, unfailed);
     shown = so_far.count;
     unsent = so_far.unsent;
+    worn = λ was is. absurd (cc);
     each = λ kept image is. inl (means kept image is);
   }
 
@@ -159,10 +181,11 @@ module _ (before : TableState) (failures : ℕ) (WasKept : Type 0) (state : Stat
   tallied-refused : (done rest : List (List Command)) (commands : List Command) (now new : TableState)
       (shown refused : ℕ) (fault : StoreFault) → SoFar before done now shown refused → new ≡ now
       → EndsWith (Some fault) None (commands ∷ rest) failures after
+      → (WasKept → fault ≡ Worn → IsWornBefore state now.entries commands)
       → (WasKept → (image : Sectors) → state.image image → MeansEither now new image)
       → IsTallied before (done ++ commands ∷ rest) (record { shown = shown; unsent = refused; fault = Some fault })
       failures WasKept state after
-  tallied-refused done rest commands now new shown refused fault so_far same ends each = record {
+  tallied-refused done rest commands now new shown refused fault so_far same ends worn each = record {
     course = record { answered = so_far.answered; failed = None };
     left = commands ∷ rest;
     kept = now;
@@ -171,20 +194,23 @@ module _ (before : TableState) (failures : ℕ) (WasKept : Type 0) (state : Stat
       order = ap (λ (cs : List (List Command)). cs ++ commands ∷ rest) so_far.order;
       answered = so_far.judged;
       failed = refl;
+      some = tt;
     };
     ends = ends;
     shown = so_far.count;
     unsent = so_far.unsent;
+    worn = λ was is. (let same : fault ≡ Worn = cc in worn was same);
     each = λ kept image is. subst (λ (t : TableState). MeansEither now t image) same (each kept image is);
   }
 
   pub tallied-err : (done rest : List (List Command)) (commands : List Command) (now new : TableState)
       (shown refused mid : ℕ) (fault : StoreFault) → SoFar before done now shown refused → IsSubmitFault fault
       → (fault ≡ Failed → ⊥) → MayLast fault now commands new → CountsFault fault mid after → mid ≡ failures
+      → (WasKept → fault ≡ Worn → IsWornBefore state now.entries commands)
       → (WasKept → (image : Sectors) → state.image image → MeansEither now new image)
       → IsTallied before (done ++ commands ∷ rest) (record { shown = shown; unsent = refused; fault = Some fault })
       failures WasKept state after
-  tallied-err done rest commands now new shown refused mid (Device pending) so_far may works last counts same each =
+  tallied-err done rest commands now new shown refused mid (Device pending) so_far may works last counts same worn each =
       let batch : Batch = record { commands = commands; replies = last.replies; entries = last.entries } in
       record {
         course = record { answered = so_far.answered; failed = Some batch };
@@ -195,22 +221,24 @@ module _ (before : TableState) (failures : ℕ) (WasKept : Type 0) (state : Stat
           order = ap (λ (cs : List (List Command)). cs ++ commands ∷ rest) so_far.order;
           answered = so_far.judged;
           failed = record { between = new; first = last.answered; rest = refl };
+          some = last.some;
         };
         ends = (last.counted, subst (λ (n : ℕ). HasRisen n after) same counts.0);
         shown = so_far.count;
         unsent = so_far.unsent;
+        worn = λ was is. absurd (cc);
         each = each;
       }
-  tallied-err done rest commands now new shown refused mid NoMemory so_far may works last counts same each =
-      tallied-refused done rest commands now new shown refused NoMemory so_far last (refl, counts ∙ same) each
-  tallied-err done rest commands now new shown refused mid Worn so_far may works last counts same each =
-      tallied-refused done rest commands now new shown refused Worn so_far last (refl, counts ∙ same) each
-  tallied-err done rest commands now new shown refused mid Failed so_far may works last counts same each =
+  tallied-err done rest commands now new shown refused mid NoMemory so_far may works last counts same worn each =
+      tallied-refused done rest commands now new shown refused NoMemory so_far last (refl, counts ∙ same) worn each
+  tallied-err done rest commands now new shown refused mid Worn so_far may works last counts same worn each =
+      tallied-refused done rest commands now new shown refused Worn so_far last (refl, counts ∙ same) worn each
+  tallied-err done rest commands now new shown refused mid Failed so_far may works last counts same worn each =
       absurd (works refl)
-  tallied-err done rest commands now new shown refused mid Exists so_far may works last counts same each = absurd may
-  tallied-err done rest commands now new shown refused mid TooSmall so_far may works last counts same each = absurd may
-  tallied-err done rest commands now new shown refused mid NotOurs so_far may works last counts same each = absurd may
-  tallied-err done rest commands now new shown refused mid Damaged so_far may works last counts same each = absurd may
+  tallied-err done rest commands now new shown refused mid Exists so_far may works last counts same worn each = absurd may
+  tallied-err done rest commands now new shown refused mid TooSmall so_far may works last counts same worn each = absurd may
+  tallied-err done rest commands now new shown refused mid NotOurs so_far may works last counts same worn each = absurd may
+  tallied-err done rest commands now new shown refused mid Damaged so_far may works last counts same worn each = absurd may
 
 -- the entries that are pending still fit beside those that were shown
 pub room-err : (fault : StoreFault) (now new : TableState) (commands : List Command) (shown : ℕ)
@@ -250,11 +278,11 @@ pending-ends (Some Damaged) failed left failures after ends = absurd ends
 
 pub served-opened : (table : TableState) (batches : List (List Command)) (tally : Tally) (failures : ℕ)
     (WasKept : Type 0) (now : State) (after begun : ℕ) (report : LifeReport)
-    → IsTallied table batches tally failures WasKept now after → WasKept → begun ≡ table.entries
+    → IsTallied table batches tally failures WasKept now after → WasKept → IsTable table → begun ≡ table.entries
     → report.opened ≡ Some begun → report.acknowledged ≡ tally.shown - begun
     → report.accepted ≡ tally.shown - begun + pending_of tally.fault → report.unsent ≡ tally.unsent
     → IsServed table batches failures report tally.fault now after
-served-opened table batches tally failures WasKept now after begun report t was count opened acknowledged accepted unsent =
+served-opened table batches tally failures WasKept now after begun report t was is_table count opened acknowledged accepted unsent =
     let shown = judged-entries table t.course.answered t.kept t.is_course.answered in
     let pending = pending-ends tally.fault t.course.failed t.left failures after t.ends in
     record {
@@ -264,12 +292,14 @@ served-opened table batches tally failures WasKept now after begun report t was 
       accepted = t.accepted;
       is_course = t.is_course;
       how = inr (record {
+        is_table = is_table;
         ends = t.ends;
         opened = opened ∙ ap (λ (n : ℕ). Some n) count;
         acknowledged = omega (arith, acknowledged, count, t.shown, shown);
         accepted = omega (arith, accepted, count, t.shown, shown, pending);
         unsent = unsent ∙ t.unsent;
       });
+      worn = t.worn was;
       each = t.each was;
     }
 
@@ -278,15 +308,32 @@ served-opened table batches tally failures WasKept now after begun report t was 
 abbrev zeros : LifeReport
 zeros = record { opened = None; acknowledged = 0; accepted = 0; unsent = 0 }
 
-served-none : (table : TableState) (batches : List (List Command)) (failures : ℕ) (fault : StoreFault) (now : State)
-    (after : ℕ) → EndsUnopened (Some fault) failures after → AllMean now table
+-- why an opening failed where every image means a table
+pub unopened : (fault : StoreFault) (failures after : ℕ) → IsOpenFault fault → IsOfTheCall fault
+    → CountsFault fault failures after → EndsUnopened (Some fault) failures after
+unopened (Device pending) failures after is may counts = (is, counts.0)
+unopened NoMemory failures after is may counts = counts
+unopened Worn failures after is may counts = absurd may
+unopened Failed failures after is may counts = absurd may
+unopened Exists failures after is may counts = absurd may
+unopened TooSmall failures after is may counts = absurd may
+unopened NotOurs failures after is may counts = absurd may
+unopened Damaged failures after is may counts = absurd may
+
+never_worn : (now : State) (entries : ℕ) (left : List (List Command)) (fault : StoreFault) (failures after : ℕ)
+    → EndsUnopened (Some fault) failures after → Some fault ≡ Some Worn → IsFirstWorn now entries left
+never_worn now entries left fault failures after ends is =
+    absurd (subst (λ (f : Option StoreFault). EndsUnopened f failures after) is ends)
+
+pub served-refused : (table : TableState) (batches : List (List Command)) (failures : ℕ) (fault : StoreFault)
+    (now : State) (after : ℕ) → EndsUnopened (Some fault) failures after → AllMean now table
     → IsServed table batches failures zeros (Some fault) now after
-served-none table batches failures fault now after ends means = record {
+served-refused table batches failures fault now after ends means = record {
   course = record { answered = []; failed = None };
   left = batches;
   kept = table;
   accepted = table;
-  is_course = record { order = refl; answered = refl; failed = refl };
+  is_course = record { order = refl; answered = refl; failed = refl; some = tt };
   how = inl (record {
     ends = ends;
     answered = refl;
@@ -296,22 +343,58 @@ served-none table batches failures fault now after ends means = record {
     accepted = refl;
     unsent = refl;
   });
+  worn = never_worn now table.entries batches fault failures after ends;
   each = λ image is. inl (means image is);
 }
 
-pub served-refused : (table : TableState) (batches : List (List Command)) (failures : ℕ) (fault : StoreFault)
-    (now : State) (after : ℕ) → IsOfTheCall fault → CountsFault fault failures after → AllMean now table
-    → IsServed table batches failures zeros (Some fault) now after
-served-refused table batches failures (Device pending) now after may counts means =
-    served-none table batches failures (Device pending) now after counts.0 means
-served-refused table batches failures NoMemory now after may counts means =
-    served-none table batches failures NoMemory now after counts means
-served-refused table batches failures Worn now after may counts means = absurd may
-served-refused table batches failures Failed now after may counts means = absurd may
-served-refused table batches failures Exists now after may counts means = absurd may
-served-refused table batches failures TooSmall now after may counts means = absurd may
-served-refused table batches failures NotOurs now after may counts means = absurd may
-served-refused table batches failures Damaged now after may counts means = absurd may
+-- ---- faults, on any device
+
+pub opening_fault : (fault : StoreFault) → IsOpenFault fault → IsLivesFault fault
+opening_fault (Device pending) is = tt
+opening_fault NoMemory is = tt
+opening_fault NotOurs is = tt
+opening_fault Damaged is = tt
+opening_fault TooSmall is = tt
+opening_fault Worn is = absurd is
+opening_fault Failed is = absurd is
+opening_fault Exists is = absurd is
+
+pub batch_fault : (fault : StoreFault) → IsSubmitFault fault → (fault ≡ Failed → ⊥) → IsLivesFault fault
+batch_fault (Device pending) is works = tt
+batch_fault NoMemory is works = tt
+batch_fault Worn is works = tt
+batch_fault Failed is works = absurd (works refl)
+batch_fault Exists is works = absurd is
+batch_fault NotOurs is works = absurd is
+batch_fault Damaged is works = absurd is
+batch_fault TooSmall is works = absurd is
+
+-- the count of failures never falls
+pub counted-fault : (fault : StoreFault) (old new : ℕ) → CountsFault fault old new → old ≤ new
+counted-fault (Device pending) old new counts = counts.1
+counted-fault NoMemory old new counts = omega (arith, counts)
+counted-fault Worn old new counts = omega (arith, counts)
+counted-fault Failed old new counts = omega (arith, counts)
+counted-fault Exists old new counts = omega (arith, counts)
+counted-fault TooSmall old new counts = omega (arith, counts)
+counted-fault NotOurs old new counts = omega (arith, counts)
+counted-fault Damaged old new counts = omega (arith, counts)
+
+pub counted-end : (fault : Option StoreFault) (old new : ℕ) → CountsEnd fault old new → old ≤ new
+counted-end None old new counts = omega (arith, counts)
+counted-end (Some fault) old new counts = counted-fault fault old new counts
+
+-- it rises from what it was before
+pub risen-fault : (fault : StoreFault) (first old new : ℕ) → first ≤ old → CountsFault fault old new → IsDevice fault
+    → HasRisen first new
+risen-fault (Device pending) first old new le counts is = (let risen = counts.0 in omega (arith, le, risen))
+risen-fault NoMemory first old new le counts is = absurd is
+risen-fault Worn first old new le counts is = absurd is
+risen-fault Failed first old new le counts is = absurd is
+risen-fault Exists first old new le counts is = absurd is
+risen-fault TooSmall first old new le counts is = absurd is
+risen-fault NotOurs first old new le counts is = absurd is
+risen-fault Damaged first old new le counts is = absurd is
 
 -- ---- what holds of each
 

@@ -1,5 +1,5 @@
 -- What comes of the batches of one life of a store that opened on the table of a list of entries.
-use Rattle.std.specs.Prelude.{ℕ, ◌≡◌, ◌⊎◌, ◌≤◌, ◌+◌, Bool, List, [], ◌∷◌, ◌++◌, length, map, count_by, Option, Some, None}
+use Rattle.std.specs.Prelude.{ℕ, ◌≡◌, ◌⊎◌, ◌≤◌, ◌+◌, Bool, List, [], ◌∷◌, ◌++◌, length, map, count_by, Option, Some, None, IfSome}
 use Rattle.std.specs.Str.{bytes_eq}
 use Rattle.rec_codec.specs.declared.limits.Limits.{Limits}
 use Rattle.rec_codec.specs.declared.record.Entry.{Entry}
@@ -67,10 +67,12 @@ accepted k course = acknowledged k course ++ entries_of (list_of course.failed)
 abbrev pub IsLeft : List Entry → Course → List Entry → Type 0
 IsLeft k course next = (next ≡ acknowledged k course) ⊎ (next ≡ accepted k course)
 
--- These batches were submitted in their order, the answered ones, the one at which the device failed, and not those that
--- are left; and they were judged.
+-- These batches were submitted in their order, the answered ones, the one at which the device failed, and not those
+-- that are left; and they were judged. The one at which the device failed has an entry, since one without makes no
+-- device call.
 pub record IsCourse (limits : Limits) (k : List Entry) (batches : List (List Command)) (course : Course)
     (left : List (List Command)) : Type 0 where
   pub order : batches ≡ map (λ b. b.commands) course.answered ++ (map (λ b. b.commands) (list_of course.failed) ++ left)
   pub answered : AreJudged limits k course.answered
   pub failed : AreJudged limits (acknowledged k course) (list_of course.failed)
+  pub some : IfSome course.failed (λ batch. 1 ≤ length batch.entries)

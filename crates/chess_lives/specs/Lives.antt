@@ -1,5 +1,5 @@
 -- What comes of the lives of a store, one after the other.
-use Rattle.std.specs.Prelude.{ℕ, ◌≡◌, ◌⊎◌, ◌+◌, ◌-◌, ◌^◌, min, List, [], ◌∷◌, ◌++◌, map, length, Option, Some, None, IsSome}
+use Rattle.std.specs.Prelude.{ℕ, ◌≡◌, ◌⊎◌, ◌+◌, ◌-◌, ◌^◌, min, List, [], ◌∷◌, map, length, Option, Some, None, IsSome}
 use Rattle.chess_board.specs.Line.{IsLegalLine}
 use Rattle.chess_board.specs.Legal.{EachOf}
 use Rattle.rec_codec.specs.declared.limits.Limits.{Limits}
@@ -43,10 +43,16 @@ abbrev pub EndsBy : Life → ℕ → ℕ → Option Batch → List (List Command
 EndsBy life failures after None left = (left ≡ []) × (after ≡ failures)
 EndsBy life failures after (Some batch) left = HasFailed life failures after
 
--- The opening showed the table of the entries k, and the batches went their course. What is kept next are the acknowledged
--- entries, or all accepted ones.
+-- every move of a game is legal at its place
+abbrev pub HasLegalMoves : GameState → Type 0
+HasLegalMoves game = IsLegalLine game.start game.moves
+
+-- The opening showed the table of the entries k, which are a lawful list, and every move in its games is legal. The
+-- batches went their course. What is kept next are the acknowledged entries, or all accepted ones.
 pub record IsOpened (limits : Limits) (k : List Entry) (failures : ℕ) (life : Life) (report : LifeReport)
     (next : List Entry) (after : ℕ) : Type 0 where
+  pub lawful : IsLawful limits k
+  pub legal : EachOf HasLegalMoves (table_of limits k).games
   pub course : Course
   pub left : List (List Command)
   pub is_course : IsCourse limits k (batches_of life) course left
@@ -82,10 +88,6 @@ pub record IsBegun (limits : Limits) (k : List Entry) (now : State) : Type 0 whe
   pub model : now.keeps_model
   pub lawful : IsLawful limits k
   pub means : AllMean now (table_of limits k)
-
--- every move of a game is legal at its place
-abbrev pub HasLegalMoves : GameState → Type 0
-HasLegalMoves game = IsLegalLine game.start game.moves
 
 -- What is reported at the end of the lives: what the entries are that the last opening shows, which are the ones that are
 -- kept then. They are a lawful list, and every move in its games is legal.

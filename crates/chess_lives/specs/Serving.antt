@@ -1,5 +1,5 @@
 -- What one opened store makes of batches, on tables: what the functions inside say of it.
-use Rattle.std.specs.Prelude.{ℕ, ◌≡◌, ◌⊎◌, ◌≤◌, ◌+◌, ◌^◌, ◌<◌, ◌-◌, min, List, [], ◌∷◌, ◌++◌, length, map, Option, Some, None}
+use Rattle.std.specs.Prelude.{ℕ, ◌≡◌, ◌⊎◌, ◌≤◌, ◌+◌, ◌^◌, ◌<◌, ◌-◌, min, List, [], ◌∷◌, ◌++◌, length, map, Option, Some, None, IfSome}
 use Rattle.sector_dev.specs.Device.{State, HasRisen}
 use Rattle.sector_dev.specs.Image.{Sectors}
 use Rattle.chess_entry.specs.declared.commands.Command.{Command}
@@ -8,10 +8,12 @@ use Rattle.chess_entry.specs.Table.{IsTable}
 use Rattle.chess_store.specs.declared.fault.StoreFault.{StoreFault}
 use Rattle.chess_store.specs.declared.fault.StoreFault.TheVariants.{Device, NoMemory, Worn}
 use Rattle.chess_store.specs.Batch.{IsAnswered}
+use Rattle.chess_store.specs.Faults.{CountsFault}
 use Rattle.chess_store.specs.Means.{MeansEither}
 use Rattle.chess_lives.specs.declared.plan.LifeReport.{LifeReport}
 use Rattle.chess_lives.specs.declared.serving.Tally.{Tally}
 use Rattle.chess_lives.specs.Courses.{Batch, Course, entries_of, list_of, unsent_in}
+use Rattle.chess_lives.specs.Stops.{IsFirstWorn}
 
 -- a batch is judged on a table, and after it the others are
 pub record IsJudgedThen (Rest : TableState → Type 0) (before : TableState) (batch : Batch) : Type 0 where
@@ -32,6 +34,7 @@ pub record IsCourseOn (before : TableState) (batches : List (List Command)) (cou
   pub order : batches ≡ map (λ b. b.commands) course.answered ++ (map (λ b. b.commands) (list_of course.failed) ++ left)
   pub answered : AreJudgedOn before course.answered kept
   pub failed : AreJudgedOn kept (list_of course.failed) accepted
+  pub some : IfSome course.failed (λ batch. 1 ≤ length batch.entries)
 
 -- so many entries are those of the batch at which the device failed
 abbrev pub ArePending : ℕ → Option Batch → Type 0
@@ -58,6 +61,7 @@ pub record IsTallied (before : TableState) (batches : List (List Command)) (tall
   pub ends : EndsWith tally.fault course.failed left failures after
   pub shown : tally.shown ≡ kept.entries
   pub unsent : tally.unsent ≡ min (unsent_in course.answered) (2 ^ 64 - 1)
+  pub worn : WasKept → tally.fault ≡ Some Worn → IsFirstWorn now kept.entries left
   pub each : WasKept → (image : Sectors) → now.image image → MeansEither kept accepted image
 
 -- the count with the entries that are pending still fits
@@ -73,9 +77,9 @@ abbrev pub pending_of : Option StoreFault → ℕ
 pending_of (Some (Device pending)) = pending
 pending_of _ = 0
 
--- Why a store was not opened: the device failed, or memory was refused.
+-- Why a store was not opened: the device failed, with nothing pending, or memory was refused.
 abbrev pub EndsUnopened : Option StoreFault → ℕ → ℕ → Type 0
-EndsUnopened (Some (Device pending)) failures after = HasRisen failures after
+EndsUnopened (Some (Device pending)) failures after = (pending ≡ 0) × HasRisen failures after
 EndsUnopened (Some NoMemory) failures after = after ≡ failures
 EndsUnopened fault failures after = ⊥
 
@@ -93,6 +97,7 @@ pub record WasRefused (course : Course) (report : LifeReport) (fault : Option St
 -- a store was opened on this table, and the batches went their course
 pub record WasOpened (before : TableState) (course : Course) (left : List (List Command)) (report : LifeReport)
     (fault : Option StoreFault) (failures after : ℕ) : Type 0 where
+  pub is_table : IsTable before
   pub ends : EndsWith fault course.failed left failures after
   pub opened : report.opened ≡ Some before.entries
   pub acknowledged : report.acknowledged ≡ length (entries_of course.answered)
@@ -108,7 +113,13 @@ pub record IsServed (before : TableState) (batches : List (List Command)) (failu
   pub accepted : TableState
   pub is_course : IsCourseOn before batches course left kept accepted
   pub how : WasRefused course report fault failures after ⊎ WasOpened before course left report fault failures after
+  pub worn : fault ≡ Some Worn → IsFirstWorn now kept.entries left
   pub each : (image : Sectors) → now.image image → MeansEither kept accepted image
+
+-- the count of failures rises where the device is at fault, and stays otherwise
+abbrev pub CountsEnd : Option StoreFault → ℕ → ℕ → Type 0
+CountsEnd None old new = new ≡ old
+CountsEnd (Some fault) old new = CountsFault fault old new
 
 -- a fault that is returned: the device's ends a life whose calls are limited, and no more
 abbrev pub returned : Option ℕ → Option StoreFault → Option StoreFault

@@ -7,6 +7,6 @@ mod living;
 mod plan;
 mod serving;
 
-pub use laws::{law_of_beginning, law_of_kept};
+pub use laws::{law_of_batches, law_of_beginning, law_of_kept, law_of_raising};
 pub use living::lives;
 pub use plan::{Life, LifeReport, Lived, Plan, Report};

@@ -1,15 +1,18 @@
 //! Lives, one after the other.
-ghost use Rattle.std.specs.Prelude.{◌≡◌, ◌↔◌, List, [], ◌∷◌, map, IfOk, IfErr};
+ghost use Rattle.std.specs.Prelude.{◌≡◌, ◌≤◌, ◌↔◌, List, [], ◌∷◌, map, length, Some, IfOk, IfErr};
 ghost use Rattle.chess_board.specs.Legal.{EachOf};
 ghost use Rattle.rec_codec.specs.declared.limits.Limits.{Limits};
 ghost use Rattle.rec_codec.specs.declared.record.Entry.{Entry};
+ghost use Rattle.sector_dev.specs.Device.{HasRisen};
 ghost use Rattle.sector_dev.specs.Image.{Sectors};
 ghost use Rattle.chess_entry.specs.State.{TableState};
+ghost use Rattle.chess_entry.specs.Table.{IsTable};
 ghost use Rattle.chess_store.specs.Means.{AllMean};
+ghost use Rattle.chess_store.specs.Faults.{IsDevice, CountsFault};
 ghost use Rattle.chess_lives.specs.Courses.{IsBatch};
 ghost use Rattle.chess_lives.specs.Lives.{AreSubmittable, IsBegun, IsLifeThen, IsReport, batches_of};
-ghost use Rattle.chess_lives.specs.Stops.{IsReturned, IsStopped, IsCutShort};
-ghost use Rattle.chess_lives.specs.Serving.{IsShown, returned};
+ghost use Rattle.chess_lives.specs.Stops.{IsStopped, IsCutShort, IsLivesFault};
+ghost use Rattle.chess_lives.specs.Serving.{IsShown, EndsUnopened, returned};
 
 use crate::plan::{Life, LifeReport, Lived, Plan, Report};
 use crate::serving::{Served, serve};
@@ -56,6 +59,10 @@ fn live<D: CrashDevice>(alloc: Global, device: D, life: &Life) -> Ended<D>
     ensures stopped { (limits : Limits) (k : List Entry) → IsBegun limits k (D.state device)
         → IfErr result.report (λ fault. IsStopped limits k (D.failures device) (life.now ∷ []) fault
         (D.state result.device) (D.failures result.device)) }
+    ensures fault { IfErr result.report IsLivesFault }
+    ensures cause { IfErr result.report (λ fault.
+        CountsFault fault (D.failures device) (D.failures result.device)) }
+    ensures counted { D.failures device ≤ D.failures result.device }
     ensures model { (D.state result.device).keeps_model ↔ (D.state device).keeps_model }
     ensures sectors { D.sector_count result.device ≡ D.sector_count device }
 {
@@ -87,8 +94,15 @@ fn show<D: Device>(alloc: Global, device: D, reports: Vec<LifeReport>) -> Lived<
         → IfOk result.report (λ report. IsShown table (D.failures device) report.table report.kept
         (D.failures result.device)) }
     ensures reports { IfOk result.report (λ report. report.lives.items ≡ reports.items) }
-    ensures fault { (D.state device).keeps_model → (table : TableState) → AllMean (D.state device) table
-        → IfErr result.report (λ fault. IsReturned fault (Unit {0}) (D.failures device) (D.failures result.device)) }
+    ensures count { IfOk result.report (λ report. report.kept ≡ report.table.entries) }
+    ensures bounds { IfOk result.report (λ report. IsTable report.table) }
+    ensures refused { (D.state device).keeps_model → (table : TableState) → AllMean (D.state device) table
+        → IfErr result.report (λ fault.
+        EndsUnopened (Some fault) (D.failures device) (D.failures result.device)) }
+    ensures fault { IfErr result.report IsLivesFault }
+    ensures cause { IfErr result.report (λ fault.
+        CountsFault fault (D.failures device) (D.failures result.device)) }
+    ensures counted { D.failures device ≤ D.failures result.device }
     ensures images { (D.state device).keeps_model → (table : TableState) → AllMean (D.state device) table
         → AllMean (D.state result.device) table }
     ensures model { (D.state result.device).keeps_model ↔ (D.state device).keeps_model }
@@ -120,13 +134,17 @@ fn show<D: Device>(alloc: Global, device: D, reports: Vec<LifeReport>) -> Lived<
 /// pending write has its fate. A life that names calls has only so many served before the device fails. At the end the
 /// store is opened once more.
 ///
-/// For every lawful list of entries of which every image means the table: each opening shows the table of the entries that
-/// are kept then; the next are these with the acknowledged entries, or with all accepted ones; and the last opening shows
-/// the table of the last. The store's opening or a batch fails only where the device did, and counted it.
+/// For every lawful list of entries of which every image means the table: each opening shows the table of the entries
+/// that are kept then, a lawful list of legal moves; the next are these with the acknowledged entries, or with all
+/// accepted ones; and the last opening shows the table of the last. The store's opening or a batch fails only where the
+/// device did, and counted it.
 ///
 /// A fault of the device in a life that names calls ends that life. Any other fault, and any of the last opening, is
-/// returned at once, without a stop: `NoMemory`, `Worn`, or `Device`. Every image then means the table of a list that a
-/// stop would have left.
+/// returned at once, without a stop: `Device`, with the count of the entries that may last or not; `NoMemory`; or
+/// `Worn`, where the next batch would need a header's number, or a count of entries, over 2^64 - 1. Every image then
+/// means the table of a list that a stop would have left. Where not every image means one such table, also `NotOurs`,
+/// `Damaged` and `TooSmall`, as an opening says it. On any device `Device` comes only where the count of its failures
+/// rose.
 pub fn lives<D: CrashDevice>(alloc: Global, device: D, plan: &Plan) -> Lived<D>
     requires { AreSubmittable plan.now.lives.items }
     ensures reported { (limits : Limits) (k : List Entry) → IsBegun limits k (D.state device)
@@ -137,6 +155,13 @@ pub fn lives<D: CrashDevice>(alloc: Global, device: D, plan: &Plan) -> Lived<D>
     ensures returned { (limits : Limits) (k : List Entry) → IsBegun limits k (D.state device)
         → IfErr result.report (λ fault. IsCutShort limits k (D.failures device) plan.now.lives.items fault
         (D.state result.device) (D.failures result.device)) }
+    ensures each { IfOk result.report (λ report. length report.lives.items ≡ length plan.now.lives.items) }
+    ensures count { IfOk result.report (λ report. report.kept ≡ report.table.entries) }
+    ensures bounds { IfOk result.report (λ report. IsTable report.table) }
+    ensures fault { IfErr result.report IsLivesFault }
+    ensures cause { IfErr result.report (λ fault.
+        IsDevice fault → HasRisen (D.failures device) (D.failures result.device)) }
+    ensures counted { D.failures device ≤ D.failures result.device }
     ensures model { (D.state result.device).keeps_model ↔ (D.state device).keeps_model }
     ensures sectors { D.sector_count result.device ≡ D.sector_count device }
 {

@@ -1,10 +1,11 @@
 //! The batches of one life.
-ghost use Rattle.std.specs.Prelude.{◌≡◌, ◌≤◌, ◌+◌, ◌-◌, ◌↔◌, false, map, count_by};
+ghost use Rattle.std.specs.Prelude.{◌≡◌, ◌≤◌, ◌+◌, ◌-◌, ◌↔◌, false, map, count_by, IfSome};
 ghost use Rattle.chess_board.specs.Legal.{EachOf};
 ghost use Rattle.chess_entry.specs.State.{TableState};
 ghost use Rattle.chess_store.specs.Means.{AllMean, IsKept};
 ghost use Rattle.chess_lives.specs.Courses.{IsBatch, is_unsent};
-ghost use Rattle.chess_lives.specs.Serving.{IsTallied, HasRoomForPending, IsServed, pending_of};
+ghost use Rattle.chess_lives.specs.Stops.{IsLivesFault};
+ghost use Rattle.chess_lives.specs.Serving.{IsTallied, HasRoomForPending, IsServed, CountsEnd, pending_of};
 
 use crate::plan::LifeReport;
 use chess_answer::{Reply, refusal_line};
@@ -53,6 +54,9 @@ fn submit_all<D: Device>(store: &mut Store<D>, batches: &[Vec<Command>]) -> Tall
         store.old.journal.compaction store.old.table) (D.state store.new.journal.device)
         (D.failures store.new.journal.device) }
     ensures room { HasRoomForPending result }
+    ensures fault { IfSome result.fault IsLivesFault }
+    ensures counts { CountsEnd result.fault (D.failures store.old.journal.device)
+        (D.failures store.new.journal.device) }
     ensures model { (D.state store.new.journal.device).keeps_model ↔ (D.state store.old.journal.device).keeps_model }
     ensures sectors { D.sector_count store.new.journal.device ≡ D.sector_count store.old.journal.device }
 {
@@ -122,12 +126,16 @@ pub(crate) fn serve<D: Device>(alloc: Global, device: D, batches: &[Vec<Command>
     ensures served { (D.state device).keeps_model → (table : TableState) → AllMean (D.state device) table
         → IsServed table (map (λ b. b.items) batches.now) (D.failures device) result.report result.fault
         (D.state result.device) (D.failures result.device) }
+    ensures fault { IfSome result.fault IsLivesFault }
+    ensures counts { CountsEnd result.fault (D.failures device) (D.failures result.device) }
     ensures model { (D.state result.device).keeps_model ↔ (D.state device).keeps_model }
     ensures sectors { D.sector_count result.device ≡ D.sector_count device }
 {
     match Store::open(alloc, device) {
         Ok(opened) => {
             let mut store = opened;
+            // With it, the table is known to be one that there may be.
+            let _limits = store.limits();
             let begun = shown(&store);
             let tally = submit_all(&mut store, batches);
             Served {

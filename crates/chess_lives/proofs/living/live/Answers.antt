@@ -1,12 +1,52 @@
-use Rattle.std.proofs.Common.{ℕ, ◌≡◌, ◌∙◌, ap, sym, subst, List, map, Vec, Global}
+use Rattle.std.proofs.Common.{ℕ, ◌∙◌, sym, subst, arith, List, Option, IfSome, map, Vec, Global}
 use Rattle.sector_dev.specs.Image.{Sectors}
 use Rattle.chess_entry.specs.Games.{table_of}
 use Rattle.chess_entry.specs.declared.commands.Command.{Command}
+use Rattle.chess_store.specs.declared.fault.StoreFault.{StoreFault}
+use Rattle.chess_store.specs.Faults.{CountsFault}
 use Rattle.chess_store.specs.Means.{Means}
 use Rattle.chess_lives.specs.Lives.{batches_of}
-use Rattle.chess_lives.specs.Serving.{IsServed}
-use Rattle.chess_lives.proofs.LivesLemmas.{Means-in_range, lived_to, life_stopped}
+use Rattle.chess_lives.specs.Serving.{IsServed, CountsEnd}
+use Rattle.chess_lives.specs.Stops.{IsLivesFault}
+use Rattle.chess_lives.proofs.ServingLemmas.{counted-end}
+use Rattle.chess_lives.proofs.LivesLemmas.{Means-in_range, lived_to, life_stopped, passed_on}
 use Rattle.chess_lives.proofs.living.live.Goals as goal
+
+pub returns-in-Some-clause-fault : goal.returns-in-Some-clause-fault
+returns-in-Some-clause-fault g c =
+    let passed = passed_on c.args.life.now.calls c.serve-left.result.fault c.in-Some.fault
+    (sym c.returned.ensures ∙ c.in-Some.is) in
+    subst (λ (x : Option StoreFault). IfSome x IsLivesFault) passed.is c.serve-left.ensures.fault
+
+pub returns-in-Some-clause-cause : goal.returns-in-Some-clause-cause
+returns-in-Some-clause-cause g c =
+    let failures = g.D.Device.failures in
+    let left = c.serve-left.result in
+    let passed = passed_on c.args.life.now.calls left.fault c.in-Some.fault (sym c.returned.ensures ∙ c.in-Some.is) in
+    subst (λ (n : ℕ). CountsFault c.in-Some.fault n (failures left.device)) c.limit.ensures.failures
+    (subst (λ (x : Option StoreFault). CountsEnd x (failures c.limit.new.device) (failures left.device)) passed.is
+    c.serve-left.ensures.counts)
+
+pub returns-in-Some-clause-counted : goal.returns-in-Some-clause-counted
+returns-in-Some-clause-counted g c =
+    let failures = g.D.Device.failures in
+    let left = c.serve-left.result in
+    omega (
+      arith,
+      counted-end left.fault (failures c.limit.new.device) (failures left.device) c.serve-left.ensures.counts,
+      c.limit.ensures.failures,
+    )
+
+pub returns-in-None-clause-counted : goal.returns-in-None-clause-counted
+returns-in-None-clause-counted g c =
+    let failures = g.D.Device.failures in
+    let left = c.serve-left.result in
+    omega (
+      arith,
+      counted-end left.fault (failures c.limit.new.device) (failures left.device) c.serve-left.ensures.counts,
+      c.limit.ensures.failures,
+      c.crash_as.ensures.failures,
+    )
 
 pub returns-in-Some-clause-stopped : goal.returns-in-Some-clause-stopped
 returns-in-Some-clause-stopped g c = λ limits k begun.

@@ -1,16 +1,18 @@
-use Rattle.std.proofs.Common.{ℕ, ◌≡◌, ◌∙◌, ◌+◌, ◌++◌, [], ◌∷◌, Ok, Err, Result, ap, sym, subst, arith, List, length, length-append, take, IfOk, IfErr}
+use Rattle.std.proofs.Common.{◌≡◌, ◌∙◌, ◌+◌, ◌++◌, [], ◌∷◌, Some, Result, ap, sym, subst, arith, List, length, length-append, take, IfOk, IfErr}
 use Rattle.std.proofs.lemmas.List.{take_all}
 use Rattle.chess_entry.specs.State.{TableState}
 use Rattle.chess_entry.specs.Games.{table_of}
 use Rattle.chess_store.specs.declared.fault.StoreFault.{StoreFault}
 use Rattle.chess_store.specs.Means.{Means, AllMean}
+use Rattle.chess_store.specs.Faults.{IsDevice, CountsFault}
+use Rattle.sector_dev.specs.Device.{HasRisen}
 use Rattle.chess_lives.specs.declared.plan.Life.{Life}
 use Rattle.chess_lives.specs.declared.plan.LifeReport.{LifeReport}
-use Rattle.chess_lives.specs.declared.plan.Report.{Report}
 use Rattle.chess_lives.specs.Lives.{IsBegun, IsLifeThen, IsReport}
-use Rattle.chess_lives.specs.Stops.{IsReturned, IsStopped, IsCutShort}
-use Rattle.chess_lives.specs.Serving.{IsShown}
-use Rattle.chess_lives.proofs.LivesLemmas.{AreOver, are_over-none, are_over-more, cut_short, cut_at_start, cut_at_end, is_report, IfOk-both, IfErr-map, take-more_at, around-one}
+use Rattle.chess_lives.specs.Stops.{IsStopped, IsCutShort, IsLivesFault}
+use Rattle.chess_lives.specs.Serving.{IsShown, EndsUnopened}
+use Rattle.chess_lives.proofs.LivesLemmas.{AreOver, are_over-none, are_over-more, cut_short, cut_at_start, cut_at_end, is_report, IfOk-both, IfOk-map, IfErr-map, take-more_at, around-one}
+use Rattle.chess_lives.proofs.ServingLemmas.{risen-fault}
 use Rattle.chess_lives.proofs.living.lives.Goals as goal
 
 pub returns-in_default-clause-returned : goal.returns-in_default-clause-returned
@@ -29,6 +31,8 @@ loop-life-init g c =
       over = λ limits k begun.
           subst (λ (rs : List LifeReport). AreOver limits k (failures device) [] rs (state device) (failures device))
           (sym c.in-Ok.ensures.items) (are_over-none limits k (failures device) (state device) begun);
+      within = omega arith;
+      counted = omega arith;
       model = (λ model. model, λ model. model);
       sectors = cc;
     }
@@ -69,6 +73,8 @@ loop-life-preserved g c =
           (failures new)) (sym c.push_reserved.ensures.items)
           (subst (λ (ls : List Life). AreOver limits k (failures device) ls (reports ++ report ∷ []) (state new)
           (failures new)) (sym (take-more_at lives i life c.loop-life-test.true c.life-item.is)) more);
+      within = omega (arith, c.loop-life-test.true);
+      counted = omega (arith, inv.counted, c.live-device.ensures.counted);
       model = (λ model. inv.model.0 (c.live-device.ensures.model.0 model), λ model. c.live-device.ensures.model.1 (inv.model.1 model));
       sectors = c.live-device.ensures.sectors ∙ inv.sectors;
     }
@@ -92,6 +98,23 @@ returns-in-Err-clause-returned g c = λ limits k begun.
     cut_short limits k (failures device) c.args.plan.now.lives.items (take i lives) around.0 c.loop-life.reports.items
     (state left) (state new) (failures left) (failures new) life fault so_far
     (sym c.deref-life-items.ensures.value ∙ around.1) stopped
+
+pub returns-in-Err-clause-fault : goal.returns-in-Err-clause-fault
+returns-in-Err-clause-fault g c =
+    subst (λ (r : Result LifeReport StoreFault). IfErr r IsLivesFault) c.in-Err.is c.live-device.ensures.fault
+
+pub returns-in-Err-clause-cause : goal.returns-in-Err-clause-cause
+returns-in-Err-clause-cause g c =
+    let failures = g.D.Device.failures in
+    let left = c.loop-life.left in
+    let new = c.live-device.result.device in
+    risen-fault c.in-Err.fault (failures c.args.device) (failures left) (failures new) c.loop-life.invariant.counted
+    (subst (λ (r : Result LifeReport StoreFault). IfErr r (λ fault. CountsFault fault (failures left) (failures new)))
+    c.in-Err.is c.live-device.ensures.cause)
+
+pub returns-in-Err-clause-counted : goal.returns-in-Err-clause-counted
+returns-in-Err-clause-counted g c =
+    omega (arith, c.loop-life.invariant.counted, c.live-device.ensures.counted)
 
 pub returns-in-Err-clause-model : goal.returns-in-Err-clause-model
 returns-in-Err-clause-model g c =
@@ -165,12 +188,44 @@ returns-clause-returned g c = λ limits k begun.
     whole (c.loop-life.invariant.over limits k begun) in
     let table = table_of limits so_far.last in
     IfErr-map c.show.result.report
-    (λ fault. IsReturned fault (Unit {0}) (failures left) (failures new))
+    (λ fault. EndsUnopened (Some fault) (failures left) (failures new))
     (λ fault. IsCutShort limits k (failures device) lives fault (state new) (failures new))
-    (c.show.ensures.fault so_far.begun.model table so_far.begun.means)
-    (λ fault is_returned.
+    (c.show.ensures.refused so_far.begun.model table so_far.begun.means)
+    (λ fault ends.
     cut_at_end limits k (failures device) lives reports (state left) (state new) (failures left) (failures new) fault
-    so_far (c.show.ensures.images so_far.begun.model table so_far.begun.means) is_returned)
+    so_far (c.show.ensures.images so_far.begun.model table so_far.begun.means) ends)
+
+pub returns-clause-each : goal.returns-clause-each
+returns-clause-each g c =
+    let reports = c.loop-life.reports.items in
+    let lives = c.args.plan.now.lives.items in
+    let inv = c.loop-life.invariant in
+    let whole : take c.loop-life.life-index c.deref-life-items.result.now ≡ lives =
+    take_all c.loop-life.life-index c.deref-life-items.result.now c.loop-life-test.false
+    ∙ c.deref-life-items.ensures.value in
+    let so_many : length reports ≡ length lives = omega (
+      arith,
+      inv.count,
+      inv.within,
+      c.loop-life-test.false,
+      ap (λ (ls : List Life). length ls) c.deref-life-items.ensures.value,
+    ) in
+    IfOk-map c.show.result.report (λ report. report.lives.items ≡ reports)
+    (λ report. length report.lives.items ≡ length lives) c.show.ensures.reports
+    (λ report same. ap (λ (rs : List LifeReport). length rs) same ∙ so_many)
+
+pub returns-clause-cause : goal.returns-clause-cause
+returns-clause-cause g c =
+    let failures = g.D.Device.failures in
+    let left = c.loop-life.left in
+    let new = c.show.result.device in
+    IfErr-map c.show.result.report (λ fault. CountsFault fault (failures left) (failures new))
+    (λ fault. IsDevice fault → HasRisen (failures c.args.device) (failures new)) c.show.ensures.cause
+    (λ fault counts is.
+    risen-fault fault (failures c.args.device) (failures left) (failures new) c.loop-life.invariant.counted counts is)
+
+pub returns-clause-counted : goal.returns-clause-counted
+returns-clause-counted g c = omega (arith, c.loop-life.invariant.counted, c.show.ensures.counted)
 
 pub returns-clause-model : goal.returns-clause-model
 returns-clause-model g c =

@@ -16,6 +16,8 @@ invariant-loop-life g l =
       over : (limits : Limits) (k : List Entry) → IsBegun limits k (state l.fn.device)
           → AreOver limits k (failures l.fn.device) (take l.life-index l.life-items) l.reports.items (state l.left)
           (failures l.left);
+      within : l.life-index ≤ length l.life-items;
+      counted : failures l.fn.device ≤ failures l.left;
       model : (state l.left).keeps_model ↔ (state l.fn.device).keeps_model;
       sectors : g.D.Device.sector_count l.left ≡ g.D.Device.sector_count l.fn.device;
     }

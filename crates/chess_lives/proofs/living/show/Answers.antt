@@ -1,9 +1,8 @@
-use Rattle.std.proofs.Common.{◌≡◌, ◌∙◌, ap, sym, subst}
-use Rattle.sector_dev.specs.Image.{Sectors}
+use Rattle.std.proofs.Common.{◌≡◌, ◌∙◌, arith, ap, sym, subst}
 use Rattle.chess_entry.specs.State.{TableState}
 use Rattle.chess_entry.specs.Table.{IsTable}
 use Rattle.chess_store.proofs.MeansLemmas.{one_table}
-use Rattle.chess_lives.proofs.LivesLemmas.{refused_last}
+use Rattle.chess_lives.proofs.ServingLemmas.{unopened, opening_fault, counted-fault}
 use Rattle.chess_lives.proofs.living.show.Goals as goal
 
 pub returns-in-Ok-clause-shown : goal.returns-in-Ok-clause-shown
@@ -27,10 +26,28 @@ returns-in-Ok-clause-images g c = λ model table means image is.
     means image (c.in-Ok.ensures.images model image
     (subst (λ (d : _). (g.D.Device.state d).image image) c.into_parts-device.ensures.device is))
 
+pub returns-in-Ok-clause-bounds : goal.returns-in-Ok-clause-bounds
+returns-in-Ok-clause-bounds g c =
+    subst (λ (t : TableState). IsTable t) (sym c.into_parts-device.ensures.table) c.limits-limits.ensures.table
+
+pub returns-in-Ok-clause-counted : goal.returns-in-Ok-clause-counted
+returns-in-Ok-clause-counted g c =
+    omega (arith, ap g.D.Device.failures c.into_parts-device.ensures.device ∙ c.in-Ok.ensures.cause)
+
 pub returns-in-Err-clause-fault : goal.returns-in-Err-clause-fault
-returns-in-Err-clause-fault g c = λ model table means.
+returns-in-Err-clause-fault g c = opening_fault c.in-Err.refused.fault c.in-Err.ensures.fault
+
+pub returns-in-Err-clause-counted : goal.returns-in-Err-clause-counted
+returns-in-Err-clause-counted g c =
     let refused = c.in-Err.refused in
-    refused_last refused.fault (g.D.Device.failures c.args.device) (g.D.Device.failures refused.device)
+    counted-fault refused.fault (g.D.Device.failures c.args.device) (g.D.Device.failures refused.device)
+    c.in-Err.ensures.cause_refused
+
+pub returns-in-Err-clause-refused : goal.returns-in-Err-clause-refused
+returns-in-Err-clause-refused g c = λ model table means.
+    let refused = c.in-Err.refused in
+    unopened refused.fault (g.D.Device.failures c.args.device) (g.D.Device.failures refused.device)
+    c.in-Err.ensures.fault
     (c.in-Err.ensures.readable model (λ image is. record { table = table; means = means image is }))
     c.in-Err.ensures.cause_refused
 

@@ -1,10 +1,10 @@
 use Rattle.std.proofs.Common.{◌∙◌, ◌↔◌, ap, ◌≡◌, ℕ, sym, subst, arith, map}
-use Rattle.sector_dev.specs.Device.{State}
 use Rattle.chess_entry.specs.State.{TableState}
 use Rattle.chess_store.proofs.MeansLemmas.{one_table}
 use Rattle.chess_store.specs.Means.{IsKept}
 use Rattle.chess_lives.specs.Serving.{IsServed}
-use Rattle.chess_lives.proofs.ServingLemmas.{judged-entries, served-opened, served-refused}
+use Rattle.chess_lives.proofs.ServingLemmas.{judged-entries, served-opened, served-refused, unopened, opening_fault}
+use Rattle.chess_lives.specs.Serving.{CountsEnd}
 use Rattle.chess_lives.proofs.serving.serve.Goals as goal
 
 pub report_of-requires-clause-begun : goal.report_of-requires-clause-begun
@@ -34,7 +34,7 @@ returns-in-Ok-clause-served g c = λ model table means.
     let served = served-opened store.table batches tally (failures store.journal.device)
     (IsKept (state store.journal.device) store.journal.header store.journal.compaction store.table) (state left)
     (failures left) c.shown-begun.result report c.submit_all-tally.ensures.tallied (c.in-Ok.ensures.kept model)
-    c.shown-begun.ensures c.report_of.ensures.opened c.report_of.ensures.acknowledged c.report_of.ensures.accepted
+    c.limits-limits.ensures.table c.shown-begun.ensures c.report_of.ensures.opened c.report_of.ensures.acknowledged c.report_of.ensures.accepted
     c.report_of.ensures.unsent in
     subst (λ (t : TableState). IsServed t batches (failures device) report tally.fault (state c.into_device.result)
     (failures c.into_device.result)) same
@@ -48,9 +48,22 @@ returns-in-Err-clause-served g c = λ model table means.
     let refused = c.in-Err.refused in
     served-refused table (map (λ b. b.items) c.args.batches.now) (g.D.Device.failures c.args.device) refused.fault
     (g.D.Device.state refused.device) (g.D.Device.failures refused.device)
+    (unopened refused.fault (g.D.Device.failures c.args.device) (g.D.Device.failures refused.device)
+    c.in-Err.ensures.fault
     (c.in-Err.ensures.readable model (λ image is. record { table = table; means = means image is }))
-    c.in-Err.ensures.cause_refused
+    c.in-Err.ensures.cause_refused)
     (λ image is. means image (c.in-Err.ensures.images_refused model image is))
+
+pub returns-in-Err-clause-fault : goal.returns-in-Err-clause-fault
+returns-in-Err-clause-fault g c = opening_fault c.in-Err.refused.fault c.in-Err.ensures.fault
+
+pub returns-in-Ok-clause-counts : goal.returns-in-Ok-clause-counts
+returns-in-Ok-clause-counts g c =
+    let failures = g.D.Device.failures in
+    let tally = c.submit_all-tally.result in
+    subst (λ (d : _). CountsEnd tally.fault (failures c.args.device) (failures d)) (sym c.into_device.ensures)
+    (subst (λ (n : ℕ). CountsEnd tally.fault n (failures c.submit_all-tally.new.store.journal.device))
+    c.in-Ok.ensures.cause c.submit_all-tally.ensures.counts)
 
 pub returns-in-Ok-clause-model : goal.returns-in-Ok-clause-model
 returns-in-Ok-clause-model g c =

@@ -1,16 +1,15 @@
-use Rattle.std.proofs.Common.{ℕ, ◌≡◌, ◌≤◌, ◌∙◌, ◌+◌, ◌-◌, ◌^◌, min, Some, Err, ap, sym, subst, arith, List, length, map, take, true, false, count_by, inl}
+use Rattle.std.proofs.Common.{ℕ, ◌≡◌, ◌≤◌, ◌∙◌, ◌+◌, ◌-◌, ◌^◌, min, Some, Err, ap, sym, subst, List, length, map, take, true, count_by}
 use Rattle.std.proofs.lemmas.List.{take_all}
 use Rattle.chess_entry.specs.declared.commands.Command.{Command}
 use Rattle.chess_answer.specs.declared.reads.Reply.{Reply}
 use Rattle.chess_store.specs.declared.fault.StoreFault.{StoreFault}
-use Rattle.chess_store.specs.declared.fault.StoreFault.TheVariants.{Failed}
-use Rattle.chess_store.specs.Batch.{IsAnswered}
-use Rattle.chess_store.specs.Faults.{MayLast}
+use Rattle.chess_store.specs.Batch.{IsAnswered, IsWornOut, act_count}
+use Rattle.chess_store.specs.Faults.{UnlessDevice, CountsFault, MayLast}
 use Rattle.chess_store.specs.Means.{IsKept}
 use Rattle.chess_store.proofs.MeansLemmas.{kept_means}
 use Rattle.chess_lives.specs.Courses.{IsBatch, is_unsent}
 use Rattle.chess_lives.specs.Serving.{IsTallied}
-use Rattle.chess_lives.proofs.ServingLemmas.{SoFar, so_far-none, so_far-more, EachOf-at, take_map-more, around-at, tallied-all, tallied-err, room-err}
+use Rattle.chess_lives.proofs.ServingLemmas.{SoFar, so_far-none, so_far-more, EachOf-at, take_map-more, around-at, tallied-all, tallied-err, room-err, worn_before, batch_fault}
 use Rattle.chess_lives.proofs.serving.submit_all.Goals as goal
 
 pub submit-requires-clause-some : goal.submit-requires-clause-some
@@ -102,7 +101,30 @@ returns-in-Err-clause-tallied g c =
     around.rest c.batch-item.result.items store.table new.table c.loop-batch.count c.loop-batch.refused
     (g.D.Device.failures store.journal.device) c.in-Err.fault inv.so_far c.in-Err.ensures.fault
     (λ is. let failed : store.failed ≡ true = c.submit.ensures.failed.0 (c.in-Err.is ∙ ap (λ (f : StoreFault). Err f) is) in cc)
-    last c.in-Err.ensures.cause_err inv.unfailed (λ was. c.submit.ensures.either (inv.kept was)))
+    last c.in-Err.ensures.cause_err inv.unfailed
+    (λ was is.
+    let worn = (c.submit.ensures.worn.0 (c.in-Err.is ∙ ap (λ (f : StoreFault). Err f) is)).1 in
+    let same = subst (λ (f : StoreFault). UnlessDevice f ((new.journal.device ≡ store.journal.device)
+    × (new.table ≡ store.table) × (new.failed ≡ store.failed))) is c.in-Err.ensures.unchanged in
+    worn_before (g.D.Device.state new.journal.device) store.journal.header store.journal.compaction store.table
+    c.batch-item.result.items
+    (subst (λ (d : _). IsKept (g.D.Device.state d) store.journal.header store.journal.compaction store.table)
+    (sym same.0) (inv.kept was))
+    (subst (λ (commands : List Command). IsWornOut store.journal.header.seq store.table.entries (act_count commands))
+    c.deref.ensures.value worn))
+    (λ was. c.submit.ensures.either (inv.kept was)))
+
+pub returns-in-Err-clause-fault : goal.returns-in-Err-clause-fault
+returns-in-Err-clause-fault g c =
+    let store = c.loop-batch.store in
+    batch_fault c.in-Err.fault c.in-Err.ensures.fault
+    (λ is. let failed : store.failed ≡ true = c.submit.ensures.failed.0 (c.in-Err.is ∙ ap (λ (f : StoreFault). Err f) is) in
+    let works = c.loop-batch.invariant.works in cc)
+
+pub returns-in-Err-clause-counts : goal.returns-in-Err-clause-counts
+returns-in-Err-clause-counts g c =
+    subst (λ (n : ℕ). CountsFault c.in-Err.fault n (g.D.Device.failures c.submit.new.self.journal.device))
+    c.loop-batch.invariant.unfailed c.in-Err.ensures.cause_err
 
 pub returns-in-Err-clause-room : goal.returns-in-Err-clause-room
 returns-in-Err-clause-room g c =
