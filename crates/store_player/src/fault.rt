@@ -1,4 +1,5 @@
 //! Why playing ends before the input does.
+use sector_dev::DeviceFault;
 use std::alloc::AllocError;
 use std::{fmt, io};
 
@@ -7,10 +8,18 @@ use std::{fmt, io};
 pub enum Fault {
     /// A line of the input has none of the forms, or cannot be done there.
     Input,
+    /// The device failed, where it was not to.
+    Device,
     /// The system's.
     File(io::Error),
     /// Memory was refused.
     NoMemory,
+}
+
+impl From<DeviceFault> for Fault {
+    fn from(_: DeviceFault) -> Fault {
+        Fault::Device
+    }
 }
 
 impl From<io::Error> for Fault {
@@ -29,6 +38,7 @@ impl fmt::Display for Fault {
     fn fmt<W: fmt::Write>(&self, f: &mut fmt::Formatter<W>) -> fmt::Result {
         match self {
             Fault::Input => f.write_str("a line cannot be played"),
+            Fault::Device => f.write_str("the device failed"),
             Fault::File(error) => write!(f, "{error}"),
             Fault::NoMemory => f.write_str("no memory"),
         }

@@ -1,0 +1,36 @@
+//! What is written.
+use crate::fault::Fault;
+use chess_answer::Reply;
+use chess_store::StoreFault;
+use sector_dev::MemoryDevice;
+use sector_journal::Opened;
+use std::alloc::Global;
+
+/// What replies say, line by line.
+pub fn replies_text(alloc: Global, replies: &[Reply]) -> Result<String, Fault> {
+    let mut text = String::new(alloc);
+    for reply in replies {
+        text.push_str(reply.line.as_str())?;
+        text.push_str("\n")?;
+        text.push_str(reply.body.as_str())?;
+    }
+    Ok(text)
+}
+
+/// What a fault says.
+pub fn fault_text(alloc: Global, fault: StoreFault) -> Result<String, Fault> {
+    Ok(format!(in alloc; "fault {fault:?}\n")?)
+}
+
+/// What a journal holds: of its header all but the counts of sectors, and how many records of a snapshot and of a
+/// journal.
+pub fn journal_text(alloc: Global, opened: &Opened<MemoryDevice>) -> Result<String, Fault> {
+    let journal = &opened.journal;
+    let limits = journal.limits();
+    let (seq, half, version) = (journal.seq(), journal.half(), journal.version());
+    let (base, tail) = (opened.base.len(), opened.tail.len());
+    Ok(format!(in alloc;
+        "journal version {version:?} seq {seq} half {half:?} limits {} {} records {base} {tail}\n",
+        limits.games, limits.plies
+    )?)
+}
