@@ -5,6 +5,9 @@ use Rattle.chess_store.proofs.MeansLemmas.{one_table}
 use Rattle.chess_lives.proofs.ServingLemmas.{unopened, opening_fault, counted-fault}
 use Rattle.chess_lives.proofs.living.show.Goals as goal
 
+pub returns-in-Err-clause-cause : goal.returns-in-Err-clause-cause
+returns-in-Err-clause-cause g c = c.in-Err.ensures.cause_refused
+
 pub returns-in-Ok-clause-shown : goal.returns-in-Ok-clause-shown
 returns-in-Ok-clause-shown g c = λ model table means.
     let state = g.D.Device.state in
