@@ -1,0 +1,3 @@
+pub mod SendLemmas
+pub mod ClientLemmas
+pub mod StoreLemmas

@@ -1,0 +1,21 @@
+use Rattle.std.proofs.Common.{◌≡◌, ◌+◌, ◌-◌, ◌++◌, length, sym, ap, ◌∙◌, subst, take, drop, take-append-drop}
+use Rattle.std.specs.Io.KnownBytes.{Appends}
+use Rattle.std.proofs.lemmas.List.{take_rest, drop-drop}
+use Rattle.chess_sockets.specs.Sending.{HandsOn}
+use Rattle.chess_sockets.proofs.outgoing.Outgoing.write_to.Goals as goal
+
+pub returns-else-is_empty-clause-front : goal.returns-else-is_empty-clause-front
+returns-else-is_empty-clause-front g c =
+    let items = c.args.self.now.text.items in
+    let from = c.args.self.now.sent in
+    let count = c.send-written.result.count in
+    let old = g.W.Write.contents c.args.writer.now in
+    let new = g.W.Write.contents c.send-written.new.writer in
+    record {
+      front = take count (drop from items);
+      appended = subst (λ l. Appends old new (take count l))
+          (ap (λ l. take (length l - from) (drop from l)) c.deref.ensures.value ∙ take_rest items from)
+          c.send-written.ensures.front;
+      split = sym (take-append-drop count (drop from items)) ∙ ap (λ l. take count (drop from items) ++ l)
+          (drop-drop count from items);
+    }

@@ -1,0 +1,4 @@
+pub mod Pieces
+pub mod Sending
+pub mod Clients
+pub mod Turns

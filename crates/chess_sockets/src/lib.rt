@@ -1,0 +1,10 @@
+//! The server: sessions over sockets. A listener, a hub and its clients.
+#![tactic(auto)]
+
+mod client;
+mod outgoing;
+mod pieces;
+mod server;
+mod watch;
+
+pub use server::{Server, SocketFault, Turned};

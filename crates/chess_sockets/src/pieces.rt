@@ -1,0 +1,34 @@
+//! The bytes that a peer sends, piece by piece.
+ghost use Rattle.chess_sockets.specs.Pieces.{HasCome};
+
+use std::io::{ErrorKind, Read};
+
+/// The most bytes that one read takes.
+pub const PIECE_ROOM: usize = 4096;
+
+/// What a read brought.
+#[derive(Clone, Copy, Debug, PartialEq, Eq)]
+pub enum Came {
+    /// Nothing for now.
+    Nothing,
+    /// So many bytes.
+    Bytes(usize),
+    /// The peer sends no more.
+    End,
+    /// The connection has failed.
+    Fault,
+}
+
+/// Reads a piece, without waiting where the reader doesn't wait.
+pub fn read_piece<R: Read>(reader: &mut R, piece: &mut [u8; PIECE_ROOM]) -> Came
+    ensures { HasCome (R.remaining reader.old) (R.remaining reader.new) piece.new result }
+{
+    match reader.read(piece) {
+        Ok(0) => Came::End,
+        Ok(count) => Came::Bytes(count),
+        Err(error) => match error.kind() {
+            ErrorKind::WouldBlock | ErrorKind::Interrupted => Came::Nothing,
+            _ => Came::Fault,
+        },
+    }
+}

@@ -1,0 +1,210 @@
+//! The server.
+ghost use Rattle.std.specs.Prelude.{◌≡◌, IfErr};
+ghost use Rattle.chess_store.specs.Means.{IsKept};
+ghost use Rattle.chess_hub.specs.Turning.{Lasts};
+ghost use Rattle.chess_sockets.specs.Turns.{EndsServing};
+
+use crate::client::Client;
+use crate::pieces::PIECE_ROOM;
+use crate::watch::Watch;
+use chess_hub::{Hub, HubFault};
+use sector_dev::Device;
+use std::alloc::Global;
+use std::io;
+use std::io::{Read, Write};
+use std::net::{Ipv4Addr, Net, TcpListener, TcpStream};
+use std::os::fd::AsRawFd;
+
+/// The port cannot be bound.
+#[derive(Clone, Copy, Debug, PartialEq, Eq)]
+pub struct SocketFault;
+
+/// Whether a turn found something to do.
+#[derive(Clone, Copy, Debug, PartialEq, Eq)]
+pub enum Turned {
+    Worked,
+    Idle,
+}
+
+/// Serves clients on a port of this machine.
+#[derive(Drop)]
+pub struct Server<D: Device> {
+    alloc: Global,
+    listener: TcpListener,
+    port: u16,
+    hub: Hub<D>,
+    clients: Vec<Client<TcpStream>>,
+    watch: Watch,
+}
+
+/// The most lines that a turn takes: one at least of each session that has one.
+const LINES: usize = 64;
+
+// Listens on a port of 127.0.0.1, where 0 leaves the choice to the system.
+fn listen<R: Net<Listener = TcpListener, Stream = TcpStream>>(
+    net: &R,
+    port: u16,
+) -> io::Result<TcpListener> {
+    let listener = TcpListener::bind(net, (Ipv4Addr::LOCALHOST, port))?;
+    listener.set_nonblocking(true)?;
+    Ok(listener)
+}
+
+// The next connection, if one waits.
+fn accept(listener: &TcpListener) -> io::Result<TcpStream> {
+    let (stream, _) = listener.accept()?;
+    stream.set_nonblocking(true)?;
+    // Answers are short, and a client waits for them.
+    stream.set_nodelay(true)?;
+    Ok(stream)
+}
+
+// Reads for each session, and tells whether anything came.
+fn take_in_all<S: Read + Write, D: Device>(
+    clients: &mut Vec<Client<S>>,
+    hub: &mut Hub<D>,
+) -> Result<bool, HubFault>
+    ensures fault { IfErr result EndsServing }
+    ensures store { hub.new.store ≡ hub.old.store }
+{
+    let mut piece = [0u8; PIECE_ROOM];
+    let mut any = false;
+    for client in clients.iter_mut() {
+        if hub.is_open(client.sid()) && client.take_in(hub, &mut piece)? {
+            any = true;
+        }
+    }
+    Ok(any)
+}
+
+// Writes for each session, and tells whether there was anything to do.
+fn hand_out_all<S: Read + Write, D: Device>(
+    clients: &mut Vec<Client<S>>,
+    hub: &mut Hub<D>,
+) -> Result<bool, HubFault>
+    ensures fault { IfErr result EndsServing }
+    ensures store { hub.new.store ≡ hub.old.store }
+{
+    let mut any = false;
+    for client in clients.iter_mut() {
+        if hub.is_open(client.sid()) && client.hand_out(hub)? {
+            any = true;
+        }
+    }
+    Ok(any)
+}
+
+impl<D: Device> Server<D> {
+    /// Listens on a port of 127.0.0.1; of port 0 the system chooses one. `SocketFault` where it cannot be bound; the hub
+    /// is then given up.
+    pub fn bind<R: Net<Listener = TcpListener, Stream = TcpStream>>(
+        net: &R,
+        alloc: Global,
+        port: u16,
+        hub: Hub<D>,
+    ) -> Result<Server<D>, SocketFault>
+    where
+        D: Drop,
+    {
+        let (Ok(listener), Ok(watch)) = (listen(net, port), Watch::new(net, alloc)) else {
+            return Err(SocketFault);
+        };
+        let Ok(address) = listener.local_addr() else {
+            return Err(SocketFault);
+        };
+        watch.add(listener.as_raw_fd());
+        Ok(Server {
+            alloc,
+            listener,
+            port: address.port(),
+            hub,
+            clients: Vec::new(alloc),
+            watch,
+        })
+    }
+
+    /// The port that it listens on.
+    pub fn port(&self) -> u16
+        ensures { result ≡ self.now.port }
+    {
+        self.port
+    }
+
+    // Begins a session for a connection.
+    fn admit(&mut self, stream: TcpStream) -> Result<(), HubFault>
+        ensures fault { IfErr result EndsServing }
+        ensures store { self.new.hub.store ≡ self.old.hub.store }
+    {
+        let sid = match self.hub.connect() {
+            Ok(sid) => sid,
+            Err(HubFault::NoMemory) => return Err(HubFault::NoMemory),
+            // The hub is busy, and the connection is dropped.
+            Err(_) => return Ok(()),
+        };
+        self.watch.add(stream.as_raw_fd());
+        let client = Client::new(self.alloc, stream, sid);
+        if self.clients.push(client).is_err() {
+            self.hub.close(sid);
+            return Err(HubFault::NoMemory);
+        }
+        Ok(())
+    }
+
+    // Accepts at most one connection, and tells whether one came.
+    fn welcome(&mut self) -> Result<bool, HubFault>
+        ensures fault { IfErr result EndsServing }
+        ensures store { self.new.hub.store ≡ self.old.hub.store }
+    {
+        match accept(&self.listener) {
+            Ok(stream) => {
+                self.admit(stream)?;
+                Ok(true)
+            }
+            Err(_) => Ok(false),
+        }
+    }
+
+    // Lets the connections go whose session is closed.
+    fn part(&mut self)
+        ensures { self.new.hub.store ≡ self.old.hub.store }
+    {
+        let hub = &self.hub;
+        self.clients.retain(|client| hub.is_open(client.sid()));
+    }
+
+    /// One turn at the moment `at`, in milliseconds. It accepts at most one connection, which it drops where there are 64
+    /// sessions; reads at most one piece of 4,096 bytes for each session that has fewer waiting; has the hub answer up to
+    /// 64 lines; and writes what can be written. It waits for nothing. `Err` is a fault that ends serving: that of a store,
+    /// or `NoMemory`; what is one client's own trouble closes that client alone.
+    ///
+    /// Where the store was kept, a crash at any moment of the turn leaves what means the table from before or that with
+    /// the whole batch; at `Ok` every image means the latter.
+    pub fn turn(&mut self, at: u64) -> Result<Turned, HubFault>
+        ensures fault { IfErr result EndsServing }
+        ensures lasts { IsKept (D.state self.old.hub.store.journal.device) self.old.hub.store.journal.header
+            self.old.hub.store.journal.compaction self.old.hub.store.table
+            → Lasts result (D.state self.old.hub.store.journal.device) (D.state self.new.hub.store.journal.device)
+            self.new.hub.store.journal.header self.new.hub.store.journal.compaction self.old.hub.store.table
+            self.new.hub.store.table }
+    {
+        // A number of a session that was closed may be given again.
+        self.part();
+        let came = self.welcome()?;
+        let read = take_in_all(&mut self.clients, &mut self.hub)?;
+        if let Err(fault) = self.hub.turn(at, LINES) {
+            return Err(fault);
+        }
+        let wrote = hand_out_all(&mut self.clients, &mut self.hub)?;
+        self.part();
+        Ok(if came || read || wrote {
+            Turned::Worked
+        } else {
+            Turned::Idle
+        })
+    }
+
+    /// Waits until a socket is ready or 10 ms have passed, for use after a turn that found nothing to do.
+    pub fn rest(&mut self) {
+        self.watch.rest();
+    }
+}

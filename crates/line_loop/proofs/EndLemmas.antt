@@ -1,0 +1,277 @@
+-- How a loop ends.
+use Rattle.std.proofs.Common.{◌≡◌, ℕ, true, false, List, [], ◌++◌, sym, refl, ap, ◌∙◌, subst, append_assoc, append-nil, Option, None, Some, IfSome, Result, Ok, Err, inl, inr}
+use Rattle.std.specs.Prelude.{◌⊎◌, Bool}
+use Rattle.std.proofs.KnownBytes.{Consumes-nil, Consumes-trans, Consumes-kept}
+use Rattle.std.specs.Io.BufRead.{strip_last}
+use Rattle.std.specs.Io.KnownBytes.{Appends, Consumes, Keeps, IsAtEnd}
+use Rattle.session_lines.specs.Lines.{IsUnfinished, lines_of, has_long_line}
+use Rattle.session_lines.proofs.LineLemmas.{lines-feed, long-rest}
+use Rattle.session_lines.proofs.Wholes.{lines-rest_after}
+use Rattle.line_loop.specs.Texts.{IsRun, IsText, farewell, AnswersAll, AnswersLong, AnswersUntil, FindsNone, AnswersInPart, Ended}
+use Rattle.std.specs.Prelude.{OnOk, IsErrOf}
+use Rattle.line_loop.specs.declared.answerer.LoopFault.{LoopFault}
+use Rattle.line_loop.specs.declared.answerer.LoopFault.TheVariants as faults
+use Rattle.line_loop.specs.Outlets.{IsSaid}
+use Rattle.line_loop.specs.Turns.{IsHeard, HasCome, BreaksAt, Takes}
+use Rattle.line_loop.specs.declared.loops.Flow.{Flow}
+use Rattle.line_loop.specs.declared.loops.Flow.TheVariants.{Open, TooLong, Broken}
+use Rattle.line_loop.specs.declared.outlet.WriteFault.{WriteFault}
+use Rattle.line_loop.proofs.Runs.{unfinished-nil, heard-nothing}
+use Rattle.line_loop.proofs.Writes.{said-nothing}
+
+-- where nothing is ready, all was written
+said-written : (old new : Option (List ℕ)) (text : List ℕ) → IsSaid old new [] text → Appends old new text
+said-written old new text h = subst (Appends old new) (sym (append-nil h.front) ∙ sym h.split) h.appended
+
+-- what came of the bytes that were read: all that they call for is written
+pub record Stands {S : Type 0} (Asked : S → Type 0) (Answers : S → List ℕ → List ℕ → S → Type 0)
+    (before later old new : Option (List ℕ)) (start s : S) (held ready : List ℕ) : Type 0 where
+  pub taken : List ℕ
+  pub consumed : Consumes before later taken
+  pub come : HasCome Answers start old new [] taken s held
+  pub empty : ready ≡ []
+  pub asked : Asked s
+  pub unfinished : IsUnfinished held
+
+pub stands-first : {S : Type 0} (Asked : S → Type 0) (Answers : S → List ℕ → List ℕ → S → Type 0)
+    (a old : Option (List ℕ)) (s : S) (held ready : List ℕ) → Asked s → held ≡ [] → ready ≡ [] →
+    Stands Asked Answers a a old old s s held ready
+stands-first Asked Answers a old s held ready asked line none = record {
+  taken = [];
+  consumed = Consumes-nil a;
+  come = record {
+    done = [];
+    heard = subst (IsHeard [] []) (sym line) heard-nothing;
+    answers = [];
+    run = (refl, refl);
+    said = said-nothing old;
+  };
+  empty = none;
+  asked = asked;
+  unfinished = subst IsUnfinished (sym line) unfinished-nil;
+}
+
+pub stands-kept : {S : Type 0} (Asked : S → Type 0) (Answers : S → List ℕ → List ℕ → S → Type 0)
+    (before left later old new : Option (List ℕ)) (start s : S) (held ready : List ℕ) →
+    Stands Asked Answers before left old new start s held ready → Keeps left later →
+    Stands Asked Answers before later old new start s held ready
+stands-kept Asked Answers before left later old new start s held ready h k = record {
+  taken = h.taken;
+  consumed = Consumes-kept before left later h.taken h.consumed k;
+  come = h.come;
+  empty = h.empty;
+  asked = h.asked;
+  unfinished = h.unfinished;
+}
+
+pub stands-moved : {S : Type 0} (Asked : S → Type 0) (Answers : S → List ℕ → List ℕ → S → Type 0)
+    (before later old new also : Option (List ℕ)) (start s t : S) (held kept ready then : List ℕ) →
+    Stands Asked Answers before later old new start s held ready → new ≡ also → s ≡ t → held ≡ kept → ready ≡ then →
+    Stands Asked Answers before later old also start t kept then
+stands-moved {S = S} Asked Answers before later old new also start s t held kept ready then h e f k l =
+    subst (λ (x : List ℕ). Stands Asked Answers before later old also start t kept x) l
+    (subst (λ (x : List ℕ). Stands Asked Answers before later old also start t x ready) k
+    (subst (λ (x : S). Stands Asked Answers before later old also start x held ready) f
+    (subst (λ (x : Option (List ℕ)). Stands Asked Answers before later old x start s held ready) e h)))
+
+-- the reader gave nothing more
+pub stands-read : {S : Type 0} (Asked : S → Type 0) (Answers : S → List ℕ → List ℕ → S → Type 0)
+    (before left later old new : Option (List ℕ)) (start s : S) (held ready : List ℕ) →
+    Stands Asked Answers before left old new start s held ready → Consumes left later [] →
+    Stands Asked Answers before later old new start s held ready
+stands-read Asked Answers before left later old new start s held ready h c = record {
+  taken = h.taken;
+  consumed = subst (Consumes before later) (append-nil h.taken)
+      (Consumes-trans before left later h.taken [] h.consumed c);
+  come = h.come;
+  empty = h.empty;
+  asked = h.asked;
+  unfinished = h.unfinished;
+}
+
+-- all lines that were read are answered
+pub stands-all : {S : Type 0} (Asked : S → Type 0) (Answers : S → List ℕ → List ℕ → S → Type 0)
+    (before later old new : Option (List ℕ)) (start s : S) (held ready : List ℕ) →
+    Stands Asked Answers before later old new start s held ready → AnswersAll Answers before later old new start s
+stands-all Asked Answers before later old new start s held ready h =
+    let come = h.come in
+    let heard = come.heard in
+    let short : has_long_line h.taken ≡ false =
+    ap has_long_line heard.cut ∙ heard.is.long held ∙ long-rest held h.unfinished in
+    let lines : lines_of h.taken ≡ come.done =
+    ap lines_of heard.cut ∙ lines-rest_after heard.whole held heard.is h.unfinished ∙ heard.lines in
+    record {
+      taken = h.taken;
+      consumed = h.consumed;
+      text = come.answers;
+      is = record {
+        answers = come.answers;
+        run = subst (λ (x : List (List ℕ)). IsRun Answers start x come.answers s) (sym lines) come.run;
+        whole = sym (append-nil come.answers) ∙ ap (λ (b : Bool). come.answers ++ farewell b) (sym short);
+      };
+      appended = said-written old new come.answers come.said;
+      short = short;
+    }
+
+module _ {S F : Type 0} (Asked : S → Type 0) (Answers : S → List ℕ → List ℕ → S → Type 0)
+    (Breaks : S → List ℕ → F → S → Type 0) (before left later old now new : Option (List ℕ)) (start s t : S)
+    (held kept ready then : List ℕ) (piece : List ℕ) (h : Stands Asked Answers before left old now start s held ready)
+    (read : Consumes left later piece) where
+  from_empty : (result : Result (Flow F) WriteFault) →
+      Takes Asked Answers Breaks now ready s held piece result new then t kept →
+      Takes Asked Answers Breaks now [] s held piece result new then t kept
+  from_empty result takes = subst (λ (x : List ℕ). Takes Asked Answers Breaks now x s held piece result new then t kept)
+      h.empty takes
+
+  consumes : Consumes before later (h.taken ++ piece)
+  consumes = Consumes-trans before left later h.taken piece h.consumed read
+
+  -- one piece more
+  pub stands-more : then ≡ [] → Takes Asked Answers Breaks now ready s held piece (Ok Open) new then t kept →
+      Stands Asked Answers before later old new start t kept then
+  stands-more none takes =
+      let (asked, un, come) = from_empty (Ok Open) takes in
+      record {
+        taken = h.taken ++ piece;
+        consumed = consumes;
+        come = subst (λ (x : List ℕ). HasCome Answers start old new x (h.taken ++ piece) t kept) none
+            (come start old h.taken h.come);
+        empty = none;
+        asked = asked;
+        unfinished = un;
+      }
+
+  -- a line is too long
+  pub stands-long : then ≡ [] → Takes Asked Answers Breaks now ready s held piece (Ok TooLong) new then t kept →
+      AnswersLong Answers before later old new start t
+  stands-long none takes =
+      let k = from_empty (Ok TooLong) takes start old h.taken h.come in
+      let taken = h.taken ++ piece in
+      let cut : (more : List ℕ) → taken ++ more ≡ k.heard.whole ++ (k.after ++ more) = λ more.
+      ap (λ (x : List ℕ). x ++ more) k.heard.cut ∙ append_assoc k.heard.whole k.after more in
+      let lines : (more : List ℕ) → lines_of (taken ++ more) ≡ k.done = λ more.
+      ap lines_of (cut more) ∙ k.heard.is.lines (k.after ++ more)
+      ∙ ap (λ (x : List (List ℕ)). lines_of k.heard.whole ++ x) (k.long.none more)
+      ∙ append-nil (lines_of k.heard.whole) ∙ k.heard.lines in
+      let long : (more : List ℕ) → has_long_line (taken ++ more) ≡ true = λ more.
+      ap has_long_line (cut more) ∙ k.heard.is.long (k.after ++ more) ∙ k.long.long more in
+      record {
+        taken = taken;
+        consumed = consumes;
+        text = k.answers ++ farewell true;
+        is = λ more. record {
+          answers = k.answers;
+          run = subst (λ (x : List (List ℕ)). IsRun Answers start x k.answers t) (sym (lines more)) k.run;
+          whole = ap (λ (b : Bool). k.answers ++ farewell b) (sym (long more));
+        };
+        appended = said-written old new (k.answers ++ farewell true)
+            (subst (λ (x : List ℕ). IsSaid old new x (k.answers ++ farewell true)) none k.said);
+        long = ap has_long_line (sym (append-nil taken)) ∙ long [];
+      }
+
+  lines_at : (done : List (List ℕ)) (after : List ℕ) → IsHeard (h.taken ++ piece) done after →
+      lines_of (h.taken ++ piece) ≡ done ++ lines_of after
+  lines_at done after heard = ap lines_of heard.cut ∙ heard.is.lines after
+      ∙ ap (λ (x : List (List ℕ)). x ++ lines_of after) heard.lines
+
+  lines_broken : (fault : F) (after : List ℕ) (a b : S) → BreaksAt Breaks fault after a b →
+      FindsNone Breaks (lines_of after) a b
+  lines_broken fault after a b breaks = record {
+    line = strip_last 13 breaks.part;
+    left = lines_of breaks.after;
+    split = ap lines_of breaks.split ∙ lines-feed breaks.part breaks.after breaks.unfinished;
+    fault = fault;
+    breaks = breaks.breaks;
+  }
+
+  -- a line finds no answer
+  pub stands-broken : (fault : F) → then ≡ [] →
+      Takes Asked Answers Breaks now ready s held piece (Ok (Broken fault)) new then t kept →
+      AnswersUntil Answers Breaks fault before later old new start t
+  unfolding lines_broken from_empty
+  stands-broken fault none takes =
+      let k = from_empty (Ok (Broken fault)) takes start old h.taken h.come in
+      let finds = lines_broken fault k.after k.mid t k.breaks in
+      record {
+        taken = h.taken ++ piece;
+        consumed = consumes;
+        done = k.done;
+        line = finds.line;
+        left = finds.left;
+        lines = lines_at k.done k.after k.heard ∙ ap (λ (x : List (List ℕ)). k.done ++ x) finds.split;
+        answers = k.answers;
+        mid = k.mid;
+        run = k.run;
+        breaks = k.breaks.breaks;
+        appended = said-written old new k.answers (subst (λ (x : List ℕ). IsSaid old new x k.answers) none k.said);
+      }
+
+  last_of : (after : List ℕ) (mid : S) → (t ≡ mid) ⊎ ((fault : F) × BreaksAt Breaks fault after mid t) →
+      (t ≡ mid) ⊎ FindsNone Breaks (lines_of after) mid t
+  last_of after mid (inl same) = inl same
+  last_of after mid (inr (fault, breaks)) = inr (lines_broken fault after mid t breaks)
+
+  -- a write failed
+  pub stands-lost : (fault : WriteFault) →
+      Takes Asked Answers Breaks now ready s held piece (Err fault) new then t kept →
+      AnswersInPart Answers Breaks before later old new start t
+  stands-lost fault takes =
+      let k = from_empty (Err fault) takes start old h.taken h.come in
+      let taken = h.taken ++ piece in
+      record {
+        taken = taken;
+        consumed = consumes;
+        done = k.done;
+        left = lines_of k.after;
+        lines = lines_at k.done k.after k.heard;
+        answers = k.answers;
+        mid = k.mid;
+        run = k.run;
+        last = last_of k.after k.mid k.last;
+        is_long = k.is_long;
+        long = λ e. (
+          ap lines_of (sym (append-nil k.after)) ∙ (k.long e).none [],
+          ap has_long_line k.heard.cut ∙ k.heard.is.long k.after
+              ∙ ap has_long_line (sym (append-nil k.after)) ∙ (k.long e).long [],
+        );
+        front = k.lost.front;
+        lost = k.lost.lost;
+        text = k.lost.split;
+        some = k.lost.some;
+        appended = k.lost.appended;
+      }
+
+-- ---- of a reader that tells its bytes, and that has come to its end
+
+pub whole-of : {S : Type 0} (Answers : S → List ℕ → List ℕ → S → Type 0) (before later old new : Option (List ℕ))
+    (start end : S) → AnswersAll Answers before later old new start end → IsAtEnd later →
+    IfSome before (λ input. (text : List ℕ) × IsText Answers start input text end × Appends old new text)
+whole-of Answers None later old new start end h e = tt
+whole-of Answers (Some x) None old new start end h e = absurd h.consumed
+whole-of Answers (Some x) (Some y) old new start end h e =
+    let all : h.taken ≡ x = sym (append-nil h.taken) ∙ ap (λ (z : List ℕ). h.taken ++ z) (sym e) ∙ sym h.consumed in
+    (h.text, subst (λ (input : List ℕ). IsText Answers start input h.text end) all h.is, h.appended)
+
+pub whole-long : {S : Type 0} (Answers : S → List ℕ → List ℕ → S → Type 0) (before later old new : Option (List ℕ))
+    (start end : S) → AnswersLong Answers before later old new start end →
+    IfSome before (λ input. (text : List ℕ) × IsText Answers start input text end × Appends old new text)
+whole-long Answers None later old new start end h = tt
+whole-long Answers (Some x) None old new start end h = absurd h.consumed
+whole-long Answers (Some x) (Some y) old new start end h =
+    (h.text, subst (λ (input : List ℕ). IsText Answers start input h.text end) (sym h.consumed) (h.is y), h.appended)
+
+pub whole-ended : {S F : Type 0} (Answers : S → List ℕ → List ℕ → S → Type 0) (Breaks : S → List ℕ → F → S → Type 0)
+    (result : Result (Unit {0}) (LoopFault F)) (before later old new : Option (List ℕ)) (start end : S) →
+    Ended Answers Breaks result before later old new start end → OnOk result (IsAtEnd later) →
+    OnOk result (IfSome before (λ input. (text : List ℕ) × IsText Answers start input text end × Appends old new text))
+whole-ended Answers Breaks (Ok done) before later old new start end h e =
+    whole-of Answers before later old new start end h e
+whole-ended Answers Breaks (Err fault) before later old new start end h e = tt
+
+pub long-ended : {S F : Type 0} (Answers : S → List ℕ → List ℕ → S → Type 0) (Breaks : S → List ℕ → F → S → Type 0)
+    (result : Result (Unit {0}) (LoopFault F)) (before later old new : Option (List ℕ)) (start end : S) →
+    Ended Answers Breaks result before later old new start end → IsErrOf result faults.LineTooLong →
+    IfSome before (λ input. (text : List ℕ) × IsText Answers start input text end × Appends old new text)
+long-ended {F = F} Answers Breaks result before later old new start end h is =
+    whole-long Answers before later old new start end
+    (subst (λ (r : Result (Unit {0}) (LoopFault F)). Ended Answers Breaks r before later old new start end) is h)

@@ -1,0 +1,4 @@
+pub mod Writes
+pub mod Runs
+pub mod TurnLemmas
+pub mod EndLemmas

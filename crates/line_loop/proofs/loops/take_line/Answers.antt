@@ -1,0 +1,57 @@
+use Rattle.std.proofs.Common.{[], ◌∷◌, ◌++◌}
+use Rattle.std.proofs.lemmas.Result.{err_from_is_err_and}
+use Rattle.line_loop.proofs.TurnLemmas.{flow_is, then-takes, over-long, over-broken, over-lost, passed_on}
+use Rattle.line_loop.proofs.loops.take_line.Goals as goal
+
+pub returns-in_err-take_part : goal.returns-in_err-take_part
+returns-in_err-take_part g c =
+    let e = err_from_is_err_and c.from_residual.result c.from_residual.ensures.1 in
+    let s = c.args.session.now in
+    let t = c.take_part.new.session in
+    let a = g.W.Write.contents c.args.writer.now in
+    let b = g.W.Write.contents c.take_part.new.writer in
+    let part = c.args.part.now in
+    passed_on g.A.Answerer.is_ready g.A.Answerer.answers g.A.Answerer.breaks a b s.ready.items t.ready.items s.answerer
+    t.answerer s.line.items t.line.items (part ++ 10 ∷ []) c.from_residual.result e.0 e.1
+    (over-lost g.A.Answerer.is_ready g.A.Answerer.answers g.A.Answerer.breaks a b s.ready.items t.ready.items s.answerer
+    t.answerer s.line.items t.line.items part (10 ∷ []) e.0 c.in_err-take_part.ensures)
+
+pub returns-in-Open : goal.returns-in-Open
+returns-in-Open g c =
+    let s = c.args.session.now in
+    let t = c.take_part.new.session in
+    let u = c.end_line.new.session in
+    let a = g.W.Write.contents c.args.writer.now in
+    let b = g.W.Write.contents c.take_part.new.writer in
+    let d = g.W.Write.contents c.end_line.new.writer in
+    let part = c.args.part.now in
+    then-takes g.A.Answerer.is_ready g.A.Answerer.answers g.A.Answerer.breaks a b d s.ready.items t.ready.items
+    u.ready.items s.answerer t.answerer u.answerer s.line.items t.line.items u.line.items part (10 ∷ [])
+    c.end_line.result
+    (flow_is g.A.Answerer.is_ready g.A.Answerer.answers g.A.Answerer.breaks a b s.ready.items t.ready.items s.answerer
+    t.answerer s.line.items t.line.items part _ _ c.in-Open.is c.in_ok-take_part.ensures)
+    c.end_line.ensures
+
+pub returns-in-TooLong : goal.returns-in-TooLong
+returns-in-TooLong g c =
+    let s = c.args.session.now in
+    let t = c.take_part.new.session in
+    let a = g.W.Write.contents c.args.writer.now in
+    let b = g.W.Write.contents c.take_part.new.writer in
+    let part = c.args.part.now in
+    over-long g.A.Answerer.is_ready g.A.Answerer.answers g.A.Answerer.breaks a b s.ready.items t.ready.items s.answerer
+    t.answerer s.line.items t.line.items part (10 ∷ [])
+    (flow_is g.A.Answerer.is_ready g.A.Answerer.answers g.A.Answerer.breaks a b s.ready.items t.ready.items s.answerer
+    t.answerer s.line.items t.line.items part _ _ c.in-TooLong.is c.in_ok-take_part.ensures)
+
+pub returns-in-Broken : goal.returns-in-Broken
+returns-in-Broken g c =
+    let s = c.args.session.now in
+    let t = c.take_part.new.session in
+    let a = g.W.Write.contents c.args.writer.now in
+    let b = g.W.Write.contents c.take_part.new.writer in
+    let part = c.args.part.now in
+    over-broken g.A.Answerer.is_ready g.A.Answerer.answers g.A.Answerer.breaks a b s.ready.items t.ready.items s.answerer
+    t.answerer s.line.items t.line.items part (10 ∷ []) c.in-Broken.fault
+    (flow_is g.A.Answerer.is_ready g.A.Answerer.answers g.A.Answerer.breaks a b s.ready.items t.ready.items s.answerer
+    t.answerer s.line.items t.line.items part _ _ c.in-Broken.is c.in_ok-take_part.ensures)

@@ -1,0 +1,9 @@
+//! Answers the lines of a reader on a writer, whoever answers them.
+#![tactic(auto)]
+
+mod answerer;
+mod loops;
+mod outlet;
+
+pub use answerer::{Answer, Answerer, LoopFault};
+pub use loops::answer_lines;

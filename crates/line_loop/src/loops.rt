@@ -1,0 +1,198 @@
+//! The loop over the lines of a reader.
+ghost use Rattle.std.specs.Prelude.{ℕ, ◌≡◌, List, [], ◌∷◌, ◌++◌, IfSome, OnOk, IsErrOf};
+ghost use Rattle.std.specs.Io.KnownBytes.{Appends, IsAtEnd};
+ghost use Rattle.session_lines.specs.Lines.{HasNoFeed, IsUnfinished};
+ghost use Rattle.line_loop.specs.Texts.{IsText, Ended};
+ghost use Rattle.line_loop.specs.Turns.{Takes};
+
+use crate::answerer::{Answerer, LoopFault};
+use crate::outlet::{Ready, WriteFault, hand_out, say, say_answer};
+use arrayvec::ArrayVec;
+use session_lines::{LINE_ROOM, first_feed};
+use std::io::{ErrorKind, Read, Write};
+
+/// Whether more lines are answered.
+#[derive(Clone, Copy, Debug, PartialEq, Eq)]
+enum Flow<F> {
+    Open,
+    /// A line was too long, and the farewell is said.
+    TooLong,
+    /// A line found no answer.
+    Broken(F),
+}
+
+const PIECE_ROOM: usize = 4096;
+
+/// Who answers, what has come of the next line, and the answers that are ready.
+#[derive(Drop)]
+struct Session<A> {
+    answerer: A,
+    line: ArrayVec<u8, LINE_ROOM>,
+    ready: Ready,
+}
+
+// Takes bytes of a line that does not end with them.
+fn take_part<A: Answerer, W: Write>(
+    session: &mut Session<A>,
+    part: &[u8],
+    writer: &mut W,
+) -> Result<Flow<A::Fault>, WriteFault>
+    requires asked { A.is_ready session.old.answerer }
+    requires unfinished { IsUnfinished session.old.line.items }
+    requires no_feed { HasNoFeed part.now }
+    ensures { Takes A.is_ready A.answers A.breaks (W.contents writer.old) session.old.ready.items
+        session.old.answerer session.old.line.items part.now result (W.contents writer.new) session.new.ready.items
+        session.new.answerer session.new.line.items }
+{
+    if session.line.remaining_capacity() < part.len() {
+        say(&mut session.ready, b"bye LineTooLong\n", writer)?;
+        return Ok(Flow::TooLong);
+    }
+    session.line.try_extend_from_slice(part).unwrap();
+    Ok(Flow::Open)
+}
+
+// Takes a line feed, and answers the line that it ends.
+fn end_line<A: Answerer, W: Write>(
+    session: &mut Session<A>,
+    writer: &mut W,
+) -> Result<Flow<A::Fault>, WriteFault>
+    requires asked { A.is_ready session.old.answerer }
+    requires unfinished { IsUnfinished session.old.line.items }
+    ensures { Takes A.is_ready A.answers A.breaks (W.contents writer.old) session.old.ready.items
+        session.old.answerer session.old.line.items (10 ∷ []) result (W.contents writer.new) session.new.ready.items
+        session.new.answerer session.new.line.items }
+{
+    match session.answerer.answer(session.line.as_slice()) {
+        Ok(answer) => {
+            say_answer(&mut session.ready, &answer, writer)?;
+            session.line.clear();
+            Ok(Flow::Open)
+        }
+        Err(fault) => Ok(Flow::Broken(fault)),
+    }
+}
+
+// Takes the rest of a line, and its line feed.
+fn take_line<A: Answerer, W: Write>(
+    session: &mut Session<A>,
+    part: &[u8],
+    writer: &mut W,
+) -> Result<Flow<A::Fault>, WriteFault>
+    requires asked { A.is_ready session.old.answerer }
+    requires unfinished { IsUnfinished session.old.line.items }
+    requires no_feed { HasNoFeed part.now }
+    ensures { Takes A.is_ready A.answers A.breaks (W.contents writer.old) session.old.ready.items
+        session.old.answerer session.old.line.items (part.now ++ 10 ∷ []) result (W.contents writer.new)
+        session.new.ready.items session.new.answerer session.new.line.items }
+{
+    match take_part(session, part, writer)? {
+        Flow::Open => end_line(session, writer),
+        Flow::TooLong => Ok(Flow::TooLong),
+        Flow::Broken(fault) => Ok(Flow::Broken(fault)),
+    }
+}
+
+// Takes the next bytes, in order, until a line is too long or finds no answer.
+fn take_piece<A: Answerer, W: Write>(
+    session: &mut Session<A>,
+    piece: &[u8],
+    writer: &mut W,
+) -> Result<Flow<A::Fault>, WriteFault>
+    requires asked { A.is_ready session.old.answerer }
+    requires unfinished { IsUnfinished session.old.line.items }
+    ensures { Takes A.is_ready A.answers A.breaks (W.contents writer.old) session.old.ready.items
+        session.old.answerer session.old.line.items piece.now result (W.contents writer.new) session.new.ready.items
+        session.new.answerer session.new.line.items }
+{
+    let mut rest = piece;
+    while let Some(end) = first_feed(rest) {
+        match take_line(session, &rest[..end], writer)? {
+            Flow::Open => rest = &rest[end + 1..],
+            Flow::TooLong => return Ok(Flow::TooLong),
+            Flow::Broken(fault) => return Ok(Flow::Broken(fault)),
+        }
+    }
+    take_part(session, rest, writer)
+}
+
+// Takes the next bytes, and writes all answers to their lines.
+fn answer_piece<A: Answerer, W: Write>(
+    session: &mut Session<A>,
+    piece: &[u8],
+    writer: &mut W,
+) -> Result<Flow<A::Fault>, WriteFault>
+    requires asked { A.is_ready session.old.answerer }
+    requires unfinished { IsUnfinished session.old.line.items }
+    ensures taken { Takes A.is_ready A.answers A.breaks (W.contents writer.old) session.old.ready.items
+        session.old.answerer session.old.line.items piece.now result (W.contents writer.new) session.new.ready.items
+        session.new.answerer session.new.line.items }
+    ensures empty { OnOk result (session.new.ready.items ≡ []) }
+{
+    let flow = take_piece(session, piece, writer)?;
+    hand_out(&mut session.ready, writer)?;
+    Ok(flow)
+}
+
+// Takes all that comes, until a line is too long or finds no answer.
+fn answer_all<A: Answerer, R: Read, W: Write>(
+    session: &mut Session<A>,
+    reader: &mut R,
+    writer: &mut W,
+) -> Result<(), LoopFault<A::Fault>>
+    requires asked { A.is_ready session.old.answerer }
+    requires empty { session.old.line.items ≡ [] }
+    requires nothing { session.old.ready.items ≡ [] }
+    ensures ended { Ended A.answers A.breaks result (R.remaining reader.old) (R.remaining reader.new)
+        (W.contents writer.old) (W.contents writer.new) session.old.answerer session.new.answerer }
+    ensures end { OnOk result (IsAtEnd (R.remaining reader.new)) }
+{
+    let mut piece = [0u8; PIECE_ROOM];
+    for _ in 0..u32::MAX {
+        match reader.read(&mut piece) {
+            Ok(0) => return Ok(()),
+            Ok(count) => match answer_piece(session, &piece[..count], writer) {
+                Ok(Flow::Open) => {}
+                Ok(Flow::TooLong) => return Err(LoopFault::LineTooLong),
+                Ok(Flow::Broken(fault)) => return Err(LoopFault::Unanswered(fault)),
+                Err(WriteFault) => return Err(LoopFault::Write),
+            },
+            Err(error) => {
+                if error.kind() != ErrorKind::Interrupted {
+                    return Err(LoopFault::Read);
+                }
+            }
+        }
+    }
+    Err(LoopFault::Read)
+}
+
+/// Answers the lines of the reader on the writer until the reader ends, a line is too long or one finds no answer, and
+/// hands who answers back. Answers are written as they come, those to one piece of at most 4,096 bytes at once. Between the
+/// bytes of a line any number of reads may come; a rest without a line feed is no line. After a line that is too long the
+/// farewell is written. `Read` also after 4,294,967,295 reads.
+pub fn answer_lines<A: Answerer + Drop, R: Read, W: Write>(
+    answerer: A,
+    reader: &mut R,
+    writer: &mut W,
+) -> (A, Result<(), LoopFault<A::Fault>>)
+    requires asked { A.is_ready answerer }
+    // Of a reader that tells its bytes: what is written is the text of the whole input.
+    ensures whole { OnOk result.1 (IfSome (R.remaining reader.old) (λ input. (text : List ℕ)
+        × IsText A.answers answerer input text result.0 × Appends (W.contents writer.old) (W.contents writer.new) text)) }
+    ensures long { IsErrOf result.1 LoopFault.LineTooLong → IfSome (R.remaining reader.old) (λ input. (text : List ℕ)
+        × IsText A.answers answerer input text result.0 × Appends (W.contents writer.old) (W.contents writer.new) text) }
+
+    // Also of a reader that does not.
+    ensures ended { Ended A.answers A.breaks result.1 (R.remaining reader.old) (R.remaining reader.new)
+        (W.contents writer.old) (W.contents writer.new) answerer result.0 }
+    ensures end { OnOk result.1 (IsAtEnd (R.remaining reader.new)) }
+{
+    let mut session = Session {
+        answerer,
+        line: ArrayVec::new(),
+        ready: Ready::new(),
+    };
+    let ended = answer_all(&mut session, reader, writer);
+    (session.answerer, ended)
+}
