@@ -1,0 +1,9 @@
+//! One session from a reader to a writer, over a store: each line is a batch of its own, at the next of its moments.
+#![tactic(auto)]
+
+mod moments;
+mod running;
+mod talk;
+
+pub use moments::{ListMoments, Moments};
+pub use running::{RunFault, run};

@@ -1,0 +1,81 @@
+//! One session from a reader to a writer.
+ghost use Rattle.std.specs.Prelude.{ℕ, ◌≡◌, List, IfSome, OnOk, IsErrOf};
+ghost use Rattle.std.specs.Io.KnownBytes.{Appends, IsAtEnd};
+ghost use Rattle.chess_run.specs.Running.{IsRunText, RunEnds, kept};
+
+use crate::moments::Moments;
+use crate::talk::Talk;
+use chess_hub::{Hub, HubFault};
+use chess_store::Store;
+use line_loop::{LoopFault, answer_lines};
+use sector_dev::Device;
+use std::alloc::Global;
+use std::io::{Read, Write};
+
+/// Why a run ends before its input does.
+#[derive(Clone, Copy, Debug, PartialEq, Eq)]
+pub enum RunFault {
+    /// A read failed, or reads did not come to an end.
+    Read,
+    /// A write failed.
+    Write,
+    /// The hub refused a call.
+    Hub(HubFault),
+    /// A line was too long, and `bye LineTooLong` was written.
+    LineTooLong,
+}
+
+impl From<LoopFault<HubFault>> for RunFault {
+    ghost use Rattle.std.specs.Prelude.{◌≡◌};
+    ghost use Rattle.chess_run.specs.Running.{of_loop};
+
+    ghost from_gives = { λ fault made. made ≡ of_loop fault };
+
+    fn from(fault: LoopFault<HubFault>) -> RunFault {
+        match fault {
+            LoopFault::Read => RunFault::Read,
+            LoopFault::Write => RunFault::Write,
+            LoopFault::LineTooLong => RunFault::LineTooLong,
+            LoopFault::Unanswered(fault) => RunFault::Hub(fault),
+        }
+    }
+}
+
+/// Answers the lines of a reader on a writer, as one session over a store, which it keeps: each whole line is a batch of
+/// its own and takes the next of the moments. Answers are written as they come, those to one piece of input at once. It
+/// ends where the reader does; a rest without a line feed is no line.
+///
+/// `LineTooLong`: a line was, and `bye LineTooLong` was written. `Read` and `Write`: a read or a write failed, or reads
+/// did not end within 4,294,967,295. `Hub`: a line was refused memory, or the store refused it; the answers before it
+/// were written.
+pub fn run<R: Read, W: Write, D: Device + Drop, M: Moments + Drop>(
+    alloc: Global,
+    reader: &mut R,
+    writer: &mut W,
+    store: Store<D>,
+    moments: M,
+) -> Result<(), RunFault>
+    // What is written is the text of what was read, and nothing else.
+    ensures whole { OnOk result (IfSome (R.remaining reader.old) (IsRunText D.state D.sector_count D.failures M.gives
+        (kept store.journal.device store.journal.header store.journal.compaction store.table store.failed) moments (W.contents writer.old) (W.contents writer.new))) }
+    ensures long { IsErrOf result RunFault.LineTooLong → IfSome (R.remaining reader.old) (IsRunText D.state
+        D.sector_count D.failures M.gives
+        (kept store.journal.device store.journal.header store.journal.compaction store.table store.failed) moments (W.contents writer.old) (W.contents writer.new)) }
+
+    // Also of a reader that does not tell its bytes: all lines that were read are answered. Where a write failed
+    // something that they call for is not written; where the hub refused a line the answers to those before it are.
+    ensures ended { RunEnds D.state D.sector_count D.failures M.gives result (R.remaining reader.old)
+        (R.remaining reader.new) (W.contents writer.old) (W.contents writer.new)
+        (kept store.journal.device store.journal.header store.journal.compaction store.table store.failed) moments }
+    ensures end { OnOk result (IsAtEnd (R.remaining reader.new)) }
+{
+    let mut hub = Hub::new(alloc, store);
+    let sid = match hub.connect() {
+        Ok(sid) => sid,
+        Err(fault) => return Err(RunFault::Hub(fault)),
+    };
+    let talk = Talk { hub, sid, moments };
+    let (_, ended) = answer_lines(talk, reader, writer);
+    ended?;
+    Ok(())
+}

@@ -1,0 +1,91 @@
+//! One session of a hub, whose lines are answered one a batch.
+ghost use Rattle.std.specs.Prelude.{ℕ, ◌≡◌, List, Option, Ok, Err, IfOk, IfErr, OnOk};
+ghost use Rattle.std.specs.Io.BufRead.{strip_last};
+ghost use Rattle.session_lines.specs.Lines.{IsUnfinished};
+ghost use Rattle.chess_sessions.specs.Session.{said};
+ghost use Rattle.chess_sessions.specs.Answers.{name_at};
+ghost use Rattle.chess_hub.specs.Turning.{AreRefused, IsTurnFault};
+ghost use Rattle.chess_run.specs.Running.{Serves, IsAlone, IsTalking, IsAsking, IsTold, IsUntold, asks, kept};
+
+use crate::moments::Moments;
+use chess_answer::Reply;
+use chess_hub::{Hub, HubFault, Sid};
+use line_loop::{Answer, Answerer};
+use sector_dev::Device;
+
+/// A hub with one session, and the moments of its batches.
+#[derive(Drop)]
+pub(crate) struct Talk<D: Device, M: Moments> {
+    pub(crate) hub: Hub<D>,
+    pub(crate) sid: Sid,
+    pub(crate) moments: M,
+}
+
+// Takes a line that the session sends, and its line feed.
+fn hear<D: Device>(hub: &mut Hub<D>, sid: Sid, line: &[u8]) -> Result<(), HubFault>
+    requires talks { IsTalking hub.old.sessions sid }
+    requires unfinished { IsUnfinished line.now }
+    ensures heard { OnOk result (IsAlone hub.new.sessions sid (asks (name_at hub.old.sessions sid) line.now)) }
+    ensures fault { IfErr result (λ fault. fault ≡ HubFault.NoMemory) }
+    ensures store { hub.new.store ≡ hub.old.store }
+{
+    hub.feed(sid, line)?;
+    hub.feed(sid, b"\n")
+}
+
+// The turn of the line that the session has sent, and its answer.
+fn take_turn<D: Device>(hub: &mut Hub<D>, sid: Sid, at: u64) -> Result<Reply, HubFault>
+    requires asks { IsAsking hub.old.sessions sid }
+    ensures told { IfOk result (λ reply. (name : Option (List ℕ)) (part : List ℕ) → IsUnfinished part
+        → IsAlone hub.old.sessions sid (asks name part) → IsTold at name (strip_last 13 part) (said reply)
+        hub.old.store.table hub.new.store.table hub.new.sessions sid) }
+    ensures serves { OnOk result (Serves D.state D.sector_count D.failures
+        (kept hub.old.store.journal.device hub.old.store.journal.header hub.old.store.journal.compaction hub.old.store.table hub.old.store.failed)
+        (kept hub.new.store.journal.device hub.new.store.journal.header hub.new.store.journal.compaction hub.new.store.table hub.new.store.failed) (Ok tt)) }
+    ensures fault { IfErr result (λ fault. (name : Option (List ℕ)) (part : List ℕ) → IsUnfinished part
+        → IsAlone hub.old.sessions sid (asks name part) → IsTurnFault fault (hub.new.store ≡ hub.old.store)
+        (λ refused. IsUntold at name (strip_last 13 part) (AreRefused refused hub.old.store.journal.header.seq
+        hub.old.store.failed hub.old.store.table hub.new.store.table))) }
+    ensures serves_err { IfErr result (λ fault.
+        Serves D.state D.sector_count D.failures
+        (kept hub.old.store.journal.device hub.old.store.journal.header hub.old.store.journal.compaction hub.old.store.table hub.old.store.failed)
+        (kept hub.new.store.journal.device hub.new.store.journal.header hub.new.store.journal.compaction hub.new.store.table hub.new.store.failed) (Err fault)) }
+{
+    hub.turn(at, 1)?;
+    match hub.output(sid) {
+        Some(reply) => Ok(reply),
+        None => unreachable!(),
+    }
+}
+
+impl<D: Device, M: Moments> Answerer for Talk<D, M> {
+    ghost use Rattle.chess_run.specs.Running.{IsTalking, kept, stands, AnswersLine, RefusesLine};
+    ghost use Rattle.chess_sessions.specs.Answers.{name_at};
+
+    type Fault = HubFault;
+
+    ghost is_ready = { λ t. IsTalking t.hub.sessions t.sid };
+
+    ghost answers = { λ old line text new.
+        AnswersLine D.state D.sector_count D.failures M.gives (stands
+        (kept old.hub.store.journal.device old.hub.store.journal.header old.hub.store.journal.compaction old.hub.store.table old.hub.store.failed)
+        (name_at old.hub.sessions old.sid) old.moments) line text (stands
+        (kept new.hub.store.journal.device new.hub.store.journal.header new.hub.store.journal.compaction new.hub.store.table new.hub.store.failed)
+        (name_at new.hub.sessions new.sid) new.moments) };
+
+    ghost breaks = { λ old line fault new.
+        RefusesLine D.state D.sector_count D.failures M.gives (stands
+        (kept old.hub.store.journal.device old.hub.store.journal.header old.hub.store.journal.compaction old.hub.store.table old.hub.store.failed)
+        (name_at old.hub.sessions old.sid) old.moments) line fault (stands
+        (kept new.hub.store.journal.device new.hub.store.journal.header new.hub.store.journal.compaction new.hub.store.table new.hub.store.failed)
+        (name_at new.hub.sessions new.sid) new.moments) };
+
+    fn answer(&mut self, line: &[u8]) -> Result<Answer, HubFault> {
+        hear(&mut self.hub, self.sid, line)?;
+        let reply = take_turn(&mut self.hub, self.sid, self.moments.next())?;
+        Ok(Answer {
+            line: reply.line,
+            body: Some(reply.body),
+        })
+    }
+}
