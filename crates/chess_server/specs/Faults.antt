@@ -2,6 +2,7 @@
 use Rattle.std.specs.Prelude.{◌≤◌, ⊤}
 use Rattle.rec_codec.specs.declared.limits.Limits.{Limits}
 use Rattle.chess_store.specs.Faults as store
+use Rattle.chess_sockets.specs.Turns as sockets
 use Rattle.chess_server.specs.declared.ends.Fault.{Fault}
 use Rattle.chess_server.specs.declared.ends.Fault.TheVariants as faults
 
@@ -17,6 +18,15 @@ IsFormatFault faults.File = ⊤
 IsFormatFault faults.Write = ⊤
 IsFormatFault (faults.Store fault) = store.IsCreateFault fault
 IsFormatFault _ = ⊥
+
+-- of `serve`
+abbrev pub IsServeFault : Fault → Type 0
+IsServeFault faults.File = ⊤
+IsServeFault (faults.Store fault) = store.IsOpenFault fault
+IsServeFault faults.Socket = ⊤
+IsServeFault faults.Write = ⊤
+IsServeFault (faults.Hub fault) = sockets.EndsServing fault
+IsServeFault _ = ⊥
 
 -- no limit is below the present one
 pub record MayWiden (present wanted : Limits) : Type 0 where

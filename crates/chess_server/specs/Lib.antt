@@ -1,6 +1,2 @@
-pub mod Field
-pub mod Answer
-pub mod Run
-pub mod Turns
 pub mod End
 pub mod Faults

@@ -80,6 +80,66 @@ Example:
 prints
   ok widen 216";
 
+const HELP_OF_RUN: &str = "\
+One session over the journal: each line of standard input gets its answer on standard
+output, as docs/PROTOCOL.md tells. What is answered by ok or fallen lasts: it stands
+in the file before the answer is written.
+
+  name NAME     who sends the lines that follow: 1 to 16 of A-Z a-z 0-9 _
+  open white INITIAL INCREMENT [FEN], join G, move G PLY TEXT, offer G, accept G,
+  decline G, resign G, claim G PLY three [TEXT], flag G, drop G, show G, fen G,
+  pgn G, list
+
+Moments are those of the system's clock.
+
+Limits: a line has at most 255 bytes before its line feed, a carriage return among
+them. A longer one is answered by bye LineTooLong, which ends the run. What follows
+the last line feed is no line.
+
+Exit status: 0 where the input has ended; 1 with fault NAME on standard error: File
+(the file isn't there, or another program has it open), NotOurs (no journal stands in
+it), Damaged, TooSmall, Device (a read, a write or a sync of the file failed), Worn,
+NoMemory, LineTooLong, Read, Write; 2 for words that the program does not know.
+
+Example:
+  printf 'name ann\\nopen white 300 0\\n' | chess_server run --journal club.journal
+prints
+  ok name ann
+  ok open 1";
+
+const HELP_OF_SERVE: &str = "\
+It listens on 127.0.0.1, prints port P with the port that it listens on, and serves
+each connection as a session over the journal, with the lines and answers of run: 64
+at a time, of which none waits for another. A further connection is closed at once.
+
+A turn accepts a connection, reads from each session, answers up to 64 lines and
+writes what can be written. After N turns serve ends; a turn that finds nothing to do
+takes 10 ms, so that 4294967295 of them are more than a year. What was answered by ok
+or fallen lasts, also where serve is killed.
+
+A line has at most 255 bytes before its line feed, a carriage return among them. A
+longer one is answered by bye LineTooLong, which closes the connection. Where a client
+sends no more its whole lines are still answered. One that does not take its answers
+is read no further until it does.
+
+Limits: P 0 to 65535, where 0 leaves the choice to the system; N 1 to 4294967295.
+
+Exit status: 0 after N turns; 1 with fault NAME on standard error: File (the file
+isn't there, or another program has it open), NotOurs (no journal stands in it),
+Damaged, TooSmall, Socket (the port cannot be bound), Device (a read, a write or a
+sync of the file failed), Worn, NoMemory, Write; 2 for words that the program does not
+know.
+
+Example:
+  chess_server serve --journal club.journal --port 5001 --turns 4294967295
+prints
+  port 5001
+and then
+  printf 'name ann\\nlist\\n' | nc -N 127.0.0.1 5001
+prints
+  ok name ann
+  ok list 0";
+
 fn journal_arg<'a>(alloc: Global) -> Arg<'a> {
     Arg::new(alloc, "journal")
         .long("journal")
@@ -125,6 +185,24 @@ fn format_command<'a>(alloc: Global) -> Result<Command<'a>, AllocError> {
     with_limits(alloc, command)
 }
 
+fn run_command<'a>(alloc: Global) -> Result<Command<'a>, AllocError> {
+    Command::new(alloc, "run")
+        .about("Answers the lines of standard input, over the games of a journal")
+        .after_help(HELP_OF_RUN)
+        .arg(journal_arg(alloc))
+}
+
+fn serve_command<'a>(alloc: Global) -> Result<Command<'a>, AllocError> {
+    let port = "The port on 127.0.0.1, 0 to 65535; 0 leaves the choice to the system";
+    let turns = "After how many turns it ends, 1 to 4294967295";
+    Command::new(alloc, "serve")
+        .about("Serves players on a port, over the games of a journal")
+        .after_help(HELP_OF_SERVE)
+        .arg(journal_arg(alloc))?
+        .arg(number_arg(alloc, "port", "P", (0, 65_535), port))?
+        .arg(number_arg(alloc, "turns", "N", (1, 4_294_967_295), turns))
+}
+
 fn drill_command<'a>(alloc: Global) -> Command<'a> {
     Command::new(alloc, "drill")
         .about("Plays every crash of one batch on a device in memory")
@@ -145,6 +223,8 @@ pub fn command_line<'a>(alloc: Global) -> Result<Command<'a>, AllocError> {
         .subcommand_required(true)
         .subcommand(board_command(alloc))?
         .subcommand(format_command(alloc)?)?
+        .subcommand(run_command(alloc)?)?
+        .subcommand(serve_command(alloc)?)?
         .subcommand(drill_command(alloc))?
         .subcommand(widen_command(alloc)?)
 }

@@ -1,9 +1,11 @@
 //! How a run of the program ends: its exit status, and what is told of a fault.
 ghost use Rattle.std.specs.Prelude.{◌≡◌, ◌≢◌};
 ghost use Rattle.clap.specs.Values.{kind_of};
-ghost use Rattle.chess_server.specs.End.{end_of, name_of, name_of_store, of_board, status_of};
+ghost use Rattle.chess_server.specs.End.{end_of, name_of, name_of_hub, name_of_store, of_board, of_run, status_of};
 
-use crate::board_loop::BoardFault;
+use board_session::BoardFault;
+use chess_hub::HubFault;
+use chess_run::RunFault;
 use chess_store::StoreFault;
 use clap::Error;
 use clap::error::ErrorKind;
@@ -19,8 +21,14 @@ pub enum Fault {
     Write,
     /// The table's limits are above those that are asked for.
     Limits,
+    /// The port cannot be bound.
+    Socket,
+    /// A line of the input was too long, and its farewell is written.
+    LineTooLong,
     /// The store refused.
     Store(StoreFault),
+    /// The hub refused.
+    Hub(HubFault),
 }
 
 /// How a run ends.
@@ -60,6 +68,17 @@ fn store_name(fault: StoreFault) -> &'static str
     }
 }
 
+fn hub_name(fault: HubFault) -> &'static str
+    ensures { result.now ≡ name_of_hub fault }
+{
+    match fault {
+        HubFault::Busy => "Busy",
+        HubFault::NoMemory => "NoMemory",
+        HubFault::LineTooLong => "LineTooLong",
+        HubFault::Store(refused) => store_name(refused),
+    }
+}
+
 /// The name of a fault, which stands after `fault ` on standard error: that of the innermost.
 pub fn name(fault: Fault) -> &'static str
     ensures { result.now ≡ name_of fault }
@@ -69,7 +88,10 @@ pub fn name(fault: Fault) -> &'static str
         Fault::Read => "Read",
         Fault::Write => "Write",
         Fault::Limits => "Limits",
+        Fault::Socket => "Socket",
+        Fault::LineTooLong => "LineTooLong",
         Fault::Store(fault) => store_name(fault),
+        Fault::Hub(fault) => hub_name(fault),
     }
 }
 
@@ -80,6 +102,18 @@ pub fn fault_of_board(fault: BoardFault) -> Fault
     match fault {
         BoardFault::Read => Fault::Read,
         BoardFault::Write => Fault::Write,
+    }
+}
+
+/// What a fault of `run` is to the program.
+pub fn fault_of_run(fault: RunFault) -> Fault
+    ensures { result ≡ of_run fault }
+{
+    match fault {
+        RunFault::Read => Fault::Read,
+        RunFault::Write => Fault::Write,
+        RunFault::LineTooLong => Fault::LineTooLong,
+        RunFault::Hub(fault) => Fault::Hub(fault),
     }
 }
 

@@ -6,7 +6,7 @@ ghost use Rattle.chess_server.specs.Faults.{IsFormatFault, IsOpenFault, MayWiden
 
 use crate::ends::Fault;
 use crate::words::Tables;
-use chess_store::Store;
+use chess_store::{Store, StoreFault};
 use rec_codec::{Limits, need};
 use sector_dev::{Device, FileDevice};
 use std::alloc::Global;
@@ -47,6 +47,28 @@ pub fn open_journal<R: Files<File = File>>(
     }
 }
 
+// Whether a file that is there and shorter than the limits need may be made longer: no journal may stand in it. Nothing
+// of it changes.
+fn may_lengthen<R: Files<File = File>>(
+    rt: &R,
+    alloc: Global,
+    tables: &Tables<'_>,
+) -> Result<(), Fault>
+    ensures { IfErr result IsFormatFault }
+{
+    // A file that can't be opened so is the system's to tell of, at the next call.
+    let Ok(device) = FileDevice::open(rt, tables.journal) else {
+        return Ok(());
+    };
+    if device.sectors() >= need(tables.limits) {
+        return Ok(());
+    }
+    match Store::create(alloc, device, tables.limits) {
+        Err(refused) if refused.fault != StoreFault::TooSmall => Err(Fault::Store(refused.fault)),
+        _ => Ok(()),
+    }
+}
+
 /// Makes a file a journal of the empty table within the limits, and prints `ok format S`, S being their need.
 pub fn format<R: Files<File = File> + Print>(
     rt: &R,
@@ -55,6 +77,7 @@ pub fn format<R: Files<File = File> + Print>(
 ) -> Result<(), Fault>
     ensures { IfErr result IsFormatFault }
 {
+    may_lengthen(rt, alloc, tables)?;
     let Ok(device) = FileDevice::create(rt, tables.journal, need(tables.limits)) else {
         return Err(Fault::File);
     };

@@ -1,22 +1,21 @@
 //! A chess game server: its words.
 #![tactic(auto)]
 
-mod answer;
-mod board_loop;
 mod command_line;
 mod drill;
 mod ends;
 mod journals;
-mod line;
+mod playing;
 #[cfg(test)]
 mod tests;
 mod words;
 
-use board_loop::board;
+use board_session::board;
 use clap::Error;
 use drill::{Tally, drill};
 use ends::{End, Fault, end_of_words, end_of_work, fault_of_board, name, status};
 use journals::{format, widen};
+use playing::{run_journal, serve};
 use std::env;
 use std::process::ExitCode;
 use words::{Word, no_text, read_words};
@@ -55,6 +54,11 @@ fn do_work(rt: &HostRuntime, word: Word<'_>) -> Result<(), Fault> {
     match word {
         Word::Board => board(&mut rt.stdin(), &mut rt.stdout()).map_err(fault_of_board),
         Word::Format(tables) => format(rt, rt.alloc(), &tables),
+        Word::Run(journal) => {
+            let (mut input, mut output) = (rt.stdin(), rt.stdout());
+            run_journal(rt, rt.alloc(), journal, &mut input, &mut output)
+        }
+        Word::Serve(serving) => serve(rt, rt.alloc(), &serving),
         Word::Drill => tell_drill(rt),
         Word::Widen(tables) => widen(rt, rt.alloc(), &tables),
     }

@@ -15,6 +15,10 @@ pub enum Word<'a> {
     Board,
     /// To make a file a journal of the empty table.
     Format(Tables<'a>),
+    /// To answer the lines of standard input on standard output, over the games of a journal's file.
+    Run(&'a str),
+    /// To serve players on a port.
+    Serve(Serving<'a>),
     /// To play the crashes of one batch in memory.
     Drill,
     /// To raise the limits of a journal's table.
@@ -27,6 +31,14 @@ pub struct Tables<'a> {
     pub journal: &'a str,
     pub limits: Limits,
     ghost in_range: { IsInRange Two limits },
+}
+
+/// A journal's file, the port on which its games are played, and after how many turns the serving ends.
+#[derive(Clone, Copy)]
+pub struct Serving<'a> {
+    pub journal: &'a str,
+    pub port: u16,
+    pub turns: u32,
 }
 
 /// Reads the words, the program's own name first. An `Err` is a usage fault, or a request for help.
@@ -44,6 +56,8 @@ fn word_of<'a>((word, values): (&'a str, &ArgMatches<'a>)) -> Option<Word<'a>> {
     match word {
         "board" => Some(Word::Board),
         "format" => Some(Word::Format(tables_of(values)?)),
+        "run" => Some(Word::Run(values.get_str("journal")?)),
+        "serve" => Some(Word::Serve(serving_of(values)?)),
         "drill" => Some(Word::Drill),
         "widen" => Some(Word::Widen(tables_of(values)?)),
         _ => None,
@@ -61,6 +75,14 @@ fn tables_of<'a>(values: &ArgMatches<'a>) -> Option<Tables<'a>> {
     } else {
         None
     }
+}
+
+fn serving_of<'a>(values: &ArgMatches<'a>) -> Option<Serving<'a>> {
+    Some(Serving {
+        journal: values.get_str("journal")?,
+        port: values.get_one("port")?,
+        turns: values.get_one("turns")?,
+    })
 }
 
 /// The fault of words that are no text.

@@ -1,0 +1,57 @@
+-- A line asks for one move, or for none.
+use Rattle.std.proofs.Common.{◌≡◌, ℕ, ◌<◌, ◌≤◌, Bool, true, false, List, ◌++◌, length, take, drop, sym, refl, ap, ◌∙◌, subst, arith, codes, take-append-drop}
+use Rattle.std.proofs.lemmas.Bool.{false≢true}
+use Rattle.std.specs.Prelude.{◌&&◌, nat_le, nat_lt}
+use Rattle.std.specs.Bool.{Decides}
+use Rattle.std.specs.Str.{bytes_eq}
+use Rattle.std.specs.List.{All, list_all}
+use Rattle.std.proofs.lemmas.Bool.Decides.{Decides-and, Decides-ltb, Decides-by_and, nat_tests}
+use Rattle.std.proofs.lemmas.List.Prefix.{front_rest}
+use Rattle.std.proofs.lemmas.Slice.Eq.{bytes_eq-Decides}
+use Rattle.board_session.specs.Field.{AsksMove}
+
+-- the two ways of a line
+pub data Asks (line : List ℕ) : Type 0 where
+  Asks_one : (text : List ℕ) → AsksMove line text → Asks line
+  Asks_none : ((text : List ℕ) → ¬ AsksMove line text) → Asks line
+
+is_visible : ℕ → Bool
+is_visible b = nat_le 33 b && nat_le b 126
+
+is_field : List ℕ → Bool
+is_field text = nat_lt 0 (length text) && list_all is_visible text
+
+visible-Decides : (b : ℕ) → Decides (is_visible b) ((33 ≤ b) × (b ≤ 126))
+unfolding is_visible
+visible-Decides b = (λ h. (grind (arith, nat_tests), grind (arith, nat_tests)), λ h. grind (arith, nat_tests))
+
+field-Decides : (text : List ℕ) → Decides (is_field text) ((0 < length text) × All (λ b. (33 ≤ b) × (b ≤ 126)) text)
+unfolding is_field
+field-Decides text =
+    Decides-and _ _ (Decides-ltb 0 (length text))
+    (Decides-by_and is_visible (λ b. (33 ≤ b) × (b ≤ 126)) (list_all is_visible) visible-Decides refl
+    (λ _ _. refl) text)
+
+-- the text is what stands after the first five bytes
+pub asked_text : (line text : List ℕ) → AsksMove line text → text ≡ drop 5 line
+asked_text line text h = sym (front_rest line (codes "move ") text h.words)
+
+asks_by : (line : List ℕ) (words field : Bool) → Decides words (take 5 line ≡ codes "move ") →
+    Decides field ((0 < length (drop 5 line)) × All (λ b. (33 ≤ b) × (b ≤ 126)) (drop 5 line)) → Asks line
+asks_by line true true w f =
+    let fits = f.0 refl in
+    Asks_one (drop 5 line) (record {
+      words = sym (take-append-drop 5 line) ∙ ap (λ x. x ++ drop 5 line) (w.0 refl);
+      field = record { some = fits.0; visible = fits.1 };
+    })
+asks_by line false field w f =
+    Asks_none (λ text h. false≢true (w.1 (ap (take 5) h.words)))
+asks_by line true false w f =
+    Asks_none (λ text h.
+    let e = asked_text line text h in
+    false≢true (f.1
+    (subst (λ t. (0 < length t) × All (λ b. (33 ≤ b) × (b ≤ 126)) t) e (h.field.some, h.field.visible))))
+
+pub asks : (line : List ℕ) → Asks line
+asks line = asks_by line (bytes_eq (take 5 line) (codes "move ")) (is_field (drop 5 line))
+    (bytes_eq-Decides (take 5 line) (codes "move ")) (field-Decides (drop 5 line))

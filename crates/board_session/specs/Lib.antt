@@ -1,0 +1,4 @@
+pub mod Field
+pub mod Answer
+pub mod Run
+pub mod Turns

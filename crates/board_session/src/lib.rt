@@ -1,0 +1,10 @@
+//! One board in memory: the answers to the lines of a reader, on a writer.
+#![tactic(auto)]
+
+mod answer;
+mod board_loop;
+mod line;
+#[cfg(test)]
+mod tests;
+
+pub use board_loop::{BoardFault, board};

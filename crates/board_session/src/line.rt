@@ -1,0 +1,36 @@
+//! What a line asks for.
+ghost use Rattle.std.specs.Prelude.{◌↔◌, IsTrue};
+ghost use Rattle.board_session.specs.Field.{IsCommand, IsField};
+
+use std::str;
+
+/// What a line asks for.
+#[derive(Clone, Copy, Debug)]
+pub enum Command<'a> {
+    /// To make the move of this text.
+    Move(&'a str),
+    /// Nothing that is known.
+    Bad,
+}
+
+/// Reads a line, without the line feed that ends it.
+pub fn parse(line: &[u8]) -> Command<'_>
+    ensures { IsCommand line.now result }
+{
+    let Some(field) = line.strip_prefix(b"move ") else {
+        return Command::Bad;
+    };
+    if !is_field(field) {
+        return Command::Bad;
+    }
+    match str::from_utf8(field) {
+        Ok(text) => Command::Move(text),
+        Err(_) => unreachable!("a field is of ASCII"),
+    }
+}
+
+fn is_field(bytes: &[u8]) -> bool
+    ensures { IsTrue result ↔ IsField bytes.now }
+{
+    !bytes.is_empty() && bytes.iter().all(|b| b.is_ascii_graphic())
+}

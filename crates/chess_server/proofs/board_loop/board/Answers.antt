@@ -1,6 +1,0 @@
-use Rattle.chess_board.specs.Initial.{initial}
-use Rattle.chess_server.proofs.RunLemmas.{one_text}
-use Rattle.chess_server.proofs.board_loop.board.Goals as goal
-
-pub returns-clause-one : goal.returns-clause-one
-returns-clause-one g c = one_text initial

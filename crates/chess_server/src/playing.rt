@@ -1,0 +1,87 @@
+//! The words that play in a journal.
+ghost use Rattle.std.specs.Prelude.{◌≡◌, IfErr};
+ghost use Rattle.chess_server.specs.Faults.{IsServeFault};
+
+use crate::ends::{Fault, fault_of_run};
+use crate::journals::open_journal;
+use crate::words::Serving;
+use chess_hub::Hub;
+use chess_run::{Moments, run};
+use chess_sockets::{Server, Turned};
+use std::alloc::Global;
+use std::fs::File;
+use std::io::{Read, Write};
+use std::net::{Net, TcpListener, TcpStream};
+use std::rt::{Clock, Files};
+
+// The moment by the system's clock, in milliseconds since 1970; 0 before, and where it cannot be read.
+fn moment(clock: &impl Clock) -> u64 {
+    match clock.since_1970() {
+        Ok(time) => u64::try_from(time.as_millis()).unwrap_or(u64::MAX),
+        Err(_) => 0,
+    }
+}
+
+/// The moments of the system's clock.
+#[derive(Drop)]
+struct Clocked<'a, R> {
+    clock: &'a R,
+}
+
+impl<R: Clock> Moments for Clocked<'_, R> {
+    ghost use Rattle.std.specs.Prelude.{⊤};
+
+    // The clock promises nothing.
+    ghost gives = { λ _ _ _. ⊤ };
+
+    fn next(&mut self) -> u64 {
+        moment(self.clock)
+    }
+}
+
+/// Answers the lines of a reader on a writer, over the games of a journal's file, at the moments of the system's clock.
+pub fn run_journal<R, I: Read, O: Write>(
+    rt: &R,
+    alloc: Global,
+    journal: &str,
+    input: &mut I,
+    output: &mut O,
+) -> Result<(), Fault>
+where
+    R: Files<File = File> + Clock,
+{
+    let store = open_journal(rt, alloc, journal)?;
+    run(alloc, input, output, store, Clocked { clock: rt }).map_err(fault_of_run)
+}
+
+// Prints the port that a server listens on, at once.
+fn tell_port(rt: &impl Print, port: u16) -> Result<(), Fault>
+    ensures { IfErr result (λ fault. fault ≡ Fault.Write) }
+{
+    match println!(rt; "port {port}") {
+        Ok(()) => Ok(()),
+        Err(_) => Err(Fault::Write),
+    }
+}
+
+/// Serves players on a port, over the games of a journal's file, and first prints `port P`, P being the port that it
+/// listens on. Where a turn found nothing to do it waits until a socket is ready or 10 ms have passed.
+pub fn serve<R>(rt: &R, alloc: Global, serving: &Serving<'_>) -> Result<(), Fault>
+where
+    R: Files<File = File> + Clock + Print + Net<Listener = TcpListener, Stream = TcpStream>,
+    ensures { IfErr result IsServeFault }
+{
+    let hub = Hub::new(alloc, open_journal(rt, alloc, serving.journal)?);
+    let Ok(mut server) = Server::bind(rt, alloc, serving.port, hub) else {
+        return Err(Fault::Socket);
+    };
+    tell_port(rt, server.port())?;
+    for _ in 0..serving.turns {
+        match server.turn(moment(rt)) {
+            Ok(Turned::Worked) => {}
+            Ok(Turned::Idle) => server.rest(),
+            Err(fault) => return Err(Fault::Hub(fault)),
+        }
+    }
+    Ok(())
+}

@@ -1,0 +1,229 @@
+//! A hub and what is done with it.
+use crate::fault::Fault;
+use crate::lines::{Ground, InputLine, Manner};
+use crate::streams::{Sink, Source};
+use chess_answer::Reply;
+use chess_hub::Hub;
+use chess_run::{ListMoments, run};
+use chess_store::Store;
+use rec_codec::{Limits, Version};
+use sector_dev::{CrashDevice, MemoryDevice};
+use std::alloc::{AllocError, Global};
+
+/// A hub in memory, and what the next stands on.
+#[derive(Drop)]
+pub struct Player {
+    alloc: Global,
+    ground: Ground,
+    hub: Option<Hub<MemoryDevice>>,
+}
+
+// The bytes that a text names.
+fn bytes_of(alloc: Global, text: &str) -> Result<Vec<u8>, Fault> {
+    let mut bytes = Vec::new(alloc);
+    let mut is_escaped = false;
+    for byte in text.as_bytes() {
+        if is_escaped {
+            is_escaped = false;
+            match byte {
+                b'n' => bytes.push(b'\n').map_err(AllocError::from)?,
+                b'r' => bytes.push(b'\r').map_err(AllocError::from)?,
+                b'\\' => bytes.push(b'\\').map_err(AllocError::from)?,
+                _ => return Err(Fault::Input),
+            }
+        } else if *byte == b'\\' {
+            is_escaped = true;
+        } else {
+            bytes.push(*byte).map_err(AllocError::from)?;
+        }
+    }
+    Ok(bytes)
+}
+
+// The moments that a text names.
+fn moments_of(alloc: Global, text: &str) -> Result<Vec<u64>, Fault> {
+    let mut moments = Vec::new(alloc);
+    if text == "-" {
+        return Ok(moments);
+    }
+    for field in text.split(',') {
+        match field.parse::<u64>() {
+            Ok(moment) => moments.push(moment).map_err(AllocError::from)?,
+            Err(_) => return Err(Fault::Input),
+        }
+    }
+    Ok(moments)
+}
+
+// A new store.
+fn store_on(alloc: Global, ground: &Ground) -> Result<Store<MemoryDevice>, Fault> {
+    if !ground.limits.is_in_range(Version::Two) {
+        return Err(Fault::Input);
+    }
+    let device = MemoryDevice::new(alloc, ground.sectors)?;
+    let Ok(store) = Store::create(alloc, device, ground.limits) else {
+        return Err(Fault::Input);
+    };
+    let Some(calls) = ground.calls else {
+        return Ok(store);
+    };
+    // Of an empty store an opening takes three calls.
+    let mut device = store.into_device();
+    device.arm(calls.saturating_add(3));
+    match Store::open(alloc, device) {
+        Ok(store) => Ok(store),
+        Err(_) => Err(Fault::Input),
+    }
+}
+
+// Appends an answer, with the line feed of its line.
+fn push_reply(text: &mut String, reply: &Reply) -> Result<(), Fault> {
+    text.push_str(reply.line.as_str())?;
+    text.push_str("\n")?;
+    text.push_str(reply.body.as_str())?;
+    Ok(())
+}
+
+impl Player {
+    /// Without a hub.
+    pub fn new(alloc: Global) -> Player {
+        Player {
+            alloc,
+            ground: Ground {
+                sectors: 212,
+                limits: Limits {
+                    games: 4,
+                    plies: 60,
+                },
+                calls: None,
+            },
+            hub: None,
+        }
+    }
+
+    /// What a line answers.
+    pub fn play(&mut self, line: &InputLine) -> Result<String, Fault> {
+        match line {
+            InputLine::Store(ground) => {
+                self.ground = *ground;
+                Ok(String::new(self.alloc))
+            }
+            InputLine::Hub => {
+                self.hub = Some(Hub::new(self.alloc, store_on(self.alloc, &self.ground)?));
+                Ok(String::new(self.alloc))
+            }
+            InputLine::Run(reader, writer, moments, text) => {
+                self.run(reader, writer, moments, text)
+            }
+            _ => match &mut self.hub {
+                Some(hub) => play_on(self.alloc, hub, line),
+                None => Err(Fault::Input),
+            },
+        }
+    }
+
+    fn run(
+        &self,
+        reader: &Manner,
+        writer: &Manner,
+        moments: &str,
+        text: &str,
+    ) -> Result<String, Fault> {
+        let store = store_on(self.alloc, &self.ground)?;
+        let bytes = bytes_of(self.alloc, text)?;
+        let moments = moments_of(self.alloc, moments)?;
+        let mut source = Source::new(&bytes, *reader);
+        let mut sink = Sink::new(self.alloc, *writer);
+        let ended = run(
+            self.alloc,
+            &mut source,
+            &mut sink,
+            store,
+            ListMoments::new(&moments),
+        );
+        let Ok(written) = str::from_utf8(&sink.written) else {
+            return Err(Fault::Input);
+        };
+        Ok(format!(in self.alloc; "{written}|\n{ended:?}\n")?)
+    }
+}
+
+// A call of a hub, by a session that is open.
+fn play_on(alloc: Global, hub: &mut Hub<MemoryDevice>, line: &InputLine) -> Result<String, Fault> {
+    match line {
+        InputLine::Connect => match hub.connect() {
+            Ok(sid) => Ok(format!(in alloc; "session {sid}\n")?),
+            Err(fault) => Ok(format!(in alloc; "fault {fault:?}\n")?),
+        },
+        InputLine::Turn(at, most) => turn(alloc, hub, *at, *most),
+        InputLine::Open(sid) => {
+            let is_open = hub.is_open(*sid);
+            Ok(format!(in alloc; "open {is_open}\n")?)
+        }
+        InputLine::Feed(sid, text) => feed(alloc, hub, *sid, text),
+        InputLine::Output(sid) => output(alloc, hub, *sid),
+        InputLine::Waiting(sid) => {
+            if !hub.is_open(*sid) {
+                return Err(Fault::Input);
+            }
+            let waiting = hub.waiting(*sid);
+            Ok(format!(in alloc; "waiting {waiting}\n")?)
+        }
+        InputLine::Ended(sid) => {
+            if !hub.is_open(*sid) {
+                return Err(Fault::Input);
+            }
+            let ended = hub.ended(*sid);
+            Ok(format!(in alloc; "ended {ended}\n")?)
+        }
+        InputLine::Close(sid) => {
+            if !hub.is_open(*sid) {
+                return Err(Fault::Input);
+            }
+            hub.close(*sid);
+            Ok(String::new(alloc))
+        }
+        _ => Err(Fault::Input),
+    }
+}
+
+fn turn(alloc: Global, hub: &mut Hub<MemoryDevice>, at: u64, most: usize) -> Result<String, Fault> {
+    if most < 1 || most > 64 {
+        return Err(Fault::Input);
+    }
+    match hub.turn(at, most) {
+        Ok(()) => Ok(String::new(alloc)),
+        Err(fault) => Ok(format!(in alloc; "fault {fault:?}\n")?),
+    }
+}
+
+fn feed(
+    alloc: Global,
+    hub: &mut Hub<MemoryDevice>,
+    sid: usize,
+    text: &str,
+) -> Result<String, Fault> {
+    let bytes = bytes_of(alloc, text)?;
+    if !hub.is_open(sid) || bytes.len() > 4096 {
+        return Err(Fault::Input);
+    }
+    match hub.feed(sid, &bytes) {
+        Ok(()) => Ok(String::new(alloc)),
+        Err(fault) => Ok(format!(in alloc; "fault {fault:?}\n")?),
+    }
+}
+
+// All answers that are to be given.
+fn output(alloc: Global, hub: &mut Hub<MemoryDevice>, sid: usize) -> Result<String, Fault> {
+    let mut text = String::new(alloc);
+    for _ in 0..u32::MAX {
+        if !hub.is_open(sid) {
+            return Err(Fault::Input);
+        }
+        match hub.output(sid) {
+            Some(reply) => push_reply(&mut text, &reply)?,
+            None => return Ok(format!(in alloc; "to {sid}:\n{}", text.as_str())?),
+        }
+    }
+    Err(Fault::Input)
+}
