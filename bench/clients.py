@@ -136,9 +136,10 @@ def slow_reader():
     expect("beside a slow reader", ask(ann, f"move {game} 2 Nf3"), f"ok move {game} 3 Nf3")
     slow.settimeout(20)
     whole = sent // len(f"pgn {game}\n")
-    found = 0
+    found, rest = 0, b""
     while found < whole:
-        found += slow.recv(1 << 20).count(b"ok pgn")
+        *given, rest = (rest + slow.recv(1 << 20)).split(b"\n")
+        found += sum(line.startswith(b"ok pgn") for line in given)
     expect("answers of a slow reader", str(found), str(whole))
     expect("drop before the end", ask(bob, f"drop {game}"), "no 21 NotOver")
     expect("resign", ask(bob, f"resign {game}"), f"ok resign {game} 1-0 5.1.2")
