@@ -1,6 +1,6 @@
 ghost use Rattle.chess_entry.specs.Lawful.{LawOfFollow};
 ghost use Rattle.chess_entry.specs.Outcome.{LawOfTimes, LawOfEndings};
-ghost use Rattle.chess_entry.specs.Snapshot.{LawOfMeaning};
+ghost use Rattle.chess_entry.specs.Snapshot.{LawOfMeaning, LawOfSnapshots};
 
 /// The law that ties `follow` to the table of a whole list: an entry that is the verdict on some command leads from the
 /// table of the entries before it to that of the list with it. It does nothing when it runs.
@@ -24,4 +24,10 @@ pub fn law_of_endings()
 /// mean under the same limits are one. It does nothing when it runs.
 pub fn law_of_meaning()
     ensures { LawOfMeaning }
+{}
+
+/// The law that nothing is lost in a snapshot: the records of a table, with any entries after them that may come on it,
+/// mean that table followed by these entries. It does nothing when it runs.
+pub fn law_of_snapshots()
+    ensures { LawOfSnapshots }
 {}

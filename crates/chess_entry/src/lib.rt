@@ -9,7 +9,7 @@ mod refusals;
 mod verdicts;
 
 pub use commands::{Act, Command, Text};
-pub use laws::{law_of_endings, law_of_follow, law_of_meaning, law_of_times};
+pub use laws::{law_of_endings, law_of_follow, law_of_meaning, law_of_snapshots, law_of_times};
 pub use rec_codec::{Claim, Entry, Event, GameNumber, Limits, Made, Name, Opening};
 pub use refusals::Refusal;
 pub use verdicts::Verdict;
