@@ -3,6 +3,7 @@ ghost use Rattle.std.specs.Prelude.{◌≡◌, ℕ, List, IfSome, OnOk, OnErr, I
 ghost use Rattle.board_session.specs.Run.{IsBoardText, AppendsText, AppendsFront, AnswersTaken, AnswersInPart};
 
 use crate::answer::answer;
+use arrayvec::ArrayString;
 use chess_board::Board;
 use line_loop::{Answer, Answerer, LoopFault, answer_lines};
 use session_lines::without_return;
@@ -50,10 +51,12 @@ impl Answerer for Session {
     ghost breaks = { λ _ _ _ _. ⊥ };
 
     fn answer(&mut self, line: &[u8]) -> Result<Answer, Infallible> {
-        Ok(Answer {
-            line: answer(&mut self.board, without_return(line)),
+        let mut said = Answer {
+            line: ArrayString::new(),
             body: None,
-        })
+        };
+        answer(&mut self.board, without_return(line), &mut said.line);
+        Ok(said)
     }
 }
 

@@ -1,9 +1,6 @@
-use Rattle.std.specs.Io.BufRead.{strip_last}
-use Rattle.board_session.specs.Answer.{as_line}
 use Rattle.board_session.proofs.AnswerLemmas.{valid_after}
 use Rattle.board_session.proofs.board_loop.SessionAnswerer.answer.Goals as goal
 
 pub returns-clause-ready : goal.returns-clause-ready
 returns-clause-ready c =
-    valid_after c.self.inside.board c.without_return.result.now (as_line c.answer.result.bytes) c.answer.new.board
-    (rw c.self.view_is c.requires.ready) c.answer.ensures
+    valid_after c.self.inside.board _ _ c.answer.new.board (rw c.self.view_is c.requires.ready) c.answer.ensures
