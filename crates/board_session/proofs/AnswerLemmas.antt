@@ -18,7 +18,7 @@ use Rattle.chess_board.proofs.ValidNext.{IsValid-next}
 use Rattle.chess_text.specs.Fen.{IsFenOf, fen_of}
 use Rattle.chess_text.proofs.Positions.{IsFenOf-fen_of, fen_of-IsFenOf}
 use Rattle.board_session.specs.Field.{AsksMove}
-use Rattle.board_session.specs.Answer.{IsMoveText, IsAtLimit, MakesMove, StopsAtLimit, RefusesMove, AnswersText, IsAnswer, Says, as_line}
+use Rattle.board_session.specs.Answer.{IsMoveText, IsAtLimit, MakesMove, StopsAtLimit, RefusesMove, AnswersText, IsAnswer, as_line}
 use Rattle.board_session.proofs.FieldLemmas.{Asks, asks, asked_text}
 use Rattle.board_session.proofs.FieldLemmas.Asks.{Asks_one, Asks_none}
 use Rattle.board_session.proofs.MoveTexts.{MovesBy, moves_by}
@@ -166,55 +166,37 @@ one_answer before line a p b q (inr h) (inr k) = (h.says ∙ sym k.says, h.stays
 
 -- ---- what the code does is an answer
 
-pub text-made : (p : Position) (text old new : List ℕ) (m : Move) (q : Position) → IsLegal p m → IsCoordinateOf text m →
-    (¬ IsAtLimit p → q ≡ next p m) → (¬ IsAtLimit p → (fen : List ℕ) × IsFenOf fen q × (new ≡ old ++ as_line fen)) →
-    (IsAtLimit p → (q ≡ p) × (new ≡ old ++ as_line (codes "no 20 TooLong"))) →
-    Says old new (λ said. AnswersText p text said q)
-text-made p text old new m q legal coordinate made shown stopped = elim (limited p) [
-  | inl limit ↦
-      let s = stopped limit in (
-        as_line (codes "no 20 TooLong"),
-        s.1,
-        inr (inl (record {
-          move = m;
-          is_text = record { legal = legal; coordinate = coordinate };
-          limit = limit;
-          says = refl;
-          stays = s.0;
-        })),
-      )
-  | inr room ↦
-      let s = shown room in (
-        as_line s.0,
-        s.2,
-        inl (record {
-          move = m;
-          is_text = record { legal = legal; coordinate = coordinate };
-          room = room;
-          goes = made room;
-          fen = s.0;
-          is_fen = s.1;
-          says = refl;
-        }),
-      )
+pub text-made : (p : Position) (text said : List ℕ) (m : Move) (q : Position) → IsLegal p m → IsCoordinateOf text m →
+    (¬ IsAtLimit p → q ≡ next p m) → (¬ IsAtLimit p → IsFenOf said q) →
+    (IsAtLimit p → (q ≡ p) × (said ≡ codes "no 20 TooLong")) → AnswersText p text (as_line said) q
+text-made p text said m q legal coordinate made shown stopped = elim (limited p) [
+  | inl limit ↦ inr (inl (record {
+    move = m;
+    is_text = record { legal = legal; coordinate = coordinate };
+    limit = limit;
+    says = ap as_line (stopped limit).1;
+    stays = (stopped limit).0;
+  }))
+  | inr room ↦ inl (record {
+    move = m;
+    is_text = record { legal = legal; coordinate = coordinate };
+    room = room;
+    goes = made room;
+    fen = said;
+    is_fen = shown room;
+    says = refl;
+  })
 ]
 
-pub text-illegal : (p : Position) (text old new : List ℕ) (m : Move) → ¬ IsLegal p m → IsCoordinateOf text m →
-    new ≡ old ++ as_line (codes "no 9 BadMove") → Says old new (λ said. AnswersText p text said p)
-text-illegal p text old new m illegal coordinate says = (
-  as_line (codes "no 9 BadMove"),
-  says,
-  inr (inr (record {
-    illegal = λ n t. illegal (subst (IsLegal p) (coordinate_one n m text t.coordinate coordinate) t.legal);
-    says = refl;
-    stays = refl;
-  })),
-)
+pub text-illegal : (p : Position) (text said : List ℕ) (m : Move) → ¬ IsLegal p m → IsCoordinateOf text m →
+    said ≡ codes "no 9 BadMove" → AnswersText p text (as_line said) p
+text-illegal p text said m illegal coordinate says = inr (inr (record {
+  illegal = λ n t. illegal (subst (IsLegal p) (coordinate_one n m text t.coordinate coordinate) t.legal);
+  says = ap as_line says;
+  stays = refl;
+}))
 
-pub text-no_move : (p : Position) (text old new : List ℕ) → ((m : Move) → ¬ IsCoordinateOf text m) →
-    new ≡ old ++ as_line (codes "no 9 BadMove") → Says old new (λ said. AnswersText p text said p)
-text-no_move p text old new none says = (
-  as_line (codes "no 9 BadMove"),
-  says,
-  inr (inr (record { illegal = λ m t. none m t.coordinate; says = refl; stays = refl })),
-)
+pub text-no_move : (p : Position) (text said : List ℕ) → ((m : Move) → ¬ IsCoordinateOf text m) →
+    said ≡ codes "no 9 BadMove" → AnswersText p text (as_line said) p
+text-no_move p text said none says =
+    inr (inr (record { illegal = λ m t. none m t.coordinate; says = ap as_line says; stays = refl }))

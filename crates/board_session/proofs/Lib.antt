@@ -1,6 +1,5 @@
-pub mod Writes
 pub mod FieldLemmas
 pub mod MoveTexts
 pub mod AnswerLemmas
+pub mod Cuts
 pub mod RunLemmas
-pub mod TurnLemmas

@@ -64,7 +64,3 @@ pub record RefusesLine (before : Position) (line answer : List ℕ) (after : Pos
 
 abbrev pub IsAnswer : Position → List ℕ → List ℕ → Position → Type 0
 IsAnswer before line answer after = AnswersMove before line answer after ⊎ RefusesLine before line answer after
-
--- After what was there this was said, of which P holds.
-abbrev pub Says : List ℕ → List ℕ → (List ℕ → Type 0) → Type 0
-Says old new P = (said : List ℕ) × (new ≡ old ++ said) × P said

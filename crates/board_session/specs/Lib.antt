@@ -1,4 +1,3 @@
 pub mod Field
 pub mod Answer
 pub mod Run
-pub mod Turns

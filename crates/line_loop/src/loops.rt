@@ -40,12 +40,12 @@ fn take_part<A: Answerer, W: Write>(
     requires asked { A.is_ready session.old.answerer }
     requires unfinished { IsUnfinished session.old.line.items }
     requires no_feed { HasNoFeed part.now }
-    ensures { Takes A.is_ready A.answers A.breaks (W.contents writer.old) session.old.ready.items
-        session.old.answerer session.old.line.items part.now result (W.contents writer.new) session.new.ready.items
+    ensures { Takes A.is_ready A.answers A.breaks (W.contents writer.old) session.old.ready.bytes
+        session.old.answerer session.old.line.items part.now result (W.contents writer.new) session.new.ready.bytes
         session.new.answerer session.new.line.items }
 {
     if session.line.remaining_capacity() < part.len() {
-        say(&mut session.ready, b"bye LineTooLong\n", writer)?;
+        say(&mut session.ready, "bye LineTooLong\n", writer)?;
         return Ok(Flow::TooLong);
     }
     session.line.try_extend_from_slice(part).unwrap();
@@ -59,8 +59,8 @@ fn end_line<A: Answerer, W: Write>(
 ) -> Result<Flow<A::Fault>, WriteFault>
     requires asked { A.is_ready session.old.answerer }
     requires unfinished { IsUnfinished session.old.line.items }
-    ensures { Takes A.is_ready A.answers A.breaks (W.contents writer.old) session.old.ready.items
-        session.old.answerer session.old.line.items (10 ∷ []) result (W.contents writer.new) session.new.ready.items
+    ensures { Takes A.is_ready A.answers A.breaks (W.contents writer.old) session.old.ready.bytes
+        session.old.answerer session.old.line.items (10 ∷ []) result (W.contents writer.new) session.new.ready.bytes
         session.new.answerer session.new.line.items }
 {
     match session.answerer.answer(session.line.as_slice()) {
@@ -82,9 +82,9 @@ fn take_line<A: Answerer, W: Write>(
     requires asked { A.is_ready session.old.answerer }
     requires unfinished { IsUnfinished session.old.line.items }
     requires no_feed { HasNoFeed part.now }
-    ensures { Takes A.is_ready A.answers A.breaks (W.contents writer.old) session.old.ready.items
+    ensures { Takes A.is_ready A.answers A.breaks (W.contents writer.old) session.old.ready.bytes
         session.old.answerer session.old.line.items (part.now ++ 10 ∷ []) result (W.contents writer.new)
-        session.new.ready.items session.new.answerer session.new.line.items }
+        session.new.ready.bytes session.new.answerer session.new.line.items }
 {
     match take_part(session, part, writer)? {
         Flow::Open => end_line(session, writer),
@@ -101,8 +101,8 @@ fn take_piece<A: Answerer, W: Write>(
 ) -> Result<Flow<A::Fault>, WriteFault>
     requires asked { A.is_ready session.old.answerer }
     requires unfinished { IsUnfinished session.old.line.items }
-    ensures { Takes A.is_ready A.answers A.breaks (W.contents writer.old) session.old.ready.items
-        session.old.answerer session.old.line.items piece.now result (W.contents writer.new) session.new.ready.items
+    ensures { Takes A.is_ready A.answers A.breaks (W.contents writer.old) session.old.ready.bytes
+        session.old.answerer session.old.line.items piece.now result (W.contents writer.new) session.new.ready.bytes
         session.new.answerer session.new.line.items }
 {
     let mut rest = piece;
@@ -124,10 +124,10 @@ fn answer_piece<A: Answerer, W: Write>(
 ) -> Result<Flow<A::Fault>, WriteFault>
     requires asked { A.is_ready session.old.answerer }
     requires unfinished { IsUnfinished session.old.line.items }
-    ensures taken { Takes A.is_ready A.answers A.breaks (W.contents writer.old) session.old.ready.items
-        session.old.answerer session.old.line.items piece.now result (W.contents writer.new) session.new.ready.items
+    ensures taken { Takes A.is_ready A.answers A.breaks (W.contents writer.old) session.old.ready.bytes
+        session.old.answerer session.old.line.items piece.now result (W.contents writer.new) session.new.ready.bytes
         session.new.answerer session.new.line.items }
-    ensures empty { OnOk result (session.new.ready.items ≡ []) }
+    ensures empty { OnOk result (session.new.ready.bytes ≡ []) }
 {
     let flow = take_piece(session, piece, writer)?;
     hand_out(&mut session.ready, writer)?;
@@ -142,7 +142,7 @@ fn answer_all<A: Answerer, R: Read, W: Write>(
 ) -> Result<(), LoopFault<A::Fault>>
     requires asked { A.is_ready session.old.answerer }
     requires empty { session.old.line.items ≡ [] }
-    requires nothing { session.old.ready.items ≡ [] }
+    requires nothing { session.old.ready.bytes ≡ [] }
     ensures ended { Ended A.answers A.breaks result (R.remaining reader.old) (R.remaining reader.new)
         (W.contents writer.old) (W.contents writer.new) session.old.answerer session.new.answerer }
     ensures end { OnOk result (IsAtEnd (R.remaining reader.new)) }

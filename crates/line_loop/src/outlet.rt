@@ -1,12 +1,11 @@
 //! Texts on their way to a writer.
 ghost use Rattle.std.specs.Prelude.{ℕ, ◌≡◌, ◌≤◌, ◌<◌, ◌+◌, List, [], ◌∷◌, ◌++◌, length, OnOk, OnErr};
 ghost use Rattle.std.specs.Io.KnownBytes.{Appends};
-ghost use Rattle.arrayvec.specs.ArrayVec.{array_vec_len};
 ghost use Rattle.line_loop.specs.Texts.{as_text, body_of};
 ghost use Rattle.line_loop.specs.Outlets.{Says, Loses};
 
 use crate::answerer::Answer;
-use arrayvec::ArrayVec;
+use arrayvec::ArrayString;
 use std::io::{ErrorKind, Write};
 
 /// A write failed.
@@ -17,7 +16,7 @@ pub(crate) struct WriteFault;
 const READY_ROOM: usize = 65_536;
 
 /// The texts that are ready, and not yet written.
-pub(crate) type Ready = ArrayVec<u8, READY_ROOM>;
+pub(crate) type Ready = ArrayString<READY_ROOM>;
 
 // Writes a text. A fault comes only where something is left to write.
 fn send<W: Write>(writer: &mut W, text: &[u8]) -> Result<(), WriteFault>
@@ -49,39 +48,35 @@ fn send<W: Write>(writer: &mut W, text: &[u8]) -> Result<(), WriteFault>
 
 /// Writes what is ready.
 pub(crate) fn hand_out<W: Write>(ready: &mut Ready, writer: &mut W) -> Result<(), WriteFault>
-    ensures empty { OnOk result (ready.new.items ≡ []) }
-    ensures says { OnOk result (Says (W.contents writer.old) ready.old.items [] (W.contents writer.new) []) }
-    ensures loses { OnErr result (Loses (W.contents writer.old) ready.old.items [] (W.contents writer.new)) }
+    ensures empty { OnOk result (ready.new.bytes ≡ []) }
+    ensures says { OnOk result (Says (W.contents writer.old) ready.old.bytes [] (W.contents writer.new) []) }
+    ensures loses { OnErr result (Loses (W.contents writer.old) ready.old.bytes [] (W.contents writer.new)) }
 {
-    send(writer, ready.as_slice())?;
+    send(writer, ready.as_str().as_bytes())?;
     ready.clear();
     Ok(())
 }
 
 // Writes what is ready, and then a text.
 fn send_behind<W: Write>(ready: &mut Ready, text: &[u8], writer: &mut W) -> Result<(), WriteFault>
-    ensures says { OnOk result (Says (W.contents writer.old) ready.old.items text.now
-        (W.contents writer.new) ready.new.items) }
-    ensures loses { OnErr result (Loses (W.contents writer.old) ready.old.items text.now (W.contents writer.new)) }
+    ensures says { OnOk result (Says (W.contents writer.old) ready.old.bytes text.now
+        (W.contents writer.new) ready.new.bytes) }
+    ensures loses { OnErr result (Loses (W.contents writer.old) ready.old.bytes text.now (W.contents writer.new)) }
 {
     hand_out(ready, writer)?;
     send(writer, text)
 }
 
 /// Says a text: it is ready behind what was. Where there is no room for it, what was ready is written, and it too.
-pub(crate) fn say<W: Write>(
-    ready: &mut Ready,
-    text: &[u8],
-    writer: &mut W,
-) -> Result<(), WriteFault>
-    ensures says { OnOk result (Says (W.contents writer.old) ready.old.items text.now
-        (W.contents writer.new) ready.new.items) }
-    ensures loses { OnErr result (Loses (W.contents writer.old) ready.old.items text.now (W.contents writer.new)) }
+pub(crate) fn say<W: Write>(ready: &mut Ready, text: &str, writer: &mut W) -> Result<(), WriteFault>
+    ensures says { OnOk result (Says (W.contents writer.old) ready.old.bytes text.now
+        (W.contents writer.new) ready.new.bytes) }
+    ensures loses { OnErr result (Loses (W.contents writer.old) ready.old.bytes text.now (W.contents writer.new)) }
 {
     if ready.remaining_capacity() < text.len() {
-        return send_behind(ready, text, writer);
+        return send_behind(ready, text.as_bytes(), writer);
     }
-    ready.try_extend_from_slice(text).unwrap();
+    ready.push_str(text);
     Ok(())
 }
 
@@ -91,13 +86,13 @@ fn say_body<W: Write>(
     body: &Option<String>,
     writer: &mut W,
 ) -> Result<(), WriteFault>
-    ensures says { OnOk result (Says (W.contents writer.old) ready.old.items (body_of body.now)
-        (W.contents writer.new) ready.new.items) }
-    ensures loses { OnErr result (Loses (W.contents writer.old) ready.old.items (body_of body.now)
+    ensures says { OnOk result (Says (W.contents writer.old) ready.old.bytes (body_of body.now)
+        (W.contents writer.new) ready.new.bytes) }
+    ensures loses { OnErr result (Loses (W.contents writer.old) ready.old.bytes (body_of body.now)
         (W.contents writer.new)) }
 {
     match body {
-        Some(body) => say(ready, body.as_str().as_bytes(), writer),
+        Some(body) => say(ready, body.as_str(), writer),
         None => Ok(()),
     }
 }
@@ -108,12 +103,12 @@ pub(crate) fn say_answer<W: Write>(
     answer: &Answer,
     writer: &mut W,
 ) -> Result<(), WriteFault>
-    ensures says { OnOk result (Says (W.contents writer.old) ready.old.items (as_text answer.now)
-        (W.contents writer.new) ready.new.items) }
-    ensures loses { OnErr result (Loses (W.contents writer.old) ready.old.items (as_text answer.now)
+    ensures says { OnOk result (Says (W.contents writer.old) ready.old.bytes (as_text answer.now)
+        (W.contents writer.new) ready.new.bytes) }
+    ensures loses { OnErr result (Loses (W.contents writer.old) ready.old.bytes (as_text answer.now)
         (W.contents writer.new)) }
 {
-    say(ready, answer.line.as_str().as_bytes(), writer)?;
-    say(ready, b"\n", writer)?;
+    say(ready, answer.line.as_str(), writer)?;
+    say(ready, "\n", writer)?;
     say_body(ready, &answer.body, writer)
 }

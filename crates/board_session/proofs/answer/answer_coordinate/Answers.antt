@@ -5,12 +5,12 @@ use Rattle.board_session.proofs.answer.answer_coordinate.Goals as goal
 
 pub returns-then-legal : goal.returns-then-legal
 returns-then-legal c = λ text coordinate.
-    text-made c.args.board.now text c.args.out.now.items c.make_move.new.out.items c.args.mv.now c.make_move.new.board
+    text-made c.args.board.now text c.make_move.new.said.bytes c.args.mv.now c.make_move.new.board
     (c.legal.ensures.0 c.if-legal.true)
     coordinate c.make_move.ensures.made c.make_move.ensures.shown c.make_move.ensures.stopped
 
 pub returns-else-legal : goal.returns-else-legal
 returns-else-legal c = λ text coordinate.
-    text-illegal c.args.board.now text c.args.out.now.items c.refuse.new.out.items c.args.mv.now
+    text-illegal c.args.board.now text c.refuse.new.said.bytes c.args.mv.now
     (λ h. false≢true (sym c.if-legal.false ∙ c.legal.ensures.1 h))
     coordinate c.refuse.ensures

@@ -5,5 +5,5 @@ pub returns-in-Some : goal.returns-in-Some
 returns-in-Some c = c.answer_coordinate.ensures c.args.text.now c.in-Some.ensures.found
 
 pub returns-in-None : goal.returns-in-None
-returns-in-None c = text-no_move c.args.board.now c.args.text.now c.args.out.now.items c.refuse.new.out.items
+returns-in-None c = text-no_move c.args.board.now c.args.text.now c.refuse.new.said.bytes
     c.in-None.ensures.none c.refuse.ensures

@@ -1,6 +1,64 @@
-use Rattle.chess_board.specs.Initial.{initial}
-use Rattle.board_session.proofs.RunLemmas.{one_text}
+use Rattle.std.proofs.Common.{refl, subst}
+use Rattle.line_loop.specs.declared.answerer.LoopFault.TheVariants as loop
+use Rattle.board_session.proofs.RunLemmas.{one_text, at-fault, taken-all, whole-all, front-all, taken-long, whole-too_long, front-part, taken-part}
 use Rattle.board_session.proofs.board_loop.board.Goals as goal
 
-pub returns-clause-one : goal.returns-clause-one
-returns-clause-one g c = one_text initial
+pub returns-in-Err-Read-clause-front : goal.returns-in-Err-Read-clause-front
+returns-in-Err-Read-clause-front g c =
+    front-all (g.R.Read.remaining c.args.reader.now) (g.R.Read.remaining c.answer_lines-ended.new.reader)
+    (g.W.Write.contents c.args.writer.now) (g.W.Write.contents c.answer_lines-ended.new.writer)
+    c.answer_lines-ended.result.0
+    (at-fault _ c.answer_lines-ended.result.1 c.in-Err-Read.field-0 loop.Read
+    (g.R.Read.remaining c.args.reader.now) (g.R.Read.remaining c.answer_lines-ended.new.reader)
+    (g.W.Write.contents c.args.writer.now) (g.W.Write.contents c.answer_lines-ended.new.writer) c.initial.result
+    c.answer_lines-ended.result.0 c.in-Err-Read.is (rw c.in-Err-Read.is at c.in-Err-Read.field-0-is) c.initial.ensures.initial
+    c.answer_lines-ended.ensures.ended)
+
+pub returns-in-Err-Write-clause-front : goal.returns-in-Err-Write-clause-front
+returns-in-Err-Write-clause-front g c =
+    front-part (g.R.Read.remaining c.args.reader.now) (g.R.Read.remaining c.answer_lines-ended.new.reader)
+    (g.W.Write.contents c.args.writer.now) (g.W.Write.contents c.answer_lines-ended.new.writer)
+    c.answer_lines-ended.result.0 _
+    (at-fault _ c.answer_lines-ended.result.1 c.in-Err-Write.field-0 loop.Write
+    (g.R.Read.remaining c.args.reader.now) (g.R.Read.remaining c.answer_lines-ended.new.reader)
+    (g.W.Write.contents c.args.writer.now) (g.W.Write.contents c.answer_lines-ended.new.writer) c.initial.result
+    c.answer_lines-ended.result.0 c.in-Err-Write.is (rw c.in-Err-Write.is at c.in-Err-Write.field-0-is) c.initial.ensures.initial
+    c.answer_lines-ended.ensures.ended)
+
+pub returns-in-Err-Write-clause-write : goal.returns-in-Err-Write-clause-write
+returns-in-Err-Write-clause-write g c =
+    λ _. taken-part (g.R.Read.remaining c.args.reader.now) (g.R.Read.remaining c.answer_lines-ended.new.reader)
+    (g.W.Write.contents c.args.writer.now) (g.W.Write.contents c.answer_lines-ended.new.writer)
+    c.answer_lines-ended.result.0 _
+    (at-fault _ c.answer_lines-ended.result.1 c.in-Err-Write.field-0 loop.Write
+    (g.R.Read.remaining c.args.reader.now) (g.R.Read.remaining c.answer_lines-ended.new.reader)
+    (g.W.Write.contents c.args.writer.now) (g.W.Write.contents c.answer_lines-ended.new.writer) c.initial.result
+    c.answer_lines-ended.result.0 c.in-Err-Write.is (rw c.in-Err-Write.is at c.in-Err-Write.field-0-is) c.initial.ensures.initial
+    c.answer_lines-ended.ensures.ended)
+
+pub returns-in-Err-LineTooLong-clause-answered : goal.returns-in-Err-LineTooLong-clause-answered
+returns-in-Err-LineTooLong-clause-answered g c =
+    taken-long (g.R.Read.remaining c.args.reader.now) (g.R.Read.remaining c.answer_lines-ended.new.reader)
+    (g.W.Write.contents c.args.writer.now) (g.W.Write.contents c.answer_lines-ended.new.writer)
+    c.answer_lines-ended.result.0
+    (at-fault _ c.answer_lines-ended.result.1 c.in-Err-LineTooLong.field-0 loop.LineTooLong
+    (g.R.Read.remaining c.args.reader.now) (g.R.Read.remaining c.answer_lines-ended.new.reader)
+    (g.W.Write.contents c.args.writer.now) (g.W.Write.contents c.answer_lines-ended.new.writer) c.initial.result
+    c.answer_lines-ended.result.0 c.in-Err-LineTooLong.is (rw c.in-Err-LineTooLong.is at c.in-Err-LineTooLong.field-0-is) c.initial.ensures.initial
+    c.answer_lines-ended.ensures.ended)
+
+pub returns-in-Err-Read-clause-one : goal.returns-in-Err-Read-clause-one
+returns-in-Err-Read-clause-one g c =
+    one_text
+
+pub returns-in-Err-Write-clause-one : goal.returns-in-Err-Write-clause-one
+returns-in-Err-Write-clause-one g c =
+    one_text
+
+pub returns-in-Ok-clause-one : goal.returns-in-Ok-clause-one
+returns-in-Ok-clause-one g c =
+    one_text
+
+pub returns-in-Err-LineTooLong-clause-one : goal.returns-in-Err-LineTooLong-clause-one
+returns-in-Err-LineTooLong-clause-one g c =
+    one_text

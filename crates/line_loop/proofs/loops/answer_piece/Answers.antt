@@ -12,10 +12,10 @@ returns-in_err-hand_out-clause-taken g c =
     let a = g.W.Write.contents c.args.writer.now in
     let b = g.W.Write.contents c.take_piece.new.writer in
     let d = g.W.Write.contents c.hand_out.new.writer in
-    let l = c.hand_out.new.ready.items in
-    passed_on g.A.Answerer.is_ready g.A.Answerer.answers g.A.Answerer.breaks a d s.ready.items l s.answerer t.answerer
+    let l = c.hand_out.new.ready.bytes in
+    passed_on g.A.Answerer.is_ready g.A.Answerer.answers g.A.Answerer.breaks a d s.ready.bytes l s.answerer t.answerer
     s.line.items t.line.items c.args.piece.now c.from_residual-in_err-hand_out.result e.0 e.1
-    (then-lost g.A.Answerer.is_ready g.A.Answerer.answers g.A.Answerer.breaks a b d s.ready.items t.ready.items l s.answerer
+    (then-lost g.A.Answerer.is_ready g.A.Answerer.answers g.A.Answerer.breaks a b d s.ready.bytes t.ready.bytes l s.answerer
     t.answerer s.line.items t.line.items c.args.piece.now c.in_ok-flow.flow e.0 c.in_ok-flow.ensures
     c.in_err-hand_out.ensures.loses)
 
@@ -26,8 +26,8 @@ returns-clause-taken g c =
     let a = g.W.Write.contents c.args.writer.now in
     let b = g.W.Write.contents c.take_piece.new.writer in
     let d = g.W.Write.contents c.hand_out.new.writer in
-    let l = c.hand_out.new.ready.items in
-    then-handed g.A.Answerer.is_ready g.A.Answerer.answers g.A.Answerer.breaks a b d s.ready.items t.ready.items l
+    let l = c.hand_out.new.ready.bytes in
+    then-handed g.A.Answerer.is_ready g.A.Answerer.answers g.A.Answerer.breaks a b d s.ready.bytes t.ready.bytes l
     s.answerer t.answerer s.line.items t.line.items c.args.piece.now c.in_ok-flow.flow c.in_ok-flow.ensures
-    (subst (λ (x : List ℕ). Says b t.ready.items [] d x) (sym c.in_ok-hand_out.ensures.empty)
+    (subst (λ (x : List ℕ). Says b t.ready.bytes [] d x) (sym c.in_ok-hand_out.ensures.empty)
     c.in_ok-hand_out.ensures.says)

@@ -14,10 +14,10 @@ returns-in_err-say_answer-in-Ok g c =
     let t = c.answer.new.self in
     let is = subst (λ (l : List ℕ). g.A.Answerer.answers s.answerer (strip_last 13 l) (as_text c.in-Ok.answer) t)
     c.as_slice.ensures.value c.in-Ok.ensures.answered in
-    passed_on g.A.Answerer.is_ready g.A.Answerer.answers g.A.Answerer.breaks a b s.ready.items
-    c.say_answer.new.ready.items s.answerer t s.line.items s.line.items (10 ∷ []) c.from_residual.result e.0 e.1
-    (lost-feed g.A.Answerer.is_ready g.A.Answerer.answers g.A.Answerer.breaks a b s.ready.items
-    c.say_answer.new.ready.items s.answerer t s.line.items s.line.items (as_text c.in-Ok.answer) e.0
+    passed_on g.A.Answerer.is_ready g.A.Answerer.answers g.A.Answerer.breaks a b s.ready.bytes
+    c.say_answer.new.ready.bytes s.answerer t s.line.items s.line.items (10 ∷ []) c.from_residual.result e.0 e.1
+    (lost-feed g.A.Answerer.is_ready g.A.Answerer.answers g.A.Answerer.breaks a b s.ready.bytes
+    c.say_answer.new.ready.bytes s.answerer t s.line.items s.line.items (as_text c.in-Ok.answer) e.0
     c.requires.unfinished is c.in_err-say_answer-in-Ok.ensures.loses)
 
 pub returns-in_ok-say_answer-in-Ok : goal.returns-in_ok-say_answer-in-Ok
@@ -28,8 +28,8 @@ returns-in_ok-say_answer-in-Ok g c =
     let t = c.answer.new.self in
     let is = subst (λ (l : List ℕ). g.A.Answerer.answers s.answerer (strip_last 13 l) (as_text c.in-Ok.answer) t)
     c.as_slice.ensures.value c.in-Ok.ensures.answered in
-    took-feed g.A.Answerer.is_ready g.A.Answerer.answers g.A.Answerer.breaks a b s.ready.items
-    c.say_answer.new.ready.items s.answerer t s.line.items c.clear.new.self.items (as_text c.in-Ok.answer)
+    took-feed g.A.Answerer.is_ready g.A.Answerer.answers g.A.Answerer.breaks a b s.ready.bytes
+    c.say_answer.new.ready.bytes s.answerer t s.line.items c.clear.new.self.items (as_text c.in-Ok.answer)
     c.in-Ok.ensures.ready c.requires.unfinished c.clear.ensures is c.in_ok-say_answer-in-Ok.ensures.says
 
 pub returns-in-Err : goal.returns-in-Err
@@ -39,4 +39,4 @@ returns-in-Err g c =
     let is = subst (λ (l : List ℕ). g.A.Answerer.breaks s.answerer (strip_last 13 l) c.in-Err.fault t)
     c.as_slice.ensures.value c.in-Err.ensures.broken in
     broke-feed g.A.Answerer.is_ready g.A.Answerer.answers g.A.Answerer.breaks (g.W.Write.contents c.args.writer.now)
-    s.ready.items s.answerer t s.line.items s.line.items c.in-Err.fault c.requires.unfinished is
+    s.ready.bytes s.answerer t s.line.items s.line.items c.in-Err.fault c.requires.unfinished is

@@ -11,9 +11,9 @@ returns-in_err-take_part g c =
     let a = g.W.Write.contents c.args.writer.now in
     let b = g.W.Write.contents c.take_part.new.writer in
     let part = c.args.part.now in
-    passed_on g.A.Answerer.is_ready g.A.Answerer.answers g.A.Answerer.breaks a b s.ready.items t.ready.items s.answerer
+    passed_on g.A.Answerer.is_ready g.A.Answerer.answers g.A.Answerer.breaks a b s.ready.bytes t.ready.bytes s.answerer
     t.answerer s.line.items t.line.items (part ++ 10 ∷ []) c.from_residual.result e.0 e.1
-    (over-lost g.A.Answerer.is_ready g.A.Answerer.answers g.A.Answerer.breaks a b s.ready.items t.ready.items s.answerer
+    (over-lost g.A.Answerer.is_ready g.A.Answerer.answers g.A.Answerer.breaks a b s.ready.bytes t.ready.bytes s.answerer
     t.answerer s.line.items t.line.items part (10 ∷ []) e.0 c.in_err-take_part.ensures)
 
 pub returns-in-Open : goal.returns-in-Open
@@ -25,10 +25,10 @@ returns-in-Open g c =
     let b = g.W.Write.contents c.take_part.new.writer in
     let d = g.W.Write.contents c.end_line.new.writer in
     let part = c.args.part.now in
-    then-takes g.A.Answerer.is_ready g.A.Answerer.answers g.A.Answerer.breaks a b d s.ready.items t.ready.items
-    u.ready.items s.answerer t.answerer u.answerer s.line.items t.line.items u.line.items part (10 ∷ [])
+    then-takes g.A.Answerer.is_ready g.A.Answerer.answers g.A.Answerer.breaks a b d s.ready.bytes t.ready.bytes
+    u.ready.bytes s.answerer t.answerer u.answerer s.line.items t.line.items u.line.items part (10 ∷ [])
     c.end_line.result
-    (flow_is g.A.Answerer.is_ready g.A.Answerer.answers g.A.Answerer.breaks a b s.ready.items t.ready.items s.answerer
+    (flow_is g.A.Answerer.is_ready g.A.Answerer.answers g.A.Answerer.breaks a b s.ready.bytes t.ready.bytes s.answerer
     t.answerer s.line.items t.line.items part _ _ c.in-Open.is c.in_ok-take_part.ensures)
     c.end_line.ensures
 
@@ -39,9 +39,9 @@ returns-in-TooLong g c =
     let a = g.W.Write.contents c.args.writer.now in
     let b = g.W.Write.contents c.take_part.new.writer in
     let part = c.args.part.now in
-    over-long g.A.Answerer.is_ready g.A.Answerer.answers g.A.Answerer.breaks a b s.ready.items t.ready.items s.answerer
+    over-long g.A.Answerer.is_ready g.A.Answerer.answers g.A.Answerer.breaks a b s.ready.bytes t.ready.bytes s.answerer
     t.answerer s.line.items t.line.items part (10 ∷ [])
-    (flow_is g.A.Answerer.is_ready g.A.Answerer.answers g.A.Answerer.breaks a b s.ready.items t.ready.items s.answerer
+    (flow_is g.A.Answerer.is_ready g.A.Answerer.answers g.A.Answerer.breaks a b s.ready.bytes t.ready.bytes s.answerer
     t.answerer s.line.items t.line.items part _ _ c.in-TooLong.is c.in_ok-take_part.ensures)
 
 pub returns-in-Broken : goal.returns-in-Broken
@@ -51,7 +51,7 @@ returns-in-Broken g c =
     let a = g.W.Write.contents c.args.writer.now in
     let b = g.W.Write.contents c.take_part.new.writer in
     let part = c.args.part.now in
-    over-broken g.A.Answerer.is_ready g.A.Answerer.answers g.A.Answerer.breaks a b s.ready.items t.ready.items s.answerer
+    over-broken g.A.Answerer.is_ready g.A.Answerer.answers g.A.Answerer.breaks a b s.ready.bytes t.ready.bytes s.answerer
     t.answerer s.line.items t.line.items part (10 ∷ []) c.in-Broken.fault
-    (flow_is g.A.Answerer.is_ready g.A.Answerer.answers g.A.Answerer.breaks a b s.ready.items t.ready.items s.answerer
+    (flow_is g.A.Answerer.is_ready g.A.Answerer.answers g.A.Answerer.breaks a b s.ready.bytes t.ready.bytes s.answerer
     t.answerer s.line.items t.line.items part _ _ c.in-Broken.is c.in_ok-take_part.ensures)

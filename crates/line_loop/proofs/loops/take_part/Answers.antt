@@ -11,9 +11,9 @@ returns-in_err-say g c =
     let b = g.W.Write.contents c.say.new.writer in
     let part = c.args.part.now in
     let long : 255 < length s.line.items + length part = omega arith in
-    passed_on g.A.Answerer.is_ready g.A.Answerer.answers g.A.Answerer.breaks a b s.ready.items
-    c.say.new.ready.items s.answerer s.answerer s.line.items s.line.items part c.from_residual.result e.0 e.1
-    (lost-long g.A.Answerer.is_ready g.A.Answerer.answers g.A.Answerer.breaks a b s.ready.items c.say.new.ready.items
+    passed_on g.A.Answerer.is_ready g.A.Answerer.answers g.A.Answerer.breaks a b s.ready.bytes
+    c.say.new.ready.bytes s.answerer s.answerer s.line.items s.line.items part c.from_residual.result e.0 e.1
+    (lost-long g.A.Answerer.is_ready g.A.Answerer.answers g.A.Answerer.breaks a b s.ready.bytes c.say.new.ready.bytes
     s.answerer s.line.items s.line.items part e.0 c.requires.unfinished c.requires.no_feed long
     c.in_err-say.ensures.loses)
 
@@ -24,5 +24,5 @@ returns-then-remaining_capacity-part g c =
     let b = g.W.Write.contents c.say.new.writer in
     let part = c.args.part.now in
     let long : 255 < length s.line.items + length part = omega arith in
-    took-long g.A.Answerer.is_ready g.A.Answerer.answers g.A.Answerer.breaks a b s.ready.items c.say.new.ready.items
+    took-long g.A.Answerer.is_ready g.A.Answerer.answers g.A.Answerer.breaks a b s.ready.bytes c.say.new.ready.bytes
     s.answerer s.line.items s.line.items part c.requires.unfinished c.requires.no_feed long c.in_ok-say.ensures.says

@@ -5,19 +5,19 @@ use Rattle.line_loop.proofs.loops.take_piece.Goals as goal
 
 pub loop-end-init : goal.loop-end-init
 loop-end-init g c = through-nothing g.A.Answerer.is_ready g.A.Answerer.answers g.A.Answerer.breaks
-    (g.W.Write.contents c.args.writer.now) c.args.session.now.ready.items c.args.session.now.answerer
+    (g.W.Write.contents c.args.writer.now) c.args.session.now.ready.bytes c.args.session.now.answerer
     c.args.session.now.line.items c.args.piece.now c.requires.asked c.requires.unfinished
 
 pub loop-end-preserved : goal.loop-end-preserved
 loop-end-preserved g c =
     through-line g.A.Answerer.is_ready g.A.Answerer.answers g.A.Answerer.breaks (g.W.Write.contents c.args.writer.now)
     (g.W.Write.contents c.loop-end.writer) (g.W.Write.contents c.take_line.new.writer)
-    c.args.session.now.ready.items c.loop-end.session.ready.items c.take_line.new.session.ready.items
+    c.args.session.now.ready.bytes c.loop-end.session.ready.bytes c.take_line.new.session.ready.bytes
     c.args.session.now.answerer c.loop-end.session.answerer c.take_line.new.session.answerer
     c.args.session.now.line.items c.loop-end.session.line.items c.take_line.new.session.line.items
     c.args.piece.now c.loop-end.rest.now _ c.in-Some.end c.loop-end.invariant
     (flow_is g.A.Answerer.is_ready g.A.Answerer.answers g.A.Answerer.breaks (g.W.Write.contents c.loop-end.writer)
-    (g.W.Write.contents c.take_line.new.writer) c.loop-end.session.ready.items c.take_line.new.session.ready.items
+    (g.W.Write.contents c.take_line.new.writer) c.loop-end.session.ready.bytes c.take_line.new.session.ready.bytes
     c.loop-end.session.answerer c.take_line.new.session.answerer c.loop-end.session.line.items
     c.take_line.new.session.line.items (take c.in-Some.end c.loop-end.rest.now ++ 10 ∷ []) _ _ c.in-Open.is
     c.in_ok-take_line.ensures)
@@ -27,12 +27,12 @@ pub returns-in-TooLong : goal.returns-in-TooLong
 returns-in-TooLong g c =
     through-long g.A.Answerer.is_ready g.A.Answerer.answers g.A.Answerer.breaks (g.W.Write.contents c.args.writer.now)
     (g.W.Write.contents c.loop-end.writer) (g.W.Write.contents c.take_line.new.writer)
-    c.args.session.now.ready.items c.loop-end.session.ready.items c.take_line.new.session.ready.items
+    c.args.session.now.ready.bytes c.loop-end.session.ready.bytes c.take_line.new.session.ready.bytes
     c.args.session.now.answerer c.loop-end.session.answerer c.take_line.new.session.answerer
     c.args.session.now.line.items c.loop-end.session.line.items c.take_line.new.session.line.items
     c.args.piece.now c.loop-end.rest.now c.in-Some.end c.loop-end.invariant
     (flow_is g.A.Answerer.is_ready g.A.Answerer.answers g.A.Answerer.breaks (g.W.Write.contents c.loop-end.writer)
-    (g.W.Write.contents c.take_line.new.writer) c.loop-end.session.ready.items c.take_line.new.session.ready.items
+    (g.W.Write.contents c.take_line.new.writer) c.loop-end.session.ready.bytes c.take_line.new.session.ready.bytes
     c.loop-end.session.answerer c.take_line.new.session.answerer c.loop-end.session.line.items
     c.take_line.new.session.line.items (take c.in-Some.end c.loop-end.rest.now ++ 10 ∷ []) _ _ c.in-TooLong.is
     c.in_ok-take_line.ensures)
@@ -42,12 +42,12 @@ pub returns-in-Broken : goal.returns-in-Broken
 returns-in-Broken g c =
     through-broken g.A.Answerer.is_ready g.A.Answerer.answers g.A.Answerer.breaks (g.W.Write.contents c.args.writer.now)
     (g.W.Write.contents c.loop-end.writer) (g.W.Write.contents c.take_line.new.writer)
-    c.args.session.now.ready.items c.loop-end.session.ready.items c.take_line.new.session.ready.items
+    c.args.session.now.ready.bytes c.loop-end.session.ready.bytes c.take_line.new.session.ready.bytes
     c.args.session.now.answerer c.loop-end.session.answerer c.take_line.new.session.answerer
     c.args.session.now.line.items c.loop-end.session.line.items c.take_line.new.session.line.items
     c.args.piece.now c.loop-end.rest.now c.in-Some.end c.in-Broken.fault c.loop-end.invariant
     (flow_is g.A.Answerer.is_ready g.A.Answerer.answers g.A.Answerer.breaks (g.W.Write.contents c.loop-end.writer)
-    (g.W.Write.contents c.take_line.new.writer) c.loop-end.session.ready.items c.take_line.new.session.ready.items
+    (g.W.Write.contents c.take_line.new.writer) c.loop-end.session.ready.bytes c.take_line.new.session.ready.bytes
     c.loop-end.session.answerer c.take_line.new.session.answerer c.loop-end.session.line.items
     c.take_line.new.session.line.items (take c.in-Some.end c.loop-end.rest.now ++ 10 ∷ []) _ _ c.in-Broken.is
     c.in_ok-take_line.ensures)
@@ -57,13 +57,13 @@ pub returns-in_err-take_line : goal.returns-in_err-take_line
 returns-in_err-take_line g c =
     let e = err_from_is_err_and c.from_residual.result c.from_residual.ensures.1 in
     passed_on g.A.Answerer.is_ready g.A.Answerer.answers g.A.Answerer.breaks (g.W.Write.contents c.args.writer.now)
-    (g.W.Write.contents c.take_line.new.writer) c.args.session.now.ready.items c.take_line.new.session.ready.items
+    (g.W.Write.contents c.take_line.new.writer) c.args.session.now.ready.bytes c.take_line.new.session.ready.bytes
     c.args.session.now.answerer c.take_line.new.session.answerer c.args.session.now.line.items
     c.take_line.new.session.line.items c.args.piece.now c.from_residual.result e.0 e.1
     (
     through-lost g.A.Answerer.is_ready g.A.Answerer.answers g.A.Answerer.breaks (g.W.Write.contents c.args.writer.now)
     (g.W.Write.contents c.loop-end.writer) (g.W.Write.contents c.take_line.new.writer)
-    c.args.session.now.ready.items c.loop-end.session.ready.items c.take_line.new.session.ready.items
+    c.args.session.now.ready.bytes c.loop-end.session.ready.bytes c.take_line.new.session.ready.bytes
     c.args.session.now.answerer c.loop-end.session.answerer c.take_line.new.session.answerer
     c.args.session.now.line.items c.loop-end.session.line.items c.take_line.new.session.line.items
     c.args.piece.now c.loop-end.rest.now c.in-Some.end e.0 c.loop-end.invariant
@@ -73,7 +73,7 @@ pub returns : goal.returns
 returns g c =
     through-rest g.A.Answerer.is_ready g.A.Answerer.answers g.A.Answerer.breaks (g.W.Write.contents c.args.writer.now)
     (g.W.Write.contents c.loop-end.writer) (g.W.Write.contents c.take_part.new.writer)
-    c.args.session.now.ready.items c.loop-end.session.ready.items c.take_part.new.session.ready.items
+    c.args.session.now.ready.bytes c.loop-end.session.ready.bytes c.take_part.new.session.ready.bytes
     c.args.session.now.answerer c.loop-end.session.answerer c.take_part.new.session.answerer
     c.args.session.now.line.items c.loop-end.session.line.items c.take_part.new.session.line.items
     c.args.piece.now c.loop-end.rest.now c.take_part.result c.loop-end.invariant c.take_part.ensures

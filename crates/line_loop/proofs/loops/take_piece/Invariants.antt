@@ -6,7 +6,7 @@ use Rattle.line_loop.proofs.loops.take_piece.Given as goal
 abbrev pub invariant-loop-end : goal.invariant-loop-end
 invariant-loop-end g l =
     Through g.A.Answerer.is_ready g.A.Answerer.answers g.A.Answerer.breaks (g.W.Write.contents l.fn.writer)
-    (g.W.Write.contents l.writer) l.fn.session.ready.items l.session.ready.items l.fn.session.answerer
+    (g.W.Write.contents l.writer) l.fn.session.ready.bytes l.session.ready.bytes l.fn.session.answerer
     l.session.answerer l.fn.session.line.items l.session.line.items l.piece l.rest
 
 abbrev pub decreases-loop-end : goal.decreases-loop-end

@@ -10,8 +10,8 @@ returns-in_err-say-clause-loses g c =
     let now = g.W.Write.contents c.args.writer.now in
     let new = g.W.Write.contents c.say.new.writer in
     let line = c.args.answer.now.line.bytes in
-    let ready = c.args.ready.now.items in
-    let same : c.as_bytes.result.now ≡ line = c.as_bytes.ensures.value ∙ c.as_str.ensures.value in
+    let ready = c.args.ready.now.bytes in
+    let same : c.as_str.result.now ≡ line = c.as_str.ensures.value in
     on_err c.from_residual.result (Loses now ready (as_text c.args.answer.now) new)
     (loses-more now new ready line (10 ∷ body_of c.args.answer.now.body)
     (subst (λ (x : List ℕ). Loses now ready x new) same c.in_err-say.ensures.loses))
@@ -23,13 +23,13 @@ returns-in_err-say-2-clause-loses g c =
     let new = g.W.Write.contents c.say-2.new.writer in
     let line = c.args.answer.now.line.bytes in
     let body = body_of c.args.answer.now.body in
-    let ready = c.args.ready.now.items in
-    let same : c.as_bytes.result.now ≡ line = c.as_bytes.ensures.value ∙ c.as_str.ensures.value in
-    let first : Says now ready line mid c.say.new.ready.items = subst
-    (λ (x : List ℕ). Says now ready x mid c.say.new.ready.items) same c.in_ok-say.ensures.says in
+    let ready = c.args.ready.now.bytes in
+    let same : c.as_str.result.now ≡ line = c.as_str.ensures.value in
+    let first : Says now ready line mid c.say.new.ready.bytes = subst
+    (λ (x : List ℕ). Says now ready x mid c.say.new.ready.bytes) same c.in_ok-say.ensures.says in
     on_err c.from_residual-in_err-say-2.result (Loses now ready (as_text c.args.answer.now) new)
     (loses-answer now new ready line body (loses-more now new ready (line ++ 10 ∷ []) body
-    (says-loses now mid new ready c.say.new.ready.items line (10 ∷ []) first c.in_err-say-2.ensures.loses)))
+    (says-loses now mid new ready c.say.new.ready.bytes line (10 ∷ []) first c.in_err-say-2.ensures.loses)))
 
 pub returns-clause-says : goal.returns-clause-says
 returns-clause-says g c =
@@ -39,11 +39,11 @@ returns-clause-says g c =
     let new = g.W.Write.contents c.say_body.new.writer in
     let line = c.args.answer.now.line.bytes in
     let body = body_of c.args.answer.now.body in
-    let ready = c.args.ready.now.items in
-    let r = c.say.new.ready.items in
-    let s = c.say-2.new.ready.items in
-    let t = c.say_body.new.ready.items in
-    let same : c.as_bytes.result.now ≡ line = c.as_bytes.ensures.value ∙ c.as_str.ensures.value in
+    let ready = c.args.ready.now.bytes in
+    let r = c.say.new.ready.bytes in
+    let s = c.say-2.new.ready.bytes in
+    let t = c.say_body.new.ready.bytes in
+    let same : c.as_str.result.now ≡ line = c.as_str.ensures.value in
     let first : Says now ready line mid r = subst (λ (x : List ℕ). Says now ready x mid r) same
     c.in_ok-say.ensures.says in
     let both : Says now ready (line ++ 10 ∷ []) feed s =
@@ -60,10 +60,10 @@ returns-clause-loses g c =
     let new = g.W.Write.contents c.say_body.new.writer in
     let line = c.args.answer.now.line.bytes in
     let body = body_of c.args.answer.now.body in
-    let ready = c.args.ready.now.items in
-    let r = c.say.new.ready.items in
-    let s = c.say-2.new.ready.items in
-    let same : c.as_bytes.result.now ≡ line = c.as_bytes.ensures.value ∙ c.as_str.ensures.value in
+    let ready = c.args.ready.now.bytes in
+    let r = c.say.new.ready.bytes in
+    let s = c.say-2.new.ready.bytes in
+    let same : c.as_str.result.now ≡ line = c.as_str.ensures.value in
     let first : Says now ready line mid r = subst (λ (x : List ℕ). Says now ready x mid r) same
     c.in_ok-say.ensures.says in
     let both : Says now ready (line ++ 10 ∷ []) feed s =

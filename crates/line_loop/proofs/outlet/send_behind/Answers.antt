@@ -9,8 +9,8 @@ pub returns-in_err-hand_out-clause-loses : goal.returns-in_err-hand_out-clause-l
 returns-in_err-hand_out-clause-loses g c =
     let now = g.W.Write.contents c.args.writer.now in
     let new = g.W.Write.contents c.hand_out.new.writer in
-    on_err c.from_residual.result (Loses now c.args.ready.now.items c.args.text.now new)
-    (loses-more now new c.args.ready.now.items [] c.args.text.now c.in_err-hand_out.ensures.loses)
+    on_err c.from_residual.result (Loses now c.args.ready.now.bytes c.args.text.now new)
+    (loses-more now new c.args.ready.now.bytes [] c.args.text.now c.in_err-hand_out.ensures.loses)
 
 pub returns-clause-says : goal.returns-clause-says
 returns-clause-says g c =
@@ -18,8 +18,8 @@ returns-clause-says g c =
     let mid = g.W.Write.contents c.hand_out.new.writer in
     let new = g.W.Write.contents c.send.new.writer in
     let text = c.args.text.now in
-    let ready = c.args.ready.now.items in
-    let left = c.hand_out.new.ready.items in
+    let ready = c.args.ready.now.bytes in
+    let left = c.hand_out.new.ready.bytes in
     map_ok c.send.result (Appends mid new text) (Says now ready text new left)
     (λ sent. says-behind now mid new ready left text c.in_ok-hand_out.ensures.says c.in_ok-hand_out.ensures.empty sent)
     c.send.ensures.whole
@@ -30,7 +30,7 @@ returns-clause-loses g c =
     let mid = g.W.Write.contents c.hand_out.new.writer in
     let new = g.W.Write.contents c.send.new.writer in
     let text = c.args.text.now in
-    let ready = c.args.ready.now.items in
+    let ready = c.args.ready.now.bytes in
     map_err c.send.result
     ((front : List ℕ) × (rest : List ℕ) × (text ≡ front ++ rest) × (0 < length rest) × Appends mid new front)
     (Loses now ready text new)

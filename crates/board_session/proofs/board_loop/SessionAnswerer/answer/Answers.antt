@@ -1,0 +1,6 @@
+use Rattle.board_session.proofs.AnswerLemmas.{valid_after}
+use Rattle.board_session.proofs.board_loop.SessionAnswerer.answer.Goals as goal
+
+pub returns-clause-ready : goal.returns-clause-ready
+returns-clause-ready c =
+    valid_after c.self.inside.board _ _ c.answer.new.board (rw c.self.view_is c.requires.ready) c.answer.ensures
