@@ -34,7 +34,7 @@ use Rattle.sector_dev.specs.Device.{State}
 use Rattle.chess_store.specs.Means.{IsKept}
 use Rattle.chess_hub.specs.Turning.{AreRefused, Lasts, IsTried}
 use Rattle.chess_hub.specs.Sessions.{IsLineAnswered}
-use Rattle.chess_run.specs.Running.{Kept, written, stands, Serves, AnswersLine, RefusesLine, IsAlone, waits, IsTalking, asks, IsAsking, IsTold, IsUntold}
+use Rattle.chess_run.specs.Running.{Kept, written, stands, Serves, AnswersLine, RefusesLine, IsAlone, waits, IsTalking, asks, IsAsking, IsTold, LineAsksFor}
 
 -- ---- a session that is alone
 
@@ -362,13 +362,13 @@ module _ (at sid : ℕ) (name : Option (List ℕ)) (part : List ℕ) (old : Sess
             (turned-one at sid name part old new a u h (ap (λ (x : Taken). x.sid) whose ∙ is.sid) all);
       }
 
-  pub asks-untold : (P : List Command → Type 0) → AsksFor at 1 old P → IsUntold at name (strip_last 13 part) P
-  asks-untold P asks =
+  pub asks-line : (P : List Command → Type 0) → AsksFor at 1 old P → LineAsksFor at name (strip_last 13 part) P
+  asks-line P asks =
       let (t, same, is) = one-taken asks.taken asks.lines in
       record {
         read = t.line;
         reads = is.reads;
-        refused = subst (λ (who : Option (List ℕ)). P (asked at who t.line)) (named t is.sid)
+        those = subst (λ (who : Option (List ℕ)). P (asked at who t.line)) (named t is.sid)
             (subst P (append-nil (asked at (name_at old t.sid) t.line))
             (subst (λ (ts : List Taken). P (commands_of at (name_at old) ts)) same asks.those));
       }
@@ -443,10 +443,11 @@ module _ {D M : Type 0} (state : D → State) (sector_count failures : D → ℕ
     (same : mid ≡ old) where
   pub answers-line : (reply : Reply) → gives m at n →
       IsTold at name line (said reply) mid.table new.table sessions sid →
+      LineAsksFor at name line (λ commands. mid.failed ≡ true → commands ≡ []) →
       Serves state sector_count failures mid new (Ok tt) →
       AnswersLine state sector_count failures gives (stands old name m) line (written (said reply))
       (stands new (name_at sessions sid) n)
-  answers-line reply next is serves =
+  answers-line reply next is works serves =
       let now : IsTold at name line (said reply) old.table new.table sessions sid =
       subst (λ (s : Kept D). IsTold at name line (said reply) s.table new.table sessions sid) same is in
       record {
@@ -458,11 +459,13 @@ module _ {D M : Type 0} (state : D → State) (sector_count failures : D → ℕ
         answered = now.answered;
         named = alone-name sessions sid (waits (renamed (given_name at now.read) name)) now.then;
         says = refl;
+        works = subst (λ (s : Kept D). LineAsksFor at name line (λ commands. s.failed ≡ true → commands ≡ [])) same
+            works;
         serves = subst (λ (s : Kept D). Serves state sector_count failures s new (Ok tt)) same serves;
       }
 
   pub refuses-line : (fault : HubFault) → gives m at n →
-      (Same : Type 0) → (Same → new ≡ mid) → IsTurnFault fault Same (λ refused. IsUntold at name line
+      (Same : Type 0) → (Same → new ≡ mid) → IsTurnFault fault Same (λ refused. LineAsksFor at name line
       (AreRefused refused mid.header.seq mid.failed mid.table new.table)) →
       Serves state sector_count failures mid new (Err fault) →
       RefusesLine state sector_count failures gives (stands old name m) line fault (stands new (name_at sessions sid) n)
@@ -470,14 +473,14 @@ module _ {D M : Type 0} (state : D → State) (sector_count failures : D → ℕ
   refuses-line NoMemory next Same is why serves = is why ∙ same
   refuses-line LineTooLong next Same is why serves = why
   refuses-line (Store fault) next Same is why serves =
-      let now : IsUntold at name line (AreRefused fault old.header.seq old.failed old.table new.table) =
-      subst (λ (s : Kept D). IsUntold at name line
+      let now : LineAsksFor at name line (AreRefused fault old.header.seq old.failed old.table new.table) =
+      subst (λ (s : Kept D). LineAsksFor at name line
       (AreRefused fault s.header.seq s.failed s.table new.table)) same why in
       record {
         at = at;
         next = next;
         read = now.read;
         reads = now.reads;
-        refused = now.refused;
+        refused = now.those;
         serves = subst (λ (s : Kept D). Serves state sector_count failures s new (Err (Store fault))) same serves;
       }

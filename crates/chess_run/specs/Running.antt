@@ -1,5 +1,5 @@
 -- What a run is told: one session, each line a batch of its own.
-use Rattle.std.specs.Prelude.{ℕ, ◌≡◌, ◌≢◌, ◌⊎◌, false, Bool, List, [], ◌∷◌, ◌++◌, Option, Some, None, Result, Ok, Err}
+use Rattle.std.specs.Prelude.{ℕ, ◌≡◌, ◌≢◌, ◌⊎◌, true, false, Bool, List, [], ◌∷◌, ◌++◌, Option, Some, None, Result, Ok, Err}
 use Rattle.std.specs.Io.KnownBytes.{Appends, Consumes}
 use Rattle.session_lines.specs.Lines.{IsUnfinished}
 use Rattle.session_lines.specs.Heard.{heard}
@@ -63,8 +63,14 @@ pub record Serves {D : Type 0} (state : D → State) (sector_count failures : D 
       → Lasts result (state old.device) (state new.device) new.header new.compaction old.table new.table
   pub tried : IsTried state sector_count failures old.device new.device result old.table new.table old.failed new.failed
 
--- A line takes the next moment and is answered, on the table that the store has. What the store and its device do is said
--- as of any turn.
+-- what holds of the commands that a line asks for
+pub record LineAsksFor (at : ℕ) (name : Option (List ℕ)) (line : List ℕ) (P : List Command → Type 0) : Type 0 where
+  pub read : Option Line
+  pub reads : IsReading line read
+  pub those : P (asked at name read)
+
+-- A line takes the next moment and is answered, on the table that the store has; of a store whose device has failed only a
+-- line that asks nothing of the table. What the store and its device do is said as of any turn.
 pub record AnswersLine {D M : Type 0} (state : D → State) (sector_count failures : D → ℕ) (gives : M → ℕ → M → Type 0)
     (old : Standing D M) (line text : List ℕ) (new : Standing D M) : Type 0 where
   pub at : ℕ
@@ -75,6 +81,7 @@ pub record AnswersLine {D M : Type 0} (state : D → State) (sector_count failur
   pub answered : IsLineAnswered old.store.table old.name at read answer new.store.table
   pub named : new.name ≡ renamed (given_name at read) old.name
   pub says : text ≡ written answer
+  pub works : LineAsksFor at old.name line (λ commands. old.store.failed ≡ true → commands ≡ [])
   pub serves : Serves state sector_count failures old.store new.store (Ok tt)
 
 -- The store refused what a line asks, for this reason.
@@ -174,9 +181,3 @@ pub record IsTold (at : ℕ) (name : Option (List ℕ)) (text : List ℕ) (answe
   pub reads : IsReading text read
   pub answered : IsLineAnswered before name at read answer after
   pub then : IsAlone sessions sid (waits (renamed (given_name at read) name))
-
--- the store refused what its line asks
-pub record IsUntold (at : ℕ) (name : Option (List ℕ)) (text : List ℕ) (P : List Command → Type 0) : Type 0 where
-  pub read : Option Line
-  pub reads : IsReading text read
-  pub refused : P (asked at name read)

@@ -1,11 +1,11 @@
-use Rattle.std.proofs.Common.{◌≡◌, ◌∙◌, refl, sym, subst, ap, Ok, Err, IfErr}
+use Rattle.std.proofs.Common.{◌≡◌, ◌∙◌, true, [], refl, sym, subst, ap, Ok, Err, IfErr}
 use Rattle.std.proofs.lemmas.Result.{err_from_is_err_and}
 use Rattle.std.specs.Io.BufRead.{strip_last}
 use Rattle.chess_hub.specs.Turning.{IsTurnFault, AreRefused}
-use Rattle.chess_run.specs.Running.{asks, kept, Serves, IsAlone, IsTold, IsUntold}
+use Rattle.chess_run.specs.Running.{asks, kept, Serves, IsAlone, IsTold, LineAsksFor}
 use Rattle.session_lines.specs.Lines.{IsUnfinished}
 use Rattle.chess_sessions.specs.Session.{said}
-use Rattle.chess_run.proofs.TalkLemmas.{alone-open, turned-told, asks-untold, told-is, told-some, fault-map, serves-as, serves-err}
+use Rattle.chess_run.proofs.TalkLemmas.{alone-open, turned-told, asks-line, told-is, told-some, fault-map, serves-as, serves-err}
 use Rattle.chess_run.proofs.talk.take_turn.Goals as goal
 
 pub output-requires : goal.output-requires
@@ -35,6 +35,11 @@ returns-clause-told g c = λ name part u h.
     (told-is c.args.at c.args.sid name (strip_last 13 part) _ _ mid.sessions c.output.new.self.sessions
     c.in-Some.reply turned c.in-Some.ensures.given c.in-Some.ensures.after)
 
+pub returns-clause-works : goal.returns-clause-works
+returns-clause-works g c = λ name part u h.
+    asks-line c.args.at c.args.sid name part c.args.hub.now.sessions u h
+    (λ commands. c.args.hub.now.store.failed ≡ true → commands ≡ []) c.in_ok-turn.ensures.works
+
 pub returns-clause-serves : goal.returns-clause-serves
 returns-clause-serves g c =
     let old = c.args.hub.now.store in
@@ -52,14 +57,14 @@ returns-in_err-turn-clause-fault g c =
     let old = c.args.hub.now in
     let new = c.turn.new.self in
     subst (λ r. IfErr r (λ fault. (name : _) (part : _) → IsUnfinished part → IsAlone old.sessions c.args.sid
-    (asks name part) → IsTurnFault fault (new.store ≡ old.store) (λ refused. IsUntold c.args.at name
+    (asks name part) → IsTurnFault fault (new.store ≡ old.store) (λ refused. LineAsksFor c.args.at name
     (strip_last 13 part) (AreRefused refused old.store.journal.header.seq old.store.failed old.store.table
     new.store.table)))) (sym e.1)
-    (λ name part u h. subst (λ fault. IsTurnFault fault (new.store ≡ old.store) (λ refused. IsUntold c.args.at name
+    (λ name part u h. subst (λ fault. IsTurnFault fault (new.store ≡ old.store) (λ refused. LineAsksFor c.args.at name
     (strip_last 13 part) (AreRefused refused old.store.journal.header.seq old.store.failed old.store.table
     new.store.table))) (sym e.2)
     (fault-map c.in_err-turn.field-0.0 (new.store ≡ old.store) _ _
-    (λ refused is. asks-untold c.args.at c.args.sid name part old.sessions u h
+    (λ refused is. asks-line c.args.at c.args.sid name part old.sessions u h
     (AreRefused refused old.store.journal.header.seq old.store.failed old.store.table new.store.table) is)
     c.in_err-turn.ensures.fault))
 

@@ -32,6 +32,7 @@ returns-clause-answered g c =
     (subst (λ store. (kept store.journal.device store.journal.header store.journal.compaction store.table store.failed) ≡ (kept old.journal.device old.journal.header old.journal.compaction old.table old.failed)) (sym c.hear.ensures.store) refl)
     c.in_ok-reply.reply c.next.ensures
     (c.in_ok-reply.ensures.told name c.args.line.now c.requires.unfinished c.in_ok-hear.ensures.heard)
+    (c.in_ok-reply.ensures.works name c.args.line.now c.requires.unfinished c.in_ok-hear.ensures.heard)
     c.in_ok-reply.ensures.serves
 
 pub returns-clause-ready : goal.returns-clause-ready
