@@ -181,6 +181,8 @@ def crowd():
     silent, half, *others = clients
     half.sendall(b"li")
     byte_by_byte(others)
+    # None of the 64 has been let go.
+    expect("the 65th, once more", to_end(connect()), "")
     silent.close()
     time.sleep(0.2)
     byte_by_byte([connect()])
