@@ -13,6 +13,8 @@ differs = 0
 def connect():
     connection = socket.create_connection(("127.0.0.1", PORT))
     connection.settimeout(20)
+    # each piece leaves by itself
+    connection.setsockopt(socket.IPPROTO_TCP, socket.TCP_NODELAY, 1)
     return connection
 
 
@@ -162,7 +164,33 @@ def clients_65():
     expect("after one has gone", ask(connect(), "list"), "ok list 0")
 
 
-for part in (two_players, half_a_line, peer_ends, peers_vanish, long_line, slow_reader, clients_65):
+def byte_by_byte(clients):
+    """Each sends a line, a byte at a time with turns between, and is answered."""
+    for byte in b"list\n":
+        for client in clients:
+            client.sendall(bytes([byte]))
+        time.sleep(0.03)
+    for client in clients:
+        expect("a line byte by byte", lines(client, 1), "ok list 0\n")
+
+
+def crowd():
+    """65 at once: one that says nothing, one with half a line, 62 with a line byte by byte, and one that is dropped."""
+    clients = [connect() for _ in range(64)]
+    expect("the 65th of a crowd", to_end(connect()), "")
+    silent, half, *others = clients
+    half.sendall(b"li")
+    byte_by_byte(others)
+    # None of the 64 has been let go.
+    expect("the 65th, once more", to_end(connect()), "")
+    silent.close()
+    time.sleep(0.2)
+    byte_by_byte([connect()])
+    half.sendall(b"st\n")
+    expect("half a line in a crowd", lines(half, 1), "ok list 0\n")
+
+
+for part in (two_players, half_a_line, peer_ends, peers_vanish, long_line, slow_reader, clients_65, crowd):
     try:
         part()
     except OSError as fault:
