@@ -85,11 +85,27 @@ fn has_legal_from(board: &Board, risks: Bits, from: Square) -> bool
     }
 }
 
+// Whether the king of the side to move has a legal move.
+fn king_has_legal(board: &Board, risks: Bits) -> bool
+    requires risks { HoldsRisks board.now risks }
+    ensures { IsTrue result → HasLegal board.now }
+{
+    let own = men_of(board, board.side());
+    match own.meet(board.men().of_kind(Kind::King)).first() {
+        None => false,
+        Some(king) => has_legal_from(board, risks, king),
+    }
+}
+
 /// Whether the side to move has a legal move. It looks no further than the first.
 pub fn has_legal(board: &Board) -> bool
     ensures { IsTrue result ↔ HasLegal board.now }
 {
     let risks = risks(board);
+    // Most checks are answered by the king, and moves of other men seldom are safe then.
+    if board.in_check() && king_has_legal(board, risks) {
+        return true;
+    }
     for from in men_of(board, board.side()).iter() {
         if has_legal_from(board, risks, from) {
             return true;
