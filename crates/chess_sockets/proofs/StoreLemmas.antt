@@ -1,6 +1,6 @@
 -- What a turn leaves of the store.
 use Rattle.std.proofs.Common.{◌≡◌, ℕ, subst}
-use Rattle.std.specs.Prelude.{Result, Ok, Err}
+use Rattle.std.specs.Prelude.{Result, Ok, Err, OnOk}
 use Rattle.sector_dev.specs.Device.{State, IsCoherent}
 use Rattle.rec_codec.specs.declared.header.Header.{Header}
 use Rattle.sector_journal.specs.declared.compactions.Compaction.{Compaction}
@@ -74,3 +74,7 @@ pub lasts_unasked : {T : Type 0} (made : Result T HubFault) (sectors : ℕ) (now
 lasts_unasked {T = T} made sectors now header compaction table coherent kept =
     over {S = Unit {0}} {T = T} tt made now now header compaction table table
     (lasts_idle {T = Unit {0}} tt sectors now header compaction table coherent kept)
+
+-- what holds where a call is answered holds of this call, which was
+pub of_answered : {S P : Type 0} (given : Result S HubFault) (x : S) → given ≡ Ok x → OnOk given P → P
+of_answered {S = S} {P = P} given x was holds = subst (λ (r : Result S HubFault). OnOk r P) was holds

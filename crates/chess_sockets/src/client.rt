@@ -125,6 +125,7 @@ impl<S: Read + Write> Client<S> {
             (session_at hub.new.sessions self.old.sid))) }
         // Who has sent something is asked for more.
         ensures quiet { self.new.is_quiet ≡ true → result ≡ Ok false }
+        ensures sid { self.new.sid ≡ self.old.sid }
         ensures fault { IfErr result EndsServing }
         ensures others { OthersStay hub.old.sessions hub.new.sessions self.old.sid }
         ensures store { hub.new.store ≡ hub.old.store }
@@ -160,6 +161,8 @@ impl<S: Read + Write> Client<S> {
         ensures hands { OnOk result (HandsOut (S.contents self.old.stream) (S.contents self.new.stream)
             (to_go (session_at hub.old.sessions self.old.sid) (waiting self.old.outgoing))
             (to_go (session_at hub.new.sessions self.old.sid) (waiting self.new.outgoing))) }
+        ensures peer { (self.new.sid ≡ self.old.sid) × (self.new.has_ended ≡ self.old.has_ended)
+            × (self.new.is_quiet ≡ self.old.is_quiet) }
         ensures fault { IfErr result EndsServing }
         ensures others { OthersStay hub.old.sessions hub.new.sessions self.old.sid }
         ensures store { hub.new.store ≡ hub.old.store }
@@ -182,6 +185,8 @@ impl<S: Read + Write> Client<S> {
         ensures hands { OnOk result (HandsOut (S.contents self.old.stream) (S.contents self.new.stream)
             (to_go (session_at hub.old.sessions self.old.sid) (waiting self.old.outgoing))
             (to_go (session_at hub.new.sessions self.old.sid) (waiting self.new.outgoing))) }
+        ensures peer { (self.new.sid ≡ self.old.sid) × (self.new.has_ended ≡ self.old.has_ended)
+            × (self.new.is_quiet ≡ self.old.is_quiet) }
         ensures fault { IfErr result EndsServing }
         ensures others { OthersStay hub.old.sessions hub.new.sessions self.old.sid }
         ensures store { hub.new.store ≡ hub.old.store }

@@ -1,8 +1,8 @@
 //! The server.
-ghost use Rattle.std.specs.Prelude.{◌≡◌, IfErr, OnOk};
+ghost use Rattle.std.specs.Prelude.{◌≡◌, IfOk, IfErr, OnOk};
 ghost use Rattle.chess_store.specs.Means.{IsKept};
 ghost use Rattle.chess_hub.specs.Turning.{Lasts};
-ghost use Rattle.chess_sockets.specs.Turns.{EndsServing};
+ghost use Rattle.chess_sockets.specs.Turns.{EndsServing, HasServed};
 
 use crate::client::Client;
 use crate::pieces::PIECE_ROOM;
@@ -121,6 +121,7 @@ impl<D: Device> Server<D> {
     ) -> Result<Server<D>, SocketFault>
     where
         D: Drop,
+        ensures hub { IfOk result (λ server. server.hub ≡ hub) }
     {
         let (Ok(listener), Ok(mut watch)) = (listen(net, port), Watch::new(net, alloc)) else {
             return Err(SocketFault);
@@ -151,6 +152,7 @@ impl<D: Device> Server<D> {
     fn admit(&mut self, stream: TcpStream) -> Result<(), HubFault>
         ensures fault { IfErr result EndsServing }
         ensures store { self.new.hub.store ≡ self.old.hub.store }
+        ensures port { self.new.port ≡ self.old.port }
     {
         let sid = match self.hub.connect() {
             Ok(sid) => sid,
@@ -171,6 +173,7 @@ impl<D: Device> Server<D> {
     fn welcome(&mut self) -> Result<bool, HubFault>
         ensures fault { IfErr result EndsServing }
         ensures store { self.new.hub.store ≡ self.old.hub.store }
+        ensures port { self.new.port ≡ self.old.port }
     {
         if self.rested == Rested::Calm {
             return Ok(false);
@@ -188,6 +191,7 @@ impl<D: Device> Server<D> {
     fn part(&mut self)
         ensures hub { self.new.hub ≡ self.old.hub }
         ensures rested { self.new.rested ≡ self.old.rested }
+        ensures port { self.new.port ≡ self.old.port }
     {
         let hub = &self.hub;
         self.clients.retain(|client| hub.is_open(client.sid()));
@@ -205,6 +209,8 @@ impl<D: Device> Server<D> {
         ensures fault { IfErr result EndsServing }
         // The next turn reads for every client, unless a rest comes first.
         ensures again { OnOk result (self.new.rested ≡ Rested.Not) }
+        ensures served { OnOk result (HasServed at self.old.hub.store.table self.new.hub.store.table) }
+        ensures port { self.new.port ≡ self.old.port }
         ensures lasts { IsKept (D.state self.old.hub.store.journal.device) self.old.hub.store.journal.header
             self.old.hub.store.journal.compaction self.old.hub.store.table
             → Lasts result (D.state self.old.hub.store.journal.device) (D.state self.new.hub.store.journal.device)
@@ -234,6 +240,7 @@ impl<D: Device> Server<D> {
     pub fn rest(&mut self)
         ensures hub { self.new.hub ≡ self.old.hub }
         ensures woken { self.old.rested ≡ Rested.Woken → self.new.rested ≡ Rested.Woken }
+        ensures port { self.new.port ≡ self.old.port }
     {
         let is_calm = self.watch.rest();
         self.rested = if is_calm && self.rested != Rested::Woken {

@@ -1,6 +1,6 @@
 -- The store is asked by the hub's turn alone.
 use Rattle.std.proofs.Common.{◌∙◌, ap, sym}
-use Rattle.chess_sockets.proofs.StoreLemmas.{lasts_over, lasts_refused, lasts_unasked}
+use Rattle.chess_sockets.proofs.StoreLemmas.{of_answered, lasts_over, lasts_refused, lasts_unasked}
 use Rattle.chess_sockets.proofs.server.Server.turn.Goals as goal
 
 pub returns-in_err-came-clause-lasts : goal.returns-in_err-came-clause-lasts
@@ -58,3 +58,27 @@ returns-else-wrote-clause-lasts g c =
     )
     (λ kept. lasts_over c.turn.result tt _ (state s.journal.device) (state n.journal.device) n.journal.header
     n.journal.compaction s.table n.table c.in_default.is (c.turn.ensures.lasts kept))
+
+pub returns-then-wrote-clause-served : goal.returns-then-wrote-clause-served
+returns-then-wrote-clause-served g c =
+    rw (
+      ap (λ h. h.store) c.part-2.ensures.hub ∙ c.hand_out_all.ensures.store,
+      sym (c.take_in_all.ensures.store ∙ c.welcome.ensures.store ∙ ap (λ h. h.store) c.part.ensures.hub),
+    )
+    (record {
+      heard = c.take_in_all.new.hub.sessions;
+      answered = c.turn.new.self.sessions;
+      turned = of_answered c.turn.result tt c.in_default.is c.turn.ensures.turned;
+    })
+
+pub returns-else-wrote-clause-served : goal.returns-else-wrote-clause-served
+returns-else-wrote-clause-served g c =
+    rw (
+      ap (λ h. h.store) c.part-2.ensures.hub ∙ c.hand_out_all.ensures.store,
+      sym (c.take_in_all.ensures.store ∙ c.welcome.ensures.store ∙ ap (λ h. h.store) c.part.ensures.hub),
+    )
+    (record {
+      heard = c.take_in_all.new.hub.sessions;
+      answered = c.turn.new.self.sessions;
+      turned = of_answered c.turn.result tt c.in_default.is c.turn.ensures.turned;
+    })
