@@ -1,10 +1,10 @@
 -- What a session is given goes behind what waits.
-use Rattle.std.proofs.Common.{◌≡◌, ◌≢◌, ℕ, Bool, true, false, List, [], ◌∷◌, ◌++◌, Option, Some, None, IfSome, refl, ap, sym, ◌∙◌, subst, append_assoc, inl, inr}
-use Rattle.std.specs.Prelude.{◌&&◌, ◌||◌, not, cond, if◌then◌else◌, IsSome, option_map, ◌⊎◌}
-use Rattle.session_lines.specs.Heard.{Heard, heard_more}
+use Rattle.std.proofs.Common.{◌≡◌, ℕ, Bool, true, false, List, [], ◌∷◌, ◌++◌, Option, Some, None, IfSome, refl, ap, sym, ◌∙◌, subst, append_assoc}
+use Rattle.std.specs.Prelude.{◌&&◌, ◌||◌, not, if◌then◌else◌, IsSome, option_map}
+use Rattle.session_lines.specs.Heard.{Heard}
 use Rattle.chess_answer.specs.declared.reads.Reply.{Reply}
 use Rattle.chess_sessions.specs.declared.sessions.Sessions.{Sessions}
-use Rattle.chess_sessions.specs.Session.{Said, said, SessionState, session_at, Changes, IsUnchanged, due, first_due, given_one, farewell, is_done}
+use Rattle.chess_sessions.specs.Session.{Said, said, SessionState, session_at, Changes, due, first_due, given_one, farewell, is_done}
 use Rattle.chess_sockets.specs.Clients.{OthersStay, bytes_of, bytes_of_all, to_go, HandsOut}
 use Rattle.chess_sockets.specs.Sending.{HandsOn}
 use Rattle.chess_sockets.proofs.SendLemmas.{hands-behind, hands-trans}

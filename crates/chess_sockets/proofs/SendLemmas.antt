@@ -1,7 +1,6 @@
 -- What goes in several writes.
-use Rattle.std.proofs.Common.{◌≡◌, ℕ, List, [], ◌++◌, Option, ◌∙◌, sym, ap, append_assoc, refl}
-use Rattle.std.specs.Io.KnownBytes.{Appends}
-use Rattle.std.proofs.KnownBytes.{Appends-nil, Appends-trans}
+use Rattle.std.proofs.Common.{ℕ, List, ◌++◌, Option, ◌∙◌, sym, ap, append_assoc}
+use Rattle.std.proofs.KnownBytes.{Appends-trans}
 use Rattle.chess_sockets.specs.Sending.{HandsOn}
 
 -- more waits behind what was written

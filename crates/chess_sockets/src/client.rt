@@ -1,5 +1,5 @@
 //! A connection and its session.
-ghost use Rattle.std.specs.Prelude.{◌≡◌, ◌≤◌, ◌++◌, [], Some, length, IsSome, IfSome, IfErr, OnOk};
+ghost use Rattle.std.specs.Prelude.{◌≡◌, ◌≤◌, ◌++◌, true, false, [], Some, Ok, length, IsSome, IfSome, IfErr, OnOk};
 ghost use Rattle.chess_sessions.specs.Session.{said, session_at};
 ghost use Rattle.chess_sockets.specs.Clients.{IsOpen, OthersStay, HasHeard, TakesIn, HandsOut, bytes_of, to_go};
 ghost use Rattle.chess_sockets.specs.Sending.{waiting};
@@ -22,7 +22,7 @@ pub struct Client<S> {
     outgoing: Outgoing,
     /// Whether the peer sends no more.
     has_ended: bool,
-    /// Whether nothing had come at the last read.
+    /// Whether it was read to its end for now: the last read found nothing, and none was put off since.
     is_quiet: bool,
 }
 
@@ -46,6 +46,13 @@ impl<S> Client<S> {
         ensures { result ≡ self.now.sid }
     {
         self.sid
+    }
+
+    /// Whether all that had come was read. Then there is nothing to read until its socket is ready.
+    pub fn is_quiet(&self) -> bool
+        ensures { result ≡ self.now.is_quiet }
+    {
+        self.is_quiet
     }
 }
 
@@ -116,18 +123,21 @@ impl<S: Read + Write> Client<S> {
         ensures taken { IfSome (session_at hub.old.sessions self.old.sid) (λ s. OnOk result (TakesIn
             (S.remaining self.old.stream) (S.remaining self.new.stream) s
             (session_at hub.new.sessions self.old.sid))) }
+        // Who has sent something is asked for more.
+        ensures quiet { self.new.is_quiet ≡ true → result ≡ Ok false }
         ensures fault { IfErr result EndsServing }
         ensures others { OthersStay hub.old.sessions hub.new.sessions self.old.sid }
         ensures store { hub.new.store ≡ hub.old.store }
     {
         let sid = self.sid;
+        self.is_quiet = false;
         if self.has_ended || !self.outgoing.is_empty() || hub.waiting(sid) >= PIECE_ROOM {
             return Ok(false);
         }
         let came = read_piece(&mut self.stream, piece);
         self.is_quiet = came == Came::Nothing;
         match came {
-            Came::Nothing => Ok(false),
+            Came::Nothing | Came::Interrupted => Ok(false),
             Came::Bytes(count) => {
                 feed(hub, sid, &piece[..count])?;
                 Ok(true)

@@ -11,6 +11,8 @@ pub const PIECE_ROOM: usize = 4096;
 pub enum Came {
     /// Nothing for now.
     Nothing,
+    /// A signal came first, and whether there is something is open.
+    Interrupted,
     /// So many bytes.
     Bytes(usize),
     /// The peer sends no more.
@@ -27,7 +29,8 @@ pub fn read_piece<R: Read>(reader: &mut R, piece: &mut [u8; PIECE_ROOM]) -> Came
         Ok(0) => Came::End,
         Ok(count) => Came::Bytes(count),
         Err(error) => match error.kind() {
-            ErrorKind::WouldBlock | ErrorKind::Interrupted => Came::Nothing,
+            ErrorKind::WouldBlock => Came::Nothing,
+            ErrorKind::Interrupted => Came::Interrupted,
             _ => Came::Fault,
         },
     }

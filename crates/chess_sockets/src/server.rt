@@ -1,5 +1,5 @@
 //! The server.
-ghost use Rattle.std.specs.Prelude.{◌≡◌, IfErr};
+ghost use Rattle.std.specs.Prelude.{◌≡◌, IfErr, OnOk};
 ghost use Rattle.chess_store.specs.Means.{IsKept};
 ghost use Rattle.chess_hub.specs.Turning.{Lasts};
 ghost use Rattle.chess_sockets.specs.Turns.{EndsServing};
@@ -26,6 +26,17 @@ pub enum Turned {
     Idle,
 }
 
+/// What the rests since the last turn found.
+#[derive(Clone, Copy, Debug, PartialEq, Eq)]
+enum Rested {
+    /// There was none.
+    Not,
+    /// Each was calm: nobody has come, and who was read to the end has sent nothing since.
+    Calm,
+    /// One was not.
+    Woken,
+}
+
 /// Serves clients on a port of this machine.
 #[derive(Drop)]
 pub struct Server<D: Device> {
@@ -35,6 +46,7 @@ pub struct Server<D: Device> {
     hub: Hub<D>,
     clients: Vec<Client<TcpStream>>,
     watch: Watch,
+    rested: Rested,
 }
 
 /// The most lines that a turn takes: one at least of each session that has one.
@@ -59,10 +71,11 @@ fn accept(listener: &TcpListener) -> io::Result<TcpStream> {
     Ok(stream)
 }
 
-// Reads for each session, and tells whether anything came.
+// Reads for each session, but after calm rests not for quiet clients, and tells whether anything came.
 fn take_in_all<S: Read + Write, D: Device>(
     clients: &mut Vec<Client<S>>,
     hub: &mut Hub<D>,
+    is_calm: bool,
 ) -> Result<bool, HubFault>
     ensures fault { IfErr result EndsServing }
     ensures store { hub.new.store ≡ hub.old.store }
@@ -70,6 +83,9 @@ fn take_in_all<S: Read + Write, D: Device>(
     let mut piece = [0u8; PIECE_ROOM];
     let mut any = false;
     for client in clients.iter_mut() {
+        if is_calm && client.is_quiet() {
+            continue;
+        }
         if hub.is_open(client.sid()) && client.take_in(hub, &mut piece)? {
             any = true;
         }
@@ -106,7 +122,7 @@ impl<D: Device> Server<D> {
     where
         D: Drop,
     {
-        let (Ok(listener), Ok(watch)) = (listen(net, port), Watch::new(net, alloc)) else {
+        let (Ok(listener), Ok(mut watch)) = (listen(net, port), Watch::new(net, alloc)) else {
             return Err(SocketFault);
         };
         let Ok(address) = listener.local_addr() else {
@@ -120,6 +136,7 @@ impl<D: Device> Server<D> {
             hub,
             clients: Vec::new(alloc),
             watch,
+            rested: Rested::Not,
         })
     }
 
@@ -150,11 +167,14 @@ impl<D: Device> Server<D> {
         Ok(())
     }
 
-    // Accepts at most one connection, and tells whether one came.
+    // Accepts at most one connection, after calm rests none, and tells whether one came.
     fn welcome(&mut self) -> Result<bool, HubFault>
         ensures fault { IfErr result EndsServing }
         ensures store { self.new.hub.store ≡ self.old.hub.store }
     {
+        if self.rested == Rested::Calm {
+            return Ok(false);
+        }
         match accept(&self.listener) {
             Ok(stream) => {
                 self.admit(stream)?;
@@ -166,7 +186,8 @@ impl<D: Device> Server<D> {
 
     // Lets the connections go whose session is closed.
     fn part(&mut self)
-        ensures { self.new.hub.store ≡ self.old.hub.store }
+        ensures hub { self.new.hub ≡ self.old.hub }
+        ensures rested { self.new.rested ≡ self.old.rested }
     {
         let hub = &self.hub;
         self.clients.retain(|client| hub.is_open(client.sid()));
@@ -174,13 +195,16 @@ impl<D: Device> Server<D> {
 
     /// One turn at the moment `at`, in milliseconds. It accepts at most one connection, which it drops where there are 64
     /// sessions; reads at most one piece of 4,096 bytes for each session that has fewer waiting; has the hub answer up to
-    /// 64 lines; and writes what can be written. It waits for nothing. `Err` is a fault that ends serving: that of a store,
-    /// or `NoMemory`; what is one client's own trouble closes that client alone.
+    /// 64 lines; and writes what can be written. After calm rests it accepts none, and reads only for clients that were
+    /// not read to their end. It waits for nothing. `Err` is a fault that ends serving: that of a store, or `NoMemory`;
+    /// what is one client's own trouble closes that client alone.
     ///
     /// Where the store was kept, a crash at any moment of the turn leaves what means the table from before or that with
     /// the whole batch; at `Ok` every image means the latter.
     pub fn turn(&mut self, at: u64) -> Result<Turned, HubFault>
         ensures fault { IfErr result EndsServing }
+        // The next turn reads for every client, unless a rest comes first.
+        ensures again { OnOk result (self.new.rested ≡ Rested.Not) }
         ensures lasts { IsKept (D.state self.old.hub.store.journal.device) self.old.hub.store.journal.header
             self.old.hub.store.journal.compaction self.old.hub.store.table
             → Lasts result (D.state self.old.hub.store.journal.device) (D.state self.new.hub.store.journal.device)
@@ -190,7 +214,9 @@ impl<D: Device> Server<D> {
         // A number of a session that was closed may be given again.
         self.part();
         let came = self.welcome()?;
-        let read = take_in_all(&mut self.clients, &mut self.hub)?;
+        let is_calm = self.rested == Rested::Calm;
+        self.rested = Rested::Not;
+        let read = take_in_all(&mut self.clients, &mut self.hub, is_calm)?;
         if let Err(fault) = self.hub.turn(at, LINES) {
             return Err(fault);
         }
@@ -203,8 +229,17 @@ impl<D: Device> Server<D> {
         })
     }
 
-    /// Waits until a socket is ready or 10 ms have passed, for use after a turn that found nothing to do.
-    pub fn rest(&mut self) {
-        self.watch.rest();
+    /// Waits until a socket is ready or 10 ms have passed, for use after a turn that found nothing to do. A rest is calm
+    /// where no socket was ready, but not each hundredth on end, so that all are asked once a second.
+    pub fn rest(&mut self)
+        ensures hub { self.new.hub ≡ self.old.hub }
+        ensures woken { self.old.rested ≡ Rested.Woken → self.new.rested ≡ Rested.Woken }
+    {
+        let is_calm = self.watch.rest();
+        self.rested = if is_calm && self.rested != Rested::Woken {
+            Rested::Calm
+        } else {
+            Rested::Woken
+        };
     }
 }

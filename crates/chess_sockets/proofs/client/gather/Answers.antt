@@ -1,5 +1,5 @@
 -- Each answer that was given goes behind what waits.
-use Rattle.std.proofs.Common.{◌≡◌, ◌++◌, ◌∙◌, refl}
+use Rattle.std.proofs.Common.{◌++◌, ◌∙◌, refl}
 use Rattle.chess_sessions.specs.Session.{said, session_at}
 use Rattle.chess_sockets.specs.Clients.{bytes_of}
 use Rattle.chess_sockets.specs.Sending.{waiting}

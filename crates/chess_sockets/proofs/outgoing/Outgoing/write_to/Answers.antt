@@ -1,7 +1,6 @@
-use Rattle.std.proofs.Common.{◌≡◌, ◌+◌, ◌-◌, ◌++◌, length, sym, ap, ◌∙◌, subst, take, drop, take-append-drop}
+use Rattle.std.proofs.Common.{◌-◌, ◌++◌, length, sym, ap, ◌∙◌, subst, take, drop, take-append-drop}
 use Rattle.std.specs.Io.KnownBytes.{Appends}
 use Rattle.std.proofs.lemmas.List.{take_rest, drop-drop}
-use Rattle.chess_sockets.specs.Sending.{HandsOn}
 use Rattle.chess_sockets.proofs.outgoing.Outgoing.write_to.Goals as goal
 
 pub returns-else-is_empty-clause-front : goal.returns-else-is_empty-clause-front

@@ -1,0 +1,120 @@
+//! Clients on loopback.
+use std::alloc::Global;
+use std::io;
+use std::io::{ErrorKind, Read, Write};
+use std::net::{Ipv4Addr, Net, Shutdown, TcpStream};
+
+/// A client, and the letter that it goes by.
+#[derive(Drop)]
+struct Client {
+    letter: u8,
+    stream: TcpStream,
+    /// Whether the server has closed the connection.
+    has_ended: bool,
+}
+
+/// The clients of a server on this port, in the order in which they connected.
+#[derive(Drop)]
+pub struct Clients {
+    port: u16,
+    all: Vec<Client>,
+}
+
+/// The most bytes that a client reads at a time.
+const ROOM: usize = 4096;
+
+impl Clients {
+    /// No client yet.
+    pub fn new(alloc: Global, port: u16) -> Clients {
+        Clients {
+            port,
+            all: Vec::new(alloc),
+        }
+    }
+
+    // The client of a letter connects, unless it has.
+    fn join<R: Net<Stream = TcpStream>>(&mut self, net: &R, letter: u8) -> io::Result<()> {
+        if self.all.iter().any(|client| client.letter == letter) {
+            return Ok(());
+        }
+        let stream = TcpStream::connect(net, (Ipv4Addr::LOCALHOST, self.port))?;
+        stream.set_nonblocking(true)?;
+        stream.set_nodelay(true)?;
+        self.all.push(Client {
+            letter,
+            stream,
+            has_ended: false,
+        })?;
+        Ok(())
+    }
+
+    /// Has each of these letters' clients do what a text says; at its first it connects. It sends the text with a line
+    /// feed; where the text ends with `\`, what is before that, without. At `-` it sends no more, and at `!` it drops the
+    /// connection.
+    pub fn act<R: Net<Stream = TcpStream>>(
+        &mut self,
+        net: &R,
+        letters: &str,
+        text: &str,
+    ) -> io::Result<()> {
+        for letter in letters.bytes() {
+            self.join(net, letter)?;
+            if text == "!" {
+                self.all.retain(|client| client.letter != letter);
+            }
+            for client in self.all.iter_mut() {
+                if client.letter == letter {
+                    client.send(text)?;
+                }
+            }
+        }
+        Ok(())
+    }
+
+    /// Writes what came to each client, its letter before each line, and `end` where the server has closed the connection.
+    pub fn tell(&mut self, rt: &impl Print) -> io::Result<()> {
+        for client in self.all.iter_mut() {
+            client.tell(rt)?;
+        }
+        Ok(())
+    }
+}
+
+impl Client {
+    fn send(&mut self, text: &str) -> io::Result<()> {
+        if text == "-" {
+            return self.stream.shutdown(Shutdown::Write);
+        }
+        match text.strip_suffix("\\") {
+            Some(part) => self.stream.write_all(part.as_bytes()),
+            None => {
+                self.stream.write_all(text.as_bytes())?;
+                self.stream.write_all(b"\n")
+            }
+        }
+    }
+
+    fn tell(&mut self, rt: &impl Print) -> io::Result<()> {
+        let letter = char::from(self.letter);
+        let mut piece = [0u8; ROOM];
+        for _ in 0..u32::MAX {
+            if self.has_ended {
+                break;
+            }
+            match self.stream.read(&mut piece) {
+                Ok(0) => {
+                    self.has_ended = true;
+                    println!(rt; "{letter} end")?;
+                }
+                Ok(count) => {
+                    for line in str::from_utf8(&piece[..count]).unwrap_or("?").lines() {
+                        println!(rt; "{letter} {line}")?;
+                    }
+                }
+                Err(error) if error.kind() == ErrorKind::WouldBlock => break,
+                Err(error) => return Err(error),
+            }
+        }
+        Ok(())
+    }
+}
