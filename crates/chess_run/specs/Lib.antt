@@ -1,2 +1,3 @@
 pub mod Moments
 pub mod Running
+pub mod Law

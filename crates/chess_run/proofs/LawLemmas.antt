@@ -1,0 +1,122 @@
+-- The answers of a run are those to the merged list of its lines.
+use Rattle.std.proofs.Common.{◌≡◌, ◌∙◌, ℕ, suc, ◌+◌, Bool, true, false, List, [], ◌∷◌, ◌++◌, length, drop, Option, None, refl, sym, ap, subst, append_assoc, append-nil, arith}
+use Rattle.std.proofs.lemmas.List.Sums.{sum_by-cons}
+use Rattle.std.specs.Prelude.{cond, ◌==◌, ◌&&◌, if◌then◌else◌}
+use Rattle.std.specs.List.{AllZip}
+use Rattle.std.proofs.Math.Seq.{drop-length}
+use Rattle.session_lines.specs.Lines.{lines_of, has_long_line}
+use Rattle.sector_dev.specs.Device.{State}
+use Rattle.chess_entry.specs.State.{TableState}
+use Rattle.chess_sessions.specs.Session.{Said, farewell, is_none_waiting}
+use Rattle.chess_sessions.specs.Answers.{given_name, renamed}
+use Rattle.line_loop.specs.Texts.{IsRun, IsText}
+use Rattle.line_loop.specs.Texts as loop
+use Rattle.chess_hub.specs.Sessions.{Merged, taken_count, name_from, IsLineAnswered, AreAnsweredAfter, answers_to}
+use Rattle.chess_run.specs.Running.{Kept, Standing, stands, written, AnswersLine}
+use Rattle.chess_run.specs.Law.{written_all, IsOfTheFirst, IsSessionText}
+
+name-behind : (session : ℕ) (name : Option (List ℕ)) (before : List Merged) (m : Merged) →
+    name_from session name (before ++ m ∷ []) ≡ name_from session (name_from session name before) (m ∷ [])
+name-behind session name [] m = refl
+name-behind session name (x ∷ before) m =
+    name-behind session (if x.session == session then renamed (given_name x.at x.line) name else name) before m
+
+one-more : (k n : ℕ) → k ≡ n → 1 + k ≡ suc n
+one-more k n e = omega (arith, e)
+
+-- the lines of a run as a turn's, behind others of the session
+record Told (before : List Merged) (table after : TableState) (lines : List (List ℕ)) (told : List ℕ) : Type 0 where
+  pub merged : List Merged
+  pub are : AllZip IsOfTheFirst lines merged
+  pub answers : List Said
+  pub answered : AreAnsweredAfter before table merged answers after
+  pub is : told ≡ written_all answers
+  pub own : answers_to 1 merged answers ≡ answers
+  pub count : taken_count 1 merged ≡ length lines
+
+module _ {D M : Type 0} (state : D → State) (sector_count failures : D → ℕ) (gives : M → ℕ → M → Type 0) where
+  run-told : (s end : Standing D M) (before : List Merged) (lines : List (List ℕ)) (text : List ℕ) →
+      name_from 1 None before ≡ s.name → IsRun (AnswersLine state sector_count failures gives) s lines text end →
+      Told before s.store.table end.store.table lines text
+  run-told s end before [] text named (none, same) = record {
+    merged = [];
+    are = tt;
+    answers = [];
+    answered = (refl, ap (λ (t : Standing D M). t.store.table) same);
+    is = none;
+    own = refl;
+    count = refl;
+  }
+  run-told s end before (line ∷ lines) text named (answer, between, more, told, run, is) =
+      let m : Merged = record { session = 1; at = told.at; line = told.read } in
+      let next : name_from 1 None (before ++ m ∷ []) ≡ between.name = name-behind 1 None before m
+      ∙ ap (renamed (given_name told.at told.read)) named ∙ sym told.named in
+      let rest = run-told between end (before ++ m ∷ []) lines more next run in
+      record {
+        merged = m ∷ rest.merged;
+        are = (record { session = refl; reads = told.reads }, rest.are);
+        answers = told.answer ∷ rest.answers;
+        answered = (
+          told.answer,
+          rest.answers,
+          between.store.table,
+          refl,
+          subst (λ (n : Option (List ℕ)). IsLineAnswered s.store.table n told.at told.read told.answer
+              between.store.table) (sym named) told.answered,
+          rest.answered,
+        );
+        is = is ∙ ap (λ (x : List ℕ). x ++ more) told.says
+            ∙ ap (λ (x : List ℕ). written told.answer ++ x) rest.is;
+        own = ap (λ (xs : List Said). told.answer ∷ xs) rest.own;
+        count = sum_by-cons (λ (x : Merged). cond (x.session == 1) 1 0) m rest.merged
+            ∙ one-more (taken_count 1 rest.merged) (length lines) rest.count;
+      }
+
+-- ---- the text
+
+written-behind : (xs ys : List Said) → written_all (xs ++ ys) ≡ written_all xs ++ written_all ys
+written-behind [] ys = refl
+written-behind (x ∷ xs) ys = ap (λ (l : List ℕ). written x ++ l) (written-behind xs ys)
+    ∙ sym (append_assoc (written x) (written_all xs) (written_all ys))
+
+abbrev ends : Bool → List Said
+ends done = if done then farewell ∷ [] else []
+
+written-end : (answers : List Said) (long : Bool) →
+    written_all (answers ++ ends (long && true)) ≡ written_all answers ++ loop.farewell long
+written-end answers true = written-behind answers (farewell ∷ [])
+    ∙ ap (λ (l : List ℕ). written_all answers ++ l) (append-nil (written farewell))
+written-end answers false = ap written_all (append-nil answers) ∙ sym (append-nil (written_all answers))
+
+abbrev text_of : List ℕ → List Merged → List Said → List Said
+text_of input merged answers = answers_to 1 merged answers
+    ++ ends (has_long_line input && is_none_waiting (drop (taken_count 1 merged) (lines_of input)))
+
+text-is : (input : List ℕ) (merged : List Merged) (answers : List Said) → answers_to 1 merged answers ≡ answers →
+    taken_count 1 merged ≡ length (lines_of input) →
+    written_all (text_of input merged answers) ≡ written_all answers ++ loop.farewell (has_long_line input)
+text-is input merged answers own count =
+    let none : drop (taken_count 1 merged) (lines_of input) ≡ [] =
+    ap (λ (n : ℕ). drop n (lines_of input)) count ∙ drop-length (lines_of input) in
+    ap (λ (xs : List Said). written_all (xs ++ ends (has_long_line input
+    && is_none_waiting (drop (taken_count 1 merged) (lines_of input))))) own
+    ∙ ap (λ (left : List (List ℕ)). written_all (answers ++ ends (has_long_line input && is_none_waiting left))) none
+    ∙ written-end answers (has_long_line input)
+
+module _ {D M : Type 0} (state : D → State) (sector_count failures : D → ℕ) (gives : M → ℕ → M → Type 0) where
+  pub run-is : (store : Kept D) (moments : M) (input text : List ℕ) (end : Standing D M) →
+      IsText (AnswersLine state sector_count failures gives) (stands store None moments) input text end →
+      IsSessionText store.table end.store.table input text
+  run-is store moments input text end is =
+      let told = run-told state sector_count failures gives (stands store None moments) end [] (lines_of input)
+      is.answers refl is.run in
+      record {
+        merged = told.merged;
+        lines = told.are;
+        answers = told.answers;
+        answered = told.answered;
+        text = λ calls sent.
+            is.whole ∙ ap (λ (l : List ℕ). l ++ loop.farewell (has_long_line input)) told.is
+            ∙ sym (text-is input told.merged told.answers told.own told.count)
+            ∙ sym (ap (λ (i : List ℕ). written_all (text_of i told.merged told.answers)) sent);
+      }
