@@ -1,5 +1,5 @@
 -- Which faults end the work of a word.
-use Rattle.std.specs.Prelude.{◌≤◌, ⊤}
+use Rattle.std.specs.Prelude.{◌≤◌, ◌⊎◌, ⊤}
 use Rattle.rec_codec.specs.declared.limits.Limits.{Limits}
 use Rattle.chess_store.specs.Faults as store
 use Rattle.chess_sockets.specs.Turns as sockets
@@ -18,6 +18,24 @@ IsFormatFault faults.File = ⊤
 IsFormatFault faults.Write = ⊤
 IsFormatFault (faults.Store fault) = store.IsCreateFault fault
 IsFormatFault _ = ⊥
+
+-- of `widen`: it opens the journal, and then widens its table
+abbrev pub IsWidenFault : Fault → Type 0
+IsWidenFault faults.File = ⊤
+IsWidenFault faults.Limits = ⊤
+IsWidenFault faults.Write = ⊤
+IsWidenFault (faults.Store fault) = store.IsOpenFault fault ⊎ store.IsWidenFault fault
+IsWidenFault _ = ⊥
+
+-- of `run`
+abbrev pub IsRunFault : Fault → Type 0
+IsRunFault faults.File = ⊤
+IsRunFault (faults.Store fault) = store.IsOpenFault fault
+IsRunFault faults.Read = ⊤
+IsRunFault faults.Write = ⊤
+IsRunFault faults.LineTooLong = ⊤
+IsRunFault (faults.Hub fault) = ⊤
+IsRunFault _ = ⊥
 
 -- of `serve`
 abbrev pub IsServeFault : Fault → Type 0

@@ -1,8 +1,8 @@
 //! The words that make a journal and widen it.
-ghost use Rattle.std.specs.Prelude.{◌≡◌, ◌≤◌, ◌↔◌, IsTrue, IfErr};
+ghost use Rattle.std.specs.Prelude.{◌≡◌, ◌≤◌, ◌↔◌, IsTrue, IfErr, IsErrOf};
 ghost use Rattle.rec_codec.specs.declared.limits.Version.TheVariants.{Two};
 ghost use Rattle.rec_codec.specs.Limits.{IsInRange};
-ghost use Rattle.chess_server.specs.Faults.{IsFormatFault, IsOpenFault, MayWiden};
+ghost use Rattle.chess_server.specs.Faults.{IsFormatFault, IsOpenFault, IsWidenFault, MayWiden};
 
 use crate::ends::Fault;
 use crate::words::Tables;
@@ -97,6 +97,9 @@ fn may_widen(present: Limits, wanted: Limits) -> bool
 // Widens a store's table, unless a limit is below the present one: then nothing has changed.
 fn widen_store<D: Device>(store: &mut Store<D>, limits: Limits) -> Result<(), Fault>
     requires { IsInRange Two limits }
+    ensures below { IsErrOf result Fault.Limits ↔ (MayWiden store.old.table.limits limits → ⊥) }
+    ensures untouched { IsErrOf result Fault.Limits → store.new ≡ store.old }
+    ensures fault { IfErr result IsWidenFault }
 {
     if !may_widen(store.limits(), limits) {
         return Err(Fault::Limits);
@@ -113,7 +116,9 @@ pub fn widen<R: Files<File = File> + Print>(
     rt: &R,
     alloc: Global,
     tables: &Tables<'_>,
-) -> Result<(), Fault> {
+) -> Result<(), Fault>
+    ensures { IfErr result IsWidenFault }
+{
     let present = open_journal(rt, alloc, tables.journal)?.limits();
     if !may_widen(present, tables.limits) {
         return Err(Fault::Limits);

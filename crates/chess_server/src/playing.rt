@@ -1,6 +1,6 @@
 //! The words that play in a journal.
 ghost use Rattle.std.specs.Prelude.{◌≡◌, IfErr};
-ghost use Rattle.chess_server.specs.Faults.{IsServeFault};
+ghost use Rattle.chess_server.specs.Faults.{IsRunFault, IsServeFault};
 
 use crate::ends::{Fault, fault_of_run};
 use crate::journals::open_journal;
@@ -49,9 +49,13 @@ pub fn run_journal<R, I: Read, O: Write>(
 ) -> Result<(), Fault>
 where
     R: Files<File = File> + Clock,
+    ensures { IfErr result IsRunFault }
 {
     let store = open_journal(rt, alloc, journal)?;
-    run(alloc, input, output, store, Clocked { clock: rt }).map_err(fault_of_run)
+    match run(alloc, input, output, store, Clocked { clock: rt }) {
+        Ok(()) => Ok(()),
+        Err(fault) => Err(fault_of_run(fault)),
+    }
 }
 
 // Prints the port that a server listens on, at once.

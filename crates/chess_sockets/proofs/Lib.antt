@@ -1,3 +1,4 @@
 pub mod SendLemmas
 pub mod ClientLemmas
 pub mod StoreLemmas
+pub mod TakingLemmas

@@ -1,17 +1,22 @@
 -- What a turn leaves of the store.
-use Rattle.std.proofs.Common.{◌≡◌, ℕ, subst}
-use Rattle.std.specs.Prelude.{Result, Ok, Err, OnOk}
+use Rattle.std.proofs.Common.{◌≡◌, ◌∙◌, ℕ, List, subst, sym}
+use Rattle.std.specs.Prelude.{Bool, Result, Ok, Err, IfErr, OnOk}
 use Rattle.sector_dev.specs.Device.{State, IsCoherent}
 use Rattle.rec_codec.specs.declared.header.Header.{Header}
 use Rattle.sector_journal.specs.declared.compactions.Compaction.{Compaction}
 use Rattle.chess_entry.specs.State.{TableState}
+use Rattle.chess_entry.specs.declared.commands.Command.{Command}
+use Rattle.chess_sessions.specs.declared.sessions.Sessions.{Sessions}
+use Rattle.chess_store.specs.declared.fault.StoreFault.{StoreFault}
 use Rattle.chess_store.specs.declared.fault.StoreFault.TheVariants.{Exists, TooSmall, NotOurs, Damaged, Device, NoMemory, Worn, Failed}
+use Rattle.chess_store.specs.Faults.{IsSubmitFault}
 use Rattle.chess_store.specs.Means.{IsKept}
 use Rattle.chess_hub.specs.declared.fault.HubFault.{HubFault}
 use Rattle.chess_hub.specs.declared.fault.HubFault.TheVariants as hub
 use Rattle.chess_hub.specs.Faults.{UnlessDevice}
-use Rattle.chess_hub.specs.Turning.{Lasts}
+use Rattle.chess_hub.specs.Turning.{AsksFor, IsBatchFault, AreRefused, IsTurnFault, Lasts}
 use Rattle.chess_hub.proofs.TurnLemmas.{lasts_idle}
+use Rattle.chess_sockets.specs.Turns.{EndsServing, IsRefusal}
 
 unless_any : (fault : HubFault) (P : Type 0) → P → UnlessDevice fault P
 unless_any hub.Busy P p = p
@@ -78,3 +83,44 @@ lasts_unasked {T = T} made sectors now header compaction table coherent kept =
 -- what holds where a call is answered holds of this call, which was
 pub of_answered : {S P : Type 0} (given : Result S HubFault) (x : S) → given ≡ Ok x → OnOk given P → P
 of_answered {S = S} {P = P} given x was holds = subst (λ (r : Result S HubFault). OnOk r P) was holds
+
+-- ---- why a turn ends serving
+
+module _ {T : Type 0} where
+  -- A call around the hub's turn was refused memory.
+  pub of_memory : (made : Result T HubFault) (y fault : HubFault) (P : HubFault → Type 0) → made ≡ Err y → y ≡ fault
+      → fault ≡ hub.NoMemory → P hub.NoMemory → IfErr made P
+  of_memory made y fault P is same none p =
+      subst (λ (r : Result T HubFault). IfErr r P) (sym is) (subst P (sym (same ∙ none)) p)
+
+  pub at_err : (made : Result T HubFault) (fault : HubFault) (P : HubFault → Type 0) → made ≡ Err fault → IfErr made P
+      → P fault
+  at_err made fault P is p = subst (λ (r : Result T HubFault). IfErr r P) is p
+
+submit_fault : (fault : StoreFault) (seq : ℕ) (failed : Bool) (before after : TableState) (commands : List Command)
+    → IsBatchFault fault seq failed before after commands → IsSubmitFault fault
+submit_fault Exists seq failed before after commands why = why
+submit_fault TooSmall seq failed before after commands why = why
+submit_fault NotOurs seq failed before after commands why = why
+submit_fault Damaged seq failed before after commands why = why
+submit_fault (Device pending) seq failed before after commands why = tt
+submit_fault NoMemory seq failed before after commands why = tt
+submit_fault Worn seq failed before after commands why = tt
+submit_fault Failed seq failed before after commands why = tt
+
+module _ (Same : Type 0) (at : ℕ) (sessions : Sessions) (seq : ℕ) (failed : Bool) (before after : TableState) where
+  abbrev IsOfTurn : HubFault → Type 0
+  IsOfTurn fault = IsTurnFault fault Same (λ refused. AsksFor at 64 sessions
+      (AreRefused refused seq failed before after))
+
+  pub turn_ends : (fault : HubFault) → IsOfTurn fault → EndsServing fault
+  turn_ends hub.Busy why = why
+  turn_ends hub.NoMemory why = tt
+  turn_ends hub.LineTooLong why = why
+  turn_ends (hub.Store fault) why = submit_fault fault seq failed before after _ why.those.why
+
+  pub turn_refusal : (fault : HubFault) → IsOfTurn fault → IsRefusal fault at seq failed before after
+  turn_refusal hub.Busy why = tt
+  turn_refusal hub.NoMemory why = tt
+  turn_refusal hub.LineTooLong why = tt
+  turn_refusal (hub.Store fault) why = (sessions, why)

@@ -1,5 +1,5 @@
 -- What a connection does for its session.
-use Rattle.std.specs.Prelude.{ℕ, ◌≡◌, ◌≢◌, ◌⊎◌, true, List, [], ◌∷◌, ◌++◌, Option, IsSome, IfSome, option_map}
+use Rattle.std.specs.Prelude.{ℕ, ◌≡◌, ◌≢◌, ◌⊎◌, ◌≤◌, true, false, List, [], ◌∷◌, ◌++◌, Option, None, IsSome, IfSome, option_map, length}
 use Rattle.std.specs.Io.KnownBytes.{Consumes}
 use Rattle.session_lines.specs.Heard.{heard_more}
 use Rattle.chess_sessions.specs.declared.sessions.Sessions.{Sessions}
@@ -17,15 +17,19 @@ OthersStay old new sid = (other : ℕ) → other ≢ sid → session_at new othe
 
 -- The session has heard these bytes. None leaves it as it was, and so does what comes behind a line that is too long.
 abbrev pub HasHeard : SessionState → List ℕ → SessionState → Type 0
-HasHeard old taken new = (new ≡ record old { heard = heard_more old.heard taken })
+HasHeard old taken new = (old.heard.is_long ≡ false) × (new ≡ record old { heard = heard_more old.heard taken })
     ⊎ (new ≡ old) × (taken ≡ [])
     ⊎ (new ≡ old) × (old.heard.is_long ≡ true)
 
--- Bytes came from the peer, and the session has heard them, unless it was closed.
+-- Bytes came from the peer, a piece at most, and none where a piece's bytes wait already. The session has heard them; it
+-- is closed only where none came.
 pub record TakesIn (before after : Option (List ℕ)) (old : SessionState) (new : Option SessionState) : Type 0 where
   pub taken : List ℕ
   pub consumed : Consumes before after taken
   pub heard : IfSome new (HasHeard old taken)
+  pub short : length taken ≤ 4096
+  pub room : 4096 ≤ length old.heard.bytes → taken ≡ []
+  pub gone : new ≡ None → taken ≡ []
 
 -- ---- what goes
 

@@ -1,9 +1,8 @@
 //! A connection and its session.
-ghost use Rattle.std.specs.Prelude.{◌≡◌, ◌≤◌, ◌++◌, true, false, [], Some, Ok, length, IsSome, IfSome, IfErr, OnOk};
+ghost use Rattle.std.specs.Prelude.{◌≡◌, ◌≤◌, ◌++◌, true, false, [], Some, Ok, length, IsSome, IfSome, IsSomeAnd, IfErr, OnOk};
 ghost use Rattle.chess_sessions.specs.Session.{said, session_at};
 ghost use Rattle.chess_sockets.specs.Clients.{IsOpen, OthersStay, HasHeard, TakesIn, HandsOut, bytes_of, to_go};
 ghost use Rattle.chess_sockets.specs.Sending.{waiting};
-ghost use Rattle.chess_sockets.specs.Turns.{EndsServing};
 
 use crate::outgoing::{Outgoing, Sent};
 use crate::pieces::{Came, PIECE_ROOM, read_piece};
@@ -60,9 +59,9 @@ impl<S> Client<S> {
 fn feed<D: Device>(hub: &mut Hub<D>, sid: Sid, piece: &[u8]) -> Result<(), HubFault>
     requires open { IsOpen hub.old.sessions sid }
     requires small { length piece.now ≤ 4096 }
-    ensures heard { IfSome (session_at hub.old.sessions sid) (λ s. OnOk result (IfSome
+    ensures heard { IfSome (session_at hub.old.sessions sid) (λ s. OnOk result (IsSomeAnd
         (session_at hub.new.sessions sid) (HasHeard s piece.now))) }
-    ensures fault { IfErr result EndsServing }
+    ensures fault { IfErr result (λ fault. fault ≡ HubFault.NoMemory) }
     ensures others { OthersStay hub.old.sessions hub.new.sessions sid }
     ensures store { hub.new.store ≡ hub.old.store }
 {
@@ -88,7 +87,7 @@ fn gather<D: Device>(hub: &mut Hub<D>, sid: Sid, outgoing: &mut Outgoing) -> Res
     ensures open { IsOpen hub.new.sessions sid }
     ensures same { OnOk result (to_go (session_at hub.new.sessions sid) (waiting outgoing.new)
         ≡ to_go (session_at hub.old.sessions sid) (waiting outgoing.old)) }
-    ensures fault { IfErr result EndsServing }
+    ensures fault { IfErr result (λ fault. fault ≡ HubFault.NoMemory) }
     ensures others { OthersStay hub.old.sessions hub.new.sessions sid }
     ensures store { hub.new.store ≡ hub.old.store }
 {
@@ -123,10 +122,11 @@ impl<S: Read + Write> Client<S> {
         ensures taken { IfSome (session_at hub.old.sessions self.old.sid) (λ s. OnOk result (TakesIn
             (S.remaining self.old.stream) (S.remaining self.new.stream) s
             (session_at hub.new.sessions self.old.sid))) }
+        ensures sid { self.new.sid ≡ self.old.sid }
+        ensures outgoing { waiting self.new.outgoing ≡ waiting self.old.outgoing }
         // Who has sent something is asked for more.
         ensures quiet { self.new.is_quiet ≡ true → result ≡ Ok false }
-        ensures sid { self.new.sid ≡ self.old.sid }
-        ensures fault { IfErr result EndsServing }
+        ensures fault { IfErr result (λ fault. fault ≡ HubFault.NoMemory) }
         ensures others { OthersStay hub.old.sessions hub.new.sessions self.old.sid }
         ensures store { hub.new.store ≡ hub.old.store }
     {
@@ -163,7 +163,7 @@ impl<S: Read + Write> Client<S> {
             (to_go (session_at hub.new.sessions self.old.sid) (waiting self.new.outgoing))) }
         ensures peer { (self.new.sid ≡ self.old.sid) × (self.new.has_ended ≡ self.old.has_ended)
             × (self.new.is_quiet ≡ self.old.is_quiet) }
-        ensures fault { IfErr result EndsServing }
+        ensures fault { IfErr result (λ fault. fault ≡ HubFault.NoMemory) }
         ensures others { OthersStay hub.old.sessions hub.new.sessions self.old.sid }
         ensures store { hub.new.store ≡ hub.old.store }
     {
@@ -187,7 +187,7 @@ impl<S: Read + Write> Client<S> {
             (to_go (session_at hub.new.sessions self.old.sid) (waiting self.new.outgoing))) }
         ensures peer { (self.new.sid ≡ self.old.sid) × (self.new.has_ended ≡ self.old.has_ended)
             × (self.new.is_quiet ≡ self.old.is_quiet) }
-        ensures fault { IfErr result EndsServing }
+        ensures fault { IfErr result (λ fault. fault ≡ HubFault.NoMemory) }
         ensures others { OthersStay hub.old.sessions hub.new.sessions self.old.sid }
         ensures store { hub.new.store ≡ hub.old.store }
     {

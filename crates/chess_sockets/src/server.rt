@@ -1,8 +1,9 @@
 //! The server.
 ghost use Rattle.std.specs.Prelude.{◌≡◌, IfOk, IfErr, OnOk};
 ghost use Rattle.chess_store.specs.Means.{IsKept};
+ghost use Rattle.chess_hub.specs.Faults.{CountsFault};
 ghost use Rattle.chess_hub.specs.Turning.{Lasts};
-ghost use Rattle.chess_sockets.specs.Turns.{EndsServing, HasServed};
+ghost use Rattle.chess_sockets.specs.Turns.{EndsServing, HasServed, IsRefusal};
 
 use crate::client::Client;
 use crate::pieces::PIECE_ROOM;
@@ -77,7 +78,7 @@ fn take_in_all<S: Read + Write, D: Device>(
     hub: &mut Hub<D>,
     is_calm: bool,
 ) -> Result<bool, HubFault>
-    ensures fault { IfErr result EndsServing }
+    ensures fault { IfErr result (λ fault. fault ≡ HubFault.NoMemory) }
     ensures store { hub.new.store ≡ hub.old.store }
 {
     let mut piece = [0u8; PIECE_ROOM];
@@ -98,7 +99,7 @@ fn hand_out_all<S: Read + Write, D: Device>(
     clients: &mut Vec<Client<S>>,
     hub: &mut Hub<D>,
 ) -> Result<bool, HubFault>
-    ensures fault { IfErr result EndsServing }
+    ensures fault { IfErr result (λ fault. fault ≡ HubFault.NoMemory) }
     ensures store { hub.new.store ≡ hub.old.store }
 {
     let mut any = false;
@@ -150,7 +151,7 @@ impl<D: Device> Server<D> {
 
     // Begins a session for a connection.
     fn admit(&mut self, stream: TcpStream) -> Result<(), HubFault>
-        ensures fault { IfErr result EndsServing }
+        ensures fault { IfErr result (λ fault. fault ≡ HubFault.NoMemory) }
         ensures store { self.new.hub.store ≡ self.old.hub.store }
         ensures port { self.new.port ≡ self.old.port }
     {
@@ -171,7 +172,7 @@ impl<D: Device> Server<D> {
 
     // Accepts at most one connection, after calm rests none, and tells whether one came.
     fn welcome(&mut self) -> Result<bool, HubFault>
-        ensures fault { IfErr result EndsServing }
+        ensures fault { IfErr result (λ fault. fault ≡ HubFault.NoMemory) }
         ensures store { self.new.hub.store ≡ self.old.hub.store }
         ensures port { self.new.port ≡ self.old.port }
     {
@@ -207,6 +208,13 @@ impl<D: Device> Server<D> {
     /// the whole batch; at `Ok` every image means the latter.
     pub fn turn(&mut self, at: u64) -> Result<Turned, HubFault>
         ensures fault { IfErr result EndsServing }
+        // The store's own fault tells why it refused what lines ask for.
+        ensures refused { IfErr result (λ fault. IsRefusal fault at self.old.hub.store.journal.header.seq
+            self.old.hub.store.failed self.old.hub.store.table self.new.hub.store.table) }
+        ensures cause { OnOk result (D.failures self.new.hub.store.journal.device
+            ≡ D.failures self.old.hub.store.journal.device) }
+        ensures cause_err { IfErr result (λ fault. CountsFault fault
+            (D.failures self.old.hub.store.journal.device) (D.failures self.new.hub.store.journal.device)) }
         // The next turn reads for every client, unless a rest comes first.
         ensures again { OnOk result (self.new.rested ≡ Rested.Not) }
         ensures served { OnOk result (HasServed at self.old.hub.store.table self.new.hub.store.table) }
