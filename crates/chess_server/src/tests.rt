@@ -1,7 +1,12 @@
 //! The command line's words, and how a run ends.
-use crate::ends::{End, Fault, end_of_words, end_of_work, fault_of_board, name, status};
+use crate::ends::{
+    End, Fault, end_of_words, end_of_work, fault_of_board, fault_of_run, name, status,
+};
 use crate::words::{Word, read_words};
 use board_session::BoardFault;
+use chess_hub::HubFault;
+use chess_run::RunFault;
+use chess_store::StoreFault;
 use std::alloc::{AllocError, Global};
 use std::test::Fail;
 
@@ -22,6 +27,52 @@ fn names_the_faults_of_board(rt: HostRuntime) {
     }
     assert_eq!(rt; told_of(end_of_work(Ok(()))), None);
     assert_eq!(rt; status(end_of_work(Ok(()))), 0);
+}
+
+// Whether a word that this fault breaks off tells this name, and ends with status 1.
+fn tells(fault: Fault, told: &'static str) -> bool {
+    let end = end_of_work(Err(fault));
+    told_of(end) == Some(told) && status(end) == 1
+}
+
+#[test]
+fn names_each_fault(rt: HostRuntime) {
+    for (fault, told) in [
+        // Of `format`, `widen` and `drill`, and of what comes before lines are played.
+        (Fault::File, "File"),
+        (Fault::Limits, "Limits"),
+        (Fault::Socket, "Socket"),
+        (Fault::Write, "Write"),
+        // Of `run`.
+        (fault_of_run(RunFault::Read), "Read"),
+        (fault_of_run(RunFault::Write), "Write"),
+        (fault_of_run(RunFault::LineTooLong), "LineTooLong"),
+        (fault_of_run(RunFault::Hub(HubFault::NoMemory)), "NoMemory"),
+        (
+            fault_of_run(RunFault::Hub(HubFault::Store(StoreFault::Worn))),
+            "Worn",
+        ),
+        // Of `serve`.
+        (Fault::Hub(HubFault::NoMemory), "NoMemory"),
+        (Fault::Hub(HubFault::Busy), "Busy"),
+        (Fault::Hub(HubFault::LineTooLong), "LineTooLong"),
+    ] {
+        assert!(rt; tells(fault, told));
+    }
+    // Of each word that opens, makes or widens a journal, and of those that play on it.
+    for (fault, told) in [
+        (StoreFault::Exists, "Exists"),
+        (StoreFault::TooSmall, "TooSmall"),
+        (StoreFault::NotOurs, "NotOurs"),
+        (StoreFault::Damaged, "Damaged"),
+        (StoreFault::Device { pending: 5 }, "Device"),
+        (StoreFault::NoMemory, "NoMemory"),
+        (StoreFault::Worn, "Worn"),
+        (StoreFault::Failed, "Failed"),
+    ] {
+        assert!(rt; tells(Fault::Store(fault), told));
+        assert!(rt; tells(Fault::Hub(HubFault::Store(fault)), told));
+    }
 }
 
 // The words of a command line as the program gets them.
