@@ -80,6 +80,10 @@ lasts_unasked {T = T} made sectors now header compaction table coherent kept =
     over {S = Unit {0}} {T = T} tt made now now header compaction table table
     (lasts_idle {T = Unit {0}} tt sectors now header compaction table coherent kept)
 
+-- what holds where a call is answered holds of this call, which was
+pub of_answered : {S P : Type 0} (given : Result S HubFault) (x : S) → given ≡ Ok x → OnOk given P → P
+of_answered {S = S} {P = P} given x was holds = subst (λ (r : Result S HubFault). OnOk r P) was holds
+
 -- ---- why a turn ends serving
 
 module _ {T : Type 0} where
@@ -93,9 +97,6 @@ module _ {T : Type 0} where
       → P fault
   at_err made fault P is p = subst (λ (r : Result T HubFault). IfErr r P) is p
 
-  pub at_ok : (made : Result T HubFault) (x : T) (P : Type 0) → made ≡ Ok x → OnOk made P → P
-  at_ok made x P is p = subst (λ (r : Result T HubFault). OnOk r P) is p
-
 submit_fault : (fault : StoreFault) (seq : ℕ) (failed : Bool) (before after : TableState) (commands : List Command)
     → IsBatchFault fault seq failed before after commands → IsSubmitFault fault
 submit_fault Exists seq failed before after commands why = why
@@ -107,9 +108,9 @@ submit_fault NoMemory seq failed before after commands why = tt
 submit_fault Worn seq failed before after commands why = tt
 submit_fault Failed seq failed before after commands why = tt
 
-module _ (Same : Type 0) (at most : ℕ) (sessions : Sessions) (seq : ℕ) (failed : Bool) (before after : TableState) where
+module _ (Same : Type 0) (at : ℕ) (sessions : Sessions) (seq : ℕ) (failed : Bool) (before after : TableState) where
   abbrev IsOfTurn : HubFault → Type 0
-  IsOfTurn fault = IsTurnFault fault Same (λ refused. AsksFor at most sessions
+  IsOfTurn fault = IsTurnFault fault Same (λ refused. AsksFor at 64 sessions
       (AreRefused refused seq failed before after))
 
   pub turn_ends : (fault : HubFault) → IsOfTurn fault → EndsServing fault
@@ -118,8 +119,8 @@ module _ (Same : Type 0) (at most : ℕ) (sessions : Sessions) (seq : ℕ) (fail
   turn_ends hub.LineTooLong why = why
   turn_ends (hub.Store fault) why = submit_fault fault seq failed before after _ why.those.why
 
-  pub turn_refusal : (fault : HubFault) → IsOfTurn fault → IsRefusal fault seq failed before after
+  pub turn_refusal : (fault : HubFault) → IsOfTurn fault → IsRefusal fault at seq failed before after
   turn_refusal hub.Busy why = tt
   turn_refusal hub.NoMemory why = tt
   turn_refusal hub.LineTooLong why = tt
-  turn_refusal (hub.Store fault) why = (_, why.those)
+  turn_refusal (hub.Store fault) why = (sessions, why)

@@ -161,7 +161,8 @@ impl<S: Read + Write> Client<S> {
         ensures hands { OnOk result (HandsOut (S.contents self.old.stream) (S.contents self.new.stream)
             (to_go (session_at hub.old.sessions self.old.sid) (waiting self.old.outgoing))
             (to_go (session_at hub.new.sessions self.old.sid) (waiting self.new.outgoing))) }
-        ensures sid { self.new.sid ≡ self.old.sid }
+        ensures peer { (self.new.sid ≡ self.old.sid) × (self.new.has_ended ≡ self.old.has_ended)
+            × (self.new.is_quiet ≡ self.old.is_quiet) }
         ensures fault { IfErr result (λ fault. fault ≡ HubFault.NoMemory) }
         ensures others { OthersStay hub.old.sessions hub.new.sessions self.old.sid }
         ensures store { hub.new.store ≡ hub.old.store }
@@ -184,7 +185,8 @@ impl<S: Read + Write> Client<S> {
         ensures hands { OnOk result (HandsOut (S.contents self.old.stream) (S.contents self.new.stream)
             (to_go (session_at hub.old.sessions self.old.sid) (waiting self.old.outgoing))
             (to_go (session_at hub.new.sessions self.old.sid) (waiting self.new.outgoing))) }
-        ensures sid { self.new.sid ≡ self.old.sid }
+        ensures peer { (self.new.sid ≡ self.old.sid) × (self.new.has_ended ≡ self.old.has_ended)
+            × (self.new.is_quiet ≡ self.old.is_quiet) }
         ensures fault { IfErr result (λ fault. fault ≡ HubFault.NoMemory) }
         ensures others { OthersStay hub.old.sessions hub.new.sessions self.old.sid }
         ensures store { hub.new.store ≡ hub.old.store }

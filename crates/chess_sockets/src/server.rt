@@ -3,7 +3,7 @@ ghost use Rattle.std.specs.Prelude.{◌≡◌, IfOk, IfErr, OnOk};
 ghost use Rattle.chess_store.specs.Means.{IsKept};
 ghost use Rattle.chess_hub.specs.Faults.{CountsFault};
 ghost use Rattle.chess_hub.specs.Turning.{Lasts};
-ghost use Rattle.chess_sockets.specs.Turns.{EndsServing, IsRefusal};
+ghost use Rattle.chess_sockets.specs.Turns.{EndsServing, HasServed, IsRefusal};
 
 use crate::client::Client;
 use crate::pieces::PIECE_ROOM;
@@ -122,7 +122,7 @@ impl<D: Device> Server<D> {
     ) -> Result<Server<D>, SocketFault>
     where
         D: Drop,
-        ensures { IfOk result (λ server. server.hub ≡ hub) }
+        ensures hub { IfOk result (λ server. server.hub ≡ hub) }
     {
         let (Ok(listener), Ok(mut watch)) = (listen(net, port), Watch::new(net, alloc)) else {
             return Err(SocketFault);
@@ -153,6 +153,7 @@ impl<D: Device> Server<D> {
     fn admit(&mut self, stream: TcpStream) -> Result<(), HubFault>
         ensures fault { IfErr result (λ fault. fault ≡ HubFault.NoMemory) }
         ensures store { self.new.hub.store ≡ self.old.hub.store }
+        ensures port { self.new.port ≡ self.old.port }
     {
         let sid = match self.hub.connect() {
             Ok(sid) => sid,
@@ -173,6 +174,7 @@ impl<D: Device> Server<D> {
     fn welcome(&mut self) -> Result<bool, HubFault>
         ensures fault { IfErr result (λ fault. fault ≡ HubFault.NoMemory) }
         ensures store { self.new.hub.store ≡ self.old.hub.store }
+        ensures port { self.new.port ≡ self.old.port }
     {
         if self.rested == Rested::Calm {
             return Ok(false);
@@ -190,6 +192,7 @@ impl<D: Device> Server<D> {
     fn part(&mut self)
         ensures hub { self.new.hub ≡ self.old.hub }
         ensures rested { self.new.rested ≡ self.old.rested }
+        ensures port { self.new.port ≡ self.old.port }
     {
         let hub = &self.hub;
         self.clients.retain(|client| hub.is_open(client.sid()));
@@ -206,7 +209,7 @@ impl<D: Device> Server<D> {
     pub fn turn(&mut self, at: u64) -> Result<Turned, HubFault>
         ensures fault { IfErr result EndsServing }
         // The store's own fault tells why it refused what lines ask for.
-        ensures refused { IfErr result (λ fault. IsRefusal fault self.old.hub.store.journal.header.seq
+        ensures refused { IfErr result (λ fault. IsRefusal fault at self.old.hub.store.journal.header.seq
             self.old.hub.store.failed self.old.hub.store.table self.new.hub.store.table) }
         ensures cause { OnOk result (D.failures self.new.hub.store.journal.device
             ≡ D.failures self.old.hub.store.journal.device) }
@@ -214,6 +217,8 @@ impl<D: Device> Server<D> {
             (D.failures self.old.hub.store.journal.device) (D.failures self.new.hub.store.journal.device)) }
         // The next turn reads for every client, unless a rest comes first.
         ensures again { OnOk result (self.new.rested ≡ Rested.Not) }
+        ensures served { OnOk result (HasServed at self.old.hub.store.table self.new.hub.store.table) }
+        ensures port { self.new.port ≡ self.old.port }
         ensures lasts { IsKept (D.state self.old.hub.store.journal.device) self.old.hub.store.journal.header
             self.old.hub.store.journal.compaction self.old.hub.store.table
             → Lasts result (D.state self.old.hub.store.journal.device) (D.state self.new.hub.store.journal.device)
@@ -243,6 +248,7 @@ impl<D: Device> Server<D> {
     pub fn rest(&mut self)
         ensures hub { self.new.hub ≡ self.old.hub }
         ensures woken { self.old.rested ≡ Rested.Woken → self.new.rested ≡ Rested.Woken }
+        ensures port { self.new.port ≡ self.old.port }
     {
         let is_calm = self.watch.rest();
         self.rested = if is_calm && self.rested != Rested::Woken {

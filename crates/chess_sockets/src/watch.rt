@@ -42,7 +42,9 @@ impl Watch {
     }
 
     /// Watches a socket too, until it is closed. Where the system refuses that, no wait is calm from then on.
-    pub fn add(&mut self, socket: RawFd) {
+    pub fn add(&mut self, socket: RawFd)
+        ensures { self.old.is_blind ≡ true → self.new.is_blind ≡ true }
+    {
         let interest = Interest::READABLE | Interest::WRITABLE;
         let watched = self
             .poll
@@ -59,6 +61,7 @@ impl Watch {
     pub fn rest(&mut self) -> bool
         ensures often { result ≡ true → self.new.calm_waits ≡ self.old.calm_waits + 1 }
         ensures blind { self.old.is_blind ≡ true → result ≡ false }
+        ensures kept { self.new.is_blind ≡ self.old.is_blind }
     {
         let waited = self
             .poll

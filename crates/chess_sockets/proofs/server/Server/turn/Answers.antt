@@ -4,7 +4,7 @@ use Rattle.std.proofs.lemmas.Result.{err_from_is_err_and}
 use Rattle.chess_hub.specs.Faults.{CountsFault}
 use Rattle.chess_hub.specs.Turning.{AsksFor, AreRefused, IsTurnFault}
 use Rattle.chess_sockets.specs.Turns.{EndsServing, IsRefusal}
-use Rattle.chess_sockets.proofs.StoreLemmas.{lasts_over, lasts_refused, lasts_unasked, of_memory, at_err, at_ok, turn_ends, turn_refusal}
+use Rattle.chess_sockets.proofs.StoreLemmas.{of_answered, lasts_over, lasts_refused, lasts_unasked, of_memory, at_err, turn_ends, turn_refusal}
 use Rattle.chess_sockets.proofs.server.Server.turn.Goals as goal
 
 pub returns-in_err-came-clause-lasts : goal.returns-in_err-came-clause-lasts
@@ -63,6 +63,32 @@ returns-else-wrote-clause-lasts g c =
     (λ kept. lasts_over c.turn.result tt _ (state s.journal.device) (state n.journal.device) n.journal.header
     n.journal.compaction s.table n.table c.in_default.is (c.turn.ensures.lasts kept))
 
+-- ---- the table
+
+pub returns-then-wrote-clause-served : goal.returns-then-wrote-clause-served
+returns-then-wrote-clause-served g c =
+    rw (
+      ap (λ h. h.store) c.part-2.ensures.hub ∙ c.hand_out_all.ensures.store,
+      sym (c.take_in_all.ensures.store ∙ c.welcome.ensures.store ∙ ap (λ h. h.store) c.part.ensures.hub),
+    )
+    (record {
+      heard = c.take_in_all.new.hub.sessions;
+      answered = c.turn.new.self.sessions;
+      turned = of_answered c.turn.result tt c.in_default.is c.turn.ensures.turned;
+    })
+
+pub returns-else-wrote-clause-served : goal.returns-else-wrote-clause-served
+returns-else-wrote-clause-served g c =
+    rw (
+      ap (λ h. h.store) c.part-2.ensures.hub ∙ c.hand_out_all.ensures.store,
+      sym (c.take_in_all.ensures.store ∙ c.welcome.ensures.store ∙ ap (λ h. h.store) c.part.ensures.hub),
+    )
+    (record {
+      heard = c.take_in_all.new.hub.sessions;
+      answered = c.turn.new.self.sessions;
+      turned = of_answered c.turn.result tt c.in_default.is c.turn.ensures.turned;
+    })
+
 -- ---- why it ends serving
 
 pub returns-in_err-came-clause-fault : goal.returns-in_err-came-clause-fault
@@ -73,7 +99,7 @@ returns-in_err-came-clause-fault g c =
 pub returns-in_err-came-clause-refused : goal.returns-in_err-came-clause-refused
 returns-in_err-came-clause-refused g c =
     let e = err_from_is_err_and c.from_residual.result c.from_residual.ensures.1 in
-    of_memory c.from_residual.result e.0 c.in_err-came.field-0.0 (λ fault. IsRefusal fault _ _ _ _) e.1 e.2
+    of_memory c.from_residual.result e.0 c.in_err-came.field-0.0 (λ fault. IsRefusal fault c.args.at _ _ _ _) e.1 e.2
     c.in_err-came.ensures.fault tt
 
 pub returns-in_err-read-clause-fault : goal.returns-in_err-read-clause-fault
@@ -84,7 +110,7 @@ returns-in_err-read-clause-fault g c =
 pub returns-in_err-read-clause-refused : goal.returns-in_err-read-clause-refused
 returns-in_err-read-clause-refused g c =
     let e = err_from_is_err_and c.from_residual-in_err-read.result c.from_residual-in_err-read.ensures.1 in
-    of_memory c.from_residual-in_err-read.result e.0 c.in_err-read.field-0.0 (λ fault. IsRefusal fault _ _ _ _) e.1 e.2
+    of_memory c.from_residual-in_err-read.result e.0 c.in_err-read.field-0.0 (λ fault. IsRefusal fault c.args.at _ _ _ _) e.1 e.2
     c.in_err-read.ensures.fault tt
 
 pub returns-in_err-wrote-clause-fault : goal.returns-in_err-wrote-clause-fault
@@ -95,14 +121,14 @@ returns-in_err-wrote-clause-fault g c =
 pub returns-in_err-wrote-clause-refused : goal.returns-in_err-wrote-clause-refused
 returns-in_err-wrote-clause-refused g c =
     let e = err_from_is_err_and c.from_residual-in_err-wrote.result c.from_residual-in_err-wrote.ensures.1 in
-    of_memory c.from_residual-in_err-wrote.result e.0 c.in_err-wrote.field-0.0 (λ fault. IsRefusal fault _ _ _ _) e.1 e.2
+    of_memory c.from_residual-in_err-wrote.result e.0 c.in_err-wrote.field-0.0 (λ fault. IsRefusal fault c.args.at _ _ _ _) e.1 e.2
     c.in_err-wrote.ensures.fault tt
 
 pub returns-in-Err-clause-fault : goal.returns-in-Err-clause-fault
 returns-in-Err-clause-fault g c =
     let hub = c.take_in_all.new.hub in
     let n = c.turn.new.self.store in
-    turn_ends (n ≡ hub.store) c.args.at 64 hub.sessions hub.store.journal.header.seq hub.store.failed hub.store.table
+    turn_ends (n ≡ hub.store) c.args.at hub.sessions hub.store.journal.header.seq hub.store.failed hub.store.table
     n.table c.in-Err.fault (at_err c.turn.result c.in-Err.fault (λ fault. IsTurnFault fault (n ≡ hub.store)
     (λ refused. AsksFor c.args.at 64 hub.sessions (AreRefused refused hub.store.journal.header.seq hub.store.failed
     hub.store.table n.table))) c.in-Err.is c.turn.ensures.fault)
@@ -112,7 +138,7 @@ returns-in-Err-clause-refused g c =
     let hub = c.take_in_all.new.hub in
     let n = c.turn.new.self.store in
     rw (sym (c.take_in_all.ensures.store ∙ c.welcome.ensures.store ∙ ap (λ h. h.store) c.part.ensures.hub))
-    (turn_refusal (n ≡ hub.store) c.args.at 64 hub.sessions hub.store.journal.header.seq hub.store.failed
+    (turn_refusal (n ≡ hub.store) c.args.at hub.sessions hub.store.journal.header.seq hub.store.failed
     hub.store.table n.table c.in-Err.fault (at_err c.turn.result c.in-Err.fault (λ fault. IsTurnFault fault
     (n ≡ hub.store) (λ refused. AsksFor c.args.at 64 hub.sessions (AreRefused refused hub.store.journal.header.seq
     hub.store.failed hub.store.table n.table))) c.in-Err.is c.turn.ensures.fault))
@@ -154,7 +180,7 @@ returns-in_err-wrote-clause-cause_err g c =
     rw (c.hand_out_all.ensures.store, sym (c.take_in_all.ensures.store ∙ c.welcome.ensures.store ∙ ap (λ h. h.store) c.part.ensures.hub))
     (of_memory r.result e.0 c.in_err-wrote.field-0.0 (λ fault. CountsFault fault (failures s.journal.device)
     (failures n.journal.device)) e.1 e.2 c.in_err-wrote.ensures.fault
-    (at_ok c.turn.result tt (failures n.journal.device ≡ failures s.journal.device) c.in_default.is
+    (of_answered {P = failures n.journal.device ≡ failures s.journal.device} c.turn.result tt c.in_default.is
     c.turn.ensures.tried.cause))
 
 pub returns-then-wrote-clause-cause : goal.returns-then-wrote-clause-cause
@@ -166,7 +192,7 @@ returns-then-wrote-clause-cause g c =
       ap (λ h. h.store) c.part-2.ensures.hub ∙ c.hand_out_all.ensures.store,
       sym (c.take_in_all.ensures.store ∙ c.welcome.ensures.store ∙ ap (λ h. h.store) c.part.ensures.hub),
     )
-    (at_ok c.turn.result tt (failures n.journal.device ≡ failures s.journal.device) c.in_default.is
+    (of_answered {P = failures n.journal.device ≡ failures s.journal.device} c.turn.result tt c.in_default.is
     c.turn.ensures.tried.cause)
 
 pub returns-else-wrote-clause-cause : goal.returns-else-wrote-clause-cause
@@ -178,5 +204,5 @@ returns-else-wrote-clause-cause g c =
       ap (λ h. h.store) c.part-2.ensures.hub ∙ c.hand_out_all.ensures.store,
       sym (c.take_in_all.ensures.store ∙ c.welcome.ensures.store ∙ ap (λ h. h.store) c.part.ensures.hub),
     )
-    (at_ok c.turn.result tt (failures n.journal.device ≡ failures s.journal.device) c.in_default.is
+    (of_answered {P = failures n.journal.device ≡ failures s.journal.device} c.turn.result tt c.in_default.is
     c.turn.ensures.tried.cause)
