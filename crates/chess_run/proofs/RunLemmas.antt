@@ -1,7 +1,7 @@
 -- A run over a hub with one session.
-use Rattle.std.proofs.Common.{◌≡◌, ℕ, zero, suc, ◌≤◌, ◌<◌, true, false, List, [], ◌∷◌, ◌++◌, length, sym, refl, ap, ◌∙◌, subst, arith, Option, None, Some, IfSome, Result, Ok, Err, inl, inr}
-use Rattle.std.specs.Prelude.{◌⊎◌, Bool, option_map, is_some, count_by, IsErrOf, OnOk, slice_index_or}
-use Rattle.std.specs.Io.KnownBytes.{Appends, IsAtEnd}
+use Rattle.std.proofs.Common.{◌≡◌, ℕ, suc, ◌≤◌, List, [], ◌∷◌, ◌++◌, sym, refl, ap, ◌∙◌, subst, arith, Option, None, Some, IfSome, Result, Ok, Err, inl, inr}
+use Rattle.std.specs.Prelude.{◌⊎◌, option_map, is_some, count_by, IsErrOf, OnOk, slice_index_or}
+use Rattle.std.specs.Io.KnownBytes.{Appends}
 use Rattle.slab.specs.Slab.{get}
 use Rattle.sector_dev.specs.Device.{State}
 use Rattle.chess_sessions.specs.declared.sessions.Session.{Session}
@@ -9,7 +9,7 @@ use Rattle.chess_sessions.specs.declared.sessions.Sessions.{Sessions}
 use Rattle.chess_sessions.specs.Session.{shown, session_at, session_count}
 use Rattle.line_loop.specs.declared.answerer.LoopFault.{LoopFault}
 use Rattle.line_loop.specs.declared.answerer.LoopFault.TheVariants as loop
-use Rattle.line_loop.specs.Texts.{IsRun, IsText, AnswersAll, AnswersLong, AnswersUntil, FindsNone, AnswersInPart, Ended}
+use Rattle.line_loop.specs.Texts.{IsRun, IsText, FindsNone, Ended}
 use Rattle.chess_hub.specs.declared.fault.HubFault.{HubFault}
 use Rattle.chess_hub.specs.declared.fault.HubFault.TheVariants.{Busy, NoMemory, LineTooLong, Store as OfStore}
 use Rattle.chess_run.specs.declared.running.RunFault.{RunFault}

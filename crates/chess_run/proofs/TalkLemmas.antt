@@ -1,14 +1,13 @@
 -- One session alone, and its lines one after the other.
-use Rattle.std.proofs.Common.{◌≡◌, ℕ, zero, suc, ◌<◌, ◌≤◌, ◌+◌, true, false, List, [], ◌∷◌, ◌++◌, length, sym, refl, ap, ◌∙◌, subst, arith, append-nil, Option, None, Some, Result, Ok, Err, OnOk, IfErr}
-use Rattle.std.specs.Prelude.{◌↔◌, IsErrOf, ◌≢◌, ◌==◌, Bool, cond, map, option_map, is_some, IsSome, IfSome, IsSomeAnd, slice_index_or}
+use Rattle.std.proofs.Common.{◌≡◌, ℕ, zero, suc, ◌<◌, ◌+◌, true, false, List, [], ◌∷◌, ◌++◌, length, sym, refl, ap, ◌∙◌, subst, arith, append-nil, Option, None, Some, Result, Ok, Err, OnOk, IfErr}
+use Rattle.std.specs.Prelude.{◌↔◌, IsErrOf, ◌≢◌, Bool, cond, map, option_map, is_some, IsSome, IfSome, IsSomeAnd, slice_index_or}
 use Rattle.std.proofs.lemmas.Bool.{eq-eqb, false≢true}
 use Rattle.std.proofs.lemmas.List.Elements.{All-head, All-tail, All-nil}
-use Rattle.std.specs.List.{AllZip}
 use Rattle.std.specs.Option.{MatchOption}
 use Rattle.std.specs.Io.BufRead.{strip_last}
-use Rattle.slab.specs.Slab.{Slab, get, entries_from, entries}
+use Rattle.slab.specs.Slab.{get, entries_from, entries}
 use Rattle.session_lines.specs.Lines.{is_feed, HasNoFeed, IsUnfinished, lines_of, has_long_line}
-use Rattle.session_lines.specs.Heard.{Heard, heard, heard_more, kept_of, IsFirstLine}
+use Rattle.session_lines.specs.Heard.{Heard, heard, heard_more}
 use Rattle.session_lines.proofs.LineLemmas.{lines-feed, lines-rest, long-feed, long-rest}
 use Rattle.session_lines.proofs.Wholes.{kept-feed, kept-rest}
 use Rattle.rec_codec.specs.declared.record.Entry.{Entry}
@@ -20,10 +19,10 @@ use Rattle.chess_answer.specs.declared.reads.Reply.{Reply}
 use Rattle.chess_sessions.specs.declared.sessions.Session.{Session}
 use Rattle.chess_sessions.specs.declared.sessions.Sessions.{Sessions}
 use Rattle.chess_sessions.specs.declared.taking.Taken.{Taken}
-use Rattle.chess_sessions.specs.Session.{Said, said, SessionState, shown, session_at, Changes, IsUnchanged, first_due, due, given_one}
+use Rattle.chess_sessions.specs.Session.{Said, said, SessionState, shown, session_at, Changes, first_due, due, given_one}
 use Rattle.chess_sessions.specs.Turn.{Waiting, waiting, waiting_of, SessionLine, session_line, turn_lines, IsReading, IsTakenAs, AreTakenAs}
 use Rattle.chess_sessions.specs.Answers.{given_name, renamed, own_answer, alone, asked, commands_of, AreAnswers, name_of, name_at}
-use Rattle.chess_sessions.specs.Delivery.{Answered, AllAnswered, HasAnswered, DropsLine, DropsLines, own, name_over}
+use Rattle.chess_sessions.specs.Delivery.{Answered, AllAnswered, HasAnswered, DropsLine, own}
 use Rattle.chess_store.specs.Batch.{IsOutcome, IsAnswered, AreAnswered}
 use Rattle.chess_hub.specs.declared.fault.HubFault.{HubFault}
 use Rattle.chess_hub.specs.declared.fault.HubFault.TheVariants.{Busy, NoMemory, LineTooLong, Store}
@@ -34,7 +33,7 @@ use Rattle.sector_dev.specs.Device.{State}
 use Rattle.chess_store.specs.Means.{IsKept}
 use Rattle.chess_hub.specs.Turning.{AreRefused, Lasts, IsTried}
 use Rattle.chess_hub.specs.Sessions.{IsLineAnswered}
-use Rattle.chess_run.specs.Running.{Kept, written, stands, Serves, AnswersLine, RefusesLine, IsAlone, waits, IsTalking, asks, IsAsking, IsTold, LineAsksFor}
+use Rattle.chess_run.specs.Running.{Kept, written, stands, Serves, AnswersLine, RefusesLine, IsAlone, waits, IsTalking, asks, IsTold, LineAsksFor}
 
 -- ---- a session that is alone
 

@@ -1,29 +1,25 @@
 -- What a run is told: one session, each line a batch of its own.
 use Rattle.std.specs.Prelude.{ℕ, ◌≡◌, ◌≢◌, ◌⊎◌, true, false, Bool, List, [], ◌∷◌, ◌++◌, Option, Some, None, Result, Ok, Err}
-use Rattle.std.specs.Io.KnownBytes.{Appends, Consumes}
+use Rattle.std.specs.Io.KnownBytes.{Appends}
 use Rattle.session_lines.specs.Lines.{IsUnfinished}
 use Rattle.session_lines.specs.Heard.{heard}
 use Rattle.chess_entry.specs.declared.commands.Command.{Command}
-use Rattle.rec_codec.specs.declared.record.Entry.{Entry}
 use Rattle.sector_dev.specs.Device.{State}
 use Rattle.chess_entry.specs.State.{TableState}
 use Rattle.chess_line.specs.declared.lines.Line.{Line}
-use Rattle.chess_line.specs.declared.lines.Line.TheVariants.{Called, Act}
-use Rattle.chess_answer.specs.declared.reads.Reply.{Reply}
 use Rattle.chess_sessions.specs.declared.sessions.Sessions.{Sessions}
-use Rattle.chess_sessions.specs.Session.{Said, said, SessionState, session_at}
+use Rattle.chess_sessions.specs.Session.{Said, SessionState, session_at}
 use Rattle.chess_sessions.specs.Turn.{IsReading}
-use Rattle.chess_sessions.specs.Answers.{given_name, renamed, own_answer, asked, name_at}
+use Rattle.chess_sessions.specs.Answers.{given_name, renamed, asked}
 use Rattle.rec_codec.specs.declared.header.Header.{Header}
 use Rattle.sector_journal.specs.declared.compactions.Compaction.{Compaction}
 use Rattle.chess_store.specs.declared.fault.StoreFault.{StoreFault}
-use Rattle.chess_store.specs.Batch.{IsOutcome}
 use Rattle.chess_store.specs.Means.{IsKept}
 use Rattle.line_loop.specs.declared.answerer.LoopFault.{LoopFault}
 use Rattle.line_loop.specs.declared.answerer.LoopFault.TheVariants as loop
 use Rattle.line_loop.specs.Texts.{IsText, Ended}
 use Rattle.chess_hub.specs.declared.fault.HubFault.{HubFault}
-use Rattle.chess_hub.specs.declared.fault.HubFault.TheVariants.{Busy, NoMemory, LineTooLong, Store as OfStore}
+use Rattle.chess_hub.specs.declared.fault.HubFault.TheVariants.{NoMemory, Store as OfStore}
 use Rattle.chess_run.specs.declared.running.RunFault.{RunFault}
 use Rattle.chess_run.specs.declared.running.RunFault.TheVariants as faults
 use Rattle.chess_hub.specs.Sessions.{IsLineAnswered}

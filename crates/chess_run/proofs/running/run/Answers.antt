@@ -1,4 +1,4 @@
-use Rattle.std.proofs.Common.{◌≡◌, ◌∙◌, None, refl, sym, subst, Ok, Err, inr}
+use Rattle.std.proofs.Common.{◌≡◌, ◌∙◌, None, refl, sym, subst, inr}
 use Rattle.std.proofs.lemmas.Result.{err_from_is_err_and}
 use Rattle.chess_sessions.specs.Answers.{name_at}
 use Rattle.chess_run.specs.Running.{kept, stands, waits}
