@@ -374,8 +374,8 @@ impl Game {
         ensures refused { OnErr result (self.new ≡ self.old) }
     {
         let mover = self.line.board().side();
-        self.line.push(&mv)?;
-        self.sides.finish_turn(at, mover, self.line.ending());
+        let ending = self.line.push(&mv)?;
+        self.sides.finish_turn(at, mover, ending);
         Ok(())
     }
 
@@ -456,9 +456,9 @@ impl Game {
                 Ok(())
             }
             Some(mv) => {
-                self.line.push(mv)?;
+                let ending = self.line.push(mv)?;
                 self.sides.claim_wrongly(claim.by);
-                self.sides.finish_turn(at, claim.by, self.line.ending());
+                self.sides.finish_turn(at, claim.by, ending);
                 Ok(())
             }
         }

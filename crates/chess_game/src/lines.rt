@@ -84,8 +84,7 @@ impl Line {
             if by_line.is_some() || !legal(line.board(), *mv) {
                 return Ok(None);
             }
-            line.push(mv)?;
-            by_line = line.ending();
+            by_line = line.push(mv)?;
         }
         Ok(Some(Replayed { line, by_line }))
     }
@@ -111,30 +110,21 @@ impl Line {
         &self.moves
     }
 
-    /// Makes a legal move. It fails where memory is refused, and then all is as it was.
-    pub fn push(&mut self, mv: &Move) -> Result<(), AllocError>
+    /// Makes a legal move, and tells the ending that it gives, if it gives one. It fails where memory is refused, and then
+    /// all is as it was.
+    pub fn push(&mut self, mv: &Move) -> Result<Option<Ending>, AllocError>
         requires legal { IsLegal (last_of self.old) mv.now }
         requires room { HasRoom self.old }
         ensures pushed { OnOk result (self.new ≡ with_move self.old mv.now) }
+        ensures ending { IfOk result (λ by_line. by_line ≡ ending_after self.new.start self.new.moves) }
         ensures refused { OnErr result (self.new ≡ self.old) }
     {
         let board = self.board.apply(*mv);
         self.moves.reserve(1)?;
-        self.history.push(&board)?;
+        let times = self.history.push(&board)?;
         self.moves.push_reserved(*mv);
         self.board = board;
-        Ok(())
-    }
-
-    /// The ending that the last move gives, if it gives one.
-    pub fn ending(&self) -> Option<Ending>
-        ensures { result ≡ ending_after self.now.start self.now.moves }
-    {
-        after_move(
-            &self.board,
-            self.history.times(&self.board),
-            u32::from(self.board.halfmove()),
-        )
+        Ok(after_move(&board, times, u32::from(board.halfmove())))
     }
 
     /// The ending that a legal move would give, if it would give one. The move is not made.

@@ -85,6 +85,13 @@ counts_one_more key old new n counted updates = record {
   ];
 }
 
+-- a key that is counted once more
+pub counted_more : (key : List ℕ) (old new : List (List ℕ × ℕ)) → CountsOneMore key old new →
+    count_in new key ≡ count_in old key + 1
+counted_more key old new more =
+    more.one_more key
+    ∙ ap (λ (b : Bool). let x : ℕ = cond b 1 0 in count_in old key + x) ((bytes_decides key key).1 refl)
+
 -- A key that is given a count of at most one more is counted at most once more.
 pub counts_at_most : (key : List ℕ) (old new : List (List ℕ × ℕ)) (n most : ℕ) → n ≤ count_in old key + 1 →
     ((other : List ℕ) → lookup (is_key other) new ≡

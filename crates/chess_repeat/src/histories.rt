@@ -49,12 +49,15 @@ impl History {
         self.clocks.len() as u32
     }
 
-    /// Appends a position. It fails where memory is refused, and then all is as it was.
-    pub fn push(&mut self, board: &Board) -> Result<(), AllocError>
+    /// Appends a position, and tells how many members are the same position then (FIDE articles 9.2 and 9.6.1). It fails
+    /// where memory is refused, and then all is as it was.
+    pub fn push(&mut self, board: &Board) -> Result<u32, AllocError>
         requires { length self.old.clocks < 65535 }
         ensures clocks { OnOk result (self.new.clocks ≡ self.old.clocks ++ board.now.halfmove ∷ []) }
         ensures pushed { (list : List Position) → IsHistoryOf self.old list →
             OnOk result (IsHistoryOf self.new (list ++ board.now ∷ [])) }
+        ensures count { IfOk result (λ n. n ≡ count_in self.new.counts (key_of board.now)) }
+        ensures times { IfOk result (λ n. (list : List Position) → IsHistoryOf self.new list → IsTimes board.now list n) }
         ensures refused { OnErr result (self.new ≡ self.old) }
     {
         let _valid = board.rights();
@@ -63,7 +66,7 @@ impl History {
         self.clocks.reserve(1)?;
         self.counts.insert(key, count + 1)?;
         self.clocks.push(board.halfmove()).unwrap();
-        Ok(())
+        Ok(count + 1)
     }
 
     /// How many members of the history are the same position (FIDE articles 9.2 and 9.6.1). It is one look-up, and takes no

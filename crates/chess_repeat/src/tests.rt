@@ -155,12 +155,16 @@ fn push_again(rt: &impl Abort, history: &mut History, board: &Board) -> Result<(
     if len >= 65_535 {
         return Err("long".into());
     }
-    if history.push(board).is_err() {
-        assert_eq!(rt; history.len(), len);
-        assert_eq!(rt; history.times(board), times);
-        assert_eq!(rt; history.quiet(), quiet);
-        history.push(board)?;
-    }
+    let told = match history.push(board) {
+        Ok(told) => told,
+        Err(AllocError) => {
+            assert_eq!(rt; history.len(), len);
+            assert_eq!(rt; history.times(board), times);
+            assert_eq!(rt; history.quiet(), quiet);
+            history.push(board)?
+        }
+    };
+    assert_eq!(rt; u64::from(told), u64::from(times) + 1);
     assert_eq!(rt; u64::from(history.len()), u64::from(len) + 1);
     assert_eq!(rt; u64::from(history.times(board)), u64::from(times) + 1);
     assert_eq!(rt; history.quiet(), u32::from(board.halfmove()));

@@ -90,9 +90,9 @@ invariant_of-self-in-Some c =
     let claim = c.args.claim.now in
     let is = IsGame-kept c.self.inside game c.self.view_is c.self.invariant in
     IsSound-shown _ (moved (claimed_wrongly game claim.by) c.args.at c.in-Some.mv)
-    (claim-shows c.self.inside game c.args.at claim c.in-Some.mv c.claim_wrongly-in-Some.new.self c.ending.result
+    (claim-shows c.self.inside game c.args.at claim c.in-Some.mv c.claim_wrongly-in-Some.new.self c.in_ok-ending-in-Some.ending
     c.push.new.self c.finish_turn.new.self c.self.view_is c.self.invariant c.requires.in_time c.requires.judgeable
-    c.claim_wrongly-in-Some.ensures c.in_ok-push-in-Some.ensures.pushed c.ending.ensures c.finish_turn.ensures)
+    c.claim_wrongly-in-Some.ensures c.in_ok-ending-in-Some.ensures.pushed c.in_ok-ending-in-Some.ensures.ending c.finish_turn.ensures)
     (IsGame-moved (claimed_wrongly game claim.by) c.args.at c.in-Some.mv
     (IsGame-claimed game c.args.at claim is c.requires.in_time c.requires.judgeable)
     (IsInTime-judged game c.args.at claim is c.requires.in_time c.requires.judgeable)
@@ -110,26 +110,26 @@ returns-in-None-clause-judged c =
     c.is_granted.ensures c.if-is_granted.false)
     (sym c.stated_move-mv.ensures ∙ c.in-None.is)
 
-pub returns-in_ok-push-in-Some-clause-judged : goal.returns-in_ok-push-in-Some-clause-judged
-returns-in_ok-push-in-Some-clause-judged c =
+pub returns-in_ok-ending-in-Some-clause-judged : goal.returns-in_ok-ending-in-Some-clause-judged
+returns-in_ok-ending-in-Some-clause-judged c =
     let game = c.args.self.now in
     let claim = c.args.claim.now in
     state_of-shown _ (moved (claimed_wrongly game claim.by) c.args.at c.in-Some.mv)
-    (claim-shows c.self.inside game c.args.at claim c.in-Some.mv c.claim_wrongly-in-Some.new.self c.ending.result
+    (claim-shows c.self.inside game c.args.at claim c.in-Some.mv c.claim_wrongly-in-Some.new.self c.in_ok-ending-in-Some.ending
     c.push.new.self c.finish_turn.new.self c.self.view_is c.self.invariant c.requires.in_time c.requires.judgeable
-    c.claim_wrongly-in-Some.ensures c.in_ok-push-in-Some.ensures.pushed c.ending.ensures c.finish_turn.ensures)
+    c.claim_wrongly-in-Some.ensures c.in_ok-ending-in-Some.ensures.pushed c.in_ok-ending-in-Some.ensures.ending c.finish_turn.ensures)
     ∙ judged-some game c.args.at claim c.in-Some.mv
     (granted-as game claim c.stated_move-mv.result c.is_granted.result false c.stated_move-mv.ensures
     c.is_granted.ensures c.if-is_granted.false)
     (sym c.stated_move-mv.ensures ∙ c.in-Some.is)
 
-pub returns-in_err-push-in-Some-clause-wrong : goal.returns-in_err-push-in-Some-clause-wrong
-returns-in_err-push-in-Some-clause-wrong c =
+pub returns-in_err-ending-in-Some-clause-wrong : goal.returns-in_err-ending-in-Some-clause-wrong
+returns-in_err-ending-in-Some-clause-wrong c =
     on_err c.from_residual.result _
     (granted-as c.args.self.now c.args.claim.now c.stated_move-mv.result c.is_granted.result false
     c.stated_move-mv.ensures c.is_granted.ensures c.if-is_granted.false)
 
-pub returns-in_err-push-in-Some-clause-stating : goal.returns-in_err-push-in-Some-clause-stating
-returns-in_err-push-in-Some-clause-stating c =
+pub returns-in_err-ending-in-Some-clause-stating : goal.returns-in_err-ending-in-Some-clause-stating
+returns-in_err-ending-in-Some-clause-stating c =
     on_err c.from_residual.result _
     (ap (λ (mv : Option Move). is_some mv) (sym c.stated_move-mv.ensures ∙ c.in-Some.is))

@@ -21,9 +21,9 @@ pub invariant_of-self-2 : goal.invariant_of-self-2
 invariant_of-self-2 c =
     let game = c.args.self.now in
     IsSound-shown _ (moved game c.args.at c.args.mv)
-    (play-shows c.self.inside game c.args.at c.args.mv c.side-mover.result c.board.result.now c.ending.result
+    (play-shows c.self.inside game c.args.at c.args.mv c.side-mover.result c.board.result.now c.in_ok-ending.ending
     c.push.new.self c.finish_turn.new.self c.self.view_is c.self.invariant c.requires.in_time
-    c.side-mover.ensures c.board.ensures c.in_ok-push.ensures.pushed c.ending.ensures c.finish_turn.ensures)
+    c.side-mover.ensures c.board.ensures c.in_ok-ending.ensures.pushed c.in_ok-ending.ensures.ending c.finish_turn.ensures)
     (IsGame-moved game c.args.at c.args.mv (IsGame-kept c.self.inside game c.self.view_is c.self.invariant)
     c.requires.in_time c.requires.playable)
 
@@ -31,6 +31,6 @@ pub returns-clause-made : goal.returns-clause-made
 returns-clause-made c =
     let game = c.args.self.now in
     state_of-shown _ (moved game c.args.at c.args.mv)
-    (play-shows c.self.inside game c.args.at c.args.mv c.side-mover.result c.board.result.now c.ending.result
+    (play-shows c.self.inside game c.args.at c.args.mv c.side-mover.result c.board.result.now c.in_ok-ending.ending
     c.push.new.self c.finish_turn.new.self c.self.view_is c.self.invariant c.requires.in_time
-    c.side-mover.ensures c.board.ensures c.in_ok-push.ensures.pushed c.ending.ensures c.finish_turn.ensures)
+    c.side-mover.ensures c.board.ensures c.in_ok-ending.ensures.pushed c.in_ok-ending.ensures.ending c.finish_turn.ensures)

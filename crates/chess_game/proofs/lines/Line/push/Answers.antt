@@ -1,7 +1,7 @@
 use Rattle.std.proofs.Common.{◌≡◌, ◌+◌, ◌∙◌, ◌++◌, ◌∷◌, [], List, length, refl, ap, arith}
 use Rattle.chess_board.specs.declared.moves.Move.{Move}
 use Rattle.chess_board.specs.Line.{positions_of}
-use Rattle.chess_game.proofs.LineKept.{length-history, IsSound-push}
+use Rattle.chess_game.proofs.LineKept.{length-history, IsSound-push, ending-answered}
 use Rattle.chess_game.proofs.lines.Line.push.Goals as goal
 
 pub push-requires : goal.push-requires
@@ -16,4 +16,10 @@ invariant_of-self-2 c =
     IsSound-push c.self.inside _ c.args.mv.now c.self.invariant refl
     (c.push_reserved.ensures.items ∙ ap (λ (ms : List Move). ms ++ c.args.mv.now ∷ []) c.reserve.ensures.items)
     c.apply-board.ensures.next
-    (c.in_ok-push.ensures.pushed (positions_of c.self.inside.start c.self.inside.moves.items) c.self.invariant.history)
+    (c.in_ok-times.ensures.pushed (positions_of c.self.inside.start c.self.inside.moves.items) c.self.invariant.history)
+
+pub returns-clause-ending : goal.returns-clause-ending
+returns-clause-ending c =
+    ending-answered _ _ c.in_ok-times.times c.from.result c.after_move.result refl (invariant_of-self-2 c)
+    c.in_ok-times.ensures.count (c.from.ensures ∙ c.halfmove.ensures)
+    c.after_move.ensures.some c.after_move.ensures.none

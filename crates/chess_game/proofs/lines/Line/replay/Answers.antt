@@ -35,9 +35,9 @@ loop-mv-preserved c =
     let moves = c.args.moves.now in
     let i = c.loop-mv.mv-index in
     let P : Position → Type 0 = λ p. IsLegal p c.mv-item.result in
-    let Q : List Move → Type 0 = λ ms. IsReplayed c.args.start.now ms c.push.new.self c.ending-by_line.result in
+    let Q : List Move → Type 0 = λ ms. IsReplayed c.args.start.now ms c.push.new.self c.in_ok-by_line.by_line in
     subst Q (sym (taken moves i c.mv-item.result c.loop-mv-test.true c.mv-item.is))
     (IsReplayed-push c.args.start.now (take i moves) c.mv-item.result c.loop-mv.line c.push.new.self c.loop-mv.by_line
-    c.ending-by_line.result c.loop-mv.invariant (none_from c.loop-mv.by_line (sym c.is_some.ensures ∙ c.if-is_some.false))
-    (subst P c.board.ensures (c.legal.ensures.0 c.if-not-legal.false)) c.in_ok-push.ensures.pushed
-    c.ending-by_line.ensures)
+    c.in_ok-by_line.by_line c.loop-mv.invariant (none_from c.loop-mv.by_line (sym c.is_some.ensures ∙ c.if-is_some.false))
+    (subst P c.board.ensures (c.legal.ensures.0 c.if-not-legal.false)) c.in_ok-by_line.ensures.pushed
+    c.in_ok-by_line.ensures.ending)

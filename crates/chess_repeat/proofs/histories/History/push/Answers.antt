@@ -1,8 +1,10 @@
 use Rattle.std.proofs.Common.{ℕ, ◌≡◌, ◌+◌, ◌∙◌, List, [], ◌∷◌, ◌++◌, length, ap, sym, subst, arith, rules}
 use Rattle.std.proofs.lemmas.Grind.{common_steps}
+use Rattle.std.specs.Prelude.{count_by}
+use Rattle.chess_repeat.specs.SamePosition.{IsTimes}
 use Rattle.chess_repeat.specs.Key.{key_of}
-use Rattle.chess_repeat.specs.History.{HistoryState, count_in}
-use Rattle.chess_repeat.proofs.Counting.{CountsOneMore, counts_one_more, counts_at_most, bounded-push, history-push}
+use Rattle.chess_repeat.specs.History.{HistoryState, count_in, is_key}
+use Rattle.chess_repeat.proofs.Counting.{CountsOneMore, counts_one_more, counted_more, counts_at_most, counted_times, bounded-push, history-push}
 use Rattle.chess_repeat.proofs.histories.History.push.Goals as goal
 
 pub invariant_of-self-2 : goal.invariant_of-self-2
@@ -37,3 +39,30 @@ returns-clause-pushed c list is =
     let now : HistoryState = record { clocks = c.push.new.self.items; counts = new } in
     history-push c.args.self.now now list p c.rights-valid.ensures.valid is clocks
     (subst Seen c.self.view_is (subst More c.key-key.ensures.key more))
+
+pub returns-clause-count : goal.returns-clause-count
+returns-clause-count c =
+    let p = c.args.board.now in
+    let old = c.self.inside.counts.entries in
+    let new = c.insert.new.self.entries in
+    let counted : c.count-count.result ≡ count_in old c.key-key.result =
+    c.count-count.ensures ∙ ap (λ (h : HistoryState). count_in h.counts c.key-key.result) (sym c.self.view_is) in
+    let more : CountsOneMore c.key-key.result old new =
+    counts_one_more c.key-key.result old new c.count-count.result counted c.in_ok-insert.ensures.updates.0 in
+    ap (λ (n : ℕ). n + 1) counted ∙ sym (counted_more c.key-key.result old new more)
+    ∙ ap (λ (key : List ℕ). count_in new key) c.key-key.ensures.key
+
+pub returns-clause-times : goal.returns-clause-times
+returns-clause-times c list is =
+    let p = c.args.board.now in
+    let old = c.self.inside.counts.entries in
+    let new = c.insert.new.self.entries in
+    let counted : c.count-count.result ≡ count_in old c.key-key.result =
+    c.count-count.ensures ∙ ap (λ (h : HistoryState). count_in h.counts c.key-key.result) (sym c.self.view_is) in
+    let more : CountsOneMore c.key-key.result old new =
+    counts_one_more c.key-key.result old new c.count-count.result counted c.in_ok-insert.ensures.updates.0 in
+    let times : c.count-count.result + 1 ≡ count_by (λ q. is_key (key_of q) (key_of p)) list =
+    ap (λ (n : ℕ). n + 1) counted ∙ sym (counted_more c.key-key.result old new more)
+    ∙ ap (λ (key : List ℕ). count_in new key) c.key-key.ensures.key ∙ is.counts (key_of p) in
+    let Times : ℕ → Type 0 = IsTimes p list in
+    subst Times (sym times) (counted_times p list c.rights-valid.ensures.valid is.valid)
