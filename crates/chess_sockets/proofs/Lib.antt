@@ -2,3 +2,4 @@ pub mod SendLemmas
 pub mod ClientLemmas
 pub mod StoreLemmas
 pub mod TakingLemmas
+pub mod ServingLemmas

@@ -1,6 +1,6 @@
 -- What a turn leaves of the store.
-use Rattle.std.proofs.Common.{◌≡◌, ◌∙◌, ℕ, List, subst, sym}
-use Rattle.std.specs.Prelude.{Bool, Result, Ok, Err, IfErr, OnOk}
+use Rattle.std.proofs.Common.{◌≡◌, ◌∙◌, ℕ, List, subst, sym, inl}
+use Rattle.std.specs.Prelude.{Bool, Option, Result, Ok, Err, IfErr, OnOk}
 use Rattle.sector_dev.specs.Device.{State, IsCoherent}
 use Rattle.rec_codec.specs.declared.header.Header.{Header}
 use Rattle.sector_journal.specs.declared.compactions.Compaction.{Compaction}
@@ -16,6 +16,9 @@ use Rattle.chess_hub.specs.declared.fault.HubFault.TheVariants as hub
 use Rattle.chess_hub.specs.Faults.{UnlessDevice}
 use Rattle.chess_hub.specs.Turning.{AsksFor, IsBatchFault, AreRefused, IsTurnFault, Lasts}
 use Rattle.chess_hub.proofs.TurnLemmas.{lasts_idle}
+use Rattle.chess_hub.specs.Law.{HubState}
+use Rattle.chess_sockets.specs.declared.client.Client.{Client}
+use Rattle.chess_sockets.specs.Serving.{state_of, HasHeardAll}
 use Rattle.chess_sockets.specs.Turns.{EndsServing, IsRefusal}
 
 unless_any : (fault : HubFault) (P : Type 0) → P → UnlessDevice fault P
@@ -119,8 +122,14 @@ module _ (Same : Type 0) (at : ℕ) (sessions : Sessions) (seq : ℕ) (failed : 
   turn_ends hub.LineTooLong why = why
   turn_ends (hub.Store fault) why = submit_fault fault seq failed before after _ why.those.why
 
-  pub turn_refusal : (fault : HubFault) → IsOfTurn fault → IsRefusal fault at seq failed before after
-  turn_refusal hub.Busy why = tt
-  turn_refusal hub.NoMemory why = tt
-  turn_refusal hub.LineTooLong why = tt
-  turn_refusal (hub.Store fault) why = (sessions, why)
+  -- nothing was asked of the store, or it refused
+  pub turn_refusal : {S : Type 0} (remaining : S → Option (List ℕ)) (clients read : List (Client S)) (old : HubState)
+      (table : TableState) → HasHeardAll remaining clients read old (state_of sessions table) → before ≡ old.table →
+      (Same → after ≡ before) → (fault : HubFault) → IsOfTurn fault →
+      IsRefusal remaining fault at seq failed clients old after
+  turn_refusal remaining clients read old table hears same idle hub.Busy why = why
+  turn_refusal remaining clients read old table hears same idle hub.NoMemory why = inl (idle why ∙ same)
+  turn_refusal remaining clients read old table hears same idle hub.LineTooLong why = why
+  turn_refusal remaining clients read old table hears same idle (hub.Store fault) why =
+      (read, state_of sessions table, hears,
+      subst (λ (t : TableState). AsksFor at 64 sessions (AreRefused fault seq failed t after)) same why)

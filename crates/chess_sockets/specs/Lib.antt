@@ -1,4 +1,5 @@
 pub mod Pieces
 pub mod Sending
 pub mod Clients
+pub mod Serving
 pub mod Turns

@@ -1,18 +1,13 @@
--- What a turn does to the table, and which faults end serving.
-use Rattle.std.specs.Prelude.{ℕ, Bool, ⊤}
+-- Which faults end serving.
+use Rattle.std.specs.Prelude.{ℕ, ◌≡◌, ◌⊎◌, Bool, List, Option, ⊤}
 use Rattle.chess_entry.specs.State.{TableState}
-use Rattle.chess_sessions.specs.declared.sessions.Sessions.{Sessions}
 use Rattle.chess_store.specs.Faults.{IsSubmitFault}
 use Rattle.chess_hub.specs.declared.fault.HubFault.{HubFault}
 use Rattle.chess_hub.specs.declared.fault.HubFault.TheVariants.{Busy, NoMemory, LineTooLong, Store}
-use Rattle.chess_hub.specs.Turning.{HasTurned, AsksFor, AreRefused}
-
--- What a turn does to the table: of what its sessions had sent by then, at most 64 lines were answered as one batch, at
--- this moment.
-pub record HasServed (at : ℕ) (before after : TableState) : Type 0 where
-  pub heard : Sessions
-  pub answered : Sessions
-  pub turned : HasTurned at 64 heard answered before after
+use Rattle.chess_hub.specs.Law.{HubState}
+use Rattle.chess_hub.specs.Turning.{AsksFor, AreRefused}
+use Rattle.chess_sockets.specs.declared.client.Client.{Client}
+use Rattle.chess_sockets.specs.Serving.{HasHeardAll, HasAnsweredAll}
 
 -- Memory was refused, or the store refused a batch. What is one client's trouble ends nothing but its session.
 abbrev pub EndsServing : HubFault → Type 0
@@ -21,9 +16,16 @@ EndsServing (Store fault) = IsSubmitFault fault
 EndsServing Busy = ⊥
 EndsServing LineTooLong = ⊥
 
--- Of what the sessions had sent by then, the commands of at most 64 lines went to the store as one batch, at this moment,
--- and it refused them for this reason.
-abbrev pub IsRefusal : HubFault → ℕ → ℕ → Bool → TableState → TableState → Type 0
-IsRefusal (Store fault) at seq failed before after =
-    (heard : Sessions) × AsksFor at 64 heard (AreRefused fault seq failed before after)
-IsRefusal fault at seq failed before after = ⊤
+-- Why a turn ended, and what is left of the table. Where memory was refused, the table is as it was, or the hub's turn
+-- was answered before; a store's fault is that of the commands of at most 64 lines, of what the sessions had sent by then,
+-- which went to it as one batch at this moment.
+abbrev pub IsRefusal : {S : Type 0} → (S → Option (List ℕ)) → HubFault → ℕ → ℕ → Bool → List (Client S) → HubState →
+    TableState → Type 0
+IsRefusal {S = S} remaining NoMemory at seq failed clients old after =
+    (after ≡ old.table) ⊎ (read : List (Client S)) × (answered : HubState)
+    × HasAnsweredAll remaining at clients read old answered × (after ≡ answered.table)
+IsRefusal {S = S} remaining (Store fault) at seq failed clients old after =
+    (read : List (Client S)) × (heard : HubState) × HasHeardAll remaining clients read old heard
+    × AsksFor at 64 heard.sessions (AreRefused fault seq failed old.table after)
+IsRefusal remaining Busy at seq failed clients old after = ⊥
+IsRefusal remaining LineTooLong at seq failed clients old after = ⊥

@@ -3,6 +3,7 @@ ghost use Rattle.std.specs.Prelude.{◌≡◌, ◌≤◌, ◌++◌, true, false,
 ghost use Rattle.chess_sessions.specs.Session.{said, session_at};
 ghost use Rattle.chess_sockets.specs.Clients.{IsOpen, OthersStay, HasHeard, TakesIn, HandsOut, bytes_of, to_go};
 ghost use Rattle.chess_sockets.specs.Sending.{waiting};
+ghost use Rattle.chess_sockets.specs.Serving.{AreGiven, state_of};
 
 use crate::outgoing::{Outgoing, Sent};
 use crate::pieces::{Came, PIECE_ROOM, read_piece};
@@ -87,6 +88,8 @@ fn gather<D: Device>(hub: &mut Hub<D>, sid: Sid, outgoing: &mut Outgoing) -> Res
     ensures open { IsOpen hub.new.sessions sid }
     ensures same { OnOk result (to_go (session_at hub.new.sessions sid) (waiting outgoing.new)
         ≡ to_go (session_at hub.old.sessions sid) (waiting outgoing.old)) }
+    ensures given { OnOk result (AreGiven sid (state_of hub.old.sessions hub.old.store.table)
+        (state_of hub.new.sessions hub.new.store.table)) }
     ensures fault { IfErr result (λ fault. fault ≡ HubFault.NoMemory) }
     ensures others { OthersStay hub.old.sessions hub.new.sessions sid }
     ensures store { hub.new.store ≡ hub.old.store }
@@ -161,6 +164,8 @@ impl<S: Read + Write> Client<S> {
         ensures hands { OnOk result (HandsOut (S.contents self.old.stream) (S.contents self.new.stream)
             (to_go (session_at hub.old.sessions self.old.sid) (waiting self.old.outgoing))
             (to_go (session_at hub.new.sessions self.old.sid) (waiting self.new.outgoing))) }
+        ensures given { OnOk result (AreGiven self.old.sid (state_of hub.old.sessions hub.old.store.table)
+            (state_of hub.new.sessions hub.new.store.table)) }
         ensures peer { (self.new.sid ≡ self.old.sid) × (self.new.has_ended ≡ self.old.has_ended)
             × (self.new.is_quiet ≡ self.old.is_quiet) }
         ensures fault { IfErr result (λ fault. fault ≡ HubFault.NoMemory) }
@@ -185,6 +190,8 @@ impl<S: Read + Write> Client<S> {
         ensures hands { OnOk result (HandsOut (S.contents self.old.stream) (S.contents self.new.stream)
             (to_go (session_at hub.old.sessions self.old.sid) (waiting self.old.outgoing))
             (to_go (session_at hub.new.sessions self.old.sid) (waiting self.new.outgoing))) }
+        ensures given { OnOk result (AreGiven self.old.sid (state_of hub.old.sessions hub.old.store.table)
+            (state_of hub.new.sessions hub.new.store.table)) }
         ensures peer { (self.new.sid ≡ self.old.sid) × (self.new.has_ended ≡ self.old.has_ended)
             × (self.new.is_quiet ≡ self.old.is_quiet) }
         ensures fault { IfErr result (λ fault. fault ≡ HubFault.NoMemory) }

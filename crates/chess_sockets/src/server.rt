@@ -1,9 +1,10 @@
 //! The server.
-ghost use Rattle.std.specs.Prelude.{◌≡◌, IfOk, IfErr, OnOk};
+ghost use Rattle.std.specs.Prelude.{◌≡◌, IfOk, IfErr, OnOk, OnErr};
 ghost use Rattle.chess_store.specs.Means.{IsKept};
 ghost use Rattle.chess_hub.specs.Faults.{CountsFault};
 ghost use Rattle.chess_hub.specs.Turning.{Lasts};
-ghost use Rattle.chess_sockets.specs.Turns.{EndsServing, HasServed, IsRefusal};
+ghost use Rattle.chess_sockets.specs.Serving.{state_of, unknown, IsRead, AreRead, IsWritten, AreWritten, Welcomes, HasServed, open_in};
+ghost use Rattle.chess_sockets.specs.Turns.{EndsServing, IsRefusal};
 
 use crate::client::Client;
 use crate::pieces::PIECE_ROOM;
@@ -72,26 +73,60 @@ fn accept(listener: &TcpListener) -> io::Result<TcpStream> {
     Ok(stream)
 }
 
-// Reads for each session, but after calm rests not for quiet clients, and tells whether anything came.
+// Reads for a session that is open, but after calm rests not for a quiet client, and tells whether anything came.
+fn read_for<S: Read + Write, D: Device>(
+    client: &mut Client<S>,
+    hub: &mut Hub<D>,
+    is_calm: bool,
+    piece: &mut [u8; PIECE_ROOM],
+) -> Result<bool, HubFault>
+    ensures read { OnOk result (IsRead S.remaining client.old client.new
+        (state_of hub.old.sessions hub.old.store.table) (state_of hub.new.sessions hub.new.store.table)) }
+    ensures fault { IfErr result (λ fault. fault ≡ HubFault.NoMemory) }
+    ensures store { hub.new.store ≡ hub.old.store }
+{
+    if is_calm && client.is_quiet() {
+        return Ok(false);
+    }
+    if !hub.is_open(client.sid()) {
+        return Ok(false);
+    }
+    client.take_in(hub, piece)
+}
+
+// Reads for each session, and tells whether anything came.
 fn take_in_all<S: Read + Write, D: Device>(
     clients: &mut Vec<Client<S>>,
     hub: &mut Hub<D>,
     is_calm: bool,
 ) -> Result<bool, HubFault>
+    ensures read { OnOk result (AreRead S.remaining clients.old.items clients.new.items
+        (state_of hub.old.sessions hub.old.store.table) (state_of hub.new.sessions hub.new.store.table)) }
     ensures fault { IfErr result (λ fault. fault ≡ HubFault.NoMemory) }
     ensures store { hub.new.store ≡ hub.old.store }
 {
     let mut piece = [0u8; PIECE_ROOM];
     let mut any = false;
     for client in clients.iter_mut() {
-        if is_calm && client.is_quiet() {
-            continue;
-        }
-        if hub.is_open(client.sid()) && client.take_in(hub, &mut piece)? {
-            any = true;
-        }
+        any |= read_for(client, hub, is_calm, &mut piece)?;
     }
     Ok(any)
+}
+
+// Writes for a session that is open, and tells whether there was anything to do.
+fn write_for<S: Read + Write, D: Device>(
+    client: &mut Client<S>,
+    hub: &mut Hub<D>,
+) -> Result<bool, HubFault>
+    ensures written { OnOk result (IsWritten S.contents client.old client.new
+        (state_of hub.old.sessions hub.old.store.table) (state_of hub.new.sessions hub.new.store.table)) }
+    ensures fault { IfErr result (λ fault. fault ≡ HubFault.NoMemory) }
+    ensures store { hub.new.store ≡ hub.old.store }
+{
+    if !hub.is_open(client.sid()) {
+        return Ok(false);
+    }
+    client.hand_out(hub)
 }
 
 // Writes for each session, and tells whether there was anything to do.
@@ -99,14 +134,14 @@ fn hand_out_all<S: Read + Write, D: Device>(
     clients: &mut Vec<Client<S>>,
     hub: &mut Hub<D>,
 ) -> Result<bool, HubFault>
+    ensures written { OnOk result (AreWritten S.contents clients.old.items clients.new.items
+        (state_of hub.old.sessions hub.old.store.table) (state_of hub.new.sessions hub.new.store.table)) }
     ensures fault { IfErr result (λ fault. fault ≡ HubFault.NoMemory) }
     ensures store { hub.new.store ≡ hub.old.store }
 {
     let mut any = false;
     for client in clients.iter_mut() {
-        if hub.is_open(client.sid()) && client.hand_out(hub)? {
-            any = true;
-        }
+        any |= write_for(client, hub)?;
     }
     Ok(any)
 }
@@ -151,6 +186,9 @@ impl<D: Device> Server<D> {
 
     // Begins a session for a connection.
     fn admit(&mut self, stream: TcpStream) -> Result<(), HubFault>
+        ensures welcomes { OnOk result (Welcomes self.old.clients.items self.new.clients.items
+            (state_of self.old.hub.sessions self.old.hub.store.table)
+            (state_of self.new.hub.sessions self.new.hub.store.table)) }
         ensures fault { IfErr result (λ fault. fault ≡ HubFault.NoMemory) }
         ensures store { self.new.hub.store ≡ self.old.hub.store }
         ensures port { self.new.port ≡ self.old.port }
@@ -172,6 +210,9 @@ impl<D: Device> Server<D> {
 
     // Accepts at most one connection, after calm rests none, and tells whether one came.
     fn welcome(&mut self) -> Result<bool, HubFault>
+        ensures welcomes { OnOk result (Welcomes self.old.clients.items self.new.clients.items
+            (state_of self.old.hub.sessions self.old.hub.store.table)
+            (state_of self.new.hub.sessions self.new.hub.store.table)) }
         ensures fault { IfErr result (λ fault. fault ≡ HubFault.NoMemory) }
         ensures store { self.new.hub.store ≡ self.old.hub.store }
         ensures port { self.new.port ≡ self.old.port }
@@ -190,6 +231,7 @@ impl<D: Device> Server<D> {
 
     // Lets the connections go whose session is closed.
     fn part(&mut self)
+        ensures stay { self.new.clients.items ≡ open_in self.old.hub.sessions self.old.clients.items }
         ensures hub { self.new.hub ≡ self.old.hub }
         ensures rested { self.new.rested ≡ self.old.rested }
         ensures port { self.new.port ≡ self.old.port }
@@ -209,15 +251,19 @@ impl<D: Device> Server<D> {
     pub fn turn(&mut self, at: u64) -> Result<Turned, HubFault>
         ensures fault { IfErr result EndsServing }
         // The store's own fault tells why it refused what lines ask for.
-        ensures refused { IfErr result (λ fault. IsRefusal fault at self.old.hub.store.journal.header.seq
-            self.old.hub.store.failed self.old.hub.store.table self.new.hub.store.table) }
+        ensures refused { IfErr result (λ fault. IsRefusal unknown fault at
+            self.old.hub.store.journal.header.seq self.old.hub.store.failed self.old.clients.items
+            (state_of self.old.hub.sessions self.old.hub.store.table) self.new.hub.store.table) }
         ensures cause { OnOk result (D.failures self.new.hub.store.journal.device
             ≡ D.failures self.old.hub.store.journal.device) }
         ensures cause_err { IfErr result (λ fault. CountsFault fault
             (D.failures self.old.hub.store.journal.device) (D.failures self.new.hub.store.journal.device)) }
         // The next turn reads for every client, unless a rest comes first.
         ensures again { OnOk result (self.new.rested ≡ Rested.Not) }
-        ensures served { OnOk result (HasServed at self.old.hub.store.table self.new.hub.store.table) }
+        // Each session hears what its client's connection gave, and nothing else, and is given what that connection takes.
+        ensures served { OnOk result (HasServed unknown unknown at self.old.clients.items
+            self.new.clients.items (state_of self.old.hub.sessions self.old.hub.store.table)
+            (state_of self.new.hub.sessions self.new.hub.store.table)) }
         ensures port { self.new.port ≡ self.old.port }
         ensures lasts { IsKept (D.state self.old.hub.store.journal.device) self.old.hub.store.journal.header
             self.old.hub.store.journal.compaction self.old.hub.store.table

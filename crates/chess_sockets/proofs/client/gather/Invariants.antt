@@ -3,6 +3,7 @@ use Rattle.std.proofs.Common.{◌≡◌}
 use Rattle.chess_sessions.specs.Session.{session_at}
 use Rattle.chess_sockets.specs.Clients.{IsOpen, OthersStay, to_go}
 use Rattle.chess_sockets.specs.Sending.{waiting}
+use Rattle.chess_sockets.specs.Serving.{AreGiven, state_of}
 use Rattle.chess_sockets.proofs.client.gather.Given as goal
 
 abbrev pub invariant-loop : goal.invariant-loop
@@ -10,3 +11,4 @@ invariant-loop g l = IsOpen l.hub.sessions l.sid
     × (to_go (session_at l.hub.sessions l.sid) (waiting l.outgoing)
     ≡ to_go (session_at l.fn.hub.sessions l.sid) (waiting l.fn.outgoing))
     × OthersStay l.fn.hub.sessions l.hub.sessions l.sid × (l.hub.store ≡ l.fn.hub.store)
+    × AreGiven l.sid (state_of l.fn.hub.sessions l.fn.hub.store.table) (state_of l.hub.sessions l.hub.store.table)

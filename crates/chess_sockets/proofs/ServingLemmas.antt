@@ -1,0 +1,337 @@
+-- Calls one after the other, and clients one after the other.
+use Rattle.std.proofs.Common.{◌≡◌, ◌≢◌, ◌≤◌, ◌<◌, ◌+◌, ◌⊎◌, ℕ, Bool, true, false, List, [], ◌∷◌, ◌++◌, Option, Some, None, IfSome, length, get_or, set, take, refl, ap, sym, ◌∙◌, subst, inl, inr, arith}
+use Rattle.std.specs.Prelude.{IsSome, IsSomeAnd, ◌==◌, ◌&&◌, ◌||◌, not, if◌then◌else◌, option_map, Result, Ok, Err, OnOk}
+use Rattle.std.specs.List.{All}
+use Rattle.std.specs.Io.KnownBytes.{Consumes}
+use Rattle.std.proofs.KnownBytes.{Consumes-nil, Appends-nil}
+use Rattle.std.proofs.lemmas.Bool.{cases_Bool, false≢true}
+use Rattle.std.proofs.lemmas.Bool.Decides.{Decides-eqb}
+use Rattle.std.proofs.lemmas.List.{take_more, take_more_set, get_or-set_other, set-get_or}
+use Rattle.std.proofs.lemmas.List.Elements.{All-nil, All-cons, All-append}
+use Rattle.session_lines.specs.Heard.{Heard}
+use Rattle.chess_answer.specs.declared.reads.Reply.{Reply}
+use Rattle.chess_entry.specs.State.{TableState}
+use Rattle.chess_sessions.specs.declared.sessions.Sessions.{Sessions}
+use Rattle.chess_sessions.specs.Session.{Said, said, SessionState, session_at, Changes, IsUnchanged, due, first_due, given_one, farewell, is_done}
+use Rattle.chess_hub.specs.Calls.{Call, Connected, Closed, Fed, Turned, Given}
+use Rattle.chess_hub.specs.Law.{HubState, Steps, Stays}
+use Rattle.chess_sockets.specs.declared.client.Client.{Client}
+use Rattle.chess_sockets.specs.Clients.{IsOpen, OthersStay, HasHeard, TakesIn, HandsOut, to_go}
+use Rattle.chess_sockets.specs.Sending.{waiting}
+use Rattle.chess_sockets.specs.Serving.{state_of, LeadsOn, IsSent, IsRead, AreRead, Welcomes, IsGivenTo, AreGiven, IsWritten, AreWritten}
+
+-- ---- calls
+
+pub stays-refl : (s : HubState) → Stays s s
+stays-refl s = record { sessions = λ sid. refl; table = refl }
+
+pub stays-trans : (a b c : HubState) → Stays a b → Stays b c → Stays a c
+stays-trans a b c h k = record {
+  sessions = λ sid. k.sessions sid ∙ h.sessions sid;
+  table = k.table ∙ h.table;
+}
+
+pub stay_leads : (a b c : HubState) (calls : List Call) → Stays a b → LeadsOn b calls c → LeadsOn a calls c
+stay_leads a b c [] h k = stays-trans a b c h k
+stay_leads a b c (call ∷ calls) h (before, after, leads, steps, stays) =
+    (before, after, stay_leads a b before calls h leads, steps, stays)
+
+pub leads_stay : (a b c : HubState) (calls : List Call) → LeadsOn a calls b → Stays b c → LeadsOn a calls c
+leads_stay a b c [] h k = stays-trans a b c h k
+leads_stay a b c (call ∷ calls) (before, after, leads, steps, stays) k =
+    (before, after, leads, steps, stays-trans after b c stays k)
+
+pub leads_on : (a b c : HubState) (calls more : List Call) → LeadsOn a calls b → LeadsOn b more c →
+    LeadsOn a (more ++ calls) c
+leads_on a b c calls [] h k = leads_stay a b c calls h k
+leads_on a b c calls (call ∷ more) h (before, after, leads, steps, stays) =
+    (before, after, leads_on a b before calls more h leads, steps, stays)
+
+pub one_step : (a b : HubState) (call : Call) → Steps a call b → LeadsOn a (call ∷ []) b
+one_step a b call h = (a, b, stays-refl a, h, stays-refl b)
+
+-- ---- what a session is sent
+
+pub unchanged : (old new : Sessions) (sid : ℕ) → session_at new sid ≡ session_at old sid → OthersStay old new sid →
+    IsUnchanged old new
+unchanged old new sid same others = λ other. elim (cases_Bool (other == sid)) [
+  | inl is ↦
+      let e : other ≡ sid = (Decides-eqb other sid).0 is in
+      ap (λ (n : ℕ). session_at new n) e ∙ same ∙ sym (ap (λ (n : ℕ). session_at old n) e)
+  | inr not ↦ others other (λ (e : other ≡ sid). false≢true (sym not ∙ (Decides-eqb other sid).1 e))
+]
+
+-- what was read and sent
+pub record Sends (before after : Option (List ℕ)) (sid : ℕ) (old new : HubState) : Type 0 where
+  pub taken : List ℕ
+  pub consumed : Consumes before after taken
+  pub short : length taken ≤ 4096
+  pub sent : IsSent sid taken old new
+
+pub sends : (before after : Option (List ℕ)) (sid : ℕ) (old new : Sessions) (t u : TableState) (m n : Option SessionState) →
+    session_at old sid ≡ m → session_at new sid ≡ n → IsSome m → IfSome m (λ s. TakesIn before after s n) →
+    OthersStay old new sid → u ≡ t → Sends before after sid (state_of old t) (state_of new u)
+sends before after sid old new t u None n e f is_open takes others same =
+    absurd (let bad : false ≡ true = is_open in false≢true bad)
+sends before after sid old new t u (Some s) None e f is_open takes others same = record {
+  taken = takes.taken;
+  consumed = takes.consumed;
+  short = takes.short;
+  sent = inr (inr (inl (takes.gone refl, one_step (state_of old t) (state_of new u) (Closed sid)
+      (record { changed = f; others = others }, same))));
+}
+sends before after sid old new t u (Some s) (Some r) e f is_open takes others same = record {
+  taken = takes.taken;
+  consumed = takes.consumed;
+  short = takes.short;
+  sent = elim takes.heard [
+    | inl (short_so_far, is) ↦ inl (one_step (state_of old t) (state_of new u) (Fed sid takes.taken)
+        (s, e, short_so_far, record { changed = f ∙ ap Some is; others = others }, same))
+    | inr (inl (is, none)) ↦ inr (inl (none, record {
+        sessions = unchanged old new sid (f ∙ ap Some is ∙ sym e) others;
+        table = same;
+      }))
+    | inr (inr (is, long)) ↦ inr (inr (inr (subst (λ (o : Option SessionState). IsSomeAnd o (λ s. s.heard.is_long ≡ true))
+        (sym e) long, record { sessions = unchanged old new sid (f ∙ ap Some is ∙ sym e) others; table = same })))
+  ];
+}
+
+pub sent_after : (a b c : HubState) (sid : ℕ) (taken : List ℕ) → Stays a b → IsSent sid taken b c → IsSent sid taken a c
+sent_after a b c sid taken h sent = elim sent [
+  | inl leads ↦ inl (stay_leads a b c (Fed sid taken ∷ []) h leads)
+  | inr (inl (none, stays)) ↦ inr (inl (none, stays-trans a b c h stays))
+  | inr (inr (inl (none, leads))) ↦ inr (inr (inl (none, stay_leads a b c (Closed sid ∷ []) h leads)))
+  | inr (inr (inr (long, stays))) ↦ inr (inr (inr (
+      subst (λ (o : Option SessionState). IsSomeAnd o (λ s. s.heard.is_long ≡ true)) (h.sessions sid) long,
+      stays-trans a b c h stays,
+    )))
+]
+
+-- ---- one client after the other
+
+module _ {S : Type 0} (remaining : S → Option (List ℕ)) where
+  pub passed_over : (client : Client S) (s t : HubState) → Stays s t → IsRead remaining client client s t
+  passed_over client s t h = record {
+    sid = refl;
+    outgoing = refl;
+    taken = [];
+    consumed = Consumes-nil (remaining client.stream);
+    short = omega arith;
+    sent = inr (inl (refl, h));
+  }
+
+  pub is_read : (client after : Client S) (old new : HubState) → after.sid ≡ client.sid →
+      waiting after.outgoing ≡ waiting client.outgoing →
+      Sends (remaining client.stream) (remaining after.stream) client.sid old new → IsRead remaining client after old new
+  is_read client after old new sid outgoing sends = record {
+    sid = sid;
+    outgoing = outgoing;
+    taken = sends.taken;
+    consumed = sends.consumed;
+    short = sends.short;
+    sent = sends.sent;
+  }
+
+  read_after : (client after : Client S) (a b c : HubState) → Stays a b → IsRead remaining client after b c →
+      IsRead remaining client after a c
+  read_after client after a b c h read = record {
+    sid = read.sid;
+    outgoing = read.outgoing;
+    taken = read.taken;
+    consumed = read.consumed;
+    short = read.short;
+    sent = sent_after a b c client.sid read.taken h read.sent;
+  }
+
+  pub one_more_read : (clients read : List (Client S)) (client after : Client S) (a b c : HubState) →
+      AreRead remaining clients read a b → IsRead remaining client after b c →
+      AreRead remaining (clients ++ client ∷ []) (read ++ after ∷ []) a c
+  one_more_read [] read client after a b c (none, stays) one =
+      (after, [], c, ap (λ (l : List (Client S)). l ++ after ∷ []) none, read_after client after a b c stays one,
+      (refl, stays-refl c))
+  one_more_read (first ∷ clients) read client after a b c (it, rest, between, whole, is, are) one =
+      (it, rest ++ after ∷ [], between, ap (λ (l : List (Client S)). l ++ after ∷ []) whole, is,
+      one_more_read clients rest client after between b c are one)
+
+-- ---- who comes
+
+-- said of a hub that is the one from before
+pub welcomed_there : {S H : Type 0} (h k : H) (to : H → HubState) (kept clients asked : List (Client S)) (begun : HubState) →
+    h ≡ k → kept ≡ clients → Welcomes kept asked (to h) begun → Welcomes clients asked (to k) begun
+welcomed_there {S = S} {H = H} h k to kept clients asked begun same are w =
+    subst (λ (x : H). Welcomes clients asked (to x) begun) same
+    (subst (λ (l : List (Client S)). Welcomes l asked (to h) begun) are w)
+
+-- ---- what holds where a call is answered
+
+module _ {T E : Type 0} where
+  pub ok_all : {A : Type 0} (r : Result T E) (m : Option A) (P : A → Type 0) → IfSome m (λ s. OnOk r (P s)) →
+      OnOk r (IfSome m P)
+  ok_all (Ok x) None P h = tt
+  ok_all (Ok x) (Some s) P h = h
+  ok_all (Err e) m P h = tt
+
+  pub ok_so : (r : Result T E) (P Q : Type 0) → (P → Q) → OnOk r P → OnOk r Q
+  ok_so (Ok x) P Q f h = f h
+  ok_so (Err e) P Q f h = tt
+
+  pub ok_both : (r : Result T E) (P Q R : Type 0) → (P → Q → R) → OnOk r P → OnOk r Q → OnOk r R
+  ok_both (Ok x) P Q R f h k = f h k
+  ok_both (Err e) P Q R f h k = tt
+
+-- ---- lists that are gone through
+
+-- all places from one on are as they were
+abbrev pub SameFrom : {A : Type 0} → ℕ → List A → List A → Type 0
+SameFrom {A = A} from old new = (d : A) (k : ℕ) → from ≤ k → get_or new k d ≡ get_or old k d
+
+module _ {A : Type 0} where
+  pub same_all : (old : List A) → SameFrom 0 old old
+  same_all old = λ d k from. refl
+
+  pub same_further : (i : ℕ) (old new : List A) → SameFrom i old new → SameFrom (i + 1) old new
+  same_further i old new same = λ d k from. same d k (omega (arith, from))
+
+  pub same_behind : (i : ℕ) (old new : List A) (x : A) → SameFrom i old new → SameFrom (i + 1) old (set new i x)
+  same_behind i old new x same = λ d k from.
+      let ne : k ≢ i = omega (arith, from) in
+      get_or-set_other new i k x d ne ∙ same d k (omega (arith, from))
+
+  -- the first places, and one more that was written to
+  pub more_new : (items : List A) (i : ℕ) (x : A) → i < length items →
+      take (i + 1) (set items i x) ≡ take i items ++ x ∷ []
+  more_new items i x lt = take_more_set items i x lt
+
+  pub more_old : (old items : List A) (i : ℕ) (d : A) → i < length items → length items ≡ length old →
+      SameFrom i old items → take (i + 1) old ≡ take i old ++ get_or items i d ∷ []
+  more_old old items i d lt whole same =
+      let below : i < length old = omega (arith, lt, whole) in
+      take_more old i d below ∙ ap (λ x. take i old ++ x ∷ []) (sym (same d i (omega arith)))
+
+module _ {S : Type 0} (remaining : S → Option (List ℕ)) where
+  pub read_on : (old items : List (Client S)) (i : ℕ) (d after : Client S) (s t u : HubState) → i < length items →
+      length items ≡ length old → SameFrom i old items → AreRead remaining (take i old) (take i items) s t →
+      IsRead remaining (get_or items i d) after t u →
+      AreRead remaining (take (i + 1) old) (take (i + 1) (set items i after)) s u
+  read_on old items i d after s t u lt whole same are one =
+      subst (λ (l : List (Client S)). AreRead remaining l (take (i + 1) (set items i after)) s u)
+      (sym (more_old old items i d lt whole same))
+      (subst (λ (l : List (Client S)). AreRead remaining (take i old ++ get_or items i d ∷ []) l s u)
+      (sym (more_new items i after lt))
+      (one_more_read remaining (take i old) (take i items) (get_or items i d) after s t u are one))
+
+  pub read_past : (old items : List (Client S)) (i : ℕ) (d : Client S) (s t : HubState) → i < length items →
+      length items ≡ length old → SameFrom i old items → AreRead remaining (take i old) (take i items) s t →
+      AreRead remaining (take (i + 1) old) (take (i + 1) items) s t
+  read_past old items i d s t lt whole same are =
+      subst (λ (l : List (Client S)). AreRead remaining (take (i + 1) old) (take (i + 1) l) s t) (set-get_or items i d)
+      (read_on old items i d (get_or items i d) s t t lt whole same are
+      (passed_over remaining (get_or items i d) t t (stays-refl t)))
+
+-- ---- what a session is given
+
+pub given_none_yet : (sid : ℕ) (a b : HubState) → Stays a b → AreGiven sid a b
+given_none_yet sid a b h = record { calls = []; own = All-nil (IsGivenTo sid); leads = h }
+
+pub given_more : (sid : ℕ) (a b c : HubState) → AreGiven sid a b → AreGiven sid b c → AreGiven sid a c
+given_more sid a b c h k = record {
+  calls = k.calls ++ h.calls;
+  own = All-append (IsGivenTo sid) k.calls h.calls k.own h.own;
+  leads = leads_on a b c h.calls k.calls h.leads k.leads;
+}
+
+abbrev session : Option (List ℕ) → Heard → List Said → Bool → SessionState
+session name heard answers left = record { name = name; heard = heard; answers = answers; has_left = left }
+
+same_left : (done left : Bool) → None ≡ first_due (if done && not left then farewell ∷ [] else []) → (left || done) ≡ left
+same_left true false none = absurd (let bad : None ≡ Some farewell = none in cc)
+same_left true true none = refl
+same_left false true none = refl
+same_left false false none = refl
+
+-- a session that nothing is due to stays as it is
+same_one : (name : Option (List ℕ)) (heard : Heard) (answers : List Said) (left : Bool) →
+    None ≡ first_due (due (session name heard answers left)) →
+    given_one (session name heard answers left) ≡ session name heard answers left
+same_one name heard [] left none = ap (session name heard []) (same_left (is_done heard) left none)
+same_one name heard (x ∷ xs) left none = absurd (let bad : None ≡ Some x = none in cc)
+
+-- one call of `output`
+pub output_gives : (m : Option SessionState) (old new : Sessions) (sid : ℕ) (r : Option Reply) (t u : TableState) →
+    session_at old sid ≡ m → IsSome m → IfSome m (λ s. option_map said r ≡ first_due (due s)) →
+    IfSome m (λ s. Changes old new sid (Some (given_one s))) → u ≡ t →
+    AreGiven sid (state_of old t) (state_of new u)
+output_gives None old new sid r t u e is_open given after same = absurd (let bad : false ≡ true = is_open in false≢true bad)
+output_gives (Some s) old new sid None t u e is_open given after same =
+    given_none_yet sid (state_of old t) (state_of new u) (record {
+      sessions = unchanged old new sid (after.changed
+          ∙ ap Some (same_one s.name s.heard s.answers s.has_left given) ∙ sym e) after.others;
+      table = same;
+    })
+output_gives (Some s) old new sid (Some reply) t u e is_open given after same = record {
+  calls = Given sid (said reply) ∷ [];
+  own = All-cons (IsGivenTo sid) (Given sid (said reply)) [] refl (All-nil (IsGivenTo sid));
+  leads = one_step (state_of old t) (state_of new u) (Given sid (said reply)) (s, e, sym given, after, same);
+}
+
+pub closes : (sid : ℕ) (old new : Sessions) (t u : TableState) → Changes old new sid None → u ≡ t →
+    AreGiven sid (state_of old t) (state_of new u)
+closes sid old new t u closed same = record {
+  calls = Closed sid ∷ [];
+  own = All-cons (IsGivenTo sid) (Closed sid) [] refl (All-nil (IsGivenTo sid));
+  leads = one_step (state_of old t) (state_of new u) (Closed sid) (closed, same);
+}
+
+module _ {S : Type 0} (contents : S → Option (List ℕ)) where
+  hands_none : (b : Option (List ℕ)) (all : Option (List ℕ)) → HandsOut b b all all
+  hands_none b None = record { left = []; hands = tt; waits = tt }
+  hands_none b (Some all) = record {
+    left = all;
+    hands = record { front = []; appended = Appends-nil b; split = refl };
+    waits = refl;
+  }
+
+  pub skipped : (client : Client S) (t : HubState) → IsWritten contents client client t t
+  skipped client t = record {
+    sid = refl;
+    given = given_none_yet client.sid t t (stays-refl t);
+    hands = hands_none (contents client.stream) (to_go (session_at t.sessions client.sid) (waiting client.outgoing));
+  }
+
+  written_after : (client after : Client S) (a b c : HubState) → Stays a b → IsWritten contents client after b c →
+      IsWritten contents client after a c
+  written_after client after a b c h written = record {
+    sid = written.sid;
+    given = given_more client.sid a b c (given_none_yet client.sid a b h) written.given;
+    hands = subst (λ (o : Option SessionState). HandsOut (contents client.stream) (contents after.stream)
+        (to_go o (waiting client.outgoing)) (to_go (session_at c.sessions client.sid) (waiting after.outgoing)))
+        (h.sessions client.sid) written.hands;
+  }
+
+  one_more_written : (clients written : List (Client S)) (client after : Client S) (a b c : HubState) →
+      AreWritten contents clients written a b → IsWritten contents client after b c →
+      AreWritten contents (clients ++ client ∷ []) (written ++ after ∷ []) a c
+  one_more_written [] written client after a b c (none, stays) one =
+      (after, [], c, ap (λ (l : List (Client S)). l ++ after ∷ []) none, written_after client after a b c stays one,
+      (refl, stays-refl c))
+  one_more_written (first ∷ clients) written client after a b c (it, rest, between, whole, is, are) one =
+      (it, rest ++ after ∷ [], between, ap (λ (l : List (Client S)). l ++ after ∷ []) whole, is,
+      one_more_written clients rest client after between b c are one)
+
+  pub write_on : (old items : List (Client S)) (i : ℕ) (d after : Client S) (s t u : HubState) → i < length items →
+      length items ≡ length old → SameFrom i old items → AreWritten contents (take i old) (take i items) s t →
+      IsWritten contents (get_or items i d) after t u →
+      AreWritten contents (take (i + 1) old) (take (i + 1) (set items i after)) s u
+  write_on old items i d after s t u lt whole same are one =
+      subst (λ (l : List (Client S)). AreWritten contents l (take (i + 1) (set items i after)) s u)
+      (sym (more_old old items i d lt whole same))
+      (subst (λ (l : List (Client S)). AreWritten contents (take i old ++ get_or items i d ∷ []) l s u)
+      (sym (more_new items i after lt))
+      (one_more_written (take i old) (take i items) (get_or items i d) after s t u are one))
+
+  pub write_past : (old items : List (Client S)) (i : ℕ) (d : Client S) (s t : HubState) → i < length items →
+      length items ≡ length old → SameFrom i old items → AreWritten contents (take i old) (take i items) s t →
+      AreWritten contents (take (i + 1) old) (take (i + 1) items) s t
+  write_past old items i d s t lt whole same are =
+      subst (λ (l : List (Client S)). AreWritten contents (take (i + 1) old) (take (i + 1) l) s t) (set-get_or items i d)
+      (write_on old items i d (get_or items i d) s t t lt whole same are (skipped (get_or items i d) t))

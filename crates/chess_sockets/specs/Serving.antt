@@ -1,0 +1,132 @@
+-- What a turn of the server calls the hub for: where what the sessions hear comes from, and where what they are given
+-- goes.
+use Rattle.std.specs.Prelude.{ℕ, ◌≡◌, ◌≤◌, ◌⊎◌, Bool, true, List, [], ◌∷◌, ◌++◌, Option, None, IsSomeAnd, is_some, length, filter}
+use Rattle.std.specs.List.{All}
+use Rattle.std.specs.Io.KnownBytes.{Consumes}
+use Rattle.chess_entry.specs.State.{TableState}
+use Rattle.chess_sessions.specs.declared.sessions.Sessions.{Sessions}
+use Rattle.chess_sessions.specs.Session.{session_at}
+use Rattle.chess_hub.specs.Calls.{Call, Connected, Closed, Fed, Turned, Given}
+use Rattle.chess_hub.specs.Law.{HubState, Steps, Stays}
+use Rattle.chess_sockets.specs.declared.client.Client.{Client}
+use Rattle.chess_sockets.specs.Clients.{HandsOut, to_go}
+use Rattle.chess_sockets.specs.Sending.{waiting}
+
+abbrev pub state_of : Sessions → TableState → HubState
+state_of sessions table = record { sessions = sessions; table = table }
+
+-- what a socket has yet to give, or has taken: no clause of std says it
+abbrev pub unknown : {S : Type 0} → S → Option (List ℕ)
+unknown stream = None
+
+-- These calls lead from one state to another; the newest stands first. Between them nothing changes.
+abbrev pub LeadsOn : HubState → List Call → HubState → Type 0
+LeadsOn old [] new = Stays old new
+LeadsOn old (call ∷ calls) new =
+    (before : HubState) × (after : HubState) × LeadsOn old calls before × Steps before call after × Stays after new
+
+-- ---- what comes
+
+-- A session is sent bytes: it is fed them; or there were none, and it is as it was or closed; or a line of it was too
+-- long before, and what comes behind that is dropped.
+abbrev pub IsSent : ℕ → List ℕ → HubState → HubState → Type 0
+IsSent sid taken old new =
+    LeadsOn old (Fed sid taken ∷ []) new
+    ⊎ (taken ≡ []) × Stays old new
+    ⊎ (taken ≡ []) × LeadsOn old (Closed sid ∷ []) new
+    ⊎ IsSomeAnd (session_at old.sessions sid) (λ s. s.heard.is_long ≡ true) × Stays old new
+
+-- A client's session is sent what came on the client's connection, a piece at most, and nothing else.
+pub record IsRead {S : Type 0} (remaining : S → Option (List ℕ)) (client after : Client S) (old new : HubState) : Type 0
+  where
+    pub sid : after.sid ≡ client.sid
+    pub outgoing : waiting after.outgoing ≡ waiting client.outgoing
+    pub taken : List ℕ
+    pub consumed : Consumes (remaining client.stream) (remaining after.stream) taken
+    pub short : length taken ≤ 4096
+    pub sent : IsSent client.sid taken old new
+
+-- the same of clients, one after the other
+abbrev pub AreRead : {S : Type 0} → (S → Option (List ℕ)) → List (Client S) → List (Client S) → HubState → HubState →
+    Type 0
+AreRead remaining [] read old new = (read ≡ []) × Stays old new
+AreRead {S = S} remaining (client ∷ clients) read old new =
+    (after : Client S) × (rest : List (Client S)) × (between : HubState) × (read ≡ after ∷ rest)
+    × IsRead remaining client after old between × AreRead remaining clients rest between new
+
+-- ---- what goes
+
+-- The session of this number is given an answer, or closed.
+abbrev pub IsGivenTo : ℕ → Call → Type 0
+IsGivenTo sid (Given other answer) = other ≡ sid
+IsGivenTo sid (Closed other) = other ≡ sid
+IsGivenTo sid (Connected other) = ⊥
+IsGivenTo sid (Fed other piece) = ⊥
+IsGivenTo sid (Turned at most) = ⊥
+
+-- A session is given answers, and may be closed.
+pub record AreGiven (sid : ℕ) (old new : HubState) : Type 0 where
+  pub calls : List Call
+  pub own : All (IsGivenTo sid) calls
+  pub leads : LeadsOn old calls new
+
+-- What a client's session is given goes to its connection, behind what waited and as far as that takes it.
+pub record IsWritten {S : Type 0} (contents : S → Option (List ℕ)) (client after : Client S) (old new : HubState)
+    : Type 0 where
+  pub sid : after.sid ≡ client.sid
+  pub given : AreGiven client.sid old new
+  pub hands : HandsOut (contents client.stream) (contents after.stream)
+      (to_go (session_at old.sessions client.sid) (waiting client.outgoing))
+      (to_go (session_at new.sessions client.sid) (waiting after.outgoing))
+
+-- the same of clients, one after the other
+abbrev pub AreWritten : {S : Type 0} → (S → Option (List ℕ)) → List (Client S) → List (Client S) → HubState →
+    HubState → Type 0
+AreWritten contents [] written old new = (written ≡ []) × Stays old new
+AreWritten {S = S} contents (client ∷ clients) written old new =
+    (after : Client S) × (rest : List (Client S)) × (between : HubState) × (written ≡ after ∷ rest)
+    × IsWritten contents client after old between × AreWritten contents clients rest between new
+
+-- ---- a turn
+
+-- the clients whose session is open
+abbrev pub open_in : {S : Type 0} → Sessions → List (Client S) → List (Client S)
+open_in sessions clients = filter (λ client. is_some (session_at sessions client.sid)) clients
+
+-- At most one client comes: a session begins for it, and nothing waits for it.
+abbrev pub AreWelcomed : {S : Type 0} → List (Client S) → HubState → HubState → Type 0
+AreWelcomed [] old new = Stays old new
+AreWelcomed (client ∷ []) old new =
+    LeadsOn old (Connected client.sid ∷ []) new × (waiting client.outgoing ≡ [])
+AreWelcomed (client ∷ other ∷ more) old new = ⊥
+
+-- Who came stands behind those who were there.
+pub record Welcomes {S : Type 0} (clients after : List (Client S)) (old new : HubState) : Type 0 where
+  pub came : List (Client S)
+  pub whole : after ≡ clients ++ came
+  pub welcomed : AreWelcomed came old new
+
+-- Before a turn of the hub each client whose session is open, and who came, is read for.
+pub record HasHeardAll {S : Type 0} (remaining : S → Option (List ℕ)) (clients read : List (Client S))
+    (old heard : HubState) : Type 0 where
+  pub asked : List (Client S)
+  pub begun : HubState
+  pub welcomes : Welcomes (open_in old.sessions clients) asked old begun
+  pub reads : AreRead remaining asked read begun heard
+
+-- Then the hub answers at most 64 lines of what the sessions had sent by then, as one batch at this moment.
+pub record HasAnsweredAll {S : Type 0} (remaining : S → Option (List ℕ)) (at : ℕ) (clients read : List (Client S))
+    (old answered : HubState) : Type 0 where
+  pub heard : HubState
+  pub hears : HasHeardAll remaining clients read old heard
+  pub turned : Steps heard (Turned at 64) answered
+
+-- And then the answers are written. Who is left has an open session.
+pub record HasServed {S : Type 0} (remaining contents : S → Option (List ℕ)) (at : ℕ) (clients left : List (Client S))
+    (old new : HubState) : Type 0 where
+  pub read : List (Client S)
+  pub answered : HubState
+  pub answers : HasAnsweredAll remaining at clients read old answered
+  pub written : List (Client S)
+  pub writes : AreWritten contents read written answered new
+  pub stay : left ≡ open_in new.sessions written
