@@ -1,7 +1,7 @@
 -- The answers of a run are those to the merged list of its lines.
 use Rattle.std.proofs.Common.{◌≡◌, ◌∙◌, ℕ, suc, ◌+◌, Bool, true, false, List, [], ◌∷◌, ◌++◌, length, drop, Option, None, refl, sym, ap, subst, append_assoc, append-nil, arith}
 use Rattle.std.proofs.lemmas.List.Sums.{sum_by-cons}
-use Rattle.std.specs.Prelude.{cond, ◌==◌, ◌&&◌, if◌then◌else◌}
+use Rattle.std.specs.Prelude.{cond, map, ◌==◌, ◌&&◌, if◌then◌else◌}
 use Rattle.std.specs.List.{AllZip}
 use Rattle.std.proofs.Math.Seq.{drop-length}
 use Rattle.session_lines.specs.Lines.{lines_of, has_long_line}
@@ -13,7 +13,7 @@ use Rattle.line_loop.specs.Texts.{IsRun, IsText}
 use Rattle.line_loop.specs.Texts as loop
 use Rattle.chess_hub.specs.Sessions.{Merged, taken_count, name_from, IsLineAnswered, AreAnsweredAfter, answers_to}
 use Rattle.chess_run.specs.Running.{Kept, Standing, stands, written, AnswersLine}
-use Rattle.chess_run.specs.Law.{written_all, IsOfTheFirst, IsSessionText}
+use Rattle.chess_run.specs.Law.{written_all, IsOfTheFirst, GiveAll, AreTold, IsSessionText}
 
 name-behind : (session : ℕ) (name : Option (List ℕ)) (before : List Merged) (m : Merged) →
     name_from session name (before ++ m ∷ []) ≡ name_from session (name_from session name before) (m ∷ [])
@@ -25,9 +25,10 @@ one-more : (k n : ℕ) → k ≡ n → 1 + k ≡ suc n
 one-more k n e = omega (arith, e)
 
 -- the lines of a run as a turn's, behind others of the session
-record Told (before : List Merged) (table after : TableState) (lines : List (List ℕ)) (told : List ℕ) : Type 0 where
+record Told {M : Type 0} (gives : M → ℕ → M → Type 0) (from to : M) (before : List Merged) (table after : TableState) (lines : List (List ℕ)) (told : List ℕ) : Type 0 where
   pub merged : List Merged
   pub are : AllZip IsOfTheFirst lines merged
+  pub moments : GiveAll gives from (map (λ m. m.at) merged) to
   pub answers : List Said
   pub answered : AreAnsweredAfter before table merged answers after
   pub is : told ≡ written_all answers
@@ -37,10 +38,11 @@ record Told (before : List Merged) (table after : TableState) (lines : List (Lis
 module _ {D M : Type 0} (state : D → State) (sector_count failures : D → ℕ) (gives : M → ℕ → M → Type 0) where
   run-told : (s end : Standing D M) (before : List Merged) (lines : List (List ℕ)) (text : List ℕ) →
       name_from 1 None before ≡ s.name → IsRun (AnswersLine state sector_count failures gives) s lines text end →
-      Told before s.store.table end.store.table lines text
+      Told gives s.moments end.moments before s.store.table end.store.table lines text
   run-told s end before [] text named (none, same) = record {
     merged = [];
     are = tt;
+    moments = ap (λ (t : Standing D M). t.moments) same;
     answers = [];
     answered = (refl, ap (λ (t : Standing D M). t.store.table) same);
     is = none;
@@ -55,6 +57,7 @@ module _ {D M : Type 0} (state : D → State) (sector_count failures : D → ℕ
       record {
         merged = m ∷ rest.merged;
         are = (record { session = refl; reads = told.reads }, rest.are);
+        moments = (between.moments, told.next, rest.moments);
         answers = told.answer ∷ rest.answers;
         answered = (
           told.answer,
@@ -104,18 +107,37 @@ text-is input merged answers own count =
     ∙ written-end answers (has_long_line input)
 
 module _ {D M : Type 0} (state : D → State) (sector_count failures : D → ℕ) (gives : M → ℕ → M → Type 0) where
+  pub run-front : (store : Kept D) (moments : M) (lines : List (List ℕ)) (text : List ℕ) (end : Standing D M) →
+      IsRun (AnswersLine state sector_count failures gives) (stands store None moments) lines text end →
+      AreTold gives moments end.moments store.table end.store.table lines text
+  run-front store moments lines text end run =
+      let told = run-told state sector_count failures gives (stands store None moments) end [] lines text refl run in
+      record {
+        merged = told.merged;
+        are = told.are;
+        moments = told.moments;
+        answers = told.answers;
+        answered = told.answered;
+        is = told.is ∙ ap written_all (sym told.own);
+      }
+
   pub run-is : (store : Kept D) (moments : M) (input text : List ℕ) (end : Standing D M) →
       IsText (AnswersLine state sector_count failures gives) (stands store None moments) input text end →
-      IsSessionText store.table end.store.table input text
+      IsSessionText gives moments end.moments store.table end.store.table input text
   run-is store moments input text end is =
       let told = run-told state sector_count failures gives (stands store None moments) end [] (lines_of input)
       is.answers refl is.run in
       record {
-        merged = told.merged;
-        lines = told.are;
-        answers = told.answers;
-        answered = told.answered;
-        text = λ calls sent.
+        told = is.answers;
+        lines = record {
+          merged = told.merged;
+          are = told.are;
+          moments = told.moments;
+          answers = told.answers;
+          answered = told.answered;
+          is = told.is ∙ ap written_all (sym told.own);
+        };
+        is = λ calls sent.
             is.whole ∙ ap (λ (l : List ℕ). l ++ loop.farewell (has_long_line input)) told.is
             ∙ sym (text-is input told.merged told.answers told.own told.count)
             ∙ sym (ap (λ (i : List ℕ). written_all (text_of i told.merged told.answers)) sent);

@@ -1,14 +1,14 @@
 -- A run is what one session of a hub is told.
-use Rattle.std.specs.Prelude.{ℕ, ◌≡◌, List, [], ◌∷◌, ◌++◌, None}
+use Rattle.std.specs.Prelude.{ℕ, ◌≡◌, List, [], ◌∷◌, ◌++◌, None, map}
 use Rattle.std.specs.List.{AllZip}
 use Rattle.session_lines.specs.Lines.{lines_of}
 use Rattle.sector_dev.specs.Device.{State}
 use Rattle.chess_entry.specs.State.{TableState}
 use Rattle.chess_sessions.specs.Session.{Said}
 use Rattle.chess_sessions.specs.Turn.{IsReading}
-use Rattle.line_loop.specs.Texts.{IsText}
+use Rattle.line_loop.specs.Texts.{IsRun, IsText}
 use Rattle.chess_hub.specs.Calls.{Call, input_of}
-use Rattle.chess_hub.specs.Sessions.{Merged, AreAnsweredAfter, session_text}
+use Rattle.chess_hub.specs.Sessions.{Merged, AreAnsweredAfter, answers_to, session_text}
 use Rattle.chess_run.specs.Running.{Kept, Standing, stands, written, AnswersLine}
 
 -- answers as they are written, one behind the other
@@ -21,19 +21,38 @@ pub record IsOfTheFirst (line : List ℕ) (m : Merged) : Type 0 where
   pub session : m.session ≡ 1
   pub reads : IsReading line m.line
 
--- The whole lines of an input, all of the first session of a hub, have answers by the verdicts on the table; and this is the
--- session's text as it is written, whatever the calls by which the session sent the input.
-pub record IsSessionText (before after : TableState) (input told : List ℕ) : Type 0 where
+-- the moments that come one after the other
+abbrev pub GiveAll : {M : Type 0} → (M → ℕ → M → Type 0) → M → List ℕ → M → Type 0
+GiveAll gives from [] to = to ≡ from
+GiveAll {M = M} gives from (at ∷ ats) to = (between : M) × gives from at between × GiveAll gives between ats to
+
+-- Lines, all of the first session of a hub, each taken at the next moment, have answers by the verdicts on the table; and
+-- this is what the session is given for them, as it is written.
+pub record AreTold {M : Type 0} (gives : M → ℕ → M → Type 0) (from to : M) (before after : TableState)
+    (lines : List (List ℕ)) (told : List ℕ) : Type 0 where
   pub merged : List Merged
-  pub lines : AllZip IsOfTheFirst (lines_of input) merged
+  pub are : AllZip IsOfTheFirst lines merged
+  pub moments : GiveAll gives from (map (λ m. m.at) merged) to
   pub answers : List Said
   pub answered : AreAnsweredAfter [] before merged answers after
-  pub text : (calls : List Call) → input_of 1 calls ≡ input
-      → told ≡ written_all (session_text calls merged answers 1)
+  pub is : told ≡ written_all (answers_to 1 merged answers)
 
--- The text of a run is the text of a session.
-abbrev pub LawOfRun : {D M : Type 0} → (D → State) → (D → ℕ) → (D → ℕ) → (M → ℕ → M → Type 0) → Type 0
-LawOfRun {D = D} {M = M} state sector_count failures gives =
-    (store : Kept D) (moments : M) (input text : List ℕ) (end : Standing D M)
-    → IsText (AnswersLine state sector_count failures gives) (stands store None moments) input text end
-    → IsSessionText store.table end.store.table input text
+-- Where these are the whole lines of an input, the session's text is as it is written, whatever the calls by which the
+-- session sent the input.
+pub record IsSessionText {M : Type 0} (gives : M → ℕ → M → Type 0) (from to : M) (before after : TableState)
+    (input text : List ℕ) : Type 0 where
+  pub told : List ℕ
+  pub lines : AreTold gives from to before after (lines_of input) told
+  pub is : (calls : List Call) → input_of 1 calls ≡ input
+      → text ≡ written_all (session_text calls lines.merged lines.answers 1)
+
+-- The text of a run is the text of a session; and of the first lines of a run, where it ends before all are answered, it is
+-- what the session is given for these.
+pub record LawOfRun {D M : Type 0} (state : D → State) (sector_count failures : D → ℕ) (gives : M → ℕ → M → Type 0)
+    : Type 0 where
+  pub whole : (store : Kept D) (moments : M) (input text : List ℕ) (end : Standing D M)
+      → IsText (AnswersLine state sector_count failures gives) (stands store None moments) input text end
+      → IsSessionText gives moments end.moments store.table end.store.table input text
+  pub front : (store : Kept D) (moments : M) (lines : List (List ℕ)) (told : List ℕ) (end : Standing D M)
+      → IsRun (AnswersLine state sector_count failures gives) (stands store None moments) lines told end
+      → AreTold gives moments end.moments store.table end.store.table lines told
