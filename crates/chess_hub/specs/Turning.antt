@@ -1,5 +1,5 @@
 -- What a turn does.
-use Rattle.std.specs.Prelude.{ℕ, ◌≡◌, ◌≤◌, ◌↔◌, Bool, true, false, List, length, map, Result, OnOk, IfErr}
+use Rattle.std.specs.Prelude.{ℕ, ◌≡◌, ◌≤◌, ◌↔◌, Bool, true, false, List, [], length, map, Result, OnOk, IfErr}
 use Rattle.rec_codec.specs.declared.header.Header.{Header}
 use Rattle.sector_dev.specs.Image.{Sectors}
 use Rattle.sector_dev.specs.Device.{State}
@@ -42,6 +42,11 @@ pub record AsksFor (at most : ℕ) (old : Sessions) (P : List Command → Type 0
   pub taken : List Taken
   pub lines : AreTakenAs (turn_lines most (waiting_of old)) taken
   pub those : P (commands_of at (name_at old) taken)
+
+-- A store answers these commands: its device has not failed, unless there is none, and they do not wear it out.
+abbrev pub MayBeAsked : Bool → ℕ → ℕ → List Command → Type 0
+MayBeAsked failed seq entries commands =
+    (failed ≡ true → commands ≡ []) × (IsWornOut seq entries (act_count commands) → ⊥)
 
 -- ---- which fault
 

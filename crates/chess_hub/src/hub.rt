@@ -5,7 +5,7 @@ ghost use Rattle.chess_sessions.specs.Session.{said, fresh, session_at, session_
 ghost use Rattle.chess_store.specs.Batch.{AreAnswered};
 ghost use Rattle.chess_store.specs.Means.{IsKept};
 ghost use Rattle.chess_hub.specs.Faults.{IsConnectFault, IsFeedFault};
-ghost use Rattle.chess_hub.specs.Turning.{HasTurned, AsksFor, AreRefused, IsTurnFault, Lasts, IsTried};
+ghost use Rattle.chess_hub.specs.Turning.{HasTurned, AsksFor, MayBeAsked, AreRefused, IsTurnFault, Lasts, IsTried};
 
 use crate::fault::HubFault;
 use chess_answer::Reply;
@@ -34,7 +34,8 @@ fn ask<D: Device>(
         AreAnswered store.old.table commands.now replies.items store.new.table) }
     ensures count { IfOk result (λ replies. length replies.items ≡ length commands.now) }
     ensures quiet { commands.now ≡ [] → store.new ≡ store.old }
-    ensures works { OnOk result (store.old.failed ≡ true → commands.now ≡ []) }
+    ensures works { OnOk result (MayBeAsked store.old.failed store.old.journal.header.seq
+        store.old.table.entries commands.now) }
     ensures fault { IfErr result (λ fault. IsTurnFault fault ⊥ (λ refused. AreRefused refused
         store.old.journal.header.seq store.old.failed store.old.table store.new.table commands.now)) }
     ensures lasts { IsKept (D.state store.old.journal.device) store.old.journal.header store.old.journal.compaction
@@ -118,8 +119,8 @@ impl<D: Device> Hub<D> {
             self.old.store.table self.new.store.table) }
         ensures quiet { OnOk result (AsksFor at most self.old.sessions
             (λ commands. commands ≡ [] → self.new.store ≡ self.old.store)) }
-        ensures works { OnOk result (AsksFor at most self.old.sessions
-            (λ commands. self.old.store.failed ≡ true → commands ≡ [])) }
+        ensures works { OnOk result (AsksFor at most self.old.sessions (MayBeAsked self.old.store.failed
+            self.old.store.journal.header.seq self.old.store.table.entries)) }
         ensures unchanged { OnErr result (IsUnchanged self.old.sessions self.new.sessions) }
         ensures fault { IfErr result (λ fault. IsTurnFault fault (self.new.store ≡ self.old.store)
             (λ refused. AsksFor at most self.old.sessions (AreRefused refused self.old.store.journal.header.seq

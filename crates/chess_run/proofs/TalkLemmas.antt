@@ -27,7 +27,7 @@ use Rattle.chess_store.specs.Batch.{IsOutcome, IsAnswered, AreAnswered}
 use Rattle.chess_hub.specs.declared.fault.HubFault.{HubFault}
 use Rattle.chess_hub.specs.declared.fault.HubFault.TheVariants.{Busy, NoMemory, LineTooLong, Store}
 use Rattle.chess_hub.specs.Faults.{IsFeedFault}
-use Rattle.chess_hub.specs.Turning.{HasTurned, AsksFor, IsTurnFault}
+use Rattle.chess_hub.specs.Turning.{MayBeAsked, HasTurned, AsksFor, IsTurnFault}
 use Rattle.chess_store.specs.declared.fault.StoreFault.{StoreFault}
 use Rattle.sector_dev.specs.Device.{State}
 use Rattle.chess_store.specs.Means.{IsKept}
@@ -442,7 +442,7 @@ module _ {D M : Type 0} (state : D → State) (sector_count failures : D → ℕ
     (same : mid ≡ old) where
   pub answers-line : (reply : Reply) → gives m at n →
       IsTold at name line (said reply) mid.table new.table sessions sid →
-      LineAsksFor at name line (λ commands. mid.failed ≡ true → commands ≡ []) →
+      LineAsksFor at name line (MayBeAsked mid.failed mid.header.seq mid.table.entries) →
       Serves state sector_count failures mid new (Ok tt) →
       AnswersLine state sector_count failures gives (stands old name m) line (written (said reply))
       (stands new (name_at sessions sid) n)
@@ -458,7 +458,7 @@ module _ {D M : Type 0} (state : D → State) (sector_count failures : D → ℕ
         answered = now.answered;
         named = alone-name sessions sid (waits (renamed (given_name at now.read) name)) now.then;
         says = refl;
-        works = subst (λ (s : Kept D). LineAsksFor at name line (λ commands. s.failed ≡ true → commands ≡ [])) same
+        works = subst (λ (s : Kept D). LineAsksFor at name line (MayBeAsked s.failed s.header.seq s.table.entries)) same
             works;
         serves = subst (λ (s : Kept D). Serves state sector_count failures s new (Ok tt)) same serves;
       }

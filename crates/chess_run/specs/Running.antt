@@ -23,7 +23,7 @@ use Rattle.chess_hub.specs.declared.fault.HubFault.TheVariants.{NoMemory, Store 
 use Rattle.chess_run.specs.declared.running.RunFault.{RunFault}
 use Rattle.chess_run.specs.declared.running.RunFault.TheVariants as faults
 use Rattle.chess_hub.specs.Sessions.{IsLineAnswered}
-use Rattle.chess_hub.specs.Turning.{Lasts, IsTried, AreRefused}
+use Rattle.chess_hub.specs.Turning.{Lasts, IsTried, MayBeAsked, AreRefused}
 
 -- ---- one line
 
@@ -66,7 +66,7 @@ pub record LineAsksFor (at : ℕ) (name : Option (List ℕ)) (line : List ℕ) (
   pub those : P (asked at name read)
 
 -- A line takes the next moment and is answered, on the table that the store has; of a store whose device has failed only a
--- line that asks nothing of the table. What the store and its device do is said as of any turn.
+-- line that asks nothing of the table, and none that would wear it out. What the store and its device do is said as of any turn.
 pub record AnswersLine {D M : Type 0} (state : D → State) (sector_count failures : D → ℕ) (gives : M → ℕ → M → Type 0)
     (old : Standing D M) (line text : List ℕ) (new : Standing D M) : Type 0 where
   pub at : ℕ
@@ -77,7 +77,7 @@ pub record AnswersLine {D M : Type 0} (state : D → State) (sector_count failur
   pub answered : IsLineAnswered old.store.table old.name at read answer new.store.table
   pub named : new.name ≡ renamed (given_name at read) old.name
   pub says : text ≡ written answer
-  pub works : LineAsksFor at old.name line (λ commands. old.store.failed ≡ true → commands ≡ [])
+  pub works : LineAsksFor at old.name line (MayBeAsked old.store.failed old.store.header.seq old.store.table.entries)
   pub serves : Serves state sector_count failures old.store new.store (Ok tt)
 
 -- The store refused what a line asks, for this reason.

@@ -4,7 +4,7 @@ ghost use Rattle.std.specs.Io.BufRead.{strip_last};
 ghost use Rattle.session_lines.specs.Lines.{IsUnfinished};
 ghost use Rattle.chess_sessions.specs.Session.{said};
 ghost use Rattle.chess_sessions.specs.Answers.{name_at};
-ghost use Rattle.chess_hub.specs.Turning.{AreRefused, IsTurnFault};
+ghost use Rattle.chess_hub.specs.Turning.{MayBeAsked, AreRefused, IsTurnFault};
 ghost use Rattle.chess_run.specs.Running.{Serves, IsAlone, IsTalking, IsAsking, IsTold, LineAsksFor, asks, kept};
 
 use crate::moments::Moments;
@@ -41,7 +41,7 @@ fn take_turn<D: Device>(hub: &mut Hub<D>, sid: Sid, at: u64) -> Result<Reply, Hu
         hub.old.store.table hub.new.store.table hub.new.sessions sid) }
     ensures works { OnOk result ((name : Option (List ℕ)) (part : List ℕ) → IsUnfinished part
         → IsAlone hub.old.sessions sid (asks name part) → LineAsksFor at name (strip_last 13 part)
-        (λ commands. hub.old.store.failed ≡ true → commands ≡ [])) }
+        (MayBeAsked hub.old.store.failed hub.old.store.journal.header.seq hub.old.store.table.entries)) }
     ensures serves { OnOk result (Serves D.state D.sector_count D.failures
         (kept hub.old.store.journal.device hub.old.store.journal.header hub.old.store.journal.compaction hub.old.store.table hub.old.store.failed)
         (kept hub.new.store.journal.device hub.new.store.journal.header hub.new.store.journal.compaction hub.new.store.table hub.new.store.failed) (Ok tt)) }

@@ -1,7 +1,7 @@
 use Rattle.std.proofs.Common.{◌≡◌, true, [], sym, subst, Ok, IfErr}
 use Rattle.std.proofs.lemmas.Result.{err_from_is_err_and}
 use Rattle.std.specs.Io.BufRead.{strip_last}
-use Rattle.chess_hub.specs.Turning.{IsTurnFault, AreRefused}
+use Rattle.chess_hub.specs.Turning.{MayBeAsked, IsTurnFault, AreRefused}
 use Rattle.chess_run.specs.Running.{asks, kept, Serves, IsAlone, IsTold, LineAsksFor}
 use Rattle.session_lines.specs.Lines.{IsUnfinished}
 use Rattle.chess_sessions.specs.Session.{said}
@@ -38,7 +38,8 @@ returns-clause-told g c = λ name part u h.
 pub returns-clause-works : goal.returns-clause-works
 returns-clause-works g c = λ name part u h.
     asks-line c.args.at c.args.sid name part c.args.hub.now.sessions u h
-    (λ commands. c.args.hub.now.store.failed ≡ true → commands ≡ []) c.in_ok-turn.ensures.works
+    (MayBeAsked c.args.hub.now.store.failed c.args.hub.now.store.journal.header.seq c.args.hub.now.store.table.entries)
+    c.in_ok-turn.ensures.works
 
 pub returns-clause-serves : goal.returns-clause-serves
 returns-clause-serves g c =
