@@ -39,8 +39,8 @@ raised later by widen, never lowered.
 
 Exit status: 0; 1 with fault NAME on standard error: File (the file cannot be
 opened, made or lengthened, or another program has it open), Exists, Device (a
-read, a write or a sync failed), NoMemory, Write (the answer could not be
-printed); 2 for words that the program does not know.
+read, a write or a sync failed), Write (the answer could not be printed); 2 for
+words that the program does not know.
 
 Example:
   chess_server format --journal club.journal --games 4 --plies 60
@@ -82,8 +82,8 @@ prints
 
 const HELP_OF_RUN: &str = "\
 One session over the journal: each line of standard input gets its answer on standard
-output, as docs/PROTOCOL.md tells. What is answered by ok or fallen lasts: it stands
-in the file before the answer is written.
+output, as docs/PROTOCOL.md tells. What is answered by ok or fallen lasts, but for a
+name, which is the session's: it stands in the file before the answer is written.
 
   name NAME     who sends the lines that follow: 1 to 16 of A-Z a-z 0-9 _
   open white INITIAL INCREMENT [FEN], join G, move G PLY TEXT, offer G, accept G,
@@ -110,12 +110,12 @@ prints
 const HELP_OF_SERVE: &str = "\
 It listens on 127.0.0.1, prints port P with the port that it listens on, and serves
 each connection as a session over the journal, with the lines and answers of run: 64
-at a time, of which none waits for another. A further connection is closed at once.
+at a time. A further connection is closed at once.
 
 A turn accepts a connection, reads from each session, answers up to 64 lines and
 writes what can be written. After N turns serve ends; a turn that finds nothing to do
 takes 10 ms, so that 4294967295 of them are more than a year. What was answered by ok
-or fallen lasts, also where serve is killed.
+or fallen lasts, but for names, also where serve is killed.
 
 A line has at most 255 bytes before its line feed, a carriage return among them. A
 longer one is answered by bye LineTooLong, which closes the connection. Where a client
