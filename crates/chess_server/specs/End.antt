@@ -12,6 +12,7 @@ use Rattle.chess_server.specs.declared.ends.End.{End}
 use Rattle.chess_server.specs.declared.ends.End.TheVariants as ends
 use Rattle.chess_server.specs.declared.ends.Fault.{Fault}
 use Rattle.chess_server.specs.declared.ends.Fault.TheVariants.{File, Read, Write, Limits, Socket, LineTooLong, Store, Hub}
+use Rattle.chess_server.specs.declared.ends.Fault.TheVariants as faults
 
 -- the exit status: 1 after a fault, 2 for words that the program does not know
 abbrev pub status_of : End → ℕ
@@ -45,6 +46,7 @@ name_of Write = codes "Write"
 name_of Limits = codes "Limits"
 name_of Socket = codes "Socket"
 name_of LineTooLong = codes "LineTooLong"
+name_of faults.NoMemory = codes "NoMemory"
 name_of (Store fault) = name_of_store fault
 name_of (Hub fault) = name_of_hub fault
 

@@ -25,6 +25,8 @@ pub enum Fault {
     Socket,
     /// A line of the input was too long, and its farewell is written.
     LineTooLong,
+    /// Memory was refused while the words of the command line were read.
+    NoMemory,
     /// The store refused.
     Store(StoreFault),
     /// The hub refused.
@@ -90,6 +92,7 @@ pub fn name(fault: Fault) -> &'static str
         Fault::Limits => "Limits",
         Fault::Socket => "Socket",
         Fault::LineTooLong => "LineTooLong",
+        Fault::NoMemory => "NoMemory",
         Fault::Store(fault) => store_name(fault),
         Fault::Hub(fault) => hub_name(fault),
     }
@@ -127,15 +130,17 @@ pub fn end_of_work(ended: Result<(), Fault>) -> End
     }
 }
 
-/// The end of a run that only prints a text of the command line: help that was asked for is no fault.
+/// The end of a run that only prints a text of the command line: help that was asked for is no fault, want of memory is
+/// one, and anything else is usage.
 pub fn end_of_words(error: &Error) -> End
     ensures help { kind_of error.now ≡ ErrorKind.DisplayHelp → result ≡ End.Done }
-    ensures fault { kind_of error.now ≢ ErrorKind.DisplayHelp → kind_of error.now ≢ ErrorKind.DisplayVersion →
-        result ≡ End.Usage }
+    ensures memory { kind_of error.now ≡ ErrorKind.OutOfMemory → result ≡ End.Fault Fault.NoMemory }
+    ensures usage { kind_of error.now ≢ ErrorKind.DisplayHelp → kind_of error.now ≢ ErrorKind.DisplayVersion →
+        kind_of error.now ≢ ErrorKind.OutOfMemory → result ≡ End.Usage }
 {
-    if error.use_stderr() {
-        End::Usage
-    } else {
-        End::Done
+    match error.kind() {
+        ErrorKind::DisplayHelp | ErrorKind::DisplayVersion => End::Done,
+        ErrorKind::OutOfMemory => End::Fault(Fault::NoMemory),
+        _ => End::Usage,
     }
 }

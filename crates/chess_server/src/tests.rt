@@ -7,6 +7,7 @@ use board_session::BoardFault;
 use chess_hub::HubFault;
 use chess_run::RunFault;
 use chess_store::StoreFault;
+use clap::Error;
 use std::alloc::{AllocError, Global};
 use std::test::Fail;
 
@@ -43,6 +44,8 @@ fn names_each_fault(rt: HostRuntime) {
         (Fault::Limits, "Limits"),
         (Fault::Socket, "Socket"),
         (Fault::Write, "Write"),
+        // Of the words themselves.
+        (Fault::NoMemory, "NoMemory"),
         // Of `run`.
         (fault_of_run(RunFault::Read), "Read"),
         (fault_of_run(RunFault::Write), "Write"),
@@ -94,6 +97,8 @@ fn reads_the_command_line(rt: HostRuntime) -> Result<(), Fail> {
             Err(error) => assert_eq!(rt; status(end_of_words(&error)), 2, "{unknown}"),
         }
     }
+    let refused = Error::from(AllocError);
+    assert!(rt; end_of_words(&refused) == End::Fault(Fault::NoMemory), "memory");
     match read_words(alloc, words_of(alloc, "--help")?.as_slice()) {
         Ok(_) => assert!(rt; false, "help"),
         Err(error) => assert_eq!(rt; status(end_of_words(&error)), 0, "help"),
