@@ -1,5 +1,5 @@
 -- What is said, one text after another.
-use Rattle.std.proofs.Common.{◌≡◌, ℕ, ◌<◌, ◌-◌, List, [], ◌∷◌, ◌++◌, length, Option, Result, Ok, Err, OnOk, OnErr, IfOk, IfErr, refl, sym, ap, ◌∙◌, subst, append_assoc, append-nil, length-append, take, drop, arith, take-append-drop}
+use Rattle.std.proofs.Common.{◌≡◌, ℕ, ◌<◌, ◌-◌, List, [], ◌∷◌, ◌++◌, length, Option, Result, Ok, Err, OnOk, OnErr, refl, sym, ap, ◌∙◌, subst, append_assoc, append-nil, length-append, take, drop, arith, take-append-drop}
 use Rattle.std.proofs.lemmas.List.{take_rest}
 use Rattle.std.proofs.KnownBytes.{Appends-nil, Appends-trans}
 use Rattle.std.specs.Io.KnownBytes.{Appends}
@@ -94,16 +94,6 @@ map_ok (Err e) P Q f p = tt
 pub map_err : {T E : Type 0} (r : Result T E) (P Q : Type 0) → (P → Q) → OnErr r P → OnErr r Q
 map_err (Ok x) P Q f p = tt
 map_err (Err e) P Q f p = f p
-
--- what holds of a result that is known
-pub ok_of : {T E : Type 0} (r : Result T E) (x : T) (P : T → Type 0) → r ≡ Ok x → IfOk r P → P x
-ok_of {T} {E} r x P is p = subst (λ (y : Result T E). IfOk y P) is p
-
-pub err_of : {T E : Type 0} (r : Result T E) (x : E) (P : E → Type 0) → r ≡ Err x → IfErr r P → P x
-err_of {T} {E} r x P is p = subst (λ (y : Result T E). IfErr y P) is p
-
-pub on_ok_of : {T E : Type 0} (r : Result T E) (x : T) (P : Type 0) → r ≡ Ok x → OnOk r P → P
-on_ok_of {T} {E} r x P is p = subst (λ (y : Result T E). OnOk y P) is p
 
 -- ---- what a call of `send` says
 

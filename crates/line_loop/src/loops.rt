@@ -5,9 +5,9 @@ ghost use Rattle.session_lines.specs.Lines.{HasNoFeed, IsUnfinished};
 ghost use Rattle.line_loop.specs.Texts.{IsText, Ended};
 ghost use Rattle.line_loop.specs.Turns.{Takes};
 
-use crate::answerer::{Answerer, LoopFault};
+use crate::answerer::{Answer, Answerer, LoopFault};
 use crate::outlet::{Ready, WriteFault, hand_out, say, say_answer};
-use arrayvec::ArrayVec;
+use arrayvec::{ArrayString, ArrayVec};
 use session_lines::{LINE_ROOM, first_feed};
 use std::io::{ErrorKind, Read, Write};
 
@@ -64,14 +64,16 @@ fn answer_line<A: Answerer, W: Write>(
     ensures { Takes A.is_ready A.answers A.breaks (W.contents writer.old) ready.old.bytes answerer.old line.now (10 ∷ [])
         result (W.contents writer.new) ready.new.bytes answerer.new [] }
 {
-    // The answer stays where it was made, since it is dear to copy.
-    let answered = answerer.answer(line);
-    match &answered {
-        Ok(answer) => {
-            say_answer(ready, answer, writer)?;
+    let mut said = Answer {
+        line: ArrayString::new(),
+        body: None,
+    };
+    match answerer.answer(line, &mut said) {
+        Ok(()) => {
+            say_answer(ready, &said, writer)?;
             Ok(Flow::Open)
         }
-        Err(fault) => Ok(Flow::Broken(*fault)),
+        Err(fault) => Ok(Flow::Broken(fault)),
     }
 }
 
