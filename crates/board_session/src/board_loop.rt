@@ -3,7 +3,6 @@ ghost use Rattle.std.specs.Prelude.{◌≡◌, ℕ, List, IfSome, OnOk, OnErr, I
 ghost use Rattle.board_session.specs.Run.{IsBoardText, AppendsText, AppendsFront, AnswersTaken, AnswersInPart};
 
 use crate::answer::answer;
-use arrayvec::ArrayString;
 use chess_board::Board;
 use line_loop::{Answer, Answerer, LoopFault, answer_lines};
 use session_lines::without_return;
@@ -50,13 +49,11 @@ impl Answerer for Session {
     // Every line is answered.
     ghost breaks = { λ _ _ _ _. ⊥ };
 
-    fn answer(&mut self, line: &[u8]) -> Result<Answer, Infallible> {
-        let mut said = Answer {
-            line: ArrayString::new(),
-            body: None,
-        };
+    fn answer(&mut self, line: &[u8], said: &mut Answer) -> Result<(), Infallible> {
+        said.line.clear();
+        said.body = None;
         answer(&mut self.board, without_return(line), &mut said.line);
-        Ok(said)
+        Ok(())
     }
 }
 

@@ -83,12 +83,13 @@ impl<D: Device, M: Moments> Answerer for Talk<D, M> {
         (kept new.hub.store.journal.device new.hub.store.journal.header new.hub.store.journal.compaction new.hub.store.table new.hub.store.failed)
         (name_at new.hub.sessions new.sid) new.moments) };
 
-    fn answer(&mut self, line: &[u8]) -> Result<Answer, HubFault> {
+    fn answer(&mut self, line: &[u8], said: &mut Answer) -> Result<(), HubFault> {
         hear(&mut self.hub, self.sid, line)?;
         let reply = take_turn(&mut self.hub, self.sid, self.moments.next())?;
-        Ok(Answer {
+        *said = Answer {
             line: reply.line,
             body: Some(reply.body),
-        })
+        };
+        Ok(())
     }
 }

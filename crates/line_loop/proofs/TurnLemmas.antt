@@ -153,6 +153,25 @@ module _ {S F : Type 0} (Asked : S → Type 0) (Answers : S → List ℕ → Lis
       (append_assoc taken bytes more) (then start first (taken ++ bytes) (come start first taken h))
 
   -- bytes that come after its end change nothing
+  -- where nothing of a line waits it may come whole
+  pub took-whole : (now new : Option (List ℕ)) (ready left : List ℕ) (s t : S) (held part : List ℕ)
+      (result : Result (Flow F) WriteFault) → Asked s → held ≡ [] → IsUnfinished part →
+      Takes Asked Answers Breaks now ready s part (10 ∷ []) result new left t [] →
+      Takes Asked Answers Breaks now ready s held (part ++ 10 ∷ []) result new left t held
+  took-whole now new ready left s t held part result asked none u takes =
+      subst (λ (x : List ℕ). Takes Asked Answers Breaks now ready s x (part ++ 10 ∷ []) result new left t x) (sym none)
+      (then-takes now now new ready ready left s s t [] part [] part (10 ∷ []) result
+      (took-part now ready s [] part part asked unfinished-nil u.no_feed (omega (arith, u.short)) refl) takes)
+
+  -- what has come of a line is let go
+  pub emptied : (a b : Option (List ℕ)) (q r : List ℕ) (s t : S) (held line kept bytes : List ℕ)
+      (result : Result (Flow F) WriteFault) → line ≡ held → kept ≡ [] →
+      Takes Asked Answers Breaks a q s line bytes result b r t [] →
+      Takes Asked Answers Breaks a q s held bytes result b r t kept
+  emptied a b q r s t held line kept bytes result same none takes =
+      subst (λ (x : List ℕ). Takes Asked Answers Breaks a q s held bytes result b r t x) (sym none)
+      (subst (λ (x : List ℕ). Takes Asked Answers Breaks a q s x bytes result b r t []) same takes)
+
   pub over-long : (a b : Option (List ℕ)) (q r : List ℕ) (s t : S) (held kept bytes more : List ℕ) →
       Takes Asked Answers Breaks a q s held bytes (Ok TooLong) b r t kept →
       Takes Asked Answers Breaks a q s held (bytes ++ more) (Ok TooLong) b r t kept

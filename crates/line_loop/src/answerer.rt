@@ -1,5 +1,5 @@
 //! Who answers lines.
-ghost use Rattle.std.specs.Prelude.{ℕ, List, IfOk, IfErr, OnOk};
+ghost use Rattle.std.specs.Prelude.{ℕ, List, IfErr, OnOk};
 ghost use Rattle.std.specs.Io.BufRead.{strip_last};
 ghost use Rattle.session_lines.specs.Lines.{IsUnfinished};
 ghost use Rattle.line_loop.specs.Texts.{as_text};
@@ -40,12 +40,12 @@ pub trait Answerer {
     /// At this state a line finds no answer, for this reason, and that state comes.
     ghost breaks: { Self → List ℕ → Self.Fault → Self → Type 0 };
 
-    /// Answers a line that came before a line feed. After a fault it is not asked again.
-    fn answer(&mut self, line: &[u8]) -> Result<Answer, Self::Fault>
+    /// Answers a line that came before a line feed, and writes the answer over what stands in `said`, since an answer is
+    /// dear to move. After a fault it is not asked again.
+    fn answer(&mut self, line: &[u8], said: &mut Answer) -> Result<(), Self::Fault>
         requires ready { is_ready self.old }
         requires unfinished { IsUnfinished line.now }
-        ensures answered { IfOk result (λ answer.
-            answers self.old (strip_last 13 line.now) (as_text answer) self.new) }
+        ensures answered { OnOk result (answers self.old (strip_last 13 line.now) (as_text said.new) self.new) }
         ensures ready { OnOk result (is_ready self.new) }
         ensures broken { IfErr result (λ fault. breaks self.old (strip_last 13 line.now) fault self.new) };
 }

@@ -5,9 +5,9 @@ ghost use Rattle.session_lines.specs.Lines.{HasNoFeed, IsUnfinished};
 ghost use Rattle.line_loop.specs.Texts.{IsText, Ended};
 ghost use Rattle.line_loop.specs.Turns.{Takes};
 
-use crate::answerer::{Answerer, LoopFault};
+use crate::answerer::{Answer, Answerer, LoopFault};
 use crate::outlet::{Ready, WriteFault, hand_out, say, say_answer};
-use arrayvec::ArrayVec;
+use arrayvec::{ArrayString, ArrayVec};
 use session_lines::{LINE_ROOM, first_feed};
 use std::io::{ErrorKind, Read, Write};
 
@@ -52,6 +52,31 @@ fn take_part<A: Answerer, W: Write>(
     Ok(Flow::Open)
 }
 
+// Answers a line that ends with its line feed.
+fn answer_line<A: Answerer, W: Write>(
+    answerer: &mut A,
+    line: &[u8],
+    ready: &mut Ready,
+    writer: &mut W,
+) -> Result<Flow<A::Fault>, WriteFault>
+    requires asked { A.is_ready answerer.old }
+    requires unfinished { IsUnfinished line.now }
+    ensures { Takes A.is_ready A.answers A.breaks (W.contents writer.old) ready.old.bytes answerer.old line.now (10 ∷ [])
+        result (W.contents writer.new) ready.new.bytes answerer.new [] }
+{
+    let mut said = Answer {
+        line: ArrayString::new(),
+        body: None,
+    };
+    match answerer.answer(line, &mut said) {
+        Ok(()) => {
+            say_answer(ready, &said, writer)?;
+            Ok(Flow::Open)
+        }
+        Err(fault) => Ok(Flow::Broken(fault)),
+    }
+}
+
 // Takes a line feed, and answers the line that it ends.
 fn end_line<A: Answerer, W: Write>(
     session: &mut Session<A>,
@@ -63,14 +88,14 @@ fn end_line<A: Answerer, W: Write>(
         session.old.answerer session.old.line.items (10 ∷ []) result (W.contents writer.new) session.new.ready.bytes
         session.new.answerer session.new.line.items }
 {
-    match session.answerer.answer(session.line.as_slice()) {
-        Ok(answer) => {
-            say_answer(&mut session.ready, &answer, writer)?;
-            session.line.clear();
-            Ok(Flow::Open)
-        }
-        Err(fault) => Ok(Flow::Broken(fault)),
-    }
+    let flow = answer_line(
+        &mut session.answerer,
+        session.line.as_slice(),
+        &mut session.ready,
+        writer,
+    )?;
+    session.line.clear();
+    Ok(flow)
 }
 
 // Takes the rest of a line, and its line feed.
@@ -86,6 +111,10 @@ fn take_line<A: Answerer, W: Write>(
         session.old.answerer session.old.line.items (part.now ++ 10 ∷ []) result (W.contents writer.new)
         session.new.ready.bytes session.new.answerer session.new.line.items }
 {
+    // A line that came whole, as nearly all do, is answered where it lies.
+    if session.line.is_empty() && part.len() <= LINE_ROOM {
+        return answer_line(&mut session.answerer, part, &mut session.ready, writer);
+    }
     match take_part(session, part, writer)? {
         Flow::Open => end_line(session, writer),
         Flow::TooLong => Ok(Flow::TooLong),

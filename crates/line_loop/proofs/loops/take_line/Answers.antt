@@ -1,7 +1,18 @@
-use Rattle.std.proofs.Common.{[], ◌∷◌, ◌++◌}
+use Rattle.std.proofs.Common.{◌≡◌, [], ◌∷◌, ◌++◌, arith, rules}
 use Rattle.std.proofs.lemmas.Result.{err_from_is_err_and}
-use Rattle.line_loop.proofs.TurnLemmas.{flow_is, then-takes, over-long, over-broken, over-lost, passed_on}
+use Rattle.std.proofs.lemmas.List.{nil_from_length}
+use Rattle.line_loop.proofs.TurnLemmas.{took-whole, flow_is, then-takes, over-long, over-broken, over-lost, passed_on}
 use Rattle.line_loop.proofs.loops.take_line.Goals as goal
+
+pub returns-then-part-le-LINE_ROOM : goal.returns-then-part-le-LINE_ROOM
+returns-then-part-le-LINE_ROOM g c =
+    let s = c.args.session.now in
+    let part = c.args.part.now in
+    let none : s.line.items ≡ [] = nil_from_length s.line.items (search rules) in
+    took-whole g.A.Answerer.is_ready g.A.Answerer.answers g.A.Answerer.breaks (g.W.Write.contents c.args.writer.now)
+    (g.W.Write.contents c.answer_line.new.writer) s.ready.bytes c.answer_line.new.ready.bytes s.answerer
+    c.answer_line.new.answerer s.line.items part c.answer_line.result c.requires.asked none
+    (record { no_feed = c.requires.no_feed; short = omega arith }) c.answer_line.ensures
 
 pub returns-in_err-take_part : goal.returns-in_err-take_part
 returns-in_err-take_part g c =

@@ -1,5 +1,5 @@
 use Rattle.std.specs.Prelude.{ℕ, ◌≡◌, List, [], ◌∷◌, ◌++◌}
-use Rattle.std.proofs.Common.{◌∙◌, subst}
+use Rattle.std.proofs.Common.{subst}
 use Rattle.line_loop.proofs.Writes.{on_err, map_ok, map_err, loses-more, says-says, says-loses, says-answer, loses-answer}
 use Rattle.line_loop.specs.Texts.{as_text, body_of}
 use Rattle.line_loop.specs.Outlets.{Says, Loses}
