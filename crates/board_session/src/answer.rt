@@ -8,16 +8,16 @@ ghost use Rattle.board_session.specs.Answer.{AnswersText, IsAnswer, IsAtLimit, a
 
 use crate::line::{Command, parse};
 use arrayvec::ArrayString;
-use chess_board::{Board, Move};
+use chess_board::Move;
 use chess_moves::legal;
-use chess_text::{coordinate, fen_write};
+use chess_text::{ShownBoard, coordinate};
 
 /// Room for an answer, without its line feed. The longest is a FEN, which has at most 93 bytes.
 pub type AnswerLine = ArrayString<160>;
 
 /// Answers a line, without the line feed that ends it, and makes the move that it asks for. The answer is written where
 /// nothing was, since a line of this size is dear to copy.
-pub fn answer(board: &mut Board, line: &[u8], said: &mut AnswerLine)
+pub fn answer(board: &mut ShownBoard, line: &[u8], said: &mut AnswerLine)
     requires { said.old.bytes ≡ [] }
     ensures { IsAnswer board.old line.now (as_line said.new.bytes) board.new }
 {
@@ -28,7 +28,7 @@ pub fn answer(board: &mut Board, line: &[u8], said: &mut AnswerLine)
 }
 
 // Answers a line that asks for the move of this text.
-fn answer_move(board: &mut Board, text: &str, said: &mut AnswerLine)
+fn answer_move(board: &mut ShownBoard, text: &str, said: &mut AnswerLine)
     requires { said.old.bytes ≡ [] }
     ensures { AnswersText board.old text.now (as_line said.new.bytes) board.new }
 {
@@ -39,12 +39,12 @@ fn answer_move(board: &mut Board, text: &str, said: &mut AnswerLine)
 }
 
 // Answers a move, legal or not, whatever text it came from.
-fn answer_coordinate(board: &mut Board, mv: &Move, said: &mut AnswerLine)
+fn answer_coordinate(board: &mut ShownBoard, mv: &Move, said: &mut AnswerLine)
     requires { said.old.bytes ≡ [] }
     ensures { (text : List ℕ) → IsCoordinateOf text mv.now →
         AnswersText board.old text (as_line said.new.bytes) board.new }
 {
-    if legal(board, *mv) {
+    if legal(board.board(), *mv) {
         make_move(board, *mv, said);
     } else {
         refuse(said);
@@ -52,18 +52,20 @@ fn answer_coordinate(board: &mut Board, mv: &Move, said: &mut AnswerLine)
 }
 
 // Makes a legal move, unless a counter has its greatest value.
-fn make_move(board: &mut Board, mv: Move, said: &mut AnswerLine)
+fn make_move(board: &mut ShownBoard, mv: Move, said: &mut AnswerLine)
     requires legal { IsLegal board.old mv }
     requires nothing { said.old.bytes ≡ [] }
     ensures made { ¬ IsAtLimit board.old → board.new ≡ next board.old mv }
     ensures shown { ¬ IsAtLimit board.old → IsFenOf said.new.bytes board.new }
     ensures stopped { IsAtLimit board.old → (board.new ≡ board.old) × (said.new.bytes ≡ codes "no 20 TooLong") }
 {
-    if board.halfmove() == u16::MAX || board.fullmove() == u16::MAX {
+    let before = board.board();
+    if before.halfmove() == u16::MAX || before.fullmove() == u16::MAX {
         say(said, "no 20 TooLong");
     } else {
-        *board = board.apply(mv);
-        say(said, fen_write(board).as_str());
+        let after = before.apply(mv);
+        board.set(after);
+        say(said, board.fen().as_str());
     }
 }
 

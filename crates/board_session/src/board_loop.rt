@@ -5,6 +5,7 @@ ghost use Rattle.board_session.specs.Run.{IsBoardText, AppendsText, AppendsFront
 use crate::answer::answer;
 use arrayvec::ArrayString;
 use chess_board::Board;
+use chess_text::ShownBoard;
 use line_loop::{Answer, Answerer, LoopFault, answer_lines};
 use session_lines::without_return;
 use std::convert::Infallible;
@@ -26,7 +27,7 @@ pub enum BoardFault {
 // One board, whose lines are answered.
 #[derive(Drop)]
 struct Session {
-    board: Board,
+    board: ShownBoard,
 }
 
 impl Model for Session {
@@ -83,7 +84,7 @@ pub fn board<R: Read, W: Write>(reader: &mut R, writer: &mut W) -> Result<(), Bo
     ensures one { (input text other : List ℕ) → IsBoardText input text → IsBoardText input other → text ≡ other }
 {
     let session = Session {
-        board: Board::initial(),
+        board: ShownBoard::new(Board::initial()),
     };
     let (_, ended) = answer_lines(session, reader, writer);
     match ended {

@@ -1,0 +1,235 @@
+//! A board with the texts of its ranks at hand.
+ghost use Rattle.std.specs.Prelude.{◌≡◌, ◌≤◌, ◌+◌, ◌++◌, ◌∷◌, ℕ, false, [], length};
+ghost use Rattle.arrayvec.specs.ArrayString.{array_string_len};
+ghost use Rattle.chess_bits.specs.Square.{Square, IsOnBoard};
+ghost use Rattle.chess_bits.specs.Table.{has};
+ghost use Rattle.chess_text.specs.Fen.{rank_of, placement_text, fen_of, IsFenOf, AreLetters};
+ghost use Rattle.chess_text.specs.Shown.{IsRankText, AreRankTexts, HasChanges, TellsRanks};
+
+use crate::fen::{Text, push, push_fields, push_rank};
+use crate::letters::{letter_at, letters_of};
+use arrayvec::ArrayString;
+use chess_bits::{Bits, Colour, Kind};
+use chess_board::{Board, Men};
+use std::marker::Model;
+
+// The texts of the ranks.
+#[derive(Drop)]
+struct RankTexts {
+    eighth: Text,
+    seventh: Text,
+    sixth: Text,
+    fifth: Text,
+    fourth: Text,
+    third: Text,
+    second: Text,
+    first: Text,
+}
+
+/// A board that keeps the texts of its ranks. For its FEN after a move only those are written anew on which a man came
+/// or went.
+#[derive(Drop)]
+pub struct ShownBoard {
+    board: Board,
+    letters: [u8; 64],
+    ranks: RankTexts,
+}
+
+impl Model for ShownBoard {
+    ghost use Rattle.chess_board.specs.Position.{Position};
+    ghost use Rattle.chess_text.specs.Fen.{AreLetters};
+    ghost use Rattle.chess_text.specs.Shown.{AreRankTexts};
+
+    ghost Value = { Position };
+
+    ghost view = { λ shown. shown.board };
+
+    ghost invariant = { λ shown. AreLetters shown.letters shown.board.placement × AreRankTexts shown.ranks shown.board.placement };
+}
+
+impl ShownBoard {
+    /// The board, with the texts of its ranks.
+    pub fn new(board: Board) -> ShownBoard
+        ensures { result ≡ board }
+    {
+        let letters = letters_of(board.men());
+        let ranks = rank_texts(board.men(), &letters);
+        ShownBoard {
+            board,
+            letters,
+            ranks,
+        }
+    }
+
+    /// The board.
+    pub fn board(&self) -> &Board
+        ensures { result.now ≡ self.now }
+    {
+        &self.board
+    }
+
+    /// Takes another board in place of this one.
+    pub fn set(&mut self, board: Board)
+        ensures { self.new ≡ board }
+    {
+        let _whole = (self.board.rights(), board.rights());
+        let changed = changes(self.board.men(), board.men());
+        let touched = reletter(&mut self.letters, self.board.men(), board.men(), changed);
+        renew_all(
+            &mut self.ranks,
+            self.board.men(),
+            board.men(),
+            &self.letters,
+            &touched,
+        );
+        self.board = board;
+    }
+
+    /// Its position in Forsyth-Edwards notation, as `fen_write` writes it.
+    pub fn fen(&self) -> ArrayString<96>
+        ensures fen { IsFenOf result.bytes self.now }
+        ensures text { result.bytes ≡ fen_of self.now }
+    {
+        let mut text = Text::new();
+        push_ranks(&mut text, self.board.men(), &self.ranks);
+        push_fields(&mut text, &self.board);
+        text
+    }
+}
+
+// The text of a rank.
+fn rank_text(men: &Men, letters: &[u8; 64], rank: u8) -> Text
+    requires letters { AreLetters letters.now men.now }
+    requires from { 1 ≤ rank }
+    requires to { rank ≤ 8 }
+    ensures { IsRankText result.bytes men.now rank }
+{
+    let mut text = Text::new();
+    push_rank(&mut text, men, letters, rank);
+    text
+}
+
+// The texts of all ranks.
+fn rank_texts(men: &Men, letters: &[u8; 64]) -> RankTexts
+    requires { AreLetters letters.now men.now }
+    ensures { AreRankTexts result men.now }
+{
+    RankTexts {
+        eighth: rank_text(men, letters, 8),
+        seventh: rank_text(men, letters, 7),
+        sixth: rank_text(men, letters, 6),
+        fifth: rank_text(men, letters, 5),
+        fourth: rank_text(men, letters, 4),
+        third: rank_text(men, letters, 3),
+        second: rank_text(men, letters, 2),
+        first: rank_text(men, letters, 1),
+    }
+}
+
+// Adds the squares that one of two sets has alone.
+fn with_differing(so_far: Bits, a: Bits, b: Bits) -> Bits
+    requires so_far { length so_far ≡ 64 }
+    requires a { length a ≡ 64 }
+    requires b { length b ≡ 64 }
+    ensures whole { length result ≡ 64 }
+    ensures before { (s : Square) → has result s ≡ false → has so_far s ≡ false }
+    ensures same { (s : Square) → has result s ≡ false → has a s ≡ has b s }
+{
+    so_far.union(a.without(b).union(b.without(a)))
+}
+
+// The squares on which something else stands than before.
+fn changes(old: &Men, new: &Men) -> Bits
+    requires old { length old.now ≡ 64 }
+    requires new { length new.now ≡ 64 }
+    ensures { HasChanges old.now new.now result }
+{
+    let white = with_differing(Bits::new(), old.of(Colour::White), new.of(Colour::White));
+    let colours = with_differing(white, old.of(Colour::Black), new.of(Colour::Black));
+    let pawns = with_differing(colours, old.of_kind(Kind::Pawn), new.of_kind(Kind::Pawn));
+    let knights = with_differing(pawns, old.of_kind(Kind::Knight), new.of_kind(Kind::Knight));
+    let bishops = with_differing(
+        knights,
+        old.of_kind(Kind::Bishop),
+        new.of_kind(Kind::Bishop),
+    );
+    let rooks = with_differing(bishops, old.of_kind(Kind::Rook), new.of_kind(Kind::Rook));
+    let queens = with_differing(rooks, old.of_kind(Kind::Queen), new.of_kind(Kind::Queen));
+    with_differing(queens, old.of_kind(Kind::King), new.of_kind(Kind::King))
+}
+
+// Writes the letters on the squares that changed, and tells the ranks of these. The men before stand in the contract
+// alone.
+fn reletter(letters: &mut [u8; 64], _old: &Men, men: &Men, changed: Bits) -> [bool; 9]
+    requires letters { AreLetters letters.old _old.now }
+    requires changed { HasChanges _old.now men.now changed }
+    ensures letters { AreLetters letters.new men.now }
+    ensures touched { TellsRanks _old.now men.now result }
+{
+    let mut touched = [false; 9];
+    for square in changed.iter() {
+        letters[usize::from(square.number())] = letter_at(men, square);
+        touched[usize::from(square.rank())] = true;
+    }
+    touched
+}
+
+// Writes the text of a rank anew, if something changed on it.
+fn renew(text: &mut Text, _old: &Men, men: &Men, letters: &[u8; 64], touched: &[bool; 9], rank: u8)
+    requires text { IsRankText text.old.bytes _old.now rank }
+    requires letters { AreLetters letters.now men.now }
+    requires touched { TellsRanks _old.now men.now touched.now }
+    requires from { 1 ≤ rank }
+    requires to { rank ≤ 8 }
+    ensures { IsRankText text.new.bytes men.now rank }
+{
+    if touched[usize::from(rank)] {
+        text.clear();
+        push_rank(text, men, letters, rank);
+    }
+}
+
+// The same of all ranks.
+fn renew_all(texts: &mut RankTexts, old: &Men, men: &Men, letters: &[u8; 64], touched: &[bool; 9])
+    requires texts { AreRankTexts texts.old old.now }
+    requires letters { AreLetters letters.now men.now }
+    requires touched { TellsRanks old.now men.now touched.now }
+    ensures { AreRankTexts texts.new men.now }
+{
+    renew(&mut texts.eighth, old, men, letters, touched, 8);
+    renew(&mut texts.seventh, old, men, letters, touched, 7);
+    renew(&mut texts.sixth, old, men, letters, touched, 6);
+    renew(&mut texts.fifth, old, men, letters, touched, 5);
+    renew(&mut texts.fourth, old, men, letters, touched, 4);
+    renew(&mut texts.third, old, men, letters, touched, 3);
+    renew(&mut texts.second, old, men, letters, touched, 2);
+    renew(&mut texts.first, old, men, letters, touched, 1);
+}
+
+// Appends the text of a rank, and what parts it from the next.
+fn push_one(text: &mut Text, rank: &Text)
+    requires short { array_string_len rank.now ≤ 8 }
+    requires room { array_string_len text.old + 9 ≤ 96 }
+    ensures bytes { text.new.bytes ≡ (text.old.bytes ++ rank.now.bytes) ++ 47 ∷ [] }
+    ensures len { array_string_len text.new ≤ array_string_len text.old + 9 }
+{
+    text.push_str(rank.as_str());
+    push(text, '/');
+}
+
+// Writes the texts of the ranks, where nothing was.
+fn push_ranks(text: &mut Text, _men: &Men, texts: &RankTexts)
+    requires nothing { text.old.bytes ≡ [] }
+    requires texts { AreRankTexts texts.now _men.now }
+    ensures bytes { text.new.bytes ≡ placement_text _men.now }
+    ensures len { array_string_len text.new ≤ 71 }
+{
+    push_one(text, &texts.eighth);
+    push_one(text, &texts.seventh);
+    push_one(text, &texts.sixth);
+    push_one(text, &texts.fifth);
+    push_one(text, &texts.fourth);
+    push_one(text, &texts.third);
+    push_one(text, &texts.second);
+    text.push_str(texts.first.as_str());
+}
