@@ -1,5 +1,7 @@
 //! Answers the lines of a reader on a writer, over one board.
 ghost use Rattle.std.specs.Prelude.{◌≡◌, ℕ, List, IfSome, OnOk, OnErr, IsErrOf};
+ghost use Rattle.chess_board.specs.Position.{IsValid};
+ghost use Rattle.chess_board.specs.Initial.{initial};
 ghost use Rattle.board_session.specs.Run.{IsBoardText, AppendsText, AppendsFront, AnswersTaken, AnswersInPart};
 
 use crate::answer::answer;
@@ -61,6 +63,16 @@ impl Answerer for Session {
     }
 }
 
+// The board on which a game starts.
+fn start() -> Session
+    ensures initial { result ≡ initial }
+    ensures valid { IsValid result }
+{
+    Session {
+        board: ShownBoard::new(Board::initial()),
+    }
+}
+
 /// Answers the lines of the reader, from the initial position on, until the reader ends or a line is too long.
 pub fn board<R: Read, W: Write>(reader: &mut R, writer: &mut W) -> Result<(), BoardFault>
     // What is written is the text that the input calls for, and nothing else.
@@ -83,9 +95,7 @@ pub fn board<R: Read, W: Write>(reader: &mut R, writer: &mut W) -> Result<(), Bo
     // An input calls for one text.
     ensures one { (input text other : List ℕ) → IsBoardText input text → IsBoardText input other → text ≡ other }
 {
-    let session = Session {
-        board: ShownBoard::new(Board::initial()),
-    };
+    let session = start();
     let (_, ended) = answer_lines(session, reader, writer);
     match ended {
         Ok(()) => Ok(()),
