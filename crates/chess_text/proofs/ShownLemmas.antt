@@ -1,11 +1,12 @@
 -- What changes between two boards, and the texts of their ranks.
-use Rattle.std.proofs.Common.{ℕ, ◌≡◌, ◌≢◌, ◌≤◌, ◌<◌, Bool, true, false, not, ◌||◌, ◌&&◌, List, [], ◌∷◌, ◌++◌, length, get_or, set, Option, Some, None, refl, ap, sym, ◌∙◌, inl, inr, arith, append_assoc}
+use Rattle.std.proofs.Common.{ℕ, ◌≡◌, ◌≢◌, ◌≤◌, ◌<◌, Bool, true, false, not, ◌||◌, ◌&&◌, List, [], ◌∷◌, ◌++◌, length, get_or, set, Option, Some, None, refl, ap, sym, ◌∙◌, inl, inr, arith, append_assoc, length-append, take, replicate, ◌+◌, ◌-◌}
 use Rattle.std.specs.List.{list_any, join_with_byte}
 use Rattle.std.specs.Prelude.{slice_index_or, ◌==◌}
 use Rattle.std.specs.Bool.{Decides}
 use Rattle.std.proofs.lemmas.Bool.{cases_Bool, false≢true}
 use Rattle.std.proofs.lemmas.Bool.Decides.{Decides-eqb}
-use Rattle.std.proofs.lemmas.List.{get_or-set_same, get_or-set_other}
+use Rattle.std.proofs.lemmas.List.{get_or-set_same, get_or-set_other, get_or-replicate, get_or-take, length-take-le}
+use Rattle.std.proofs.Math.Seq.{take-append-add, take-append_seam, get_or-append_right}
 use Rattle.chess_bits.specs.declared.men.Colour.TheVariants.{White, Black}
 use Rattle.chess_bits.specs.declared.men.Kind.{Kind}
 use Rattle.chess_bits.specs.declared.men.Kind.TheVariants as kinds
@@ -19,7 +20,8 @@ use Rattle.chess_board.specs.Occupancy.{squares_with, is_a}
 use Rattle.chess_board.specs.Position.{Placement, man_at}
 use Rattle.chess_board.proofs.AttackLemmas.{has-squares_with}
 use Rattle.chess_text.specs.Fen.{rank_of, ranks_of, row_text, placement_text, letter_or_zero}
-use Rattle.chess_text.specs.Shown.{HasChanges, TellsRanks}
+use Rattle.chess_text.specs.Shown.{HasChanges, TellsRanks, IsRankText, filled_up}
+use Rattle.chess_text.specs.declared.shown.RankText.{RankText}
 use Rattle.chess_text.proofs.LetterLemmas.{other_place}
 
 -- ---- sets that differ
@@ -189,3 +191,41 @@ ranks_told old new changed touched same told = λ rank low high none. same_rank 
       (record { file_from = from; file_to = to; rank_from = low; rank_to = high }) here))
       | inr away ↦ same (square file rank) away
     ])
+
+-- ---- a text that is filled up
+
+strokes_behind : (text : List ℕ) → length text ≤ 8 → filled_up text ≡ text ++ take (8 - length text) (replicate 8 47)
+strokes_behind text short =
+    let e : 8 ≡ length text + (8 - length text) = omega arith in
+    ap (λ (n : ℕ). take n (text ++ replicate 8 47)) e ∙ take-append-add text (replicate 8 47) (8 - length text)
+
+pub filled-shown : (text : List ℕ) → length text ≤ 8 → take (length text) (filled_up text) ≡ text
+filled-shown text short =
+    ap (take (length text)) (strokes_behind text short) ∙ take-append_seam text (take (8 - length text) (replicate 8 47))
+
+pub filled-whole : (text : List ℕ) → length (filled_up text) ≡ 8
+filled-whole text = length-take-le 8 (text ++ replicate 8 47)
+    (omega (arith, length-append text (replicate 8 47)))
+
+pub stroke-at : (text : List ℕ) (n : ℕ) → length text ≤ n → n < length text + 8 →
+    get_or (text ++ replicate 8 47) n 0 ≡ 47
+stroke-at text n from to = get_or-append_right text (replicate 8 47) n 0 from
+    ∙ get_or-replicate 8 (n - length text) 47 0 (omega arith)
+
+pub filled-cut : (text : List ℕ) → length text < 8 → get_or (filled_up text) (length text) 0 ≡ 47
+filled-cut text short = get_or-take 8 (text ++ replicate 8 47) (length text) 0 short
+    ∙ stroke-at text (length text) (omega arith) (omega arith)
+
+pub rank_filled : (written : List ℕ) (text : RankText) (placement : Placement) (rank : ℕ) →
+    written ≡ row_text (rank_of placement rank) → length written ≤ 8 → text.end ≡ length written →
+    text.filled.bytes ≡ filled_up written → IsRankText text placement rank
+rank_filled written text placement rank row short end filled = record {
+  is = ap (λ (n : ℕ). take n text.filled.bytes) end ∙ ap (take (length written)) filled ∙ filled-shown written short ∙ row;
+  filled = record {
+    whole = ap length filled ∙ filled-whole written;
+    within = omega (arith, end, short);
+    cut = λ less. ap (λ (n : ℕ). get_or text.filled.bytes n 0) end
+        ∙ ap (λ (bytes : List ℕ). get_or bytes (length written) 0) filled
+        ∙ filled-cut written (omega (arith, end, less));
+  };
+}

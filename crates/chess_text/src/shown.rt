@@ -4,7 +4,7 @@ ghost use Rattle.arrayvec.specs.ArrayString.{array_string_len};
 ghost use Rattle.chess_bits.specs.Square.{Square, IsOnBoard};
 ghost use Rattle.chess_bits.specs.Table.{has};
 ghost use Rattle.chess_text.specs.Fen.{rank_of, placement_text, fen_of, IsFenOf, AreLetters};
-ghost use Rattle.chess_text.specs.Shown.{IsRankText, AreRankTexts, HasChanges, TellsRanks};
+ghost use Rattle.chess_text.specs.Shown.{IsFilled, filled_up, shown_part, IsRankText, AreRankTexts, HasChanges, TellsRanks};
 
 use crate::fen::{Text, push, push_fields, push_rank};
 use crate::letters::{letter_at, letters_of};
@@ -13,17 +13,24 @@ use chess_bits::{Bits, Colour, Kind};
 use chess_board::{Board, Men};
 use std::marker::Model;
 
+// The text of a rank, filled up to eight bytes. So many are copied at once, and then cut.
+#[derive(Drop)]
+struct RankText {
+    filled: Text,
+    end: usize,
+}
+
 // The texts of the ranks.
 #[derive(Drop)]
 struct RankTexts {
-    eighth: Text,
-    seventh: Text,
-    sixth: Text,
-    fifth: Text,
-    fourth: Text,
-    third: Text,
-    second: Text,
-    first: Text,
+    eighth: RankText,
+    seventh: RankText,
+    sixth: RankText,
+    fifth: RankText,
+    fourth: RankText,
+    third: RankText,
+    second: RankText,
+    first: RankText,
 }
 
 /// A board that keeps the texts of its ranks. For its FEN after a move only those are written anew on which a man came
@@ -97,16 +104,29 @@ impl ShownBoard {
     }
 }
 
+// Fills the text of a rank up, and tells where it ended.
+fn fill(text: &mut Text) -> usize
+    requires { array_string_len text.old ≤ 8 }
+    ensures end { result ≡ array_string_len text.old }
+    ensures filled { text.new.bytes ≡ filled_up text.old.bytes }
+{
+    let end = text.len();
+    text.push_str("////////");
+    text.truncate(8);
+    end
+}
+
 // The text of a rank.
-fn rank_text(men: &Men, letters: &[u8; 64], rank: u8) -> Text
+fn rank_text(men: &Men, letters: &[u8; 64], rank: u8) -> RankText
     requires letters { AreLetters letters.now men.now }
     requires from { 1 ≤ rank }
     requires to { rank ≤ 8 }
-    ensures { IsRankText result.bytes men.now rank }
+    ensures { IsRankText result men.now rank }
 {
-    let mut text = Text::new();
-    push_rank(&mut text, men, letters, rank);
-    text
+    let mut filled = Text::new();
+    push_rank(&mut filled, men, letters, rank);
+    let end = fill(&mut filled);
+    RankText { filled, end }
 }
 
 // The texts of all ranks.
@@ -175,17 +195,18 @@ fn reletter(letters: &mut [u8; 64], _old: &Men, men: &Men, changed: Bits) -> [bo
 }
 
 // Writes the text of a rank anew, if something changed on it.
-fn renew(text: &mut Text, _old: &Men, men: &Men, letters: &[u8; 64], touched: &[bool; 9], rank: u8)
-    requires text { IsRankText text.old.bytes _old.now rank }
+fn renew(text: &mut RankText, _old: &Men, men: &Men, letters: &[u8; 64], touched: &[bool; 9], rank: u8)
+    requires text { IsRankText text.old _old.now rank }
     requires letters { AreLetters letters.now men.now }
     requires touched { TellsRanks _old.now men.now touched.now }
     requires from { 1 ≤ rank }
     requires to { rank ≤ 8 }
-    ensures { IsRankText text.new.bytes men.now rank }
+    ensures { IsRankText text.new men.now rank }
 {
     if touched[usize::from(rank)] {
-        text.clear();
-        push_rank(text, men, letters, rank);
+        text.filled.clear();
+        push_rank(&mut text.filled, men, letters, rank);
+        text.end = fill(&mut text.filled);
     }
 }
 
@@ -206,14 +227,27 @@ fn renew_all(texts: &mut RankTexts, old: &Men, men: &Men, letters: &[u8; 64], to
     renew(&mut texts.first, old, men, letters, touched, 1);
 }
 
+// Appends the text of a rank.
+fn push_filled(text: &mut Text, rank: &RankText)
+    requires filled { IsFilled rank.now }
+    requires room { array_string_len text.old + 8 ≤ 96 }
+    ensures bytes { text.new.bytes ≡ text.old.bytes ++ shown_part rank.now }
+    ensures len { array_string_len text.new ≤ array_string_len text.old + 8 }
+{
+    let end = text.len() + rank.end;
+    // So many bytes are one word for the compiler.
+    text.push_str(&rank.filled.as_str()[..8]);
+    text.truncate(end);
+}
+
 // Appends the text of a rank, and what parts it from the next.
-fn push_one(text: &mut Text, rank: &Text)
-    requires short { array_string_len rank.now ≤ 8 }
+fn push_one(text: &mut Text, rank: &RankText)
+    requires filled { IsFilled rank.now }
     requires room { array_string_len text.old + 9 ≤ 96 }
-    ensures bytes { text.new.bytes ≡ (text.old.bytes ++ rank.now.bytes) ++ 47 ∷ [] }
+    ensures bytes { text.new.bytes ≡ (text.old.bytes ++ shown_part rank.now) ++ 47 ∷ [] }
     ensures len { array_string_len text.new ≤ array_string_len text.old + 9 }
 {
-    text.push_str(rank.as_str());
+    push_filled(text, rank);
     push(text, '/');
 }
 
@@ -231,5 +265,5 @@ fn push_ranks(text: &mut Text, _men: &Men, texts: &RankTexts)
     push_one(text, &texts.fourth);
     push_one(text, &texts.third);
     push_one(text, &texts.second);
-    text.push_str(texts.first.as_str());
+    push_filled(text, &texts.first);
 }
