@@ -188,7 +188,7 @@ pub ranks_told : (old new : Placement) (changed touched : List Bool) → HasChan
 ranks_told old new changed touched same told = λ rank low high none. same_rank old new rank
     (λ file from to. elim (cases_Bool (has changed (square file rank))) [
       | inl here ↦ absurd (false≢true (sym none ∙ told (square file rank)
-      (record { file_from = from; file_to = to; rank_from = low; rank_to = high }) here))
+          (record { file_from = from; file_to = to; rank_from = low; rank_to = high }) here))
       | inr away ↦ same (square file rank) away
     ])
 

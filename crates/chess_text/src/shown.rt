@@ -1,4 +1,4 @@
-//! A board with the texts of its ranks at hand.
+//! A board with its FEN at hand.
 ghost use Rattle.std.specs.Prelude.{◌≡◌, ◌≤◌, ◌+◌, ◌++◌, ◌∷◌, ℕ, false, [], length};
 ghost use Rattle.arrayvec.specs.ArrayString.{array_string_len};
 ghost use Rattle.chess_bits.specs.Square.{Square, IsOnBoard};
@@ -8,7 +8,6 @@ ghost use Rattle.chess_text.specs.Shown.{IsFilled, filled_up, shown_part, IsRank
 
 use crate::fen::{Text, push, push_fields, push_rank};
 use crate::letters::{letter_at, letters_of};
-use arrayvec::ArrayString;
 use chess_bits::{Bits, Colour, Kind};
 use chess_board::{Board, Men};
 use std::marker::Model;
@@ -33,25 +32,27 @@ struct RankTexts {
     first: RankText,
 }
 
-/// A board that keeps the texts of its ranks. For its FEN after a move only those are written anew on which a man came
-/// or went.
+/// A board and its FEN. It keeps the texts of its ranks, so that after a move only those are written anew on which a man
+/// came or went.
 #[derive(Drop)]
 pub struct ShownBoard {
     board: Board,
     letters: [u8; 64],
     ranks: RankTexts,
+    shown: Text,
 }
 
 impl Model for ShownBoard {
     ghost use Rattle.chess_board.specs.Position.{Position};
-    ghost use Rattle.chess_text.specs.Fen.{AreLetters};
+    ghost use Rattle.std.specs.Prelude.{◌≡◌};
+    ghost use Rattle.chess_text.specs.Fen.{AreLetters, fen_of};
     ghost use Rattle.chess_text.specs.Shown.{AreRankTexts};
 
     ghost Value = { Position };
 
-    ghost view = { λ shown. shown.board };
+    ghost view = { λ b. b.board };
 
-    ghost invariant = { λ shown. AreLetters shown.letters shown.board.placement × AreRankTexts shown.ranks shown.board.placement };
+    ghost invariant = { λ b. AreLetters b.letters b.board.placement × AreRankTexts b.ranks b.board.placement × (b.shown.bytes ≡ fen_of b.board) };
 }
 
 impl ShownBoard {
@@ -61,10 +62,13 @@ impl ShownBoard {
     {
         let letters = letters_of(board.men());
         let ranks = rank_texts(board.men(), &letters);
+        let mut shown = Text::new();
+        write_fen(&mut shown, &board, &ranks);
         ShownBoard {
             board,
             letters,
             ranks,
+            shown,
         }
     }
 
@@ -89,18 +93,17 @@ impl ShownBoard {
             &self.letters,
             &touched,
         );
+        write_fen(&mut self.shown, &board, &self.ranks);
         self.board = board;
     }
 
     /// Its position in Forsyth-Edwards notation, as `fen_write` writes it.
-    pub fn fen(&self) -> ArrayString<96>
-        ensures fen { IsFenOf result.bytes self.now }
-        ensures text { result.bytes ≡ fen_of self.now }
+    pub fn fen(&self) -> &str
+        ensures fen { IsFenOf result.now self.now }
+        ensures text { result.now ≡ fen_of self.now }
+        ensures short { length result.now ≤ 96 }
     {
-        let mut text = Text::new();
-        push_ranks(&mut text, self.board.men(), &self.ranks);
-        push_fields(&mut text, &self.board);
-        text
+        self.shown.as_str()
     }
 }
 
@@ -195,7 +198,14 @@ fn reletter(letters: &mut [u8; 64], _old: &Men, men: &Men, changed: Bits) -> [bo
 }
 
 // Writes the text of a rank anew, if something changed on it.
-fn renew(text: &mut RankText, _old: &Men, men: &Men, letters: &[u8; 64], touched: &[bool; 9], rank: u8)
+fn renew(
+    text: &mut RankText,
+    _old: &Men,
+    men: &Men,
+    letters: &[u8; 64],
+    touched: &[bool; 9],
+    rank: u8,
+)
     requires text { IsRankText text.old _old.now rank }
     requires letters { AreLetters letters.now men.now }
     requires touched { TellsRanks _old.now men.now touched.now }
@@ -266,4 +276,14 @@ fn push_ranks(text: &mut Text, _men: &Men, texts: &RankTexts)
     push_one(text, &texts.third);
     push_one(text, &texts.second);
     push_filled(text, &texts.first);
+}
+
+// Writes the FEN in place of what was.
+fn write_fen(text: &mut Text, board: &Board, ranks: &RankTexts)
+    requires { AreRankTexts ranks.now board.now.placement }
+    ensures { text.new.bytes ≡ fen_of board.now }
+{
+    text.clear();
+    push_ranks(text, board.men(), ranks);
+    push_fields(text, board);
 }

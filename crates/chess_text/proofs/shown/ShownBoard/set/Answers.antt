@@ -25,4 +25,8 @@ pub invariant_of-self : goal.invariant_of-self
 invariant_of-self c = (
   subst (AreLetters c.reletter-touched.new.letters) c.men-4.ensures c.reletter-touched.ensures.letters,
   subst (AreRankTexts c.renew_all.new.texts) c.men-6.ensures c.renew_all.ensures,
+  c.write_fen.ensures,
 )
+
+pub write_fen-requires : goal.write_fen-requires
+write_fen-requires c = subst (AreRankTexts c.renew_all.new.texts) c.men-6.ensures c.renew_all.ensures
