@@ -144,6 +144,14 @@ text-of : (given old new : Option (List ℕ)) (end : Position) → IfSome given 
 text-of None old new end h = tt
 text-of (Some input) old new end (text, is, appended) = (text, record { end = end; is = is }, appended)
 
+-- the same of a loop that began at that position
+pub text-from : (given old new : Option (List ℕ)) (start end : Position) → start ≡ initial →
+    IfSome given (λ input. (text : List ℕ) × loop.IsText IsAnswer start input text end × Appends old new text) →
+    IfSome given (AppendsText old new)
+text-from given old new start end first h = text-of given old new end
+    (subst (λ (p : Position). IfSome given (λ input. (text : List ℕ) × loop.IsText IsAnswer p input text end
+    × Appends old new text)) first h)
+
 -- ---- how the loop ends
 
 -- at this fault, from the initial position on

@@ -1,7 +1,5 @@
 //! The answer to one line.
 ghost use Rattle.std.specs.Prelude.{◌≡◌, ◌≤◌, ℕ, List, [], length, codes};
-ghost use Rattle.chess_board.specs.Next.{next};
-ghost use Rattle.chess_board.specs.Legal.{IsLegal};
 ghost use Rattle.chess_san.specs.Coordinate.{IsCoordinateOf};
 ghost use Rattle.chess_text.specs.Fen.{IsFenOf};
 ghost use Rattle.board_session.specs.Answer.{AnswersText, IsAnswer, IsAtLimit, as_line};
@@ -9,15 +7,15 @@ ghost use Rattle.board_session.specs.Answer.{AnswersText, IsAnswer, IsAtLimit, a
 use crate::line::{Command, parse};
 use arrayvec::ArrayString;
 use chess_board::{Board, Move};
-use chess_moves::legal;
-use chess_text::{coordinate, fen_write};
+use chess_moves::{after_legal, legal};
+use chess_text::{ShownBoard, coordinate};
 
 /// Room for an answer, without its line feed. The longest is a FEN, which has at most 93 bytes.
 pub type AnswerLine = ArrayString<160>;
 
 /// Answers a line, without the line feed that ends it, and makes the move that it asks for. The answer is written where
 /// nothing was, since a line of this size is dear to copy.
-pub fn answer(board: &mut Board, line: &[u8], said: &mut AnswerLine)
+pub fn answer(board: &mut ShownBoard, line: &[u8], said: &mut AnswerLine)
     requires { said.old.bytes ≡ [] }
     ensures { IsAnswer board.old line.now (as_line said.new.bytes) board.new }
 {
@@ -28,7 +26,7 @@ pub fn answer(board: &mut Board, line: &[u8], said: &mut AnswerLine)
 }
 
 // Answers a line that asks for the move of this text.
-fn answer_move(board: &mut Board, text: &str, said: &mut AnswerLine)
+fn answer_move(board: &mut ShownBoard, text: &str, said: &mut AnswerLine)
     requires { said.old.bytes ≡ [] }
     ensures { AnswersText board.old text.now (as_line said.new.bytes) board.new }
 {
@@ -39,32 +37,44 @@ fn answer_move(board: &mut Board, text: &str, said: &mut AnswerLine)
 }
 
 // Answers a move, legal or not, whatever text it came from.
-fn answer_coordinate(board: &mut Board, mv: &Move, said: &mut AnswerLine)
+fn answer_coordinate(board: &mut ShownBoard, mv: &Move, said: &mut AnswerLine)
     requires { said.old.bytes ≡ [] }
     ensures { (text : List ℕ) → IsCoordinateOf text mv.now →
         AnswersText board.old text (as_line said.new.bytes) board.new }
 {
+    let before = board.board();
+    if before.halfmove() == u16::MAX || before.fullmove() == u16::MAX {
+        answer_at_limit(before, mv, said);
+    } else {
+        match after_legal(before, *mv) {
+            Some(after) => show(board, after, said),
+            None => refuse(said),
+        }
+    }
+}
+
+// Answers a move where a counter has its greatest value.
+fn answer_at_limit(board: &Board, mv: &Move, said: &mut AnswerLine)
+    requires limit { IsAtLimit board.now }
+    requires nothing { said.old.bytes ≡ [] }
+    ensures { (text : List ℕ) → IsCoordinateOf text mv.now →
+        AnswersText board.now text (as_line said.new.bytes) board.now }
+{
     if legal(board, *mv) {
-        make_move(board, *mv, said);
+        say(said, "no 20 TooLong");
     } else {
         refuse(said);
     }
 }
 
-// Makes a legal move, unless a counter has its greatest value.
-fn make_move(board: &mut Board, mv: Move, said: &mut AnswerLine)
-    requires legal { IsLegal board.old mv }
-    requires nothing { said.old.bytes ≡ [] }
-    ensures made { ¬ IsAtLimit board.old → board.new ≡ next board.old mv }
-    ensures shown { ¬ IsAtLimit board.old → IsFenOf said.new.bytes board.new }
-    ensures stopped { IsAtLimit board.old → (board.new ≡ board.old) × (said.new.bytes ≡ codes "no 20 TooLong") }
+// Takes the board after a move, and shows it.
+fn show(board: &mut ShownBoard, after: Board, said: &mut AnswerLine)
+    requires { said.old.bytes ≡ [] }
+    ensures made { board.new ≡ after }
+    ensures shown { IsFenOf said.new.bytes board.new }
 {
-    if board.halfmove() == u16::MAX || board.fullmove() == u16::MAX {
-        say(said, "no 20 TooLong");
-    } else {
-        *board = board.apply(mv);
-        say(said, fen_write(board).as_str());
-    }
+    board.set(after);
+    say(said, board.fen());
 }
 
 // The answer to a text that is of no legal move.

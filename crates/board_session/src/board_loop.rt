@@ -1,9 +1,12 @@
 //! Answers the lines of a reader on a writer, over one board.
 ghost use Rattle.std.specs.Prelude.{◌≡◌, ℕ, List, IfSome, OnOk, OnErr, IsErrOf};
+ghost use Rattle.chess_board.specs.Position.{IsValid};
+ghost use Rattle.chess_board.specs.Initial.{initial};
 ghost use Rattle.board_session.specs.Run.{IsBoardText, AppendsText, AppendsFront, AnswersTaken, AnswersInPart};
 
 use crate::answer::answer;
 use chess_board::Board;
+use chess_text::ShownBoard;
 use line_loop::{Answer, Answerer, LoopFault, answer_lines};
 use session_lines::without_return;
 use std::convert::Infallible;
@@ -25,7 +28,7 @@ pub enum BoardFault {
 // One board, whose lines are answered.
 #[derive(Drop)]
 struct Session {
-    board: Board,
+    board: ShownBoard,
 }
 
 impl Model for Session {
@@ -57,6 +60,16 @@ impl Answerer for Session {
     }
 }
 
+// The board on which a game starts.
+fn start() -> Session
+    ensures initial { result ≡ initial }
+    ensures valid { IsValid result }
+{
+    Session {
+        board: ShownBoard::new(Board::initial()),
+    }
+}
+
 /// Answers the lines of the reader, from the initial position on, until the reader ends or a line is too long.
 pub fn board<R: Read, W: Write>(reader: &mut R, writer: &mut W) -> Result<(), BoardFault>
     // What is written is the text that the input calls for, and nothing else.
@@ -79,9 +92,7 @@ pub fn board<R: Read, W: Write>(reader: &mut R, writer: &mut W) -> Result<(), Bo
     // An input calls for one text.
     ensures one { (input text other : List ℕ) → IsBoardText input text → IsBoardText input other → text ≡ other }
 {
-    let session = Session {
-        board: Board::initial(),
-    };
+    let session = start();
     let (_, ended) = answer_lines(session, reader, writer);
     match ended {
         Ok(()) => Ok(()),

@@ -1,7 +1,7 @@
-ghost use Rattle.std.specs.Prelude.{◌≡◌, ◌<◌, ◌↔◌, IsTrue, IfOk, IfErr};
+ghost use Rattle.std.specs.Prelude.{◌≡◌, ◌<◌, ◌↔◌, IsTrue, IfOk, IfErr, IfSome, IfNone};
 ghost use Rattle.chess_board.specs.Position.{Position, IsValid, IsInCheck, man_at};
 ghost use Rattle.chess_board.specs.RightsOf.{rights_of, HasKnownFlags};
-ghost use Rattle.chess_board.specs.Legal.{IsLegal};
+ghost use Rattle.chess_board.specs.Legal.{IsCandidate, IsLegal};
 ghost use Rattle.chess_board.specs.Initial.{initial};
 ghost use Rattle.chess_board.specs.Parts.{described, IsFirstBroken};
 ghost use Rattle.chess_board.specs.Next as after;
@@ -12,7 +12,7 @@ ghost use Rattle.chess_board.specs.Occupancy.{is_a as man_is_a};
 use crate::attack::is_in_check;
 use crate::castling::{CastlingRights, Wing, castled_king, castled_rook, king_home, rook_home};
 use crate::draft::Draft;
-use crate::men::{Men, is_a};
+use crate::men::Men;
 use crate::moves::Move;
 use crate::parts::{BadBoard, INITIAL, Parts};
 use chess_bits::{Colour, Kind, Square};
@@ -153,7 +153,7 @@ impl Board {
     fn holds_kind(&self, square: Square, kind: Kind) -> bool
         ensures { result ≡ holds (man_is_a kind) (man_at self.now.placement square) }
     {
-        is_a(self.men.man_at(square), kind)
+        self.men.of_kind(kind).contains(square)
     }
 
     // Whether the move takes a pawn en passant.
@@ -294,6 +294,25 @@ impl Board {
         }
     }
 
+    // The board after a legal move, whose men are placed.
+    fn board_after(&self, mv: &Move, men: Men) -> Board
+        requires legal { IsLegal self.now mv.now }
+        requires men { men ≡ after.placement_after self.now mv.now }
+        requires halfmove { self.now.halfmove < 65535 }
+        requires fullmove { self.now.fullmove < 65535 }
+        ensures next { result ≡ after.next self.now mv.now }
+        ensures valid { IsValid result }
+    {
+        Board {
+            men,
+            side: self.side.other(),
+            rights: self.rights_after(mv),
+            target: self.target_after(mv),
+            halfmove: self.halfmove_after(mv),
+            fullmove: self.fullmove_after(),
+        }
+    }
+
     /// The board after a legal move.
     pub fn apply(&self, mv: Move) -> Board
         requires legal { IsLegal self.now mv }
@@ -302,14 +321,25 @@ impl Board {
         ensures next { result ≡ after.next self.now mv }
         ensures valid { IsValid result }
     {
-        Board {
-            men: self.men_after(&mv),
-            side: self.side.other(),
-            rights: self.rights_after(&mv),
-            target: self.target_after(&mv),
-            halfmove: self.halfmove_after(&mv),
-            fullmove: self.fullmove_after(),
+        self.board_after(&mv, self.men_after(&mv))
+    }
+
+    /// The board after a move by the rules of its man, and `None` where its king would stand attacked, so that the move
+    /// is not legal (FIDE article 3.9.2). The men are placed once.
+    pub fn apply_candidate(&self, mv: Move) -> Option<Board>
+        requires candidate { IsCandidate self.now mv }
+        requires halfmove { self.now.halfmove < 65535 }
+        requires fullmove { self.now.fullmove < 65535 }
+        ensures legal { IfSome result (λ _. IsLegal self.now mv) }
+        ensures next { IfSome result (λ board. board ≡ after.next self.now mv) }
+        ensures valid { IfSome result IsValid }
+        ensures none { IfNone result (¬ IsLegal self.now mv) }
+    {
+        let men = self.men_after(&mv);
+        if is_in_check(&men, self.side) {
+            return None;
         }
+        Some(self.board_after(&mv, men))
     }
 }
 

@@ -1,5 +1,7 @@
-ghost use Rattle.std.specs.Prelude.{◌≡◌, ◌↔◌, IsTrue};
+ghost use Rattle.std.specs.Prelude.{◌≡◌, ◌<◌, ◌↔◌, IsTrue, IfSome, IfNone};
 ghost use Rattle.chess_bits.specs.Square.{IsOnBoard};
+ghost use Rattle.chess_board.specs.Position.{IsValid};
+ghost use Rattle.chess_board.specs.Next.{next};
 ghost use Rattle.chess_board.specs.Legal.{IsMoveOf, IsCandidate, IsLegal};
 
 use crate::promotions::becomes;
@@ -33,4 +35,21 @@ pub fn legal(board: &Board, mv: Move) -> bool
     ensures { IsTrue result ↔ IsLegal board.now mv }
 {
     is_candidate(board, &mv) && !board.exposes_king(mv)
+}
+
+/// The board after a move, where the move is legal (FIDE articles 3.1 to 3.10), and `None` where it is not. It is what
+/// `legal` and `Board::apply` say together, and the men are placed once.
+pub fn after_legal(board: &Board, mv: Move) -> Option<Board>
+    requires halfmove { board.now.halfmove < 65535 }
+    requires fullmove { board.now.fullmove < 65535 }
+    ensures legal { IfSome result (λ _. IsLegal board.now mv) }
+    ensures next { IfSome result (λ after. after ≡ next board.now mv) }
+    ensures valid { IfSome result IsValid }
+    ensures none { IfNone result (¬ IsLegal board.now mv) }
+{
+    if is_candidate(board, &mv) {
+        board.apply_candidate(mv)
+    } else {
+        None
+    }
 }

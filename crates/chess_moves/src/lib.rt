@@ -10,7 +10,7 @@ mod safety;
 mod squares;
 mod targets;
 
-pub use legality::legal;
+pub use legality::{after_legal, legal};
 pub use listing::{has_legal, legal_moves};
 
 #[cfg(test)]

@@ -7,6 +7,7 @@ pub mod Joined
 pub mod OnePosition
 pub mod Rights
 pub mod LetterLemmas
+pub mod ShownLemmas
 pub mod FieldLemmas
 pub mod Faults
 pub mod OneFault

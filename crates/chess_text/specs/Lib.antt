@@ -1,5 +1,6 @@
 pub mod Name
 pub mod Fen
+pub mod Shown
 pub mod Reading
 pub mod Movetext
 pub mod Pgn

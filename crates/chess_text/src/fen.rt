@@ -39,8 +39,8 @@ fn push_run(text: &mut Text, empty: u8)
     }
 }
 
-// Appends the text of a rank, from the letters on its squares. The men stand in the contract alone.
-fn push_rank(text: &mut Text, _men: &Men, letters: &[u8; 64], rank: u8)
+/// Appends the text of a rank, from the letters on its squares. The men stand in the contract alone.
+pub fn push_rank(text: &mut Text, _men: &Men, letters: &[u8; 64], rank: u8)
     requires letters { AreLetters letters.now _men.now }
     requires from { 1 ≤ rank }
     requires to { rank ≤ 8 }
@@ -144,6 +144,22 @@ fn push_number(text: &mut Text, number: u16)
     text.push_str(buffer.format(number));
 }
 
+/// Appends the other five fields to a placement.
+pub fn push_fields(text: &mut Text, board: &Board)
+    requires placement { text.old.bytes ≡ placement_text board.now.placement }
+    requires room { array_string_len text.old ≤ 71 }
+    ensures { text.new.bytes ≡ fen_of board.now }
+{
+    push(text, ' ');
+    push_side(text, board.side());
+    push(text, ' ');
+    push_rights(text, board.rights());
+    push(text, ' ');
+    push_target(text, board.target());
+    push_number(text, board.halfmove());
+    push_number(text, board.fullmove());
+}
+
 /// The board's position in Forsyth-Edwards notation (PGN Standard, section 16.1), in its one spelling. It never fails.
 pub fn fen_write(board: &Board) -> ArrayString<96>
     ensures fen { IsFenOf result.bytes board.now }
@@ -151,13 +167,6 @@ pub fn fen_write(board: &Board) -> ArrayString<96>
     ensures one_text { (text : List ℕ) → IsFenOf text board.now → text ≡ result.bytes }
 {
     let mut text = placement(board.men());
-    push(&mut text, ' ');
-    push_side(&mut text, board.side());
-    push(&mut text, ' ');
-    push_rights(&mut text, board.rights());
-    push(&mut text, ' ');
-    push_target(&mut text, board.target());
-    push_number(&mut text, board.halfmove());
-    push_number(&mut text, board.fullmove());
+    push_fields(&mut text, board);
     text
 }

@@ -1,9 +1,11 @@
-ghost use Rattle.std.specs.Prelude.{◌≡◌, if◌then◌else◌, slice_index};
+ghost use Rattle.std.specs.Prelude.{◌≡◌, ◌≤◌, if◌then◌else◌, slice_index};
 ghost use Rattle.chess_bits.specs.Square.{Square, IsOnBoard, number_of};
 ghost use Rattle.chess_bits.specs.Table.{has};
-ghost use Rattle.chess_text.specs.Fen.{AreLetters};
+ghost use Rattle.chess_board.specs.Position.{man_at};
+ghost use Rattle.chess_san.specs.Name.{capital_of};
+ghost use Rattle.chess_text.specs.Fen.{AreLetters, letter_or_zero};
 
-use chess_bits::{Bits, Colour, Kind};
+use chess_bits::{Bits, Colour, Kind, Square};
 use chess_board::Men;
 
 // Puts a letter on each square of a set.
@@ -34,4 +36,30 @@ pub fn letters_of(men: &Men) -> [u8; 64]
     mark(&mut letters, men.of_man(Colour::Black, Kind::Queen), b'q');
     mark(&mut letters, men.of_man(Colour::Black, Kind::King), b'k');
     letters
+}
+
+/// The letter of the man on a square, and 0 for none.
+pub fn letter_at(men: &Men, square: Square) -> u8
+    ensures { result ≡ letter_or_zero (man_at men.now square) }
+{
+    match men.man_at(square) {
+        None => 0,
+        Some((Colour::White, kind)) => capital(kind),
+        Some((Colour::Black, kind)) => capital(kind) + 32,
+    }
+}
+
+// The letter of a white man.
+fn capital(kind: Kind) -> u8
+    ensures letter { result ≡ capital_of kind }
+    ensures short { result ≤ 82 }
+{
+    match kind {
+        Kind::Pawn => b'P',
+        Kind::Knight => b'N',
+        Kind::Bishop => b'B',
+        Kind::Rook => b'R',
+        Kind::Queen => b'Q',
+        Kind::King => b'K',
+    }
 }

@@ -8,6 +8,7 @@ mod game;
 mod letters;
 mod movetext;
 mod reading;
+mod shown;
 mod squares;
 mod tags;
 #[cfg(test)]
@@ -19,4 +20,5 @@ pub use fen::fen_write;
 pub use fields::FenError;
 pub use game::is_playable;
 pub use reading::fen_read;
+pub use shown::ShownBoard;
 pub use tags::{article_code, result_code};

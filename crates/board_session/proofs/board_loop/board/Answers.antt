@@ -1,7 +1,21 @@
-use Rattle.std.proofs.Common.{refl, subst}
+use Rattle.std.proofs.Common.{refl, subst, ap, ◌∙◌, Err}
 use Rattle.line_loop.specs.declared.answerer.LoopFault.TheVariants as loop
-use Rattle.board_session.proofs.RunLemmas.{one_text, at-fault, taken-all, whole-all, front-all, taken-long, whole-too_long, front-part, taken-part}
+use Rattle.board_session.proofs.RunLemmas.{one_text, text-from, at-fault, taken-all, whole-all, front-all, taken-long, whole-too_long, front-part, taken-part}
 use Rattle.board_session.proofs.board_loop.board.Goals as goal
+
+pub returns-in-Ok-clause-whole : goal.returns-in-Ok-clause-whole
+returns-in-Ok-clause-whole g c =
+    text-from (g.R.Read.remaining c.args.reader.now) (g.W.Write.contents c.args.writer.now)
+    (g.W.Write.contents c.answer_lines-ended.new.writer) c.start-session.result c.answer_lines-ended.result.0
+    c.start-session.ensures.initial (rw c.in-Ok.is at c.answer_lines-ended.ensures.whole)
+
+pub returns-in-Err-LineTooLong-clause-whole : goal.returns-in-Err-LineTooLong-clause-whole
+returns-in-Err-LineTooLong-clause-whole g c =
+    text-from (g.R.Read.remaining c.args.reader.now) (g.W.Write.contents c.args.writer.now)
+    (g.W.Write.contents c.answer_lines-ended.new.writer) c.start-session.result c.answer_lines-ended.result.0
+    c.start-session.ensures.initial
+    (c.answer_lines-ended.ensures.long (c.in-Err-LineTooLong.is
+    ∙ ap (λ fault. Err fault) (rw c.in-Err-LineTooLong.is at c.in-Err-LineTooLong.field-0-is)))
 
 pub returns-in-Err-Read-clause-front : goal.returns-in-Err-Read-clause-front
 returns-in-Err-Read-clause-front g c =
@@ -10,8 +24,8 @@ returns-in-Err-Read-clause-front g c =
     c.answer_lines-ended.result.0
     (at-fault _ c.answer_lines-ended.result.1 c.in-Err-Read.field-0 loop.Read
     (g.R.Read.remaining c.args.reader.now) (g.R.Read.remaining c.answer_lines-ended.new.reader)
-    (g.W.Write.contents c.args.writer.now) (g.W.Write.contents c.answer_lines-ended.new.writer) c.initial.result
-    c.answer_lines-ended.result.0 c.in-Err-Read.is (rw c.in-Err-Read.is at c.in-Err-Read.field-0-is) c.initial.ensures.initial
+    (g.W.Write.contents c.args.writer.now) (g.W.Write.contents c.answer_lines-ended.new.writer) c.start-session.result
+    c.answer_lines-ended.result.0 c.in-Err-Read.is (rw c.in-Err-Read.is at c.in-Err-Read.field-0-is) c.start-session.ensures.initial
     c.answer_lines-ended.ensures.ended)
 
 pub returns-in-Err-Write-clause-front : goal.returns-in-Err-Write-clause-front
@@ -21,8 +35,8 @@ returns-in-Err-Write-clause-front g c =
     c.answer_lines-ended.result.0 _
     (at-fault _ c.answer_lines-ended.result.1 c.in-Err-Write.field-0 loop.Write
     (g.R.Read.remaining c.args.reader.now) (g.R.Read.remaining c.answer_lines-ended.new.reader)
-    (g.W.Write.contents c.args.writer.now) (g.W.Write.contents c.answer_lines-ended.new.writer) c.initial.result
-    c.answer_lines-ended.result.0 c.in-Err-Write.is (rw c.in-Err-Write.is at c.in-Err-Write.field-0-is) c.initial.ensures.initial
+    (g.W.Write.contents c.args.writer.now) (g.W.Write.contents c.answer_lines-ended.new.writer) c.start-session.result
+    c.answer_lines-ended.result.0 c.in-Err-Write.is (rw c.in-Err-Write.is at c.in-Err-Write.field-0-is) c.start-session.ensures.initial
     c.answer_lines-ended.ensures.ended)
 
 pub returns-in-Err-Write-clause-write : goal.returns-in-Err-Write-clause-write
@@ -32,8 +46,8 @@ returns-in-Err-Write-clause-write g c =
     c.answer_lines-ended.result.0 _
     (at-fault _ c.answer_lines-ended.result.1 c.in-Err-Write.field-0 loop.Write
     (g.R.Read.remaining c.args.reader.now) (g.R.Read.remaining c.answer_lines-ended.new.reader)
-    (g.W.Write.contents c.args.writer.now) (g.W.Write.contents c.answer_lines-ended.new.writer) c.initial.result
-    c.answer_lines-ended.result.0 c.in-Err-Write.is (rw c.in-Err-Write.is at c.in-Err-Write.field-0-is) c.initial.ensures.initial
+    (g.W.Write.contents c.args.writer.now) (g.W.Write.contents c.answer_lines-ended.new.writer) c.start-session.result
+    c.answer_lines-ended.result.0 c.in-Err-Write.is (rw c.in-Err-Write.is at c.in-Err-Write.field-0-is) c.start-session.ensures.initial
     c.answer_lines-ended.ensures.ended)
 
 pub returns-in-Err-LineTooLong-clause-answered : goal.returns-in-Err-LineTooLong-clause-answered
@@ -43,8 +57,8 @@ returns-in-Err-LineTooLong-clause-answered g c =
     c.answer_lines-ended.result.0
     (at-fault _ c.answer_lines-ended.result.1 c.in-Err-LineTooLong.field-0 loop.LineTooLong
     (g.R.Read.remaining c.args.reader.now) (g.R.Read.remaining c.answer_lines-ended.new.reader)
-    (g.W.Write.contents c.args.writer.now) (g.W.Write.contents c.answer_lines-ended.new.writer) c.initial.result
-    c.answer_lines-ended.result.0 c.in-Err-LineTooLong.is (rw c.in-Err-LineTooLong.is at c.in-Err-LineTooLong.field-0-is) c.initial.ensures.initial
+    (g.W.Write.contents c.args.writer.now) (g.W.Write.contents c.answer_lines-ended.new.writer) c.start-session.result
+    c.answer_lines-ended.result.0 c.in-Err-LineTooLong.is (rw c.in-Err-LineTooLong.is at c.in-Err-LineTooLong.field-0-is) c.start-session.ensures.initial
     c.answer_lines-ended.ensures.ended)
 
 pub returns-in-Err-Read-clause-one : goal.returns-in-Err-Read-clause-one

@@ -5,12 +5,12 @@ use Rattle.chess_board.specs.Next.{next}
 use Rattle.chess_board.specs.Board.{position_of}
 use Rattle.chess_board.specs.declared.board.Board.TheInside.{Inside}
 use Rattle.chess_board.proofs.ValidNext.{IsValid-next}
-use Rattle.chess_board.proofs.board.Board.apply.Goals as goal
-use Rattle.chess_board.proofs.board.Board.apply.Goals.{After-fullmove_after}
+use Rattle.chess_board.proofs.board.Board.board_after.Goals as goal
+use Rattle.chess_board.proofs.board.Board.board_after.Goals.{After-fullmove_after}
 
 abbrev made_of : After-fullmove_after → Inside
 made_of c = record {
-  men = c.men_after.result;
+  men = c.args.men;
   side = c.other.result;
   rights = c.rights_after.result;
   target = c.target_after.result;
@@ -18,9 +18,9 @@ made_of c = record {
   fullmove = c.fullmove_after.result;
 }
 
-is_next : (c : After-fullmove_after) → position_of (made_of c) ≡ next c.args.self.now c.args.mv
+is_next : (c : After-fullmove_after) → position_of (made_of c) ≡ next c.args.self.now c.args.mv.now
 is_next c = λ i. record {
-  placement = c.men_after.ensures i;
+  placement = c.requires.men i;
   side = (c.other.ensures ∙ ap (λ (p : Position). other p.side) c.self.view_is) i;
   rights = c.rights_after.ensures.rights i;
   target = c.target_after.ensures i;
@@ -31,7 +31,7 @@ is_next c = λ i. record {
 is_valid_next : (c : After-fullmove_after) → IsValid (position_of (made_of c))
 is_valid_next c =
     subst IsValid (sym (is_next c))
-    (IsValid-next c.args.self.now c.args.mv (subst IsValid c.self.view_is c.self.invariant.valid)
+    (IsValid-next c.args.self.now c.args.mv.now (subst IsValid c.self.view_is c.self.invariant.valid)
     c.requires.legal c.requires.halfmove c.requires.fullmove)
 
 pub invariant_of-result : goal.invariant_of-result
