@@ -98,7 +98,10 @@ fn reads_the_command_line(rt: HostRuntime) -> Result<(), Fail> {
         }
     }
     let refused = Error::from(AllocError);
-    assert!(rt; end_of_words(&refused) == End::Fault(Fault::NoMemory), "memory");
+    assert!(rt;
+        end_of_words(&refused) == End::Fault(Fault::NoMemory),
+        "memory"
+    );
     match read_words(alloc, words_of(alloc, "--help")?.as_slice()) {
         Ok(_) => assert!(rt; false, "help"),
         Err(error) => assert_eq!(rt; status(end_of_words(&error)), 0, "help"),

@@ -1,7 +1,6 @@
 -- Calls one after the other, and clients one after the other.
-use Rattle.std.proofs.Common.{◌≡◌, ◌≢◌, ◌≤◌, ◌<◌, ◌+◌, ◌⊎◌, ℕ, Bool, true, false, List, [], ◌∷◌, ◌++◌, Option, Some, None, IfSome, length, get_or, set, take, refl, ap, sym, ◌∙◌, subst, inl, inr, arith}
+use Rattle.std.proofs.Common.{◌≡◌, ◌≢◌, ◌≤◌, ◌<◌, ◌+◌, ℕ, Bool, true, false, List, [], ◌∷◌, ◌++◌, Option, Some, None, IfSome, length, get_or, set, take, refl, ap, sym, ◌∙◌, subst, inl, inr, arith}
 use Rattle.std.specs.Prelude.{IsSome, IsSomeAnd, ◌==◌, ◌&&◌, ◌||◌, not, if◌then◌else◌, option_map, Result, Ok, Err, OnOk}
-use Rattle.std.specs.List.{All}
 use Rattle.std.specs.Io.KnownBytes.{Consumes}
 use Rattle.std.proofs.KnownBytes.{Consumes-nil, Appends-nil}
 use Rattle.std.proofs.lemmas.Bool.{cases_Bool, false≢true}
@@ -13,10 +12,10 @@ use Rattle.chess_answer.specs.declared.reads.Reply.{Reply}
 use Rattle.chess_entry.specs.State.{TableState}
 use Rattle.chess_sessions.specs.declared.sessions.Sessions.{Sessions}
 use Rattle.chess_sessions.specs.Session.{Said, said, SessionState, session_at, Changes, IsUnchanged, due, first_due, given_one, farewell, is_done}
-use Rattle.chess_hub.specs.Calls.{Call, Connected, Closed, Fed, Turned, Given}
+use Rattle.chess_hub.specs.Calls.{Call, Closed, Fed, Given}
 use Rattle.chess_hub.specs.Law.{HubState, Steps, Stays}
 use Rattle.chess_sockets.specs.declared.client.Client.{Client}
-use Rattle.chess_sockets.specs.Clients.{IsOpen, OthersStay, HasHeard, TakesIn, HandsOut, to_go}
+use Rattle.chess_sockets.specs.Clients.{OthersStay, TakesIn, HandsOut, to_go}
 use Rattle.chess_sockets.specs.Sending.{waiting}
 use Rattle.chess_sockets.specs.Serving.{state_of, LeadsOn, IsSent, IsRead, AreRead, Welcomes, IsGivenTo, AreGiven, IsWritten, AreWritten}
 
@@ -77,8 +76,11 @@ sends before after sid old new t u (Some s) None e f is_open takes others same =
   taken = takes.taken;
   consumed = takes.consumed;
   short = takes.short;
-  sent = inr (inr (inl (takes.gone refl, one_step (state_of old t) (state_of new u) (Closed sid)
-      (record { changed = f; others = others }, same))));
+  sent = inr (inr (inl (
+    takes.gone refl,
+    one_step (state_of old t) (state_of new u) (Closed sid)
+        (record { changed = f; others = others }, same),
+  )));
 }
 sends before after sid old new t u (Some s) (Some r) e f is_open takes others same = record {
   taken = takes.taken;
@@ -87,12 +89,18 @@ sends before after sid old new t u (Some s) (Some r) e f is_open takes others sa
   sent = elim takes.heard [
     | inl (short_so_far, is) ↦ inl (one_step (state_of old t) (state_of new u) (Fed sid takes.taken)
         (s, e, short_so_far, record { changed = f ∙ ap Some is; others = others }, same))
-    | inr (inl (is, none)) ↦ inr (inl (none, record {
+    | inr (inl (is, none)) ↦ inr (inl (
+      none,
+      record {
         sessions = unchanged old new sid (f ∙ ap Some is ∙ sym e) others;
         table = same;
-      }))
-    | inr (inr (is, long)) ↦ inr (inr (inr (subst (λ (o : Option SessionState). IsSomeAnd o (λ s. s.heard.is_long ≡ true))
-        (sym e) long, record { sessions = unchanged old new sid (f ∙ ap Some is ∙ sym e) others; table = same })))
+      },
+    ))
+    | inr (inr (is, long)) ↦ inr (inr (inr (
+      subst (λ (o : Option SessionState). IsSomeAnd o (λ s. s.heard.is_long ≡ true))
+          (sym e) long,
+      record { sessions = unchanged old new sid (f ∙ ap Some is ∙ sym e) others; table = same },
+    )))
   ];
 }
 
@@ -102,9 +110,9 @@ sent_after a b c sid taken h sent = elim sent [
   | inr (inl (none, stays)) ↦ inr (inl (none, stays-trans a b c h stays))
   | inr (inr (inl (none, leads))) ↦ inr (inr (inl (none, stay_leads a b c (Closed sid ∷ []) h leads)))
   | inr (inr (inr (long, stays))) ↦ inr (inr (inr (
-      subst (λ (o : Option SessionState). IsSomeAnd o (λ s. s.heard.is_long ≡ true)) (h.sessions sid) long,
-      stays-trans a b c h stays,
-    )))
+    subst (λ (o : Option SessionState). IsSomeAnd o (λ s. s.heard.is_long ≡ true)) (h.sessions sid) long,
+    stays-trans a b c h stays,
+  )))
 ]
 
 -- ---- one client after the other
@@ -146,12 +154,22 @@ module _ {S : Type 0} (remaining : S → Option (List ℕ)) where
   pub one_more_read : (clients read : List (Client S)) (client after : Client S) (a b c : HubState) →
       AreRead remaining clients read a b → IsRead remaining client after b c →
       AreRead remaining (clients ++ client ∷ []) (read ++ after ∷ []) a c
-  one_more_read [] read client after a b c (none, stays) one =
-      (after, [], c, ap (λ (l : List (Client S)). l ++ after ∷ []) none, read_after client after a b c stays one,
-      (refl, stays-refl c))
-  one_more_read (first ∷ clients) read client after a b c (it, rest, between, whole, is, are) one =
-      (it, rest ++ after ∷ [], between, ap (λ (l : List (Client S)). l ++ after ∷ []) whole, is,
-      one_more_read clients rest client after between b c are one)
+  one_more_read [] read client after a b c (none, stays) one = (
+    after,
+    [],
+    c,
+    ap (λ (l : List (Client S)). l ++ after ∷ []) none,
+    read_after client after a b c stays one,
+    (refl, stays-refl c),
+  )
+  one_more_read (first ∷ clients) read client after a b c (it, rest, between, whole, is, are) one = (
+    it,
+    rest ++ after ∷ [],
+    between,
+    ap (λ (l : List (Client S)). l ++ after ∷ []) whole,
+    is,
+    one_more_read clients rest client after between b c are one,
+  )
 
 -- ---- who comes
 
@@ -311,12 +329,22 @@ module _ {S : Type 0} (contents : S → Option (List ℕ)) where
   one_more_written : (clients written : List (Client S)) (client after : Client S) (a b c : HubState) →
       AreWritten contents clients written a b → IsWritten contents client after b c →
       AreWritten contents (clients ++ client ∷ []) (written ++ after ∷ []) a c
-  one_more_written [] written client after a b c (none, stays) one =
-      (after, [], c, ap (λ (l : List (Client S)). l ++ after ∷ []) none, written_after client after a b c stays one,
-      (refl, stays-refl c))
-  one_more_written (first ∷ clients) written client after a b c (it, rest, between, whole, is, are) one =
-      (it, rest ++ after ∷ [], between, ap (λ (l : List (Client S)). l ++ after ∷ []) whole, is,
-      one_more_written clients rest client after between b c are one)
+  one_more_written [] written client after a b c (none, stays) one = (
+    after,
+    [],
+    c,
+    ap (λ (l : List (Client S)). l ++ after ∷ []) none,
+    written_after client after a b c stays one,
+    (refl, stays-refl c),
+  )
+  one_more_written (first ∷ clients) written client after a b c (it, rest, between, whole, is, are) one = (
+    it,
+    rest ++ after ∷ [],
+    between,
+    ap (λ (l : List (Client S)). l ++ after ∷ []) whole,
+    is,
+    one_more_written clients rest client after between b c are one,
+  )
 
   pub write_on : (old items : List (Client S)) (i : ℕ) (d after : Client S) (s t u : HubState) → i < length items →
       length items ≡ length old → SameFrom i old items → AreWritten contents (take i old) (take i items) s t →

@@ -130,6 +130,9 @@ module _ (Same : Type 0) (at : ℕ) (sessions : Sessions) (seq : ℕ) (failed : 
   turn_refusal remaining clients read old table hears same idle hub.Busy why = why
   turn_refusal remaining clients read old table hears same idle hub.NoMemory why = inl (idle why ∙ same)
   turn_refusal remaining clients read old table hears same idle hub.LineTooLong why = why
-  turn_refusal remaining clients read old table hears same idle (hub.Store fault) why =
-      (read, state_of sessions table, hears,
-      subst (λ (t : TableState). AsksFor at 64 sessions (AreRefused fault seq failed t after)) same why)
+  turn_refusal remaining clients read old table hears same idle (hub.Store fault) why = (
+    read,
+    state_of sessions table,
+    hears,
+    subst (λ (t : TableState). AsksFor at 64 sessions (AreRefused fault seq failed t after)) same why,
+  )

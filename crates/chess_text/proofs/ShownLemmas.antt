@@ -2,7 +2,6 @@
 use Rattle.std.proofs.Common.{ℕ, ◌≡◌, ◌≢◌, ◌≤◌, ◌<◌, Bool, true, false, not, ◌||◌, ◌&&◌, List, [], ◌∷◌, ◌++◌, length, get_or, set, Option, Some, None, refl, ap, sym, ◌∙◌, inl, inr, arith, append_assoc, length-append, take, replicate, ◌+◌, ◌-◌}
 use Rattle.std.specs.List.{list_any, join_with_byte}
 use Rattle.std.specs.Prelude.{slice_index_or, ◌==◌}
-use Rattle.std.specs.Bool.{Decides}
 use Rattle.std.proofs.lemmas.Bool.{cases_Bool, false≢true}
 use Rattle.std.proofs.lemmas.Bool.Decides.{Decides-eqb}
 use Rattle.std.proofs.lemmas.List.{get_or-set_same, get_or-set_other, get_or-replicate, get_or-take, length-take-le}
@@ -11,7 +10,7 @@ use Rattle.chess_bits.specs.declared.men.Colour.TheVariants.{White, Black}
 use Rattle.chess_bits.specs.declared.men.Kind.{Kind}
 use Rattle.chess_bits.specs.declared.men.Kind.TheVariants as kinds
 use Rattle.chess_bits.specs.Square.{Square, IsOnBoard, is_square, number_of, square}
-use Rattle.chess_bits.specs.Man.{Man, is_of, is_kind, holds}
+use Rattle.chess_bits.specs.Man.{Man, is_of, holds}
 use Rattle.chess_bits.specs.Table.{has, empty, union, without}
 use Rattle.chess_bits.proofs.ManLemmas.{is_kind-true, is_kind-same}
 use Rattle.chess_bits.proofs.SetLemmas.{has-union, has-without, length-union, length-without}

@@ -1,9 +1,9 @@
 -- What a board keeps of its text while it changes.
-use Rattle.std.specs.Prelude.{ℕ, ◌≡◌, ◌≤◌, ◌<◌, ◌++◌, Bool, true, false, List, length, take, replicate, slice_index, slice_index_or}
-use Rattle.chess_bits.specs.Square.{Square, IsOnBoard}
+use Rattle.std.specs.Prelude.{ℕ, ◌≡◌, ◌≤◌, ◌<◌, ◌++◌, Bool, false, List, length, take, replicate, slice_index, slice_index_or}
+use Rattle.chess_bits.specs.Square.{Square}
 use Rattle.chess_bits.specs.Table.{has}
 use Rattle.chess_board.specs.Position.{Placement, man_at}
-use Rattle.chess_text.specs.Fen.{rank_of, row_text, AreLetters}
+use Rattle.chess_text.specs.Fen.{rank_of, row_text}
 use Rattle.chess_text.specs.declared.shown.RankText.{RankText}
 use Rattle.chess_text.specs.declared.shown.RankTexts.{RankTexts}
 

@@ -1,6 +1,6 @@
-use Rattle.std.proofs.Common.{refl, subst, ap, ◌∙◌, Err}
+use Rattle.std.proofs.Common.{ap, ◌∙◌, Err}
 use Rattle.line_loop.specs.declared.answerer.LoopFault.TheVariants as loop
-use Rattle.board_session.proofs.RunLemmas.{one_text, text-from, at-fault, taken-all, whole-all, front-all, taken-long, whole-too_long, front-part, taken-part}
+use Rattle.board_session.proofs.RunLemmas.{one_text, text-from, at-fault, front-all, taken-long, front-part, taken-part}
 use Rattle.board_session.proofs.board_loop.board.Goals as goal
 
 pub returns-in-Ok-clause-whole : goal.returns-in-Ok-clause-whole

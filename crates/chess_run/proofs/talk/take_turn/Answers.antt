@@ -1,4 +1,4 @@
-use Rattle.std.proofs.Common.{◌≡◌, true, [], sym, subst, Ok, IfErr}
+use Rattle.std.proofs.Common.{◌≡◌, sym, subst, Ok, IfErr}
 use Rattle.std.proofs.lemmas.Result.{err_from_is_err_and}
 use Rattle.std.specs.Io.BufRead.{strip_last}
 use Rattle.chess_hub.specs.Turning.{MayBeAsked, IsTurnFault, AreRefused}

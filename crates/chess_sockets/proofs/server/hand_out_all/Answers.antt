@@ -1,7 +1,7 @@
 -- One client more is written to.
-use Rattle.std.proofs.Common.{◌≡◌, ◌<◌, ◌∙◌, ap, length, arith}
+use Rattle.std.proofs.Common.{◌<◌, ◌∙◌, length, arith}
 use Rattle.std.proofs.lemmas.List.{length-set}
-use Rattle.chess_sockets.specs.Serving.{state_of, IsWritten}
+use Rattle.chess_sockets.specs.Serving.{state_of}
 use Rattle.chess_sockets.proofs.ServingLemmas.{same_behind, write_on}
 use Rattle.chess_sockets.proofs.server.hand_out_all.Goals as goal
 
@@ -14,7 +14,7 @@ loop-client-preserved g c =
     let before = c.loop-client.hub in
     let hub = c.write_for.new.hub in
     let lt : i < length items =
-        omega (arith, c.loop-client-test.true, c.loop-client.auto.client-items) in
+    omega (arith, c.loop-client-test.true, c.loop-client.auto.client-items) in
     record {
       written = write_on g.S.Write.contents old items i c.client-item.result c.write_for.new.client
           (state_of c.args.hub.now.sessions c.args.hub.now.store.table) (state_of before.sessions before.store.table)

@@ -1,7 +1,7 @@
 -- One client more is read for.
-use Rattle.std.proofs.Common.{◌≡◌, ◌<◌, ◌∙◌, ap, length, arith}
+use Rattle.std.proofs.Common.{◌<◌, ◌∙◌, length, arith}
 use Rattle.std.proofs.lemmas.List.{length-set}
-use Rattle.chess_sockets.specs.Serving.{state_of, IsRead}
+use Rattle.chess_sockets.specs.Serving.{state_of}
 use Rattle.chess_sockets.proofs.ServingLemmas.{same_behind, read_on}
 use Rattle.chess_sockets.proofs.server.take_in_all.Goals as goal
 
@@ -14,7 +14,7 @@ loop-client-preserved g c =
     let before = c.loop-client.hub in
     let hub = c.read_for.new.hub in
     let lt : i < length items =
-        omega (arith, c.loop-client-test.true, c.loop-client.auto.client-items) in
+    omega (arith, c.loop-client-test.true, c.loop-client.auto.client-items) in
     record {
       read = read_on g.S.Read.remaining old items i c.client-item.result c.read_for.new.client
           (state_of c.args.hub.now.sessions c.args.hub.now.store.table) (state_of before.sessions before.store.table)

@@ -1,4 +1,4 @@
-use Rattle.std.proofs.Common.{◌≡◌, sym, [], ◌∷◌, ◌++◌, decimal, ◌∙◌}
+use Rattle.std.proofs.Common.{◌≡◌, [], ◌∷◌, ◌++◌, decimal, ◌∙◌}
 use Rattle.chess_text.specs.Fen.{placement_text, side_letter, rights_text, target_text, fen_of}
 use Rattle.chess_text.proofs.Positions.{join_six}
 use Rattle.chess_text.proofs.fen.push_fields.Goals as goal

@@ -1,5 +1,4 @@
 use Rattle.std.proofs.Common.{◌≡◌, ◌∙◌, ap, length}
-use Rattle.chess_bits.specs.declared.men.Kind.{Kind}
 use Rattle.chess_bits.specs.Table.{has}
 use Rattle.chess_board.specs.Occupancy.{squares_with, is_a}
 use Rattle.chess_text.proofs.ShownLemmas.{same_there, by_sets, each_kind, whole-empty}

@@ -1,8 +1,8 @@
-use Rattle.std.proofs.Common.{◌≡◌, ◌∙◌, ap, sym, refl, false, true, inl, inr, ℕ, List, ◌∷◌, get_or, set}
+use Rattle.std.proofs.Common.{◌≡◌, ◌∙◌, ap, sym, refl, false, true, inl, inr, ℕ, ◌∷◌, get_or, set}
 use Rattle.std.specs.List.{list_any}
 use Rattle.std.proofs.lemmas.Bool.{cases_Bool, false≢true}
 use Rattle.std.proofs.lemmas.List.{length-set}
-use Rattle.chess_bits.specs.Square.{Square, is_square, number_of}
+use Rattle.chess_bits.specs.Square.{is_square, number_of}
 use Rattle.chess_bits.specs.SquaresOf.{squares_left}
 use Rattle.chess_bits.specs.Table.{members, has}
 use Rattle.chess_text.specs.Fen.{letter_or_zero}

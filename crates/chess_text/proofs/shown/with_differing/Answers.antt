@@ -1,5 +1,4 @@
-use Rattle.std.proofs.Common.{◌≡◌, ◌∙◌, ap, sym, List, Bool, false, length}
-use Rattle.chess_bits.specs.Square.{Square}
+use Rattle.std.proofs.Common.{◌∙◌, ap, sym, List, Bool, length}
 use Rattle.chess_bits.specs.Table.{has, union, without}
 use Rattle.chess_text.proofs.ShownLemmas.{differing-whole, differing-none}
 use Rattle.chess_text.proofs.shown.with_differing.Goals as goal

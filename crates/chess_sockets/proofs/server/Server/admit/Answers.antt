@@ -18,7 +18,7 @@ returns-clause-welcomes g c =
       whole = c.push.ensures.items ∙ ap (λ b. if b then clients ++ client ∷ [] else clients) kept;
       welcomed = (
         one_step (state_of old.sessions old.store.table) (state_of new.sessions new.store.table) (Connected client.sid)
-        (rw c.new-client.ensures.sid (c.in-Ok.ensures.new, c.in-Ok.ensures.opened, ap (λ s. s.table) c.connect.ensures.store)),
+            (rw c.new-client.ensures.sid (c.in-Ok.ensures.new, c.in-Ok.ensures.opened, ap (λ s. s.table) c.connect.ensures.store)),
         c.new-client.ensures.nothing,
       );
     }

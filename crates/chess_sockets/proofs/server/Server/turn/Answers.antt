@@ -144,16 +144,16 @@ returns-in_err-wrote-clause-refused g c =
       c.take_in_all.new.clients.items,
       state_of c.turn.new.self.sessions c.turn.new.self.store.table,
       record {
-    heard = state_of c.take_in_all.new.hub.sessions c.take_in_all.new.hub.store.table;
-    hears = record {
-      asked = c.welcome.new.self.clients.items;
-      begun = state_of c.welcome.new.self.hub.sessions c.welcome.new.self.hub.store.table;
-      welcomes = welcomed_there c.part.new.self.hub c.args.self.now.hub (λ hub. state_of hub.sessions hub.store.table) _ _ _ _
-          c.part.ensures.hub c.part.ensures.stay c.in_ok-came.ensures.welcomes;
-      reads = c.in_ok-read.ensures.read;
-    };
-    turned = of_answered c.turn.result tt c.in_default.is c.turn.ensures.turned;
-  },
+        heard = state_of c.take_in_all.new.hub.sessions c.take_in_all.new.hub.store.table;
+        hears = record {
+          asked = c.welcome.new.self.clients.items;
+          begun = state_of c.welcome.new.self.hub.sessions c.welcome.new.self.hub.store.table;
+          welcomes = welcomed_there c.part.new.self.hub c.args.self.now.hub (λ hub. state_of hub.sessions hub.store.table) _ _ _ _
+              c.part.ensures.hub c.part.ensures.stay c.in_ok-came.ensures.welcomes;
+          reads = c.in_ok-read.ensures.read;
+        };
+        turned = of_answered c.turn.result tt c.in_default.is c.turn.ensures.turned;
+      },
       ap (λ s. s.table) c.hand_out_all.ensures.store,
     ))
 

@@ -1,8 +1,7 @@
-use Rattle.std.proofs.Common.{◌≡◌, ◌∙◌, ap, sym, subst}
-use Rattle.chess_bits.specs.Square.{Square, IsOnBoard}
+use Rattle.std.proofs.Common.{◌∙◌, sym, subst}
 use Rattle.chess_board.specs.Position.{Placement}
 use Rattle.chess_text.specs.Fen.{AreLetters}
-use Rattle.chess_text.specs.Shown.{AreRankTexts, HasChanges, TellsRanks}
+use Rattle.chess_text.specs.Shown.{AreRankTexts, HasChanges}
 use Rattle.chess_text.proofs.shown.ShownBoard.set.Goals as goal
 
 pub reletter-touched-requires-clause-letters : goal.reletter-touched-requires-clause-letters
