@@ -1,19 +1,24 @@
 -- The answers of a run are those to the merged list of its lines.
-use Rattle.std.proofs.Common.{◌≡◌, ◌∙◌, ℕ, suc, ◌+◌, Bool, true, false, List, [], ◌∷◌, ◌++◌, length, drop, Option, None, refl, sym, ap, subst, append_assoc, append-nil, arith}
-use Rattle.std.proofs.lemmas.List.Sums.{sum_by-cons}
-use Rattle.std.specs.Prelude.{cond, map, ◌==◌, ◌&&◌, if◌then◌else◌}
-use Rattle.std.specs.List.{AllZip}
+use Rattle.std.proofs.Common.{◌≡◌, ◌∙◌, ◌<◌, ℕ, suc, ◌+◌, Bool, true, false, List, [], ◌∷◌, ◌++◌, length, drop, Option, None, refl, sym, ap, subst, append_assoc, append-nil, arith}
+use Rattle.std.proofs.Math.Bool.{or-false}
 use Rattle.std.proofs.Math.Seq.{drop-length}
+use Rattle.std.proofs.lemmas.Bool.Decides.{Decides-eqb}
+use Rattle.std.proofs.lemmas.List.{drop-drop}
+use Rattle.std.proofs.lemmas.List.Sums.{sum_by-cons, sum_by-append}
+use Rattle.std.specs.Prelude.{cond, map, ◌==◌, ◌&&◌, if◌then◌else◌, slice_index, slice_index_or}
+use Rattle.std.specs.List.{AllZip}
 use Rattle.session_lines.specs.Lines.{lines_of, has_long_line}
 use Rattle.sector_dev.specs.Device.{State}
 use Rattle.chess_entry.specs.State.{TableState}
 use Rattle.chess_sessions.specs.Session.{Said, farewell, is_none_waiting}
+use Rattle.chess_sessions.specs.Turn.{SessionLine, session_line, turn_lines, IsReading}
 use Rattle.chess_sessions.specs.Answers.{given_name, renamed}
 use Rattle.line_loop.specs.Texts.{IsRun, IsText}
 use Rattle.line_loop.specs.Texts as loop
-use Rattle.chess_hub.specs.Sessions.{Merged, taken_count, name_from, IsLineAnswered, AreAnsweredAfter, answers_to}
+use Rattle.chess_hub.specs.Calls.{Call, Connected, Fed, Turned, which, input_of}
+use Rattle.chess_hub.specs.Sessions.{Merged, taken_count, lines_left, AreOpenIn, IsMergedAs, AreMerged, name_from, IsLineAnswered, AreAnsweredAfter, answers_to}
 use Rattle.chess_run.specs.Running.{Kept, Standing, stands, written, AnswersLine}
-use Rattle.chess_run.specs.Law.{written_all, IsOfTheFirst, GiveAll, AreTold, IsSessionText}
+use Rattle.chess_run.specs.Law.{written_all, IsOfTheFirst, GiveAll, turns_after, AreTold, IsSessionText}
 
 name-behind : (session : ℕ) (name : Option (List ℕ)) (before : List Merged) (m : Merged) →
     name_from session name (before ++ m ∷ []) ≡ name_from session (name_from session name before) (m ∷ [])
@@ -24,11 +29,84 @@ name-behind session name (x ∷ before) m =
 one-more : (k n : ℕ) → k ≡ n → 1 + k ≡ suc n
 one-more k n e = omega (arith, e)
 
+-- ---- a turn for each line
+
+-- The first session is the only one that is open, and it has the number 1.
+record IsOnly (calls : List Call) : Type 0 where
+  pub opens : AreOpenIn calls (1 ∷ [])
+  pub own : which 1 calls ≡ 1
+
+none-rises : (k : ℕ) → k + 1 < 1 → slice_index (1 ∷ []) k < slice_index (1 ∷ []) (k + 1)
+none-rises k lt = omega (arith, lt)
+
+it_is_one : (sid k : ℕ) → k < 1 → slice_index_or (1 ∷ []) k sid ≡ sid → 1 ≡ sid
+it_is_one sid k lt is =
+    let first : k ≡ 0 = omega (arith, lt) in
+    subst (λ (n : ℕ). slice_index_or (1 ∷ []) n sid ≡ sid) first is
+
+only_at_first : (input : List ℕ) → IsOnly (Fed 1 input ∷ Connected 1 ∷ [])
+only_at_first input = record {
+  opens = record {
+    rising = none-rises;
+    each = λ sid. (
+      λ has. or-false (1 == sid) ∙ (Decides-eqb 1 sid).1 (it_is_one sid has.0 has.1 has.2),
+      λ opens. (0, omega arith, (Decides-eqb 1 sid).0 (sym (or-false (1 == sid)) ∙ opens)),
+    );
+  };
+  own = refl;
+}
+
+-- what a turn for one line takes of a session
+one_line : (sid : ℕ) (lines : List (List ℕ)) (line : List ℕ) (left : List (List ℕ)) → lines ≡ line ∷ left →
+    turn_lines 1 (record { sid = sid; lines = lines } ∷ []) ≡ session_line sid line ∷ []
+one_line sid lines line left is =
+    ap (λ (ls : List (List ℕ)). turn_lines 1 (record { sid = sid; lines = ls } ∷ [])) is
+
+-- a turn for the next line
+next_turn : (calls : List Call) (before : List Merged) (at : ℕ) (m : Merged) (line : List ℕ) (left : List (List ℕ)) →
+    IsOnly calls → AreMerged calls before → lines_left calls before 1 ≡ line ∷ left → m.session ≡ 1 → m.at ≡ at →
+    IsReading line m.line → AreMerged (Turned at 1 ∷ calls) (before ++ m ∷ [])
+next_turn calls before at m line left only were is session moment reads = record {
+  before = before;
+  was = were;
+  sids = 1 ∷ [];
+  opens = only.opens;
+  lines = m ∷ [];
+  are = subst (λ (ls : List SessionLine). AllZip (IsMergedAs calls at) ls (m ∷ []))
+      (sym (one_line 1 (lines_left calls before (which 1 calls)) line left
+      (ap (lines_left calls before) only.own ∙ is)))
+      (record { session = session ∙ sym only.own; moment = moment; reads = reads }, tt);
+  whole = refl;
+}
+
+-- and which lines are left behind it
+left_behind : (input : List ℕ) (before : List Merged) (m : Merged) (line : List ℕ) (left : List (List ℕ)) →
+    m.session ≡ 1 → drop (taken_count 1 before) (lines_of input) ≡ line ∷ left →
+    drop (taken_count 1 (before ++ m ∷ [])) (lines_of input) ≡ left
+left_behind input before m line left session is =
+    let both : taken_count 1 (before ++ m ∷ []) ≡ taken_count 1 before + taken_count 1 (m ∷ []) =
+    sum_by-append (λ (x : Merged). cond (x.session == 1) 1 0) before (m ∷ []) in
+    let last : taken_count 1 (m ∷ []) ≡ cond (m.session == 1) 1 0 + 0 =
+    sum_by-cons (λ (x : Merged). cond (x.session == 1) 1 0) m [] in
+    let own : ◌≡◌ {A = ℕ} (cond (m.session == 1) 1 0) 1 = ap (λ (n : ℕ). cond (n == 1) 1 0) session in
+    let more : taken_count 1 (before ++ m ∷ []) ≡ taken_count 1 before + 1 = omega (arith, both, last, own) in
+    ap (λ (n : ℕ). drop n (lines_of input)) more ∙ sym (drop-drop 1 (taken_count 1 before) (lines_of input))
+    ∙ ap (drop 1) is
+
+sent_before : (calls : List Call) (ats : List ℕ) → input_of 1 (turns_after calls ats) ≡ input_of 1 calls
+sent_before calls [] = refl
+sent_before calls (at ∷ ats) = sent_before (Turned at 1 ∷ calls) ats
+
+-- ---- the lines of a run
+
 -- the lines of a run as a turn's, behind others of the session
 record Told {M : Type 0} (gives : M → ℕ → M → Type 0) (from to : M) (before : List Merged) (table after : TableState) (lines : List (List ℕ)) (told : List ℕ) : Type 0 where
   pub merged : List Merged
   pub are : AllZip IsOfTheFirst lines merged
   pub moments : GiveAll gives from (map (λ m. m.at) merged) to
+  pub merges : (calls : List Call) (left : List (List ℕ)) → IsOnly calls → AreMerged calls before
+      → lines_left calls before 1 ≡ lines ++ left
+      → AreMerged (turns_after calls (map (λ m. m.at) merged)) (before ++ merged)
   pub answers : List Said
   pub answered : AreAnsweredAfter before table merged answers after
   pub is : told ≡ written_all answers
@@ -43,6 +121,7 @@ module _ {D M : Type 0} (state : D → State) (sector_count failures : D → ℕ
     merged = [];
     are = tt;
     moments = ap (λ (t : Standing D M). t.moments) same;
+    merges = λ calls left only were is. subst (AreMerged calls) (sym (append-nil before)) were;
     answers = [];
     answered = (refl, ap (λ (t : Standing D M). t.store.table) same);
     is = none;
@@ -58,6 +137,13 @@ module _ {D M : Type 0} (state : D → State) (sector_count failures : D → ℕ
         merged = m ∷ rest.merged;
         are = (record { session = refl; reads = told.reads }, rest.are);
         moments = (between.moments, told.next, rest.moments);
+        merges = λ calls left only were is.
+            subst (AreMerged (turns_after calls (told.at ∷ map (λ x. x.at) rest.merged)))
+            (append_assoc before (m ∷ []) rest.merged)
+            (rest.merges (Turned told.at 1 ∷ calls) left
+            (record { opens = record { rising = only.opens.rising; each = only.opens.each }; own = only.own })
+            (next_turn calls before told.at m line (lines ++ left) only were is refl refl told.reads)
+            (left_behind (input_of 1 calls) before m line (lines ++ left) refl is));
         answers = told.answer ∷ rest.answers;
         answered = (
           told.answer,
@@ -106,20 +192,27 @@ text-is input merged answers own count =
     ∙ ap (λ (left : List (List ℕ)). written_all (answers ++ ends (has_long_line input && is_none_waiting left))) none
     ∙ written-end answers (has_long_line input)
 
+-- the lines of a run from its beginning
+abbrev as_told : {M : Type 0} (gives : M → ℕ → M → Type 0) (from to : M) (table after : TableState)
+    (lines : List (List ℕ)) (text : List ℕ) → Told gives from to [] table after lines text →
+    AreTold gives from to table after lines text
+as_told gives from to table after lines text told = record {
+  merged = told.merged;
+  are = told.are;
+  moments = told.moments;
+  merges = λ input left is.
+      told.merges (Fed 1 input ∷ Connected 1 ∷ []) left (only_at_first input) refl is;
+  answers = told.answers;
+  answered = told.answered;
+  is = told.is ∙ ap written_all (sym told.own);
+}
+
 module _ {D M : Type 0} (state : D → State) (sector_count failures : D → ℕ) (gives : M → ℕ → M → Type 0) where
   pub run-front : (store : Kept D) (moments : M) (lines : List (List ℕ)) (text : List ℕ) (end : Standing D M) →
       IsRun (AnswersLine state sector_count failures gives) (stands store None moments) lines text end →
       AreTold gives moments end.moments store.table end.store.table lines text
-  run-front store moments lines text end run =
-      let told = run-told state sector_count failures gives (stands store None moments) end [] lines text refl run in
-      record {
-        merged = told.merged;
-        are = told.are;
-        moments = told.moments;
-        answers = told.answers;
-        answered = told.answered;
-        is = told.is ∙ ap written_all (sym told.own);
-      }
+  run-front store moments lines text end run = as_told gives moments end.moments store.table end.store.table lines text
+      (run-told state sector_count failures gives (stands store None moments) end [] lines text refl run)
 
   pub run-is : (store : Kept D) (moments : M) (input text : List ℕ) (end : Standing D M) →
       IsText (AnswersLine state sector_count failures gives) (stands store None moments) input text end →
@@ -129,14 +222,8 @@ module _ {D M : Type 0} (state : D → State) (sector_count failures : D → ℕ
       is.answers refl is.run in
       record {
         told = is.answers;
-        lines = record {
-          merged = told.merged;
-          are = told.are;
-          moments = told.moments;
-          answers = told.answers;
-          answered = told.answered;
-          is = told.is ∙ ap written_all (sym told.own);
-        };
+        lines = as_told gives moments end.moments store.table end.store.table (lines_of input) is.answers told;
+        sent = sent_before (Fed 1 input ∷ Connected 1 ∷ []) (map (λ m. m.at) told.merged);
         is = λ calls sent.
             is.whole ∙ ap (λ (l : List ℕ). l ++ loop.farewell (has_long_line input)) told.is
             ∙ sym (text-is input told.merged told.answers told.own told.count)

@@ -7,8 +7,8 @@ use Rattle.chess_entry.specs.State.{TableState}
 use Rattle.chess_sessions.specs.Session.{Said}
 use Rattle.chess_sessions.specs.Turn.{IsReading}
 use Rattle.line_loop.specs.Texts.{IsRun, IsText}
-use Rattle.chess_hub.specs.Calls.{Call, input_of}
-use Rattle.chess_hub.specs.Sessions.{Merged, AreAnsweredAfter, answers_to, session_text}
+use Rattle.chess_hub.specs.Calls.{Call, Connected, Fed, Turned, input_of}
+use Rattle.chess_hub.specs.Sessions.{Merged, AreMerged, AreAnsweredAfter, answers_to, session_text}
 use Rattle.chess_run.specs.Running.{Kept, Standing, stands, written, AnswersLine}
 
 -- answers as they are written, one behind the other
@@ -26,23 +26,35 @@ abbrev pub GiveAll : {M : Type 0} → (M → ℕ → M → Type 0) → M → Lis
 GiveAll gives from [] to = to ≡ from
 GiveAll {M = M} gives from (at ∷ ats) to = (between : M) × gives from at between × GiveAll gives between ats to
 
--- Lines, all of the first session of a hub, each taken at the next moment, have answers by the verdicts on the table; and
--- this is what the session is given for them, as it is written.
+-- after these calls turns at moments, of which each takes one line; the newest call stands first
+abbrev pub turns_after : List Call → List ℕ → List Call
+turns_after calls [] = calls
+turns_after calls (at ∷ ats) = turns_after (Turned at 1 ∷ calls) ats
+
+-- A session begins as the only one and sends its input, and then each turn takes a line, which is a batch of its own.
+abbrev pub calls_of : List ℕ → List Merged → List Call
+calls_of input merged = turns_after (Fed 1 input ∷ Connected 1 ∷ []) (map (λ m. m.at) merged)
+
+-- Lines, all of the first session of a hub, each taken at the next moment by a turn of its own, have answers by the
+-- verdicts on the table; and this is what the session is given for them, as it is written.
 pub record AreTold {M : Type 0} (gives : M → ℕ → M → Type 0) (from to : M) (before after : TableState)
     (lines : List (List ℕ)) (told : List ℕ) : Type 0 where
   pub merged : List Merged
   pub are : AllZip IsOfTheFirst lines merged
   pub moments : GiveAll gives from (map (λ m. m.at) merged) to
+  pub merges : (input : List ℕ) (left : List (List ℕ)) → lines_of input ≡ lines ++ left
+      → AreMerged (calls_of input merged) merged
   pub answers : List Said
   pub answered : AreAnsweredAfter [] before merged answers after
   pub is : told ≡ written_all (answers_to 1 merged answers)
 
--- Where these are the whole lines of an input, the session's text is as it is written, whatever the calls by which the
--- session sent the input.
+-- Where these are the whole lines of an input, the session's text is as it is written: by the calls that take a line a
+-- turn, and whatever the calls by which the session sent the input.
 pub record IsSessionText {M : Type 0} (gives : M → ℕ → M → Type 0) (from to : M) (before after : TableState)
     (input text : List ℕ) : Type 0 where
   pub told : List ℕ
   pub lines : AreTold gives from to before after (lines_of input) told
+  pub sent : input_of 1 (calls_of input lines.merged) ≡ input
   pub is : (calls : List Call) → input_of 1 calls ≡ input
       → text ≡ written_all (session_text calls lines.merged lines.answers 1)
 

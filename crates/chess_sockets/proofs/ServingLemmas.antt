@@ -5,7 +5,7 @@ use Rattle.std.specs.Io.KnownBytes.{Consumes}
 use Rattle.std.proofs.KnownBytes.{Consumes-nil, Appends-nil}
 use Rattle.std.proofs.lemmas.Bool.{cases_Bool, false≢true}
 use Rattle.std.proofs.lemmas.Bool.Decides.{Decides-eqb}
-use Rattle.std.proofs.lemmas.List.{take_more, take_more_set, get_or-set_other, set-get_or}
+use Rattle.std.proofs.lemmas.List.{take_more, take_more_set, length-set, get_or-set_other}
 use Rattle.std.proofs.lemmas.List.Elements.{All-nil, All-cons, All-append}
 use Rattle.session_lines.specs.Heard.{Heard}
 use Rattle.chess_answer.specs.declared.reads.Reply.{Reply}
@@ -17,7 +17,7 @@ use Rattle.chess_hub.specs.Law.{HubState, Steps, Stays}
 use Rattle.chess_sockets.specs.declared.client.Client.{Client}
 use Rattle.chess_sockets.specs.Clients.{OthersStay, TakesIn, HandsOut, to_go}
 use Rattle.chess_sockets.specs.Sending.{waiting}
-use Rattle.chess_sockets.specs.Serving.{state_of, LeadsOn, IsSent, IsRead, AreRead, Welcomes, IsGivenTo, AreGiven, IsWritten, AreWritten}
+use Rattle.chess_sockets.specs.Serving.{state_of, LeadsOn, AreEach, PassesClosed, IsSent, IsRead, Welcomes, IsGivenTo, AreGiven, IsWritten}
 
 -- ---- calls
 
@@ -65,7 +65,12 @@ pub record Sends (before after : Option (List ℕ)) (sid : ℕ) (old new : HubSt
   pub taken : List ℕ
   pub consumed : Consumes before after taken
   pub short : length taken ≤ 4096
+  pub room : IfSome (session_at old.sessions sid) (λ s. 4096 ≤ length s.heard.bytes → taken ≡ [])
   pub sent : IsSent sid taken old new
+
+-- what holds of an open session holds where it stands
+there : (m : Option SessionState) (P : SessionState → Type 0) (s : SessionState) → m ≡ Some s → P s → IfSome m P
+there m P s e p = subst (λ (o : Option SessionState). IfSome o P) (sym e) p
 
 pub sends : (before after : Option (List ℕ)) (sid : ℕ) (old new : Sessions) (t u : TableState) (m n : Option SessionState) →
     session_at old sid ≡ m → session_at new sid ≡ n → IsSome m → IfSome m (λ s. TakesIn before after s n) →
@@ -76,6 +81,7 @@ sends before after sid old new t u (Some s) None e f is_open takes others same =
   taken = takes.taken;
   consumed = takes.consumed;
   short = takes.short;
+  room = there (session_at old sid) (λ x. 4096 ≤ length x.heard.bytes → takes.taken ≡ []) s e takes.room;
   sent = inr (inr (inl (
     takes.gone refl,
     one_step (state_of old t) (state_of new u) (Closed sid)
@@ -86,6 +92,7 @@ sends before after sid old new t u (Some s) (Some r) e f is_open takes others sa
   taken = takes.taken;
   consumed = takes.consumed;
   short = takes.short;
+  room = there (session_at old sid) (λ x. 4096 ≤ length x.heard.bytes → takes.taken ≡ []) s e takes.room;
   sent = elim takes.heard [
     | inl (short_so_far, is) ↦ inl (one_step (state_of old t) (state_of new u) (Fed sid takes.taken)
         (s, e, short_so_far, record { changed = f ∙ ap Some is; others = others }, same))
@@ -115,32 +122,54 @@ sent_after a b c sid taken h sent = elim sent [
   )))
 ]
 
--- ---- one client after the other
+-- ---- a session that is closed
+
+pub closed_after : {S : Type 0} (client after : Client S) (a b c : HubState) → Stays a b → PassesClosed client after b c →
+    PassesClosed client after a c
+closed_after client after a b c h passes none =
+    let past = passes (h.sessions client.sid ∙ none) in
+    (past.0, stays-trans a b c h past.1)
+
+-- what holds of every session
+pub of_all : (m : Option SessionState) (P : SessionState → Type 0) → ((s : SessionState) → P s) → IfSome m P
+of_all None P each = tt
+of_all (Some s) P each = each s
+
+-- this one is not closed
+pub not_closed : {A : Type 0} (m : Option A) (P : Type 0) → IsSome m → m ≡ None → P
+not_closed None P is_open e = absurd (false≢true is_open)
+not_closed (Some s) P is_open e = absurd (let bad : Some s ≡ None = e in cc)
+
+-- ---- who is read for
 
 module _ {S : Type 0} (remaining : S → Option (List ℕ)) where
-  pub passed_over : (client : Client S) (s t : HubState) → Stays s t → IsRead remaining client client s t
-  passed_over client s t h = record {
+  pub passed_over : (client : Client S) (s : HubState) → IsRead remaining client client s s
+  passed_over client s = record {
     sid = refl;
     outgoing = refl;
     taken = [];
     consumed = Consumes-nil (remaining client.stream);
     short = omega arith;
-    sent = inr (inl (refl, h));
+    room = of_all (session_at s.sessions client.sid) _ (λ state full. refl);
+    sent = inr (inl (refl, stays-refl s));
+    closed = λ none. (refl, stays-refl s);
   }
 
   pub is_read : (client after : Client S) (old new : HubState) → after.sid ≡ client.sid →
-      waiting after.outgoing ≡ waiting client.outgoing →
+      waiting after.outgoing ≡ waiting client.outgoing → PassesClosed client after old new →
       Sends (remaining client.stream) (remaining after.stream) client.sid old new → IsRead remaining client after old new
-  is_read client after old new sid outgoing sends = record {
+  is_read client after old new sid outgoing closed sends = record {
     sid = sid;
     outgoing = outgoing;
     taken = sends.taken;
     consumed = sends.consumed;
     short = sends.short;
+    room = sends.room;
     sent = sends.sent;
+    closed = closed;
   }
 
-  read_after : (client after : Client S) (a b c : HubState) → Stays a b → IsRead remaining client after b c →
+  pub read_after : (client after : Client S) (a b c : HubState) → Stays a b → IsRead remaining client after b c →
       IsRead remaining client after a c
   read_after client after a b c h read = record {
     sid = read.sid;
@@ -148,28 +177,11 @@ module _ {S : Type 0} (remaining : S → Option (List ℕ)) where
     taken = read.taken;
     consumed = read.consumed;
     short = read.short;
+    room = subst (λ (o : Option SessionState). IfSome o (λ s. 4096 ≤ length s.heard.bytes → read.taken ≡ []))
+        (h.sessions client.sid) read.room;
     sent = sent_after a b c client.sid read.taken h read.sent;
+    closed = closed_after client after a b c h read.closed;
   }
-
-  pub one_more_read : (clients read : List (Client S)) (client after : Client S) (a b c : HubState) →
-      AreRead remaining clients read a b → IsRead remaining client after b c →
-      AreRead remaining (clients ++ client ∷ []) (read ++ after ∷ []) a c
-  one_more_read [] read client after a b c (none, stays) one = (
-    after,
-    [],
-    c,
-    ap (λ (l : List (Client S)). l ++ after ∷ []) none,
-    read_after client after a b c stays one,
-    (refl, stays-refl c),
-  )
-  one_more_read (first ∷ clients) read client after a b c (it, rest, between, whole, is, are) one = (
-    it,
-    rest ++ after ∷ [],
-    between,
-    ap (λ (l : List (Client S)). l ++ after ∷ []) whole,
-    is,
-    one_more_read clients rest client after between b c are one,
-  )
 
 -- ---- who comes
 
@@ -197,54 +209,61 @@ module _ {T E : Type 0} where
   ok_both (Ok x) P Q R f h k = f h k
   ok_both (Err e) P Q R f h k = tt
 
--- ---- lists that are gone through
+-- ---- clients one after the other
 
 -- all places from one on are as they were
 abbrev pub SameFrom : {A : Type 0} → ℕ → List A → List A → Type 0
 SameFrom {A = A} from old new = (d : A) (k : ℕ) → from ≤ k → get_or new k d ≡ get_or old k d
 
-module _ {A : Type 0} where
-  pub same_all : (old : List A) → SameFrom 0 old old
-  same_all old = λ d k from. refl
+-- It is done for the clients before a place, and the others are as they were.
+pub record IsDoneTo {S : Type 0} (Done : Client S → Client S → HubState → HubState → Type 0) (i : ℕ)
+    (old items : List (Client S)) (s t : HubState) : Type 0 where
+  pub each : AreEach Done (take i old) (take i items) s t
+  pub same : SameFrom i old items
+  pub whole : length items ≡ length old
 
-  pub same_further : (i : ℕ) (old new : List A) → SameFrom i old new → SameFrom (i + 1) old new
-  same_further i old new same = λ d k from. same d k (omega (arith, from))
+module _ {S : Type 0} (Done : Client S → Client S → HubState → HubState → Type 0) where
+  -- It may be done later, where nothing has changed.
+  abbrev pub MayWait : Type 0
+  MayWait = (client after : Client S) (a b c : HubState) → Stays a b → Done client after b c → Done client after a c
 
-  pub same_behind : (i : ℕ) (old new : List A) (x : A) → SameFrom i old new → SameFrom (i + 1) old (set new i x)
-  same_behind i old new x same = λ d k from.
-      let ne : k ≢ i = omega (arith, from) in
-      get_or-set_other new i k x d ne ∙ same d k (omega (arith, from))
+  one_more : MayWait → (clients done : List (Client S)) (client after : Client S) (a b c : HubState) →
+      AreEach Done clients done a b → Done client after b c → AreEach Done (clients ++ client ∷ []) (done ++ after ∷ []) a c
+  one_more waits [] done client after a b c (none, stays) one = (
+    after,
+    [],
+    c,
+    ap (λ (l : List (Client S)). l ++ after ∷ []) none,
+    waits client after a b c stays one,
+    (refl, stays-refl c),
+  )
+  one_more waits (first ∷ clients) done client after a b c (it, rest, between, whole, is, are) one = (
+    it,
+    rest ++ after ∷ [],
+    between,
+    ap (λ (l : List (Client S)). l ++ after ∷ []) whole,
+    is,
+    one_more waits clients rest client after between b c are one,
+  )
 
-  -- the first places, and one more that was written to
-  pub more_new : (items : List A) (i : ℕ) (x : A) → i < length items →
-      take (i + 1) (set items i x) ≡ take i items ++ x ∷ []
-  more_new items i x lt = take_more_set items i x lt
-
-  pub more_old : (old items : List A) (i : ℕ) (d : A) → i < length items → length items ≡ length old →
-      SameFrom i old items → take (i + 1) old ≡ take i old ++ get_or items i d ∷ []
-  more_old old items i d lt whole same =
-      let below : i < length old = omega (arith, lt, whole) in
-      take_more old i d below ∙ ap (λ x. take i old ++ x ∷ []) (sym (same d i (omega arith)))
-
-module _ {S : Type 0} (remaining : S → Option (List ℕ)) where
-  pub read_on : (old items : List (Client S)) (i : ℕ) (d after : Client S) (s t u : HubState) → i < length items →
-      length items ≡ length old → SameFrom i old items → AreRead remaining (take i old) (take i items) s t →
-      IsRead remaining (get_or items i d) after t u →
-      AreRead remaining (take (i + 1) old) (take (i + 1) (set items i after)) s u
-  read_on old items i d after s t u lt whole same are one =
-      subst (λ (l : List (Client S)). AreRead remaining l (take (i + 1) (set items i after)) s u)
-      (sym (more_old old items i d lt whole same))
-      (subst (λ (l : List (Client S)). AreRead remaining (take i old ++ get_or items i d ∷ []) l s u)
-      (sym (more_new items i after lt))
-      (one_more_read remaining (take i old) (take i items) (get_or items i d) after s t u are one))
-
-  pub read_past : (old items : List (Client S)) (i : ℕ) (d : Client S) (s t : HubState) → i < length items →
-      length items ≡ length old → SameFrom i old items → AreRead remaining (take i old) (take i items) s t →
-      AreRead remaining (take (i + 1) old) (take (i + 1) items) s t
-  read_past old items i d s t lt whole same are =
-      subst (λ (l : List (Client S)). AreRead remaining (take (i + 1) old) (take (i + 1) l) s t) (set-get_or items i d)
-      (read_on old items i d (get_or items i d) s t t lt whole same are
-      (passed_over remaining (get_or items i d) t t (stays-refl t)))
+  -- and it is done for one client more
+  pub done_further : MayWait → (old items : List (Client S)) (i : ℕ) (d after : Client S) (s t u : HubState) →
+      i < length items → IsDoneTo Done i old items s t → Done (get_or items i d) after t u →
+      IsDoneTo Done (i + 1) old (set items i after) s u
+  done_further waits old items i d after s t u lt so_far one =
+      let below : i < length old = omega (arith, lt, so_far.whole) in
+      let front : take (i + 1) old ≡ take i old ++ get_or items i d ∷ [] =
+      take_more old i d below ∙ ap (λ x. take i old ++ x ∷ []) (sym (so_far.same d i (omega arith))) in
+      record {
+        each = subst (λ (l : List (Client S)). AreEach Done l (take (i + 1) (set items i after)) s u) (sym front)
+            (subst (λ (l : List (Client S)). AreEach Done (take i old ++ get_or items i d ∷ []) l s u)
+            (sym (take_more_set items i after lt))
+            (one_more waits (take i old) (take i items) (get_or items i d) after s t u so_far.each one));
+        same = λ d' k from.
+            let ne : k ≢ i = omega (arith, from) in
+            get_or-set_other items i k after d' ne ∙ so_far.same d' k (omega (arith, from));
+        whole = length-set items i after ∙ so_far.whole;
+      }
 
 -- ---- what a session is given
 
@@ -314,9 +333,10 @@ module _ {S : Type 0} (contents : S → Option (List ℕ)) where
     sid = refl;
     given = given_none_yet client.sid t t (stays-refl t);
     hands = hands_none (contents client.stream) (to_go (session_at t.sessions client.sid) (waiting client.outgoing));
+    closed = λ none. (refl, stays-refl t);
   }
 
-  written_after : (client after : Client S) (a b c : HubState) → Stays a b → IsWritten contents client after b c →
+  pub written_after : (client after : Client S) (a b c : HubState) → Stays a b → IsWritten contents client after b c →
       IsWritten contents client after a c
   written_after client after a b c h written = record {
     sid = written.sid;
@@ -324,42 +344,5 @@ module _ {S : Type 0} (contents : S → Option (List ℕ)) where
     hands = subst (λ (o : Option SessionState). HandsOut (contents client.stream) (contents after.stream)
         (to_go o (waiting client.outgoing)) (to_go (session_at c.sessions client.sid) (waiting after.outgoing)))
         (h.sessions client.sid) written.hands;
+    closed = closed_after client after a b c h written.closed;
   }
-
-  one_more_written : (clients written : List (Client S)) (client after : Client S) (a b c : HubState) →
-      AreWritten contents clients written a b → IsWritten contents client after b c →
-      AreWritten contents (clients ++ client ∷ []) (written ++ after ∷ []) a c
-  one_more_written [] written client after a b c (none, stays) one = (
-    after,
-    [],
-    c,
-    ap (λ (l : List (Client S)). l ++ after ∷ []) none,
-    written_after client after a b c stays one,
-    (refl, stays-refl c),
-  )
-  one_more_written (first ∷ clients) written client after a b c (it, rest, between, whole, is, are) one = (
-    it,
-    rest ++ after ∷ [],
-    between,
-    ap (λ (l : List (Client S)). l ++ after ∷ []) whole,
-    is,
-    one_more_written clients rest client after between b c are one,
-  )
-
-  pub write_on : (old items : List (Client S)) (i : ℕ) (d after : Client S) (s t u : HubState) → i < length items →
-      length items ≡ length old → SameFrom i old items → AreWritten contents (take i old) (take i items) s t →
-      IsWritten contents (get_or items i d) after t u →
-      AreWritten contents (take (i + 1) old) (take (i + 1) (set items i after)) s u
-  write_on old items i d after s t u lt whole same are one =
-      subst (λ (l : List (Client S)). AreWritten contents l (take (i + 1) (set items i after)) s u)
-      (sym (more_old old items i d lt whole same))
-      (subst (λ (l : List (Client S)). AreWritten contents (take i old ++ get_or items i d ∷ []) l s u)
-      (sym (more_new items i after lt))
-      (one_more_written (take i old) (take i items) (get_or items i d) after s t u are one))
-
-  pub write_past : (old items : List (Client S)) (i : ℕ) (d : Client S) (s t : HubState) → i < length items →
-      length items ≡ length old → SameFrom i old items → AreWritten contents (take i old) (take i items) s t →
-      AreWritten contents (take (i + 1) old) (take (i + 1) items) s t
-  write_past old items i d s t lt whole same are =
-      subst (λ (l : List (Client S)). AreWritten contents (take (i + 1) old) (take (i + 1) l) s t) (set-get_or items i d)
-      (write_on old items i d (get_or items i d) s t t lt whole same are (skipped (get_or items i d) t))

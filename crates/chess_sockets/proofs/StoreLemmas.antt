@@ -1,5 +1,5 @@
 -- What a turn leaves of the store.
-use Rattle.std.proofs.Common.{◌≡◌, ◌∙◌, ℕ, List, subst, sym, inl}
+use Rattle.std.proofs.Common.{◌≡◌, ◌∙◌, ℕ, List, refl, subst, sym, inl}
 use Rattle.std.specs.Prelude.{Bool, Option, Result, Ok, Err, IfErr, OnOk}
 use Rattle.sector_dev.specs.Device.{State, IsCoherent}
 use Rattle.rec_codec.specs.declared.header.Header.{Header}
@@ -18,7 +18,7 @@ use Rattle.chess_hub.specs.Turning.{AsksFor, IsBatchFault, AreRefused, IsTurnFau
 use Rattle.chess_hub.proofs.TurnLemmas.{lasts_idle}
 use Rattle.chess_hub.specs.Law.{HubState}
 use Rattle.chess_sockets.specs.declared.client.Client.{Client}
-use Rattle.chess_sockets.specs.Serving.{state_of, HasHeardAll}
+use Rattle.chess_sockets.specs.Serving.{state_of, AreEach, IsRead}
 use Rattle.chess_sockets.specs.Turns.{EndsServing, IsRefusal}
 
 unless_any : (fault : HubFault) (P : Type 0) → P → UnlessDevice fault P
@@ -75,6 +75,16 @@ module _ {S T : Type 0} where
         kept_err = l.kept_err;
       }
 
+  -- The fault of a call inside is handed on.
+  pub lasts_handed : (made : Result T HubFault) (y fault : HubFault) (old new : State) (header : Header)
+      (compaction : Compaction) (before after : TableState) → made ≡ Err y → y ≡ fault
+      → Lasts {T = S} (Err fault) old new header compaction before after
+      → Lasts made old new header compaction before after
+  lasts_handed made y fault old new header compaction before after is same l =
+      subst (λ (r : Result T HubFault). Lasts r old new header compaction before after) (sym is)
+      (subst (λ (f : HubFault). Lasts {T = T} (Err f) old new header compaction before after) (sym same)
+      (lasts_refused (Err fault) fault old new header compaction before after refl l))
+
 -- nothing was asked of the store
 pub lasts_unasked : {T : Type 0} (made : Result T HubFault) (sectors : ℕ) (now : State) (header : Header)
     (compaction : Compaction) (table : TableState) → IsCoherent sectors now → IsKept now header compaction table
@@ -90,11 +100,15 @@ of_answered {S = S} {P = P} given x was holds = subst (λ (r : Result S HubFault
 -- ---- why a turn ends serving
 
 module _ {T : Type 0} where
+  -- The fault of a call inside is handed on.
+  pub of_fault : (made : Result T HubFault) (y fault : HubFault) (P : HubFault → Type 0) → made ≡ Err y → y ≡ fault
+      → P fault → IfErr made P
+  of_fault made y fault P is same p = subst (λ (r : Result T HubFault). IfErr r P) (sym is) (subst P (sym same) p)
+
   -- A call around the hub's turn was refused memory.
   pub of_memory : (made : Result T HubFault) (y fault : HubFault) (P : HubFault → Type 0) → made ≡ Err y → y ≡ fault
       → fault ≡ hub.NoMemory → P hub.NoMemory → IfErr made P
-  of_memory made y fault P is same none p =
-      subst (λ (r : Result T HubFault). IfErr r P) (sym is) (subst P (sym (same ∙ none)) p)
+  of_memory made y fault P is same none p = of_fault made y hub.NoMemory P is (same ∙ none) p
 
   pub at_err : (made : Result T HubFault) (fault : HubFault) (P : HubFault → Type 0) → made ≡ Err fault → IfErr made P
       → P fault
@@ -124,7 +138,7 @@ module _ (Same : Type 0) (at : ℕ) (sessions : Sessions) (seq : ℕ) (failed : 
 
   -- nothing was asked of the store, or it refused
   pub turn_refusal : {S : Type 0} (remaining : S → Option (List ℕ)) (clients read : List (Client S)) (old : HubState)
-      (table : TableState) → HasHeardAll remaining clients read old (state_of sessions table) → before ≡ old.table →
+      (table : TableState) → AreEach (IsRead remaining) clients read old (state_of sessions table) → before ≡ old.table →
       (Same → after ≡ before) → (fault : HubFault) → IsOfTurn fault →
       IsRefusal remaining fault at seq failed clients old after
   turn_refusal remaining clients read old table hears same idle hub.Busy why = why

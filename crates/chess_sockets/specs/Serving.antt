@@ -1,13 +1,15 @@
 -- What a turn of the server calls the hub for: where what the sessions hear comes from, and where what they are given
 -- goes.
-use Rattle.std.specs.Prelude.{ℕ, ◌≡◌, ◌≤◌, ◌⊎◌, true, List, [], ◌∷◌, ◌++◌, Option, None, IsSomeAnd, is_some, length, filter}
+use Rattle.std.specs.Prelude.{ℕ, ◌≡◌, ◌≤◌, ◌⊎◌, true, List, [], ◌∷◌, ◌++◌, Option, None, IfSome, IsSomeAnd, is_some, length, filter}
 use Rattle.std.specs.List.{All}
 use Rattle.std.specs.Io.KnownBytes.{Consumes}
 use Rattle.chess_entry.specs.State.{TableState}
+use Rattle.chess_entry.specs.declared.commands.Command.{Command}
 use Rattle.chess_sessions.specs.declared.sessions.Sessions.{Sessions}
 use Rattle.chess_sessions.specs.Session.{session_at}
 use Rattle.chess_hub.specs.Calls.{Call, Connected, Closed, Fed, Turned, Given}
 use Rattle.chess_hub.specs.Law.{HubState, Steps, Stays}
+use Rattle.chess_hub.specs.Turning.{AsksFor}
 use Rattle.chess_sockets.specs.declared.client.Client.{Client}
 use Rattle.chess_sockets.specs.Clients.{HandsOut, to_go}
 use Rattle.chess_sockets.specs.Sending.{waiting}
@@ -25,6 +27,19 @@ LeadsOn old [] new = Stays old new
 LeadsOn old (call ∷ calls) new =
     (before : HubState) × (after : HubState) × LeadsOn old calls before × Steps before call after × Stays after new
 
+-- This is done for each of these clients, one after the other.
+abbrev pub AreEach : {S : Type 0} → (Client S → Client S → HubState → HubState → Type 0) → List (Client S)
+    → List (Client S) → HubState → HubState → Type 0
+AreEach Done [] after old new = (after ≡ []) × Stays old new
+AreEach {S = S} Done (client ∷ clients) after old new =
+    (next : Client S) × (rest : List (Client S)) × (between : HubState) × (after ≡ next ∷ rest)
+    × Done client next old between × AreEach Done clients rest between new
+
+-- Nothing is done for a client whose session is closed.
+abbrev pub PassesClosed : {S : Type 0} → Client S → Client S → HubState → HubState → Type 0
+PassesClosed client after old new =
+    session_at old.sessions client.sid ≡ None → (after ≡ client) × Stays old new
+
 -- ---- what comes
 
 -- A session is sent bytes: it is fed them; or there were none, and it is as it was or closed; or a line of it was too
@@ -36,7 +51,8 @@ IsSent sid taken old new =
     ⊎ (taken ≡ []) × LeadsOn old (Closed sid ∷ []) new
     ⊎ IsSomeAnd (session_at old.sessions sid) (λ s. s.heard.is_long ≡ true) × Stays old new
 
--- A client's session is sent what came on the client's connection, a piece at most, and nothing else.
+-- A client's session is sent what came on the client's connection, a piece at most, and nothing else; none is read where
+-- a piece's bytes wait already.
 pub record IsRead {S : Type 0} (remaining : S → Option (List ℕ)) (client after : Client S) (old new : HubState) : Type 0
   where
     pub sid : after.sid ≡ client.sid
@@ -44,15 +60,9 @@ pub record IsRead {S : Type 0} (remaining : S → Option (List ℕ)) (client aft
     pub taken : List ℕ
     pub consumed : Consumes (remaining client.stream) (remaining after.stream) taken
     pub short : length taken ≤ 4096
+    pub room : IfSome (session_at old.sessions client.sid) (λ s. 4096 ≤ length s.heard.bytes → taken ≡ [])
     pub sent : IsSent client.sid taken old new
-
--- the same of clients, one after the other
-abbrev pub AreRead : {S : Type 0} → (S → Option (List ℕ)) → List (Client S) → List (Client S) → HubState → HubState →
-    Type 0
-AreRead remaining [] read old new = (read ≡ []) × Stays old new
-AreRead {S = S} remaining (client ∷ clients) read old new =
-    (after : Client S) × (rest : List (Client S)) × (between : HubState) × (read ≡ after ∷ rest)
-    × IsRead remaining client after old between × AreRead remaining clients rest between new
+    pub closed : PassesClosed client after old new
 
 -- ---- what goes
 
@@ -78,14 +88,7 @@ pub record IsWritten {S : Type 0} (contents : S → Option (List ℕ)) (client a
   pub hands : HandsOut (contents client.stream) (contents after.stream)
       (to_go (session_at old.sessions client.sid) (waiting client.outgoing))
       (to_go (session_at new.sessions client.sid) (waiting after.outgoing))
-
--- the same of clients, one after the other
-abbrev pub AreWritten : {S : Type 0} → (S → Option (List ℕ)) → List (Client S) → List (Client S) → HubState →
-    HubState → Type 0
-AreWritten contents [] written old new = (written ≡ []) × Stays old new
-AreWritten {S = S} contents (client ∷ clients) written old new =
-    (after : Client S) × (rest : List (Client S)) × (between : HubState) × (written ≡ after ∷ rest)
-    × IsWritten contents client after old between × AreWritten contents clients rest between new
+  pub closed : PassesClosed client after old new
 
 -- ---- a turn
 
@@ -106,27 +109,29 @@ pub record Welcomes {S : Type 0} (clients after : List (Client S)) (old new : Hu
   pub whole : after ≡ clients ++ came
   pub welcomed : AreWelcomed came old new
 
--- Before a turn of the hub each client whose session is open, and who came, is read for.
-pub record HasHeardAll {S : Type 0} (remaining : S → Option (List ℕ)) (clients read : List (Client S))
-    (old heard : HubState) : Type 0 where
+-- Each client is read for, and then the hub answers at most 64 lines of what the sessions had sent by then, as one batch
+-- at this moment, which the store may be asked for.
+pub record HasAnswered {S : Type 0} (remaining : S → Option (List ℕ)) (May : List Command → Type 0) (at : ℕ)
+    (clients read : List (Client S)) (old answered : HubState) : Type 0 where
+  pub heard : HubState
+  pub reads : AreEach (IsRead remaining) clients read old heard
+  pub turned : Steps heard (Turned at 64) answered
+  pub works : AsksFor at 64 heard.sessions May
+
+-- And then the answers are written.
+pub record HasServed {S : Type 0} (remaining contents : S → Option (List ℕ)) (May : List Command → Type 0) (at : ℕ)
+    (clients written : List (Client S)) (old new : HubState) : Type 0 where
+  pub read : List (Client S)
+  pub answered : HubState
+  pub answers : HasAnswered remaining May at clients read old answered
+  pub writes : AreEach (IsWritten contents) read written answered new
+
+-- A turn of the server: each client whose session is open, and who came, is served. Who is left has an open session.
+pub record HasGoneRound {S : Type 0} (remaining contents : S → Option (List ℕ)) (May : List Command → Type 0) (at : ℕ)
+    (clients left : List (Client S)) (old new : HubState) : Type 0 where
   pub asked : List (Client S)
   pub begun : HubState
   pub welcomes : Welcomes (open_in old.sessions clients) asked old begun
-  pub reads : AreRead remaining asked read begun heard
-
--- Then the hub answers at most 64 lines of what the sessions had sent by then, as one batch at this moment.
-pub record HasAnsweredAll {S : Type 0} (remaining : S → Option (List ℕ)) (at : ℕ) (clients read : List (Client S))
-    (old answered : HubState) : Type 0 where
-  pub heard : HubState
-  pub hears : HasHeardAll remaining clients read old heard
-  pub turned : Steps heard (Turned at 64) answered
-
--- And then the answers are written. Who is left has an open session.
-pub record HasServed {S : Type 0} (remaining contents : S → Option (List ℕ)) (at : ℕ) (clients left : List (Client S))
-    (old new : HubState) : Type 0 where
-  pub read : List (Client S)
-  pub answered : HubState
-  pub answers : HasAnsweredAll remaining at clients read old answered
   pub written : List (Client S)
-  pub writes : AreWritten contents read written answered new
+  pub serves : HasServed remaining contents May at asked written begun new
   pub stay : left ≡ open_in new.sessions written

@@ -5,9 +5,9 @@ use Rattle.chess_store.specs.Faults.{IsSubmitFault}
 use Rattle.chess_hub.specs.declared.fault.HubFault.{HubFault}
 use Rattle.chess_hub.specs.declared.fault.HubFault.TheVariants.{Busy, NoMemory, LineTooLong, Store}
 use Rattle.chess_hub.specs.Law.{HubState}
-use Rattle.chess_hub.specs.Turning.{AsksFor, AreRefused}
+use Rattle.chess_hub.specs.Turning.{AsksFor, MayBeAsked, AreRefused}
 use Rattle.chess_sockets.specs.declared.client.Client.{Client}
-use Rattle.chess_sockets.specs.Serving.{HasHeardAll, HasAnsweredAll}
+use Rattle.chess_sockets.specs.Serving.{AreEach, IsRead, HasAnswered, Welcomes, open_in}
 
 -- Memory was refused, or the store refused a batch. What is one client's trouble ends nothing but its session.
 abbrev pub EndsServing : HubFault → Type 0
@@ -16,16 +16,26 @@ EndsServing (Store fault) = IsSubmitFault fault
 EndsServing Busy = ⊥
 EndsServing LineTooLong = ⊥
 
--- Why a turn ended, and what is left of the table. Where memory was refused, the table is as it was, or the hub's turn
--- was answered before; a store's fault is that of the commands of at most 64 lines, of what the sessions had sent by then,
--- which went to it as one batch at this moment.
+-- Why clients are not served on, and what is left of the table. Where memory was refused, the table is as it was, or the
+-- hub's turn was answered before; a store's fault is that of the commands of at most 64 lines, of what the sessions had
+-- sent by then, which went to it as one batch at this moment.
 abbrev pub IsRefusal : {S : Type 0} → (S → Option (List ℕ)) → HubFault → ℕ → ℕ → Bool → List (Client S) → HubState →
     TableState → Type 0
 IsRefusal {S = S} remaining NoMemory at seq failed clients old after =
     (after ≡ old.table) ⊎ (read : List (Client S)) × (answered : HubState)
-    × HasAnsweredAll remaining at clients read old answered × (after ≡ answered.table)
+    × HasAnswered remaining (MayBeAsked failed seq old.table.entries) at clients read old answered
+    × (after ≡ answered.table)
 IsRefusal {S = S} remaining (Store fault) at seq failed clients old after =
-    (read : List (Client S)) × (heard : HubState) × HasHeardAll remaining clients read old heard
+    (read : List (Client S)) × (heard : HubState) × AreEach (IsRead remaining) clients read old heard
     × AsksFor at 64 heard.sessions (AreRefused fault seq failed old.table after)
 IsRefusal remaining Busy at seq failed clients old after = ⊥
 IsRefusal remaining LineTooLong at seq failed clients old after = ⊥
+
+-- Why a turn of the server ended: memory was refused before it served anybody; or so it ended for those whose session is
+-- open and who came.
+abbrev pub IsTurnRefusal : {S : Type 0} → (S → Option (List ℕ)) → HubFault → ℕ → ℕ → Bool → List (Client S) → HubState
+    → TableState → Type 0
+IsTurnRefusal {S = S} remaining fault at seq failed clients old after =
+    (fault ≡ NoMemory) × (after ≡ old.table)
+    ⊎ (asked : List (Client S)) × (begun : HubState) × Welcomes (open_in old.sessions clients) asked old begun
+    × IsRefusal remaining fault at seq failed asked begun after

@@ -1,10 +1,10 @@
 //! The server.
-ghost use Rattle.std.specs.Prelude.{◌≡◌, IfOk, IfErr, OnOk, OnErr};
+ghost use Rattle.std.specs.Prelude.{◌≡◌, [], Ok, IfOk, IfErr, OnOk};
 ghost use Rattle.chess_store.specs.Means.{IsKept};
 ghost use Rattle.chess_hub.specs.Faults.{CountsFault};
-ghost use Rattle.chess_hub.specs.Turning.{Lasts};
-ghost use Rattle.chess_sockets.specs.Serving.{state_of, unknown, IsRead, AreRead, IsWritten, AreWritten, Welcomes, HasServed, open_in};
-ghost use Rattle.chess_sockets.specs.Turns.{EndsServing, IsRefusal};
+ghost use Rattle.chess_hub.specs.Turning.{MayBeAsked, Lasts, IsTried};
+ghost use Rattle.chess_sockets.specs.Serving.{state_of, unknown, AreEach, IsRead, IsWritten, Welcomes, HasServed, HasGoneRound, open_in};
+ghost use Rattle.chess_sockets.specs.Turns.{EndsServing, IsRefusal, IsTurnRefusal};
 
 use crate::client::Client;
 use crate::pieces::PIECE_ROOM;
@@ -100,7 +100,7 @@ fn take_in_all<S: Read + Write, D: Device>(
     hub: &mut Hub<D>,
     is_calm: bool,
 ) -> Result<bool, HubFault>
-    ensures read { OnOk result (AreRead S.remaining clients.old.items clients.new.items
+    ensures read { OnOk result (AreEach (IsRead S.remaining) clients.old.items clients.new.items
         (state_of hub.old.sessions hub.old.store.table) (state_of hub.new.sessions hub.new.store.table)) }
     ensures fault { IfErr result (λ fault. fault ≡ HubFault.NoMemory) }
     ensures store { hub.new.store ≡ hub.old.store }
@@ -134,7 +134,7 @@ fn hand_out_all<S: Read + Write, D: Device>(
     clients: &mut Vec<Client<S>>,
     hub: &mut Hub<D>,
 ) -> Result<bool, HubFault>
-    ensures written { OnOk result (AreWritten S.contents clients.old.items clients.new.items
+    ensures written { OnOk result (AreEach (IsWritten S.contents) clients.old.items clients.new.items
         (state_of hub.old.sessions hub.old.store.table) (state_of hub.new.sessions hub.new.store.table)) }
     ensures fault { IfErr result (λ fault. fault ≡ HubFault.NoMemory) }
     ensures store { hub.new.store ≡ hub.old.store }
@@ -144,6 +144,39 @@ fn hand_out_all<S: Read + Write, D: Device>(
         any |= write_for(client, hub)?;
     }
     Ok(any)
+}
+
+// Reads for each session, has the hub answer lines that wait, and writes; and tells whether there was anything to read or
+// to write.
+fn serve_clients<S: Read + Write, D: Device>(
+    clients: &mut Vec<Client<S>>,
+    hub: &mut Hub<D>,
+    at: u64,
+    is_calm: bool,
+) -> Result<bool, HubFault>
+    ensures fault { IfErr result EndsServing }
+    ensures refused { IfErr result (λ fault. IsRefusal S.remaining fault at hub.old.store.journal.header.seq
+        hub.old.store.failed clients.old.items (state_of hub.old.sessions hub.old.store.table) hub.new.store.table) }
+    // Each session hears what its client's stream gave, and nothing else, and what it is given goes to that stream.
+    ensures served { OnOk result (HasServed S.remaining S.contents (MayBeAsked hub.old.store.failed
+        hub.old.store.journal.header.seq hub.old.store.table.entries) at clients.old.items clients.new.items
+        (state_of hub.old.sessions hub.old.store.table) (state_of hub.new.sessions hub.new.store.table)) }
+    ensures tried { OnOk result (IsTried D.state D.sector_count D.failures hub.old.store.journal.device
+        hub.new.store.journal.device (Ok (tt {0})) hub.old.store.table hub.new.store.table hub.old.store.failed
+        hub.new.store.failed) }
+    ensures cause_err { IfErr result (λ fault. CountsFault fault (D.failures hub.old.store.journal.device)
+        (D.failures hub.new.store.journal.device)) }
+    ensures lasts { IsKept (D.state hub.old.store.journal.device) hub.old.store.journal.header
+        hub.old.store.journal.compaction hub.old.store.table
+        → Lasts result (D.state hub.old.store.journal.device) (D.state hub.new.store.journal.device)
+        hub.new.store.journal.header hub.new.store.journal.compaction hub.old.store.table hub.new.store.table }
+{
+    let has_read = take_in_all(clients, hub, is_calm)?;
+    if let Err(fault) = hub.turn(at, LINES) {
+        return Err(fault);
+    }
+    let has_written = hand_out_all(clients, hub)?;
+    Ok(has_read | has_written)
 }
 
 impl<D: Device> Server<D> {
@@ -158,6 +191,7 @@ impl<D: Device> Server<D> {
     where
         D: Drop,
         ensures hub { IfOk result (λ server. server.hub ≡ hub) }
+        ensures nobody { IfOk result (λ server. server.clients.items ≡ []) }
     {
         let (Ok(listener), Ok(mut watch)) = (listen(net, port), Watch::new(net, alloc)) else {
             return Err(SocketFault);
@@ -251,17 +285,20 @@ impl<D: Device> Server<D> {
     pub fn turn(&mut self, at: u64) -> Result<Turned, HubFault>
         ensures fault { IfErr result EndsServing }
         // The store's own fault tells why it refused what lines ask for.
-        ensures refused { IfErr result (λ fault. IsRefusal unknown fault at
+        ensures refused { IfErr result (λ fault. IsTurnRefusal unknown fault at
             self.old.hub.store.journal.header.seq self.old.hub.store.failed self.old.clients.items
             (state_of self.old.hub.sessions self.old.hub.store.table) self.new.hub.store.table) }
-        ensures cause { OnOk result (D.failures self.new.hub.store.journal.device
-            ≡ D.failures self.old.hub.store.journal.device) }
+        ensures tried { OnOk result (IsTried D.state D.sector_count D.failures self.old.hub.store.journal.device
+            self.new.hub.store.journal.device (Ok (tt {0})) self.old.hub.store.table self.new.hub.store.table
+            self.old.hub.store.failed self.new.hub.store.failed) }
         ensures cause_err { IfErr result (λ fault. CountsFault fault
             (D.failures self.old.hub.store.journal.device) (D.failures self.new.hub.store.journal.device)) }
         // The next turn reads for every client, unless a rest comes first.
         ensures again { OnOk result (self.new.rested ≡ Rested.Not) }
-        // Each session hears what its client's connection gave, and nothing else, and is given what that connection takes.
-        ensures served { OnOk result (HasServed unknown unknown at self.old.clients.items
+        // Each session hears what was read for its client, and nothing else, and what it is given goes to that client. Of
+        // which bytes a socket gave and took std says nothing: they are `unknown` here, and told in `serve_clients`.
+        ensures served { OnOk result (HasGoneRound unknown unknown (MayBeAsked self.old.hub.store.failed
+            self.old.hub.store.journal.header.seq self.old.hub.store.table.entries) at self.old.clients.items
             self.new.clients.items (state_of self.old.hub.sessions self.old.hub.store.table)
             (state_of self.new.hub.sessions self.new.hub.store.table)) }
         ensures port { self.new.port ≡ self.old.port }
@@ -276,13 +313,9 @@ impl<D: Device> Server<D> {
         let came = self.welcome()?;
         let is_calm = self.rested == Rested::Calm;
         self.rested = Rested::Not;
-        let read = take_in_all(&mut self.clients, &mut self.hub, is_calm)?;
-        if let Err(fault) = self.hub.turn(at, LINES) {
-            return Err(fault);
-        }
-        let wrote = hand_out_all(&mut self.clients, &mut self.hub)?;
+        let has_served = serve_clients(&mut self.clients, &mut self.hub, at, is_calm)?;
         self.part();
-        Ok(if came || read || wrote {
+        Ok(if came | has_served {
             Turned::Worked
         } else {
             Turned::Idle
@@ -293,6 +326,7 @@ impl<D: Device> Server<D> {
     /// where no socket was ready, but not each hundredth on end, so that all are asked once a second.
     pub fn rest(&mut self)
         ensures hub { self.new.hub ≡ self.old.hub }
+        ensures clients { self.new.clients ≡ self.old.clients }
         ensures woken { self.old.rested ≡ Rested.Woken → self.new.rested ≡ Rested.Woken }
         ensures port { self.new.port ≡ self.old.port }
     {

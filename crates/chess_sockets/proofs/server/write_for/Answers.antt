@@ -1,6 +1,9 @@
 -- What the session is given goes to the connection.
+use Rattle.std.proofs.Common.{subst}
+use Rattle.std.specs.Prelude.{IsSome}
+use Rattle.chess_sessions.specs.Session.{session_at}
 use Rattle.chess_sockets.specs.Serving.{state_of}
-use Rattle.chess_sockets.proofs.ServingLemmas.{skipped, ok_both}
+use Rattle.chess_sockets.proofs.ServingLemmas.{not_closed, skipped, ok_both}
 use Rattle.chess_sockets.proofs.server.write_for.Goals as goal
 
 pub returns-then-not-is_open-clause-written : goal.returns-then-not-is_open-clause-written
@@ -8,6 +11,15 @@ returns-then-not-is_open-clause-written g c =
     skipped g.S.Write.contents c.args.client.now (state_of c.args.hub.now.sessions c.args.hub.now.store.table)
 
 pub returns-clause-written : goal.returns-clause-written
-returns-clause-written g c = ok_both c.hand_out.result _ _ _
-    (λ hands given. record { sid = c.hand_out.ensures.peer.0; given = given; hands = hands })
+returns-clause-written g c =
+    let old = c.args.hub.now.sessions in
+    let open_now = subst (λ sid. IsSome (session_at old sid)) c.sid.ensures
+    (c.is_open.ensures.0 c.if-not-is_open.false) in
+    ok_both c.hand_out.result _ _ _
+    (λ hands given. record {
+      sid = c.hand_out.ensures.peer.0;
+      given = given;
+      hands = hands;
+      closed = not_closed (session_at old c.args.client.now.sid) _ open_now;
+    })
     c.hand_out.ensures.hands c.hand_out.ensures.given
