@@ -4,8 +4,8 @@ ghost use Rattle.std.specs.Io.KnownBytes.{Appends, IsAtEnd};
 ghost use Rattle.chess_run.specs.Running.{IsRunText, RunEnds, kept};
 
 use crate::moments::Moments;
-use crate::talk::Talk;
-use chess_hub::{Hub, HubFault};
+use crate::talk::begin;
+use chess_hub::HubFault;
 use chess_store::Store;
 use line_loop::{LoopFault, answer_lines};
 use sector_dev::Device;
@@ -69,12 +69,10 @@ pub fn run<R: Read, W: Write, D: Device + Drop, M: Moments + Drop>(
         (kept store.journal.device store.journal.header store.journal.compaction store.table store.failed) moments }
     ensures end { OnOk result (IsAtEnd (R.remaining reader.new)) }
 {
-    let mut hub = Hub::new(alloc, store);
-    let sid = match hub.connect() {
-        Ok(sid) => sid,
+    let talk = match begin(alloc, store, moments) {
+        Ok(talk) => talk,
         Err(fault) => return Err(RunFault::Hub(fault)),
     };
-    let talk = Talk { hub, sid, moments };
     let (_, ended) = answer_lines(talk, reader, writer);
     ended?;
     Ok(())

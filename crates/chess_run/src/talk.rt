@@ -1,24 +1,45 @@
 //! One session of a hub, whose lines are answered one a batch.
-ghost use Rattle.std.specs.Prelude.{ℕ, ◌≡◌, true, [], List, Option, Ok, Err, IfOk, IfErr, OnOk};
+ghost use Rattle.std.specs.Prelude.{ℕ, ◌≡◌, true, [], List, Option, None, Ok, Err, IfOk, IfErr, OnOk};
 ghost use Rattle.std.specs.Io.BufRead.{strip_last};
 ghost use Rattle.session_lines.specs.Lines.{IsUnfinished};
 ghost use Rattle.chess_sessions.specs.Session.{said};
 ghost use Rattle.chess_sessions.specs.Answers.{name_at};
 ghost use Rattle.chess_hub.specs.Turning.{MayBeAsked, AreRefused, IsTurnFault};
-ghost use Rattle.chess_run.specs.Running.{Serves, IsAlone, IsTalking, IsAsking, IsTold, LineAsksFor, asks, kept};
+ghost use Rattle.chess_run.specs.Running.{Serves, IsAlone, IsTalking, IsAsking, IsTold, LineAsksFor, asks, kept, stands};
 
 use crate::moments::Moments;
 use chess_answer::Reply;
 use chess_hub::{Hub, HubFault, Sid};
+use chess_store::Store;
 use line_loop::{Answer, Answerer};
 use sector_dev::Device;
+use std::alloc::Global;
 
 /// A hub with one session, and the moments of its batches.
 #[derive(Drop)]
 pub(crate) struct Talk<D: Device, M: Moments> {
-    pub(crate) hub: Hub<D>,
-    pub(crate) sid: Sid,
-    pub(crate) moments: M,
+    hub: Hub<D>,
+    sid: Sid,
+    moments: M,
+}
+
+// A hub over a store, with a session that has said nothing.
+pub(crate) fn begin<D: Device + Drop, M: Moments + Drop>(
+    alloc: Global,
+    store: Store<D>,
+    moments: M,
+) -> Result<Talk<D, M>, HubFault>
+    ensures talks { IfOk result (λ talk. IsTalking talk.hub.sessions talk.sid) }
+    ensures begins { IfOk result (λ talk. stands
+        (kept talk.hub.store.journal.device talk.hub.store.journal.header talk.hub.store.journal.compaction talk.hub.store.table talk.hub.store.failed)
+        (name_at talk.hub.sessions talk.sid) talk.moments
+        ≡ stands (kept store.journal.device store.journal.header store.journal.compaction store.table store.failed) None
+        moments) }
+    ensures fault { IfErr result (λ fault. fault ≡ HubFault.NoMemory) }
+{
+    let mut hub = Hub::new(alloc, store);
+    let sid = hub.connect()?;
+    Ok(Talk { hub, sid, moments })
 }
 
 // Takes a line that the session sends, and its line feed.
