@@ -6,7 +6,7 @@ use Rattle.std.proofs.lemmas.Bool.Decides.{Decides-eqb}
 use Rattle.std.proofs.lemmas.List.{drop-drop}
 use Rattle.std.proofs.lemmas.List.Sums.{sum_by-cons, sum_by-append}
 use Rattle.std.specs.Prelude.{cond, map, ◌==◌, ◌&&◌, if◌then◌else◌, slice_index, slice_index_or}
-use Rattle.std.specs.List.{AllZip}
+use Rattle.std.specs.List.{AllZip, concat}
 use Rattle.session_lines.specs.Lines.{lines_of, has_long_line}
 use Rattle.sector_dev.specs.Device.{State}
 use Rattle.chess_entry.specs.State.{TableState}
@@ -18,7 +18,7 @@ use Rattle.line_loop.specs.Texts as loop
 use Rattle.chess_hub.specs.Calls.{Call, Connected, Fed, Turned, which, input_of}
 use Rattle.chess_hub.specs.Sessions.{Merged, taken_count, lines_left, AreOpenIn, IsMergedAs, AreMerged, name_from, IsLineAnswered, AreAnsweredAfter, answers_to}
 use Rattle.chess_run.specs.Running.{Kept, Standing, stands, written, AnswersLine}
-use Rattle.chess_run.specs.Law.{written_all, IsOfTheFirst, GiveAll, turns_after, AreTold, IsSessionText}
+use Rattle.chess_run.specs.Law.{written_all, IsOfTheFirst, GiveAll, sent_after, turns_after, AreTold, IsSessionText}
 
 name-behind : (session : ℕ) (name : Option (List ℕ)) (before : List Merged) (m : Merged) →
     name_from session name (before ++ m ∷ []) ≡ name_from session (name_from session name before) (m ∷ [])
@@ -44,8 +44,8 @@ it_is_one sid k lt is =
     let first : k ≡ 0 = omega (arith, lt) in
     subst (λ (n : ℕ). slice_index_or (1 ∷ []) n sid ≡ sid) first is
 
-only_at_first : (input : List ℕ) → IsOnly (Fed 1 input ∷ Connected 1 ∷ [])
-only_at_first input = record {
+only_at_first : IsOnly (Connected 1 ∷ [])
+only_at_first = record {
   opens = record {
     rising = none-rises;
     each = λ sid. (
@@ -55,6 +55,38 @@ only_at_first input = record {
   };
   own = refl;
 }
+
+-- It sends a piece.
+only_sent : (calls : List Call) (piece : List ℕ) → IsOnly calls → IsOnly (Fed 1 piece ∷ calls)
+only_sent calls piece only = record {
+  opens = record { rising = only.opens.rising; each = only.opens.each };
+  own = only.own;
+}
+
+input_sent : (calls : List Call) (piece : List ℕ) → IsOnly calls →
+    input_of 1 (Fed 1 piece ∷ calls) ≡ input_of 1 calls ++ piece
+input_sent calls piece only =
+    ap (λ (n : ℕ). if n == 1 then input_of 1 calls ++ piece else input_of 1 calls) only.own
+
+-- It has sent pieces, and nothing was taken.
+record HasSent (calls : List Call) (input : List ℕ) : Type 0 where
+  pub only : IsOnly calls
+  pub none : AreMerged calls []
+  pub all : input_of 1 calls ≡ input
+
+has_sent : (calls : List Call) (input : List ℕ) (pieces : List (List ℕ)) → HasSent calls input →
+    HasSent (sent_after calls pieces) (input ++ concat pieces)
+has_sent calls input [] sent = subst (HasSent calls) (sym (append-nil input)) sent
+has_sent calls input (piece ∷ pieces) sent =
+    subst (HasSent (sent_after calls (piece ∷ pieces))) (append_assoc input piece (concat pieces))
+    (has_sent (Fed 1 piece ∷ calls) (input ++ piece) pieces (record {
+      only = only_sent calls piece sent.only;
+      none = sent.none;
+      all = input_sent calls piece sent.only ∙ ap (λ (l : List ℕ). l ++ piece) sent.all;
+    }))
+
+all_sent : (pieces : List (List ℕ)) → HasSent (sent_after (Connected 1 ∷ []) pieces) (concat pieces)
+all_sent pieces = has_sent (Connected 1 ∷ []) [] pieces (record { only = only_at_first; none = refl; all = refl })
 
 -- what a turn for one line takes of a session
 one_line : (sid : ℕ) (lines : List (List ℕ)) (line : List ℕ) (left : List (List ℕ)) → lines ≡ line ∷ left →
@@ -93,9 +125,9 @@ left_behind input before m line left session is =
     ap (λ (n : ℕ). drop n (lines_of input)) more ∙ sym (drop-drop 1 (taken_count 1 before) (lines_of input))
     ∙ ap (drop 1) is
 
-sent_before : (calls : List Call) (ats : List ℕ) → input_of 1 (turns_after calls ats) ≡ input_of 1 calls
-sent_before calls [] = refl
-sent_before calls (at ∷ ats) = sent_before (Turned at 1 ∷ calls) ats
+turns_send : (calls : List Call) (ats : List ℕ) → input_of 1 (turns_after calls ats) ≡ input_of 1 calls
+turns_send calls [] = refl
+turns_send calls (at ∷ ats) = turns_send (Turned at 1 ∷ calls) ats
 
 -- ---- the lines of a run
 
@@ -200,8 +232,9 @@ as_told gives from to table after lines text told = record {
   merged = told.merged;
   are = told.are;
   moments = told.moments;
-  merges = λ input left is.
-      told.merges (Fed 1 input ∷ Connected 1 ∷ []) left (only_at_first input) refl is;
+  merges = λ pieces left is.
+      let sent = all_sent pieces in
+      told.merges (sent_after (Connected 1 ∷ []) pieces) left sent.only sent.none (ap lines_of sent.all ∙ is);
   answers = told.answers;
   answered = told.answered;
   is = told.is ∙ ap written_all (sym told.own);
@@ -223,8 +256,9 @@ module _ {D M : Type 0} (state : D → State) (sector_count failures : D → ℕ
       record {
         told = is.answers;
         lines = as_told gives moments end.moments store.table end.store.table (lines_of input) is.answers told;
-        sent = sent_before (Fed 1 input ∷ Connected 1 ∷ []) (map (λ m. m.at) told.merged);
-        is = λ calls sent.
+        is = λ pieces whole.
+            let sent = turns_send (sent_after (Connected 1 ∷ []) pieces) (map (λ m. m.at) told.merged)
+            ∙ (all_sent pieces).all ∙ whole in
             is.whole ∙ ap (λ (l : List ℕ). l ++ loop.farewell (has_long_line input)) told.is
             ∙ sym (text-is input told.merged told.answers told.own told.count)
             ∙ sym (ap (λ (i : List ℕ). written_all (text_of i told.merged told.answers)) sent);

@@ -4,9 +4,10 @@ ghost use Rattle.chess_run.specs.Law.{LawOfRun};
 use crate::moments::Moments;
 use sector_dev::Device;
 
-/// The law that ties what a run writes to the text of a hub's session: whatever the input, its whole lines have answers
-/// as the merged list has them of a session whose lines are taken one a turn, each by the verdict on the table before, and
-/// what is written is that session's text, whatever the calls by which it sent the input. It does nothing when it runs.
+/// The law that ties what a run writes to the text of a hub's session. The run's whole lines are the merged list of a
+/// session that sends the input, in whatever pieces, and then has a turn for each line; they have answers, each by the
+/// verdict on the table before; and what is written is that session's text. Of a run's first lines it says the same,
+/// without the farewell. It does nothing when it runs.
 pub fn law_of_run<D: Device, M: Moments>()
     ensures { LawOfRun D.state D.sector_count D.failures M.gives }
 {}

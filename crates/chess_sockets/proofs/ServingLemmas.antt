@@ -1,5 +1,5 @@
 -- Calls one after the other, and clients one after the other.
-use Rattle.std.proofs.Common.{◌≡◌, ◌≢◌, ◌≤◌, ◌<◌, ◌+◌, ℕ, Bool, true, false, List, [], ◌∷◌, ◌++◌, Option, Some, None, IfSome, length, get_or, set, take, refl, ap, sym, ◌∙◌, subst, inl, inr, arith}
+use Rattle.std.proofs.Common.{◌≡◌, ◌≢◌, ◌≤◌, ◌<◌, ◌+◌, ℕ, Bool, true, false, List, [], ◌∷◌, ◌++◌, Option, Some, None, IfSome, length, get_or, set, take, refl, ap, sym, ◌∙◌, subst, inl, inr, arith, append-nil}
 use Rattle.std.specs.Prelude.{IsSome, IsSomeAnd, ◌==◌, ◌&&◌, ◌||◌, not, if◌then◌else◌, option_map, Result, Ok, Err, OnOk}
 use Rattle.std.specs.Io.KnownBytes.{Consumes}
 use Rattle.std.proofs.KnownBytes.{Consumes-nil, Appends-nil}
@@ -184,6 +184,10 @@ module _ {S : Type 0} (remaining : S → Option (List ℕ)) where
   }
 
 -- ---- who comes
+
+-- nobody comes
+pub nobody_welcomed : {S : Type 0} (clients : List (Client S)) (s : HubState) → Welcomes clients clients s s
+nobody_welcomed clients s = record { came = []; whole = sym (append-nil clients); welcomed = stays-refl s }
 
 -- said of a hub that is the one from before
 pub welcomed_there : {S H : Type 0} (h k : H) (to : H → HubState) (kept clients asked : List (Client S)) (begun : HubState) →

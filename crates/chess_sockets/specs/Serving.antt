@@ -111,7 +111,7 @@ pub record Welcomes {S : Type 0} (clients after : List (Client S)) (old new : Hu
 
 -- Each client is read for, and then the hub answers at most 64 lines of what the sessions had sent by then, as one batch
 -- at this moment, which the store may be asked for.
-pub record HasAnswered {S : Type 0} (remaining : S → Option (List ℕ)) (May : List Command → Type 0) (at : ℕ)
+pub record HasReadAndAnswered {S : Type 0} (remaining : S → Option (List ℕ)) (May : List Command → Type 0) (at : ℕ)
     (clients read : List (Client S)) (old answered : HubState) : Type 0 where
   pub heard : HubState
   pub reads : AreEach (IsRead remaining) clients read old heard
@@ -123,7 +123,7 @@ pub record HasServed {S : Type 0} (remaining contents : S → Option (List ℕ))
     (clients written : List (Client S)) (old new : HubState) : Type 0 where
   pub read : List (Client S)
   pub answered : HubState
-  pub answers : HasAnswered remaining May at clients read old answered
+  pub answers : HasReadAndAnswered remaining May at clients read old answered
   pub writes : AreEach (IsWritten contents) read written answered new
 
 -- A turn of the server: each client whose session is open, and who came, is served. Who is left has an open session.

@@ -7,7 +7,7 @@ use Rattle.chess_hub.specs.declared.fault.HubFault.TheVariants.{Busy, NoMemory, 
 use Rattle.chess_hub.specs.Law.{HubState}
 use Rattle.chess_hub.specs.Turning.{AsksFor, MayBeAsked, AreRefused}
 use Rattle.chess_sockets.specs.declared.client.Client.{Client}
-use Rattle.chess_sockets.specs.Serving.{AreEach, IsRead, HasAnswered, Welcomes, open_in}
+use Rattle.chess_sockets.specs.Serving.{AreEach, IsRead, HasReadAndAnswered, Welcomes, open_in}
 
 -- Memory was refused, or the store refused a batch. What is one client's trouble ends nothing but its session.
 abbrev pub EndsServing : HubFault → Type 0
@@ -23,7 +23,7 @@ abbrev pub IsRefusal : {S : Type 0} → (S → Option (List ℕ)) → HubFault �
     TableState → Type 0
 IsRefusal {S = S} remaining NoMemory at seq failed clients old after =
     (after ≡ old.table) ⊎ (read : List (Client S)) × (answered : HubState)
-    × HasAnswered remaining (MayBeAsked failed seq old.table.entries) at clients read old answered
+    × HasReadAndAnswered remaining (MayBeAsked failed seq old.table.entries) at clients read old answered
     × (after ≡ answered.table)
 IsRefusal {S = S} remaining (Store fault) at seq failed clients old after =
     (read : List (Client S)) × (heard : HubState) × AreEach (IsRead remaining) clients read old heard
@@ -31,11 +31,9 @@ IsRefusal {S = S} remaining (Store fault) at seq failed clients old after =
 IsRefusal remaining Busy at seq failed clients old after = ⊥
 IsRefusal remaining LineTooLong at seq failed clients old after = ⊥
 
--- Why a turn of the server ended: memory was refused before it served anybody; or so it ended for those whose session is
--- open and who came.
+-- Why a turn of the server ended: so it ended for those whose session is open and who came.
 abbrev pub IsTurnRefusal : {S : Type 0} → (S → Option (List ℕ)) → HubFault → ℕ → ℕ → Bool → List (Client S) → HubState
     → TableState → Type 0
 IsTurnRefusal {S = S} remaining fault at seq failed clients old after =
-    (fault ≡ NoMemory) × (after ≡ old.table)
-    ⊎ (asked : List (Client S)) × (begun : HubState) × Welcomes (open_in old.sessions clients) asked old begun
+    (asked : List (Client S)) × (begun : HubState) × Welcomes (open_in old.sessions clients) asked old begun
     × IsRefusal remaining fault at seq failed asked begun after

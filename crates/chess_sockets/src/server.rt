@@ -1,5 +1,5 @@
 //! The server.
-ghost use Rattle.std.specs.Prelude.{◌≡◌, [], Ok, IfOk, IfErr, OnOk};
+ghost use Rattle.std.specs.Prelude.{◌≡◌, ◌+◌, [], Ok, IfOk, IfErr, OnOk};
 ghost use Rattle.chess_store.specs.Means.{IsKept};
 ghost use Rattle.chess_hub.specs.Faults.{CountsFault};
 ghost use Rattle.chess_hub.specs.Turning.{MayBeAsked, Lasts, IsTried};
@@ -17,7 +17,7 @@ use std::io::{Read, Write};
 use std::net::{Ipv4Addr, Net, TcpListener, TcpStream};
 use std::os::fd::AsRawFd;
 
-/// The port cannot be bound.
+/// The port cannot be bound or watched.
 #[derive(Clone, Copy, Debug, PartialEq, Eq)]
 pub struct SocketFault;
 
@@ -157,7 +157,8 @@ fn serve_clients<S: Read + Write, D: Device>(
     ensures fault { IfErr result EndsServing }
     ensures refused { IfErr result (λ fault. IsRefusal S.remaining fault at hub.old.store.journal.header.seq
         hub.old.store.failed clients.old.items (state_of hub.old.sessions hub.old.store.table) hub.new.store.table) }
-    // Each session hears what its client's stream gave, and nothing else, and what it is given goes to that stream.
+    // Each session hears what its client's stream gave, and nothing else, but for what comes behind a line that is too
+    // long; and what it is given goes to that stream, as far as that takes it, unless the session is closed.
     ensures served { OnOk result (HasServed S.remaining S.contents (MayBeAsked hub.old.store.failed
         hub.old.store.journal.header.seq hub.old.store.table.entries) at clients.old.items clients.new.items
         (state_of hub.old.sessions hub.old.store.table) (state_of hub.new.sessions hub.new.store.table)) }
@@ -180,8 +181,8 @@ fn serve_clients<S: Read + Write, D: Device>(
 }
 
 impl<D: Device> Server<D> {
-    /// Listens on a port of 127.0.0.1; of port 0 the system chooses one. `SocketFault` where it cannot be bound; the hub
-    /// is then given up.
+    /// Listens on a port of 127.0.0.1; of port 0 the system chooses one. `SocketFault` where it cannot be bound or
+    /// watched; the hub is then given up.
     pub fn bind<R: Net<Listener = TcpListener, Stream = TcpStream>>(
         net: &R,
         alloc: Global,
@@ -226,6 +227,7 @@ impl<D: Device> Server<D> {
         ensures fault { IfErr result (λ fault. fault ≡ HubFault.NoMemory) }
         ensures store { self.new.hub.store ≡ self.old.hub.store }
         ensures port { self.new.port ≡ self.old.port }
+        ensures waits { self.new.watch.calm_waits ≡ self.old.watch.calm_waits }
     {
         let sid = match self.hub.connect() {
             Ok(sid) => sid,
@@ -250,6 +252,7 @@ impl<D: Device> Server<D> {
         ensures fault { IfErr result (λ fault. fault ≡ HubFault.NoMemory) }
         ensures store { self.new.hub.store ≡ self.old.hub.store }
         ensures port { self.new.port ≡ self.old.port }
+        ensures waits { self.new.watch.calm_waits ≡ self.old.watch.calm_waits }
     {
         if self.rested == Rested::Calm {
             return Ok(false);
@@ -269,6 +272,7 @@ impl<D: Device> Server<D> {
         ensures hub { self.new.hub ≡ self.old.hub }
         ensures rested { self.new.rested ≡ self.old.rested }
         ensures port { self.new.port ≡ self.old.port }
+        ensures waits { self.new.watch.calm_waits ≡ self.old.watch.calm_waits }
     {
         let hub = &self.hub;
         self.clients.retain(|client| hub.is_open(client.sid()));
@@ -295,13 +299,14 @@ impl<D: Device> Server<D> {
             (D.failures self.old.hub.store.journal.device) (D.failures self.new.hub.store.journal.device)) }
         // The next turn reads for every client, unless a rest comes first.
         ensures again { OnOk result (self.new.rested ≡ Rested.Not) }
-        // Each session hears what was read for its client, and nothing else, and what it is given goes to that client. Of
-        // which bytes a socket gave and took std says nothing: they are `unknown` here, and told in `serve_clients`.
+        // Each session is fed one piece at most, and what it is given goes to its client. Of which bytes a socket gave and
+        // took std says nothing: they are `unknown` here, and told in `serve_clients`.
         ensures served { OnOk result (HasGoneRound unknown unknown (MayBeAsked self.old.hub.store.failed
             self.old.hub.store.journal.header.seq self.old.hub.store.table.entries) at self.old.clients.items
             self.new.clients.items (state_of self.old.hub.sessions self.old.hub.store.table)
             (state_of self.new.hub.sessions self.new.hub.store.table)) }
         ensures port { self.new.port ≡ self.old.port }
+        ensures waits { self.new.watch.calm_waits ≡ self.old.watch.calm_waits }
         ensures lasts { IsKept (D.state self.old.hub.store.journal.device) self.old.hub.store.journal.header
             self.old.hub.store.journal.compaction self.old.hub.store.table
             → Lasts result (D.state self.old.hub.store.journal.device) (D.state self.new.hub.store.journal.device)
@@ -327,6 +332,9 @@ impl<D: Device> Server<D> {
     pub fn rest(&mut self)
         ensures hub { self.new.hub ≡ self.old.hub }
         ensures clients { self.new.clients ≡ self.old.clients }
+        // A hundred calm waits on end do not come, so neither do a hundred calm rests.
+        ensures calm { self.new.rested ≡ Rested.Calm
+            → self.new.watch.calm_waits ≡ self.old.watch.calm_waits + 1 }
         ensures woken { self.old.rested ≡ Rested.Woken → self.new.rested ≡ Rested.Woken }
         ensures port { self.new.port ≡ self.old.port }
     {

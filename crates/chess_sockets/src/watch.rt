@@ -43,7 +43,8 @@ impl Watch {
 
     /// Watches a socket too, until it is closed. Where the system refuses that, no wait is calm from then on.
     pub fn add(&mut self, socket: RawFd)
-        ensures { self.old.is_blind ≡ true → self.new.is_blind ≡ true }
+        ensures blind { self.old.is_blind ≡ true → self.new.is_blind ≡ true }
+        ensures waits { self.new.calm_waits ≡ self.old.calm_waits }
     {
         let interest = Interest::READABLE | Interest::WRITABLE;
         let watched = self

@@ -1,11 +1,11 @@
 -- Who comes and who is left: the clients between them are served.
-use Rattle.std.proofs.Common.{◌∙◌, Ok, ap, refl, sym, inl, inr}
+use Rattle.std.proofs.Common.{◌∙◌, Ok, ap, refl, sym, inl}
 use Rattle.std.proofs.lemmas.Result.{err_from_is_err_and}
 use Rattle.chess_hub.specs.Faults.{CountsFault}
-use Rattle.chess_sockets.specs.Serving.{state_of, unknown}
+use Rattle.chess_sockets.specs.Serving.{state_of, unknown, open_in}
 use Rattle.chess_sockets.specs.Turns.{EndsServing, IsTurnRefusal}
 use Rattle.chess_sockets.proofs.StoreLemmas.{lasts_over, lasts_handed, lasts_unasked, of_memory, of_fault}
-use Rattle.chess_sockets.proofs.ServingLemmas.{welcomed_there}
+use Rattle.chess_sockets.proofs.ServingLemmas.{nobody_welcomed, welcomed_there}
 use Rattle.chess_sockets.proofs.server.Server.turn.Goals as goal
 
 -- ---- what is left of the store
@@ -62,8 +62,12 @@ returns-in_err-came-clause-refused g c =
     of_memory c.from_residual.result e.0 c.in_err-came.field-0.0
     (λ fault. IsTurnRefusal unknown fault c.args.at old.hub.store.journal.header.seq old.hub.store.failed
     old.clients.items (state_of old.hub.sessions old.hub.store.table) c.welcome.new.self.hub.store.table)
-    e.1 e.2 c.in_err-came.ensures.fault
-    (inl (refl, ap (λ s. s.table) (c.welcome.ensures.store ∙ ap (λ h. h.store) c.part.ensures.hub)))
+    e.1 e.2 c.in_err-came.ensures.fault (
+      open_in old.hub.sessions old.clients.items,
+      state_of old.hub.sessions old.hub.store.table,
+      nobody_welcomed (open_in old.hub.sessions old.clients.items) (state_of old.hub.sessions old.hub.store.table),
+      inl (ap (λ s. s.table) (c.welcome.ensures.store ∙ ap (λ h. h.store) c.part.ensures.hub)),
+    )
 
 pub returns-in_err-came-clause-cause_err : goal.returns-in_err-came-clause-cause_err
 returns-in_err-came-clause-cause_err g c =
@@ -87,14 +91,13 @@ returns-in_err-has_served-clause-refused g c =
     let same = c.welcome.ensures.store ∙ ap (λ h. h.store) c.part.ensures.hub in
     of_fault r.result e.0 c.in_err-has_served.field-0.0
     (λ fault. IsTurnRefusal unknown fault c.args.at old.hub.store.journal.header.seq old.hub.store.failed
-    old.clients.items (state_of old.hub.sessions old.hub.store.table) c.serve_clients.new.hub.store.table) e.1 e.2
-    (inr (
+    old.clients.items (state_of old.hub.sessions old.hub.store.table) c.serve_clients.new.hub.store.table) e.1 e.2 (
       c.welcome.new.self.clients.items,
       state_of c.welcome.new.self.hub.sessions c.welcome.new.self.hub.store.table,
       welcomed_there c.part.new.self.hub c.args.self.now.hub (λ hub. state_of hub.sessions hub.store.table) _ _ _ _
           c.part.ensures.hub c.part.ensures.stay c.in_ok-came.ensures.welcomes,
       rw (sym same) c.in_err-has_served.ensures.refused,
-    ))
+    )
 
 pub returns-in_err-has_served-clause-cause_err : goal.returns-in_err-has_served-clause-cause_err
 returns-in_err-has_served-clause-cause_err g c =
