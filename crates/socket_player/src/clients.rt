@@ -9,6 +9,8 @@ use std::net::{Ipv4Addr, Net, Shutdown, TcpStream};
 struct Client {
     letter: u8,
     stream: TcpStream,
+    /// What came and was not told yet.
+    heard: Vec<u8>,
     /// Whether the server has closed the connection.
     has_ended: bool,
 }
@@ -16,6 +18,7 @@ struct Client {
 /// The clients of a server on this port, in the order in which they connected.
 #[derive(Drop)]
 pub struct Clients {
+    alloc: Global,
     port: u16,
     all: Vec<Client>,
 }
@@ -27,6 +30,7 @@ impl Clients {
     /// No client yet.
     pub fn new(alloc: Global, port: u16) -> Clients {
         Clients {
+            alloc,
             port,
             all: Vec::new(alloc),
         }
@@ -43,6 +47,7 @@ impl Clients {
         self.all.push(Client {
             letter,
             stream,
+            heard: Vec::new(self.alloc),
             has_ended: false,
         })?;
         Ok(())
@@ -71,9 +76,22 @@ impl Clients {
         Ok(())
     }
 
+    /// Takes in what came to each client, and tells whether each of these letters' clients has a line or its end to tell.
+    pub fn have_heard(&mut self, letters: &str) -> io::Result<bool> {
+        let mut have_all = true;
+        for client in self.all.iter_mut() {
+            client.hear()?;
+            if letters.bytes().any(|letter| letter == client.letter) {
+                have_all &= client.heard.ends_with(b"\n");
+            }
+        }
+        Ok(have_all)
+    }
+
     /// Writes what came to each client, its letter before each line, and `end` where the server has closed the connection.
     pub fn tell(&mut self, rt: &impl Print) -> io::Result<()> {
         for client in self.all.iter_mut() {
+            client.hear()?;
             client.tell(rt)?;
         }
         Ok(())
@@ -94,8 +112,8 @@ impl Client {
         }
     }
 
-    fn tell(&mut self, rt: &impl Print) -> io::Result<()> {
-        let letter = char::from(self.letter);
+    // Takes in what came, and behind it `end` where the server has closed the connection.
+    fn hear(&mut self) -> io::Result<()> {
         let mut piece = [0u8; ROOM];
         for _ in 0..u32::MAX {
             if self.has_ended {
@@ -104,17 +122,23 @@ impl Client {
             match self.stream.read(&mut piece) {
                 Ok(0) => {
                     self.has_ended = true;
-                    println!(rt; "{letter} end")?;
+                    self.heard.extend_from_slice(b"end\n")?;
                 }
-                Ok(count) => {
-                    for line in str::from_utf8(&piece[..count]).unwrap_or("?").lines() {
-                        println!(rt; "{letter} {line}")?;
-                    }
-                }
+                Ok(count) => self.heard.extend_from_slice(&piece[..count])?,
                 Err(error) if error.kind() == ErrorKind::WouldBlock => break,
                 Err(error) => return Err(error),
             }
         }
+        Ok(())
+    }
+
+    // Writes what was taken in.
+    fn tell(&mut self, rt: &impl Print) -> io::Result<()> {
+        let letter = char::from(self.letter);
+        for line in str::from_utf8(&self.heard).unwrap_or("?").lines() {
+            println!(rt; "{letter} {line}")?;
+        }
+        self.heard.clear();
         Ok(())
     }
 }

@@ -1,6 +1,12 @@
-//! Plays lines over loopback, server and clients in one thread, for tests by whole runs. A line of standard input is
-//! clients' letters, a space and what these clients do, one after the other (`Clients::act`); or `turns`: the server takes
-//! turns until nothing more comes, and what came to each client is written, its letter before each line.
+//! Plays lines over loopback, server and clients in one thread, for tests by whole runs. A line of standard input is one of
+//! these:
+//!
+//! - clients' letters, a space and what these clients do, one after the other (`Clients::act`);
+//! - `turns`: the server takes turns until nothing more comes, and what came to each client is written, its letter before
+//!   each line, the clients in the order in which they connected;
+//! - `turns COUNT`: the server takes so many turns, and no rest;
+//! - clients' letters and ` ?`: the server takes turns until each of these clients has a line or its end, and what came to
+//!   each client is written, as above. After 1,000 turns the run ends.
 #![tactic(auto)]
 
 mod clients;
@@ -27,11 +33,14 @@ const SECTORS: u32 = 212;
 /// Each turn's moment.
 const MOMENT: u64 = 1_000;
 
-/// More turns than any line calls for.
+/// More turns than any `turns` calls for.
 const TURNS: u32 = 10_000;
 
 /// So many turns on end that find nothing to do, and a rest after each, are the end.
 const IDLE_TURNS: u32 = 5;
+
+/// Within so many turns, and a rest after each that finds nothing to do, a client has its answer.
+const ANSWER_TURNS: u32 = 1_000;
 
 fn main(rt: HostRuntime) -> ExitCode {
     match play(&rt) {
@@ -49,6 +58,15 @@ fn start(rt: &HostRuntime, alloc: Global) -> Option<Server<MemoryDevice>> {
     }
 }
 
+// Takes a turn, and a rest where it found nothing to do.
+fn take_turn(server: &mut Server<MemoryDevice>) -> Option<Turned> {
+    let turned = server.turn(MOMENT).ok()?;
+    if turned == Turned::Idle {
+        server.rest();
+    }
+    Some(turned)
+}
+
 // Takes turns until nothing more comes.
 fn take_turns(server: &mut Server<MemoryDevice>) -> Option<()> {
     // What the clients sent comes before the first turn.
@@ -56,15 +74,26 @@ fn take_turns(server: &mut Server<MemoryDevice>) -> Option<()> {
     server.rest();
     let mut left = IDLE_TURNS;
     for _ in 0..TURNS {
-        match server.turn(MOMENT) {
-            Ok(Turned::Worked) => left = IDLE_TURNS,
-            Ok(Turned::Idle) => {
-                server.rest();
-                left = left.saturating_sub(1);
-            }
-            Err(_) => return None,
-        }
+        left = match take_turn(server)? {
+            Turned::Worked => IDLE_TURNS,
+            Turned::Idle => left.saturating_sub(1),
+        };
         if left == 0 {
+            return Some(());
+        }
+    }
+    None
+}
+
+// Takes turns until each of these letters' clients has a line or its end; `None` where they are too many.
+fn take_turns_for(
+    server: &mut Server<MemoryDevice>,
+    clients: &mut Clients,
+    letters: &str,
+) -> Option<()> {
+    for _ in 0..ANSWER_TURNS {
+        take_turn(server)?;
+        if clients.have_heard(letters).ok()? {
             return Some(());
         }
     }
@@ -84,7 +113,17 @@ fn play(rt: &HostRuntime) -> Option<()> {
             clients.tell(rt).ok()?;
         } else {
             let (letters, act) = text.as_str().split_once(" ")?;
-            clients.act(rt, letters, act).ok()?;
+            if letters == "turns" {
+                for _ in 0..act.parse::<u32>().ok()? {
+                    server.turn(MOMENT).ok()?;
+                }
+            } else if act == "?" {
+                let answered = take_turns_for(&mut server, &mut clients, letters);
+                clients.tell(rt).ok()?;
+                answered?;
+            } else {
+                clients.act(rt, letters, act).ok()?;
+            }
         }
     }
     Some(())

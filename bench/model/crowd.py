@@ -1,0 +1,66 @@
+#!/usr/bin/env python3
+"""The crowd in the stored run of `socket_player`: `crowd.py stdin` prints what its clients do, `crowd.py stdout` what they
+are sent, as `docs/PROTOCOL.md` says it of a table without games. Both stand behind the rest of that run."""
+import string
+import sys
+
+# 64 clients, the one too many, and the one that comes in the first one's place.
+CLIENTS = string.ascii_uppercase + string.ascii_lowercase + string.digits + "+*"
+SILENT, HALF, OTHERS = CLIENTS[0], CLIENTS[1], CLIENTS[2:]
+LATE, NEW = "%", "&"
+# Who stands when the crowd comes, in the order of connecting, and whose connection has ended before.
+STOOD = "AD" + CLIENTS[6:62] + "+*/=#" + NEW
+ENDED = "CEF" + LATE
+
+doing, sent = [], []
+
+
+def do(*lines):
+    doing.extend(lines)
+
+
+def has(clients, line):
+    """The server takes turns until each of these has a line, and each has this one."""
+    do(f"{clients} ?")
+    sent.extend(f"{client} {line}" for client in clients)
+
+
+def connects(client):
+    do(f"{client} \\", "turns 10")
+
+
+def byte_by_byte(clients):
+    for byte in "list":
+        do(f"{clients} {byte}\\", "turns 1")
+    # No more than the line feed.
+    do(f"{clients} ")
+    has(clients, "ok list 0")
+
+
+# Who stood sends no more and is let go.
+do(f"{STOOD} -")
+has(STOOD, "end")
+do(f"{STOOD}{ENDED} !")
+for client in CLIENTS + LATE:
+    connects(client)
+has(LATE, "end")
+do(f"{HALF} li\\")
+byte_by_byte(OTHERS)
+# None of the 64 has been let go.
+do(f"{LATE} !")
+connects(LATE)
+has(LATE, "end")
+# The first closes, and another has its place.
+do(f"{SILENT} -")
+has(SILENT, "end")
+do(f"{SILENT} !", "turns 10")
+connects(NEW)
+byte_by_byte(NEW)
+do(f"{HALF} st")
+has(HALF, "ok list 0")
+# The 64 are all served still, and nobody is sent anything more.
+do(f"{CLIENTS[1:]}{NEW} list")
+has(CLIENTS[1:] + NEW, "ok list 0")
+do("turns")
+
+print("\n".join(doing if sys.argv[1:] == ["stdin"] else sent))
