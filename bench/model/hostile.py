@@ -117,7 +117,8 @@ class Lines(Fuzz):
 
     def flag_falls(self):
         """The moment at which the flag of some running game falls, where that is near."""
-        running = [f for f in (game.fields() for game in self.t.games.values()) if f.joined is not None and not f.ending]
+        standing = [game.fields() for game in self.t.games.values()]
+        running = [f for f in standing if f.joined is not None and f.ending is None]
         if not running:
             return None
         f = self.r.choice(running)
@@ -218,8 +219,8 @@ class Lines(Fuzz):
     def long(self):
         """A line of 250 to 255 bytes."""
         r = self.r
-        line = r.choice(['move %s 0 ' % self.number(), 'claim %s 0 three ' % self.number(), 'name ', 'open white 300 0 ',
-                         'list', 'show ', 'show 1 ', 'claim 1 0 fifty ', 'open black 1/60:30 0 ' + INITIAL_FEN, ''])
+        line = r.choice(['move %s 0 ' % self.number(), 'claim %s 0 three ' % self.number(), 'claim 1 0 fifty ', 'name ',
+                         'list', 'show ', 'show 1 ', 'open white 300 0 ', 'open black 1/60:30 0 ' + INITIAL_FEN, ''])
         fill = r.choice(['x', 'e4', '0', '1', ' ', '\r', '\0', '\xff', 'K', '/'])
         line = (line + fill * 255)[:r.choice([250, 253, 254, 254, 255, 255])]
         return line[:-1] + '\r' if r.random() < 0.2 else line
