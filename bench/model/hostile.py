@@ -57,8 +57,8 @@ class Lines(Fuzz):
     def __init__(self, seed, games, plies):
         super().__init__(seed, 10 ** 18, games, plies, True)
         self.near = None                # the game of which moves are spelt wrongly just now, and how often still
-        self.ambiguous = False          # whether the greatest moment of the entries is not known for sure
-        self.known_entries = 0
+        self.ambiguous = None           # so many entries there are whose greatest moment is not known for sure
+        self.good = self.now            # the last moment that was none too great
         self.begin_session()
 
     def begin_session(self):
@@ -97,14 +97,14 @@ class Lines(Fuzz):
         """Another moment, for the next session."""
         r = self.r
         if self.now > LAST_MOMENT:
-            self.now = self.t.greatest
-        if self.t.entries != self.known_entries:
-            self.ambiguous, self.known_entries = False, self.t.entries
+            self.now = self.good
+        self.good = self.now
+        least = self.now if self.ambiguous == self.t.entries else 0
         x = r.random()
         falls = self.flag_falls() if x < 0.2 else None
         if falls is not None:
             self.now = max(self.t.greatest, min(LAST_MOMENT, falls + r.choice([-1, -1, 0, 1])))
-        elif x < 0.24 and not self.ambiguous:
+        elif x < 0.24:
             self.now = max(0, self.now - r.choice([1, 10, 5000, 10 ** 6, 10 ** 13]))
         elif x < 0.25:
             self.now = r.choice([LAST_MOMENT + 1, 2 ** 62 + 1, 2 ** 63 - 1])
@@ -114,6 +114,7 @@ class Lines(Fuzz):
             self.now = min(LAST_MOMENT, self.now + r.choice([10 ** 8, 10 ** 10, 10 ** 14]))
         else:
             self.now = min(LAST_MOMENT, self.now + r.choice([0, 0, 1, 3, 20, 200, 700, 5000]))
+        self.now = max(least, self.now)
 
     def flag_falls(self):
         """The moment at which the flag of some running game falls, where that is near."""
