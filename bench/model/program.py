@@ -16,20 +16,17 @@ TOP = os.path.dirname(os.path.dirname(os.path.dirname(os.path.realpath(__file__)
 PATIENCE = 120                  # seconds after which a run hangs
 SHIM = r'''
 #define _GNU_SOURCE
-#include <dlfcn.h>
 #include <stdlib.h>
+#include <sys/syscall.h>
 #include <time.h>
+#include <unistd.h>
 int clock_gettime(clockid_t clock, struct timespec *now) {
-  static int (*real)(clockid_t, struct timespec *) = 0;
   const char *moment = getenv("MOMENT");
-  if (clock == CLOCK_REALTIME && moment) {
-    long long milliseconds = atoll(moment);
-    now->tv_sec = milliseconds / 1000;
-    now->tv_nsec = milliseconds % 1000 * 1000000;
-    return 0;
-  }
-  if (!real) real = dlsym(RTLD_NEXT, "clock_gettime");
-  return real(clock, now);
+  if (clock != CLOCK_REALTIME || !moment) return syscall(SYS_clock_gettime, clock, now);
+  long long milliseconds = atoll(moment);
+  now->tv_sec = milliseconds / 1000;
+  now->tv_nsec = milliseconds % 1000 * 1000000;
+  return 0;
 }
 '''
 
@@ -51,7 +48,7 @@ def build_shim(folder):
     source, library = os.path.join(folder, 'moment.c'), os.path.join(folder, 'moment.so')
     with open(source, 'w') as out:
         out.write(SHIM)
-    subprocess.run(['cc', '-O1', '-shared', '-fPIC', '-o', library, source, '-ldl'], check=True)
+    subprocess.run(['cc', '-O1', '-shared', '-fPIC', '-o', library, source], check=True)
     return library
 
 
@@ -86,10 +83,10 @@ class Program:
             raise Wrong('it hangs: no end of the run in %d seconds' % PATIENCE)
         return process.returncode, out, error
 
-    def run_in_pieces(self, journal, moment, pieces, kill_after=None):
-        """The same, the input in pieces; with kill_after it is killed once it has written so many bytes."""
+    def run_in_pieces(self, journal, moment, pieces, kill_after=None, kill_in=PATIENCE):
+        """The same, the input in pieces. It is killed once it has written so many bytes, or after so many seconds."""
         process = self.start(journal, moment)
-        alarm = threading.Timer(PATIENCE, process.kill)
+        alarm = threading.Timer(kill_in, process.kill)
         feeder = threading.Thread(target=feed, args=(process.stdin, pieces), daemon=True)
         begun = time.monotonic()
         alarm.start()
