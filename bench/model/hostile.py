@@ -61,8 +61,10 @@ class Lines(Fuzz):
         self.good = self.now            # the last moment that was none too great
         self.begin_session()
 
-    def begin_session(self):
+    def begin_session(self, busy=False):
+        """Another run; a busy one has more of the lines that go on with games."""
         self.name, self.said, self.wanted = None, [], []
+        self.kinds = KINDS + [('game', 12)] if busy else KINDS
 
     def fill(self, count):
         while len(self.said) < count:
@@ -129,7 +131,7 @@ class Lines(Fuzz):
     # ---- one line
 
     def step(self):
-        kind = pick(self.r, KINDS)
+        kind = pick(self.r, self.kinds)
         if kind == 'game':
             super().step()
         elif kind == 'move':

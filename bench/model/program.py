@@ -7,8 +7,10 @@ times of `show` and fallen flags among them, can be told to the last byte.
 
 import multiprocessing
 import os
+import shutil
 import subprocess
 import sys
+import tempfile
 import threading
 import time
 
@@ -52,9 +54,14 @@ def build_shim(folder):
     return library
 
 
-def work_folder():
-    """Where files are kept in memory, since each accepted line is synced; else where temporary files are."""
-    return '/dev/shm' if os.access('/dev/shm', os.W_OK) else None
+def work_folder(name):
+    """A folder for a bench's files, in memory where that can be, since each accepted line is synced."""
+    return tempfile.TemporaryDirectory(prefix=name + '-', dir='/dev/shm' if os.access('/dev/shm', os.W_OK) else None)
+
+
+def kept(folder, name):
+    """A copy of a folder that stays."""
+    return shutil.copytree(folder, tempfile.mkdtemp(prefix=name + '-kept-'), dirs_exist_ok=True)
 
 
 class Program:
@@ -67,8 +74,8 @@ class Program:
                                 stdout=subprocess.PIPE, stderr=subprocess.PIPE, bufsize=0)
 
     def format(self, journal, games, plies):
-        made = subprocess.run([self.server, 'format', '--journal', journal, '--games', str(games), '--plies',
-                               str(plies)], capture_output=True, timeout=PATIENCE)
+        words = [self.server, 'format', '--journal', journal, '--games', str(games), '--plies', str(plies)]
+        made = subprocess.run(words, capture_output=True)
         if made.returncode != 0 or not made.stdout.startswith(b'ok format '):
             raise Wrong('format with limits %d and %d: status %d, %r' % (games, plies, made.returncode, made.stderr))
 
