@@ -130,14 +130,33 @@ class Position:
         self.target = target
         self.half = half
         self.full = full
-        self._legal = None      # what follows is kept for speed alone
-        self._same = None
-        self._texts = None
+        self._worked = None     # kept for speed alone
 
     def whole(self):
         """All six fields, to compare positions field by field."""
         return (frozenset(self.men.items()), self.side, self.rights,
                 self.target, self.half, self.full)
+
+
+class Worked:
+    """What was worked out of a position, whatever its counters; kept for
+    speed alone."""
+
+    def __init__(self):
+        self.legal = self.same = self.texts = None
+
+
+WORKED = {}                     # placement, side, rights and target -> Worked
+MOST_WORKED = 6000
+
+
+def worked(p):
+    if p._worked is None:
+        key = p.whole()[:4]
+        if key not in WORKED and len(WORKED) >= MOST_WORKED:
+            WORKED.clear()
+        p._worked = WORKED.setdefault(key, Worked())
+    return p._worked
 
 
 def valid(p):
@@ -265,13 +284,15 @@ def following(p, m):
 # ----------------------------------------------------------------------- legal
 
 def legal_moves(p):
-    if p._legal is None:
-        p._legal = []
+    known = worked(p)
+    if known.legal is None:
+        found = []
         for m in candidates(p):
             men = following(p, m).men
             if not attacked(men, king_of(men, p.side), other(p.side)):
-                p._legal.append(m)
-    return p._legal
+                found.append(m)
+        known.legal = found
+    return known.legal
 
 
 def in_check(p):
@@ -288,13 +309,14 @@ def perft(p, depth):
 
 def same_key(p):
     """Equal exactly for same positions (9.2)."""
-    if p._same is None:
+    known = worked(p)
+    if known.same is None:
         passing = frozenset()
         if p.target is not None:
             passing = frozenset(m for m in legal_moves(p)
                                 if is_en_passant(p, m))
-        p._same = (p.side, p.rights, frozenset(p.men.items()), passing)
-    return p._same
+        known.same = (p.side, p.rights, frozenset(p.men.items()), passing)
+    return known.same
 
 
 def times(p, line):
@@ -392,14 +414,15 @@ def san(p, m):
 
 def texts(p):
     """Map: every text that names a legal move -> that move."""
-    if p._texts is None:
+    known = worked(p)
+    if known.texts is None:
         found = {}
         for m in legal_moves(p):
             for text in {san(p, m), bare_san(p, m), coordinate(m)}:
                 assert text not in found, (fen_write(p), text)
                 found[text] = m
-        p._texts = found
-    return p._texts
+        known.texts = found
+    return known.texts
 
 
 def reads(p, text):

@@ -140,91 +140,136 @@ prints
   ok name ann
   ok list 0";
 
-fn journal_arg<'a>(alloc: Global) -> Arg<'a> {
-    Arg::new(alloc, "journal")
-        .long("journal")
-        .value_name("F")
+/// An argument of a word: `--NAME VALUE`.
+struct Argument {
+    name: &'static str,
+    value_name: &'static str,
+    parser: ValueParser<'static>,
+    help: &'static str,
+}
+
+/// A word with the texts of its help.
+struct Entry {
+    name: &'static str,
+    about: &'static str,
+    help: &'static str,
+    arguments: &'static [Argument],
+}
+
+const JOURNAL: Argument = Argument {
+    name: "journal",
+    value_name: "F",
+    parser: ValueParser::String,
+    help: "The journal's file",
+};
+
+const GAMES: Argument = Argument {
+    name: "games",
+    value_name: "G",
+    parser: ValueParser::Unsigned(1, 4_096),
+    help: "How many games the table holds, 1 to 4096",
+};
+
+const PLIES: Argument = Argument {
+    name: "plies",
+    value_name: "P",
+    parser: ValueParser::Unsigned(1, 20_000),
+    help: "How many moves a game may have, 1 to 20000",
+};
+
+const PORT: Argument = Argument {
+    name: "port",
+    value_name: "P",
+    parser: ValueParser::Unsigned(0, 65_535),
+    help: "The port on 127.0.0.1, 0 to 65535; 0 leaves the choice to the system",
+};
+
+const TURNS: Argument = Argument {
+    name: "turns",
+    value_name: "N",
+    parser: ValueParser::Unsigned(1, 4_294_967_295),
+    help: "After how many turns it ends, 1 to 4294967295",
+};
+
+/// The words, in the order in which help lists them.
+const WORDS: &[Entry] = &[
+    Entry {
+        name: "board",
+        about: "Answers the lines of standard input, over one board in memory",
+        help: HELP_OF_BOARD,
+        arguments: &[],
+    },
+    Entry {
+        name: "format",
+        about: "Makes a file a journal without games",
+        help: HELP_OF_FORMAT,
+        arguments: &[JOURNAL, GAMES, PLIES],
+    },
+    Entry {
+        name: "run",
+        about: "Answers the lines of standard input, over the games of a journal",
+        help: HELP_OF_RUN,
+        arguments: &[JOURNAL],
+    },
+    Entry {
+        name: "serve",
+        about: "Serves players on a port, over the games of a journal",
+        help: HELP_OF_SERVE,
+        arguments: &[JOURNAL, PORT, TURNS],
+    },
+    Entry {
+        name: "drill",
+        about: "Plays every crash of one batch on a device in memory",
+        help: HELP_OF_DRILL,
+        arguments: &[],
+    },
+    Entry {
+        name: "widen",
+        about: "Raises the limits of a journal's table",
+        help: HELP_OF_WIDEN,
+        arguments: &[JOURNAL, GAMES, PLIES],
+    },
+];
+
+fn arg_of<'a>(alloc: Global, argument: &Argument) -> Arg<'a> {
+    Arg::new(alloc, argument.name)
+        .long(argument.name)
+        .value_name(argument.value_name)
         .required(true)
-        .help("The journal's file")
+        .value_parser(argument.parser)
+        .help(argument.help)
 }
 
-fn number_arg<'a>(
-    alloc: Global,
-    name: &'a str,
-    value_name: &'a str,
-    (least, most): (u64, u64),
-    help: &'a str,
-) -> Arg<'a> {
-    Arg::new(alloc, name)
-        .long(name)
-        .value_name(value_name)
-        .required(true)
-        .value_parser(ValueParser::unsigned(least, most))
-        .help(help)
+fn args_of<'a>(alloc: Global, arguments: &[Argument]) -> Result<Vec<Arg<'a>>, AllocError> {
+    let mut args = Vec::new(alloc);
+    for argument in arguments {
+        args.push(arg_of(alloc, argument))?;
+    }
+    Ok(args)
 }
 
-fn with_limits<'a>(alloc: Global, command: Command<'a>) -> Result<Command<'a>, AllocError> {
-    let games = "How many games the table holds, 1 to 4096";
-    let plies = "How many moves a game may have, 1 to 20000";
-    command
-        .arg(journal_arg(alloc))?
-        .arg(number_arg(alloc, "games", "G", (1, 4_096), games))?
-        .arg(number_arg(alloc, "plies", "P", (1, 20_000), plies))
+fn command_of<'a>(alloc: Global, entry: &Entry) -> Result<Command<'a>, AllocError> {
+    // Before the command, which is then never given up half made.
+    let args = args_of(alloc, entry.arguments)?;
+    Command::new(alloc, entry.name)
+        .about(entry.about)
+        .after_help(entry.help)
+        .args(args)
 }
 
-fn board_command<'a>(alloc: Global) -> Command<'a> {
-    Command::new(alloc, "board")
-        .about("Answers the lines of standard input, over one board in memory")
-        .after_help(HELP_OF_BOARD)
-}
-
-fn format_command<'a>(alloc: Global) -> Result<Command<'a>, AllocError> {
-    let command = Command::new(alloc, "format")
-        .about("Makes a file a journal without games")
-        .after_help(HELP_OF_FORMAT);
-    with_limits(alloc, command)
-}
-
-fn run_command<'a>(alloc: Global) -> Result<Command<'a>, AllocError> {
-    Command::new(alloc, "run")
-        .about("Answers the lines of standard input, over the games of a journal")
-        .after_help(HELP_OF_RUN)
-        .arg(journal_arg(alloc))
-}
-
-fn serve_command<'a>(alloc: Global) -> Result<Command<'a>, AllocError> {
-    let port = "The port on 127.0.0.1, 0 to 65535; 0 leaves the choice to the system";
-    let turns = "After how many turns it ends, 1 to 4294967295";
-    Command::new(alloc, "serve")
-        .about("Serves players on a port, over the games of a journal")
-        .after_help(HELP_OF_SERVE)
-        .arg(journal_arg(alloc))?
-        .arg(number_arg(alloc, "port", "P", (0, 65_535), port))?
-        .arg(number_arg(alloc, "turns", "N", (1, 4_294_967_295), turns))
-}
-
-fn drill_command<'a>(alloc: Global) -> Command<'a> {
-    Command::new(alloc, "drill")
-        .about("Plays every crash of one batch on a device in memory")
-        .after_help(HELP_OF_DRILL)
-}
-
-fn widen_command<'a>(alloc: Global) -> Result<Command<'a>, AllocError> {
-    let command = Command::new(alloc, "widen")
-        .about("Raises the limits of a journal's table")
-        .after_help(HELP_OF_WIDEN);
-    with_limits(alloc, command)
+fn commands<'a>(alloc: Global) -> Result<Vec<Command<'a>>, AllocError> {
+    let mut commands = Vec::new(alloc);
+    for entry in WORDS {
+        commands.push(command_of(alloc, entry)?)?;
+    }
+    Ok(commands)
 }
 
 /// The program's command line.
 pub fn command_line<'a>(alloc: Global) -> Result<Command<'a>, AllocError> {
+    let commands = commands(alloc)?;
     Command::new(alloc, "chess_server")
         .about("A chess game server whose games last. Each word has its own --help.")
         .subcommand_required(true)
-        .subcommand(board_command(alloc))?
-        .subcommand(format_command(alloc)?)?
-        .subcommand(run_command(alloc)?)?
-        .subcommand(serve_command(alloc)?)?
-        .subcommand(drill_command(alloc))?
-        .subcommand(widen_command(alloc)?)
+        .subcommands(commands)
 }

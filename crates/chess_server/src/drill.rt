@@ -2,15 +2,15 @@
 ghost use Rattle.std.specs.Prelude.{◌≡◌, IfOk, length};
 ghost use Rattle.chess_board.specs.Legal.{EachOf};
 ghost use Rattle.chess_lives.specs.Courses.{IsBatch};
-ghost use Rattle.chess_lives.specs.Lives.{batches_of};
+ghost use Rattle.chess_lives.specs.Lives.{AreSubmittable, batches_of};
 
 use crate::ends::Fault;
 use chess_bits::Colour;
 use chess_entry::{Act, Command, Text};
-use chess_lives::{Life, Lived, Plan, lives};
+use chess_lives::{Life, Plan, lives};
 use chess_store::{Store, StoreFault};
 use rec_codec::{Limits, Name};
-use sector_dev::{Fate, MemoryDevice};
+use sector_dev::{CrashDevice, Fate, MemoryDevice};
 use std::alloc::{AllocError, Global};
 
 /// How many cases were played, in how many no move of the batch shows, and in how many all five do.
@@ -113,34 +113,29 @@ fn fate(way: u32) -> Fate {
 fn plan(alloc: Global, calls: Option<u64>, way: u32) -> Result<Plan, AllocError>
     ensures { IfOk result (λ plan. EachOf (λ life. EachOf IsBatch (batches_of life)) plan.lives.items) }
 {
-    let mut batches = Vec::new(alloc);
-    batches.push(opening(alloc)?)?;
-    batches.push(moves(alloc)?)?;
-    let mut lives = Vec::new(alloc);
-    lives.push(Life {
+    let life = Life {
         calls,
-        batches,
+        batches: Vec::from_array(alloc, [opening(alloc)?, moves(alloc)?])?,
         fates: fates(alloc, way)?,
-    })?;
+    };
+    let lives = Vec::from_array(alloc, [life])?;
     Ok(Plan { lives })
+}
+
+// How many entries show after a plan's lives on a device.
+fn kept_on<D: CrashDevice + Drop>(alloc: Global, device: D, plan: &Plan) -> Result<u64, StoreFault>
+    requires { AreSubmittable plan.now.lives.items }
+{
+    match Store::create(alloc, device, LIMITS) {
+        Ok(store) => Ok(lives(alloc, store.into_device(), plan).report?.kept),
+        Err(refused) => Err(refused.fault),
+    }
 }
 
 // How many entries show after one life.
 fn kept_after(alloc: Global, calls: Option<u64>, way: u32) -> Result<u64, StoreFault> {
-    let device = MemoryDevice::new(alloc, SECTORS)?;
     let plan = plan(alloc, calls, way)?;
-    let store = match Store::create(alloc, device, LIMITS) {
-        Ok(store) => store,
-        Err(refused) => return Err(refused.fault),
-    };
-    let Lived {
-        device: _left,
-        report,
-    } = lives(alloc, store.into_device(), &plan);
-    match report {
-        Ok(report) => Ok(report.kept),
-        Err(fault) => Err(fault),
-    }
+    kept_on(alloc, MemoryDevice::new(alloc, SECTORS)?, &plan)
 }
 
 /// Plays every case.

@@ -47,6 +47,41 @@ pub fn open_journal<R: Files<File = File>>(
     }
 }
 
+// The device in a file that is made, or lengthened to the need of the limits.
+fn make_device<R: Files<File = File>>(rt: &R, tables: &Tables<'_>) -> Result<FileDevice, Fault>
+    ensures { IfErr result (λ fault. fault ≡ Fault.File) }
+{
+    match FileDevice::create(rt, tables.journal, need(tables.limits)) {
+        Ok(device) => Ok(device),
+        Err(_) => Err(Fault::File),
+    }
+}
+
+// Makes a device a journal of the empty table within the limits.
+fn create_on<D: Device + Drop>(alloc: Global, device: D, limits: Limits) -> Result<(), Fault>
+    requires { IsInRange Two limits }
+    ensures { IfErr result IsFormatFault }
+{
+    match Store::create(alloc, device, limits) {
+        Ok(_) => Ok(()),
+        Err(refused) => Err(Fault::Store(refused.fault)),
+    }
+}
+
+// As `may_lengthen`, of the device in the file.
+fn may_outgrow<D: Device + Drop>(alloc: Global, device: D, limits: Limits) -> Result<(), Fault>
+    requires { IsInRange Two limits }
+    ensures { IfErr result IsFormatFault }
+{
+    if device.sectors() >= need(limits) {
+        return Ok(());
+    }
+    match create_on(alloc, device, limits) {
+        Err(Fault::Store(StoreFault::TooSmall)) => Ok(()),
+        made => made,
+    }
+}
+
 // Whether a file that is there and shorter than the limits need may be made longer: no journal may stand in it. Nothing
 // of it changes.
 fn may_lengthen<R: Files<File = File>>(
@@ -56,16 +91,10 @@ fn may_lengthen<R: Files<File = File>>(
 ) -> Result<(), Fault>
     ensures { IfErr result IsFormatFault }
 {
-    // A file that can't be opened so is the system's to tell of, at the next call.
-    let Ok(device) = FileDevice::open(rt, tables.journal) else {
-        return Ok(());
-    };
-    if device.sectors() >= need(tables.limits) {
-        return Ok(());
-    }
-    match Store::create(alloc, device, tables.limits) {
-        Err(refused) if refused.fault != StoreFault::TooSmall => Err(Fault::Store(refused.fault)),
-        _ => Ok(()),
+    match FileDevice::open(rt, tables.journal) {
+        Ok(device) => may_outgrow(alloc, device, tables.limits),
+        // A file that can't be opened so is the system's to tell of, at the next call.
+        Err(_) => Ok(()),
     }
 }
 
@@ -78,13 +107,8 @@ pub fn format<R: Files<File = File> + Print>(
     ensures { IfErr result IsFormatFault }
 {
     may_lengthen(rt, alloc, tables)?;
-    let Ok(device) = FileDevice::create(rt, tables.journal, need(tables.limits)) else {
-        return Err(Fault::File);
-    };
-    match Store::create(alloc, device, tables.limits) {
-        Ok(_) => tell(rt, "format", need(tables.limits)),
-        Err(refused) => Err(Fault::Store(refused.fault)),
-    }
+    create_on(alloc, make_device(rt, tables)?, tables.limits)?;
+    tell(rt, "format", need(tables.limits))
 }
 
 // Whether no limit is below the present one.
@@ -110,6 +134,22 @@ fn widen_store<D: Device>(store: &mut Store<D>, limits: Limits) -> Result<(), Fa
     }
 }
 
+// The present limits of the journal in a file.
+fn limits_of<R: Files<File = File>>(rt: &R, alloc: Global, journal: &str) -> Result<Limits, Fault>
+    ensures { IfErr result IsOpenFault }
+{
+    Ok(open_journal(rt, alloc, journal)?.limits())
+}
+
+// Widens the table of the journal on a device.
+fn widen_on<D: Device + Drop>(alloc: Global, device: D, limits: Limits) -> Result<(), Fault>
+    requires { IsInRange Two limits }
+    ensures { IfErr result IsWidenFault }
+{
+    let mut store = open_on(alloc, device)?;
+    widen_store(&mut store, limits)
+}
+
 /// Lengthens a journal's file to the need of the limits, raises its table's limits to them, and prints `ok widen S`, S
 /// being their need. Where a limit is below the present one the file is untouched.
 pub fn widen<R: Files<File = File> + Print>(
@@ -119,14 +159,9 @@ pub fn widen<R: Files<File = File> + Print>(
 ) -> Result<(), Fault>
     ensures { IfErr result IsWidenFault }
 {
-    let present = open_journal(rt, alloc, tables.journal)?.limits();
-    if !may_widen(present, tables.limits) {
+    if !may_widen(limits_of(rt, alloc, tables.journal)?, tables.limits) {
         return Err(Fault::Limits);
     }
-    let Ok(device) = FileDevice::create(rt, tables.journal, need(tables.limits)) else {
-        return Err(Fault::File);
-    };
-    let mut store = open_on(alloc, device)?;
-    widen_store(&mut store, tables.limits)?;
+    widen_on(alloc, make_device(rt, tables)?, tables.limits)?;
     tell(rt, "widen", need(tables.limits))
 }

@@ -8,6 +8,7 @@ use crate::words::Serving;
 use chess_hub::Hub;
 use chess_run::{Moments, run};
 use chess_sockets::{Server, Turned};
+use sector_dev::Device;
 use std::alloc::Global;
 use std::fs::File;
 use std::io::{Read, Write};
@@ -68,6 +69,25 @@ fn tell_port(rt: &impl Print, port: u16) -> Result<(), Fault>
     }
 }
 
+// Prints the port of a server, and takes its turns.
+fn take_turns<R: Clock + Print, D: Device>(
+    rt: &R,
+    server: &mut Server<D>,
+    turns: u32,
+) -> Result<(), Fault>
+    ensures { IfErr result IsServeFault }
+{
+    tell_port(rt, server.port())?;
+    for _ in 0..turns {
+        match server.turn(moment(rt)) {
+            Ok(Turned::Worked) => {}
+            Ok(Turned::Idle) => server.rest(),
+            Err(fault) => return Err(Fault::Hub(fault)),
+        }
+    }
+    Ok(())
+}
+
 /// Serves players on a port, over the games of a journal's file, and first prints `port P`, P being the port that it
 /// listens on. Where a turn found nothing to do it waits until a socket is ready or 10 ms have passed.
 pub fn serve<R>(rt: &R, alloc: Global, serving: &Serving<'_>) -> Result<(), Fault>
@@ -76,16 +96,8 @@ where
     ensures { IfErr result IsServeFault }
 {
     let hub = Hub::new(alloc, open_journal(rt, alloc, serving.journal)?);
-    let Ok(mut server) = Server::bind(rt, alloc, serving.port, hub) else {
-        return Err(Fault::Socket);
-    };
-    tell_port(rt, server.port())?;
-    for _ in 0..serving.turns {
-        match server.turn(moment(rt)) {
-            Ok(Turned::Worked) => {}
-            Ok(Turned::Idle) => server.rest(),
-            Err(fault) => return Err(Fault::Hub(fault)),
-        }
+    match Server::bind(rt, alloc, serving.port, hub) {
+        Ok(mut server) => take_turns(rt, &mut server, serving.turns),
+        Err(_) => Err(Fault::Socket),
     }
-    Ok(())
 }

@@ -4,7 +4,7 @@ ghost use Rattle.rec_codec.specs.Limits.{IsInRange};
 
 use crate::command_line::command_line;
 use clap::error::ErrorKind;
-use clap::{ArgMatches, Error};
+use clap::{ArgMatches, Command, Error};
 use rec_codec::{Limits, Version};
 use std::alloc::{AllocError, Global};
 
@@ -44,6 +44,10 @@ pub struct Serving<'a> {
 /// Reads the words, the program's own name first. An `Err` is a usage fault, or a request for help.
 pub fn read_words<'a>(alloc: Global, words: &'a [String]) -> Result<Word<'a>, Error> {
     let mut command = command_line(alloc)?;
+    word_given(&mut command, words)
+}
+
+fn word_given<'a>(command: &mut Command<'a>, words: &'a [String]) -> Result<Word<'a>, Error> {
     let matches = command.try_get_matches_from_mut(words)?;
     match matches.subcommand().and_then(word_of) {
         Some(word) => Ok(word),
