@@ -141,6 +141,7 @@ prints
   ok list 0";
 
 /// An argument of a word: `--NAME VALUE`.
+#[derive(Clone, Copy)]
 struct Argument {
     name: &'static str,
     value_name: &'static str,
@@ -149,6 +150,7 @@ struct Argument {
 }
 
 /// A word with the texts of its help.
+#[derive(Clone, Copy)]
 struct Entry {
     name: &'static str,
     about: &'static str,
@@ -191,45 +193,52 @@ const TURNS: Argument = Argument {
     help: "After how many turns it ends, 1 to 4294967295",
 };
 
-/// The words, in the order in which help lists them.
-const WORDS: &[Entry] = &[
-    Entry {
-        name: "board",
-        about: "Answers the lines of standard input, over one board in memory",
-        help: HELP_OF_BOARD,
-        arguments: &[],
-    },
-    Entry {
-        name: "format",
-        about: "Makes a file a journal without games",
-        help: HELP_OF_FORMAT,
-        arguments: &[JOURNAL, GAMES, PLIES],
-    },
-    Entry {
-        name: "run",
-        about: "Answers the lines of standard input, over the games of a journal",
-        help: HELP_OF_RUN,
-        arguments: &[JOURNAL],
-    },
-    Entry {
-        name: "serve",
-        about: "Serves players on a port, over the games of a journal",
-        help: HELP_OF_SERVE,
-        arguments: &[JOURNAL, PORT, TURNS],
-    },
-    Entry {
-        name: "drill",
-        about: "Plays every crash of one batch on a device in memory",
-        help: HELP_OF_DRILL,
-        arguments: &[],
-    },
-    Entry {
-        name: "widen",
-        about: "Raises the limits of a journal's table",
-        help: HELP_OF_WIDEN,
-        arguments: &[JOURNAL, GAMES, PLIES],
-    },
-];
+const BOARD: Entry = Entry {
+    name: "board",
+    about: "Answers the lines of standard input, over one board in memory",
+    help: HELP_OF_BOARD,
+    arguments: &[],
+};
+
+const FORMAT: Entry = Entry {
+    name: "format",
+    about: "Makes a file a journal without games",
+    help: HELP_OF_FORMAT,
+    arguments: &[JOURNAL, GAMES, PLIES],
+};
+
+const RUN: Entry = Entry {
+    name: "run",
+    about: "Answers the lines of standard input, over the games of a journal",
+    help: HELP_OF_RUN,
+    arguments: &[JOURNAL],
+};
+
+const SERVE: Entry = Entry {
+    name: "serve",
+    about: "Serves players on a port, over the games of a journal",
+    help: HELP_OF_SERVE,
+    arguments: &[JOURNAL, PORT, TURNS],
+};
+
+const DRILL: Entry = Entry {
+    name: "drill",
+    about: "Plays every crash of one batch on a device in memory",
+    help: HELP_OF_DRILL,
+    arguments: &[],
+};
+
+const WIDEN: Entry = Entry {
+    name: "widen",
+    about: "Raises the limits of a journal's table",
+    help: HELP_OF_WIDEN,
+    arguments: &[JOURNAL, GAMES, PLIES],
+};
+
+// The words, in the order in which help lists them.
+fn entries() -> [Entry; 6] {
+    [BOARD, FORMAT, RUN, SERVE, DRILL, WIDEN]
+}
 
 fn arg_of<'a>(alloc: Global, argument: &Argument) -> Arg<'a> {
     Arg::new(alloc, argument.name)
@@ -240,10 +249,16 @@ fn arg_of<'a>(alloc: Global, argument: &Argument) -> Arg<'a> {
         .help(argument.help)
 }
 
+// Puts what was made behind a list. For any type, so that nothing is said of the fields of a `Command` here.
+fn push_made<T: Drop>(list: &mut Vec<T>, made: Result<T, AllocError>) -> Result<(), AllocError> {
+    list.push(made?)?;
+    Ok(())
+}
+
 fn args_of<'a>(alloc: Global, arguments: &[Argument]) -> Result<Vec<Arg<'a>>, AllocError> {
     let mut args = Vec::new(alloc);
     for argument in arguments {
-        args.push(arg_of(alloc, argument))?;
+        push_made(&mut args, Ok(arg_of(alloc, argument)))?;
     }
     Ok(args)
 }
@@ -259,8 +274,8 @@ fn command_of<'a>(alloc: Global, entry: &Entry) -> Result<Command<'a>, AllocErro
 
 fn commands<'a>(alloc: Global) -> Result<Vec<Command<'a>>, AllocError> {
     let mut commands = Vec::new(alloc);
-    for entry in WORDS {
-        commands.push(command_of(alloc, entry)?)?;
+    for entry in entries() {
+        push_made(&mut commands, command_of(alloc, &entry))?;
     }
     Ok(commands)
 }

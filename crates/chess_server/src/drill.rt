@@ -14,7 +14,7 @@ use sector_dev::{CrashDevice, Fate, MemoryDevice};
 use std::alloc::{AllocError, Global};
 
 /// How many cases were played, in how many no move of the batch shows, and in how many all five do.
-#[derive(Clone, Copy, Debug, PartialEq, Eq)]
+#[derive(Clone, Copy)]
 pub struct Tally {
     pub cases: u32,
     pub none: u32,
@@ -113,12 +113,15 @@ fn fate(way: u32) -> Fate {
 fn plan(alloc: Global, calls: Option<u64>, way: u32) -> Result<Plan, AllocError>
     ensures { IfOk result (λ plan. EachOf (λ life. EachOf IsBatch (batches_of life)) plan.lives.items) }
 {
-    let life = Life {
+    let mut batches = Vec::new(alloc);
+    batches.push(opening(alloc)?)?;
+    batches.push(moves(alloc)?)?;
+    let mut lives = Vec::new(alloc);
+    lives.push(Life {
         calls,
-        batches: Vec::from_array(alloc, [opening(alloc)?, moves(alloc)?])?,
+        batches,
         fates: fates(alloc, way)?,
-    };
-    let lives = Vec::from_array(alloc, [life])?;
+    })?;
     Ok(Plan { lives })
 }
 

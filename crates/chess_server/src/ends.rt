@@ -1,5 +1,5 @@
 //! How a run of the program ends: its exit status, and what is told of a fault.
-ghost use Rattle.std.specs.Prelude.{◌≡◌, ◌≢◌};
+ghost use Rattle.std.specs.Prelude.{◌≡◌, ◌≢◌, IfErr};
 ghost use Rattle.clap.specs.Values.{kind_of};
 ghost use Rattle.chess_server.specs.End.{end_of, name_of, name_of_hub, name_of_store, of_board, of_run, status_of};
 
@@ -9,9 +9,10 @@ use chess_run::RunFault;
 use chess_store::StoreFault;
 use clap::Error;
 use clap::error::ErrorKind;
+use std::io;
 
 /// What can break a run off.
-#[derive(Clone, Copy, Debug, PartialEq, Eq)]
+#[derive(Clone, Copy)]
 pub enum Fault {
     /// The journal's file cannot be opened, made or lengthened, or another program has it open.
     File,
@@ -34,7 +35,7 @@ pub enum Fault {
 }
 
 /// How a run ends.
-#[derive(Clone, Copy, Debug, PartialEq, Eq)]
+#[derive(Clone, Copy)]
 pub enum End {
     /// The work is done, or the help that was asked for is printed.
     Done,
@@ -95,6 +96,16 @@ pub fn name(fault: Fault) -> &'static str
         Fault::NoMemory => "NoMemory",
         Fault::Store(fault) => store_name(fault),
         Fault::Hub(fault) => hub_name(fault),
+    }
+}
+
+/// What printing has come to.
+pub fn printed(printing: io::Result<()>) -> Result<(), Fault>
+    ensures { IfErr result (λ fault. fault ≡ Fault.Write) }
+{
+    match printing {
+        Ok(()) => Ok(()),
+        Err(_) => Err(Fault::Write),
     }
 }
 

@@ -4,7 +4,7 @@ ghost use Rattle.rec_codec.specs.declared.limits.Version.TheVariants.{Two};
 ghost use Rattle.rec_codec.specs.Limits.{IsInRange};
 ghost use Rattle.chess_server.specs.Faults.{IsFormatFault, IsOpenFault, IsWidenFault, MayWiden};
 
-use crate::ends::Fault;
+use crate::ends::{Fault, printed};
 use crate::words::Tables;
 use chess_store::{Store, StoreFault};
 use rec_codec::{Limits, need};
@@ -17,10 +17,7 @@ use std::rt::Files;
 fn tell(rt: &impl Print, word: &str, sectors: u32) -> Result<(), Fault>
     ensures { IfErr result (λ fault. fault ≡ Fault.Write) }
 {
-    match println!(rt; "ok {word} {sectors}") {
-        Ok(()) => Ok(()),
-        Err(_) => Err(Fault::Write),
-    }
+    printed(println!(rt; "ok {word} {sectors}"))
 }
 
 // The store that a device holds.
@@ -43,16 +40,6 @@ pub fn open_journal<R: Files<File = File>>(
 {
     match FileDevice::open(rt, journal) {
         Ok(device) => open_on(alloc, device),
-        Err(_) => Err(Fault::File),
-    }
-}
-
-// The device in a file that is made, or lengthened to the need of the limits.
-fn make_device<R: Files<File = File>>(rt: &R, tables: &Tables<'_>) -> Result<FileDevice, Fault>
-    ensures { IfErr result (λ fault. fault ≡ Fault.File) }
-{
-    match FileDevice::create(rt, tables.journal, need(tables.limits)) {
-        Ok(device) => Ok(device),
         Err(_) => Err(Fault::File),
     }
 }
@@ -98,6 +85,20 @@ fn may_lengthen<R: Files<File = File>>(
     }
 }
 
+// Makes a file a journal, and first makes it or lengthens it to the need of the limits.
+fn create_journal<R: Files<File = File>>(
+    rt: &R,
+    alloc: Global,
+    tables: &Tables<'_>,
+) -> Result<(), Fault>
+    ensures { IfErr result IsFormatFault }
+{
+    match FileDevice::create(rt, tables.journal, need(tables.limits)) {
+        Ok(device) => create_on(alloc, device, tables.limits),
+        Err(_) => Err(Fault::File),
+    }
+}
+
 /// Makes a file a journal of the empty table within the limits, and prints `ok format S`, S being their need.
 pub fn format<R: Files<File = File> + Print>(
     rt: &R,
@@ -107,7 +108,7 @@ pub fn format<R: Files<File = File> + Print>(
     ensures { IfErr result IsFormatFault }
 {
     may_lengthen(rt, alloc, tables)?;
-    create_on(alloc, make_device(rt, tables)?, tables.limits)?;
+    create_journal(rt, alloc, tables)?;
     tell(rt, "format", need(tables.limits))
 }
 
@@ -150,6 +151,20 @@ fn widen_on<D: Device + Drop>(alloc: Global, device: D, limits: Limits) -> Resul
     widen_store(&mut store, limits)
 }
 
+// Widens the table of the journal in a file, and first lengthens the file to the need of the limits.
+fn widen_journal<R: Files<File = File>>(
+    rt: &R,
+    alloc: Global,
+    tables: &Tables<'_>,
+) -> Result<(), Fault>
+    ensures { IfErr result IsWidenFault }
+{
+    match FileDevice::create(rt, tables.journal, need(tables.limits)) {
+        Ok(device) => widen_on(alloc, device, tables.limits),
+        Err(_) => Err(Fault::File),
+    }
+}
+
 /// Lengthens a journal's file to the need of the limits, raises its table's limits to them, and prints `ok widen S`, S
 /// being their need. Where a limit is below the present one the file is untouched.
 pub fn widen<R: Files<File = File> + Print>(
@@ -162,6 +177,6 @@ pub fn widen<R: Files<File = File> + Print>(
     if !may_widen(limits_of(rt, alloc, tables.journal)?, tables.limits) {
         return Err(Fault::Limits);
     }
-    widen_on(alloc, make_device(rt, tables)?, tables.limits)?;
+    widen_journal(rt, alloc, tables)?;
     tell(rt, "widen", need(tables.limits))
 }

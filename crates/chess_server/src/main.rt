@@ -13,20 +13,19 @@ mod words;
 use board_session::board;
 use clap::Error;
 use drill::{Tally, drill};
-use ends::{End, Fault, end_of_words, end_of_work, fault_of_board, name, status};
+use ends::{End, Fault, end_of_words, end_of_work, fault_of_board, name, printed, status};
 use journals::{format, widen};
 use playing::{run_journal, serve};
+use std::alloc::AllocError;
 use std::env;
 use std::process::ExitCode;
-use words::{Word, no_text, read_words};
+use words::{Word, read_words};
 
 fn main(rt: HostRuntime) -> ExitCode {
     let end = match words_given(&rt) {
-        Ok(words) => match read_words(rt.alloc(), words.as_slice()) {
-            Ok(word) => end_of_work(do_work(&rt, word)),
-            Err(error) => end_with(&rt, &error),
-        },
-        Err(error) => end_with(&rt, &error),
+        Ok(Some(words)) => obey(&rt, Some(words.as_slice())),
+        Ok(None) => obey(&rt, None),
+        Err(refused) => end_with(&rt, &Error::from(refused)),
     };
     if let End::Fault(fault) = end {
         let name = name(fault);
@@ -35,12 +34,20 @@ fn main(rt: HostRuntime) -> ExitCode {
     ExitCode::from(status(end))
 }
 
-// The words of the command line.
-fn words_given(rt: &HostRuntime) -> Result<Vec<String>, Error> {
-    let Ok(args) = env::args(rt) else {
-        return Err(no_text(rt.alloc())?);
-    };
-    Ok(args.collect(rt.alloc())?)
+// The words of the command line; `None` where they are no text.
+fn words_given(rt: &HostRuntime) -> Result<Option<Vec<String>>, AllocError> {
+    match env::args(rt) {
+        Ok(args) => Ok(Some(args.collect(rt.alloc())?)),
+        Err(_) => Ok(None),
+    }
+}
+
+// Reads the words, and does what they ask for.
+fn obey(rt: &HostRuntime, words: Option<&[String]>) -> End {
+    match read_words(rt.alloc(), words) {
+        Ok(word) => end_of_work(do_work(rt, word)),
+        Err(error) => end_with(rt, &error),
+    }
 }
 
 // Prints a text of the command line, as help.
@@ -67,8 +74,5 @@ fn do_work(rt: &HostRuntime, word: Word<'_>) -> Result<(), Fault> {
 // Plays the drill, and prints what came of it.
 fn tell_drill(rt: &HostRuntime) -> Result<(), Fault> {
     let Tally { cases, none, all } = drill(rt.alloc())?;
-    match println!(rt; "drill {cases} none {none} all {all}") {
-        Ok(()) => Ok(()),
-        Err(_) => Err(Fault::Write),
-    }
+    printed(println!(rt; "drill {cases} none {none} all {all}"))
 }

@@ -2,7 +2,7 @@
 ghost use Rattle.std.specs.Prelude.{◌≡◌, IfErr};
 ghost use Rattle.chess_server.specs.Faults.{IsRunFault, IsServeFault};
 
-use crate::ends::{Fault, fault_of_run};
+use crate::ends::{Fault, fault_of_run, printed};
 use crate::journals::open_journal;
 use crate::words::Serving;
 use chess_hub::Hub;
@@ -63,10 +63,7 @@ where
 fn tell_port(rt: &impl Print, port: u16) -> Result<(), Fault>
     ensures { IfErr result (λ fault. fault ≡ Fault.Write) }
 {
-    match println!(rt; "port {port}") {
-        Ok(()) => Ok(()),
-        Err(_) => Err(Fault::Write),
-    }
+    printed(println!(rt; "port {port}"))
 }
 
 // Prints the port of a server, and takes its turns.

@@ -90,19 +90,19 @@ fn words_of(alloc: Global, word: &str) -> Result<Vec<String>, AllocError> {
 fn reads_the_command_line(rt: HostRuntime) -> Result<(), Fail> {
     let alloc = rt.alloc();
     let words = words_of(alloc, "board")?;
-    assert!(rt; matches!(read_words(alloc, words.as_slice()), Ok(Word::Board)));
+    assert!(rt; matches!(read_words(alloc, Some(words.as_slice())), Ok(Word::Board)));
     for unknown in ["lead", "--journal", ""] {
-        match read_words(alloc, words_of(alloc, unknown)?.as_slice()) {
+        match read_words(alloc, Some(words_of(alloc, unknown)?.as_slice())) {
             Ok(_) => assert!(rt; false, "{unknown}"),
             Err(error) => assert_eq!(rt; status(end_of_words(&error)), 2, "{unknown}"),
         }
     }
     let refused = Error::from(AllocError);
     assert!(rt;
-        end_of_words(&refused) == End::Fault(Fault::NoMemory),
+        matches!(end_of_words(&refused), End::Fault(Fault::NoMemory)),
         "memory"
     );
-    match read_words(alloc, words_of(alloc, "--help")?.as_slice()) {
+    match read_words(alloc, Some(words_of(alloc, "--help")?.as_slice())) {
         Ok(_) => assert!(rt; false, "help"),
         Err(error) => assert_eq!(rt; status(end_of_words(&error)), 0, "help"),
     }

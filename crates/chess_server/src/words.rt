@@ -6,7 +6,7 @@ use crate::command_line::command_line;
 use clap::error::ErrorKind;
 use clap::{ArgMatches, Command, Error};
 use rec_codec::{Limits, Version};
-use std::alloc::{AllocError, Global};
+use std::alloc::Global;
 
 /// What the program is to do.
 #[derive(Clone, Copy)]
@@ -41,13 +41,17 @@ pub struct Serving<'a> {
     pub turns: u32,
 }
 
-/// Reads the words, the program's own name first. An `Err` is a usage fault, or a request for help.
-pub fn read_words<'a>(alloc: Global, words: &'a [String]) -> Result<Word<'a>, Error> {
+/// Reads the words, the program's own name first; `None` stands for words that are no text. An `Err` is a usage fault, or
+/// a request for help.
+pub fn read_words<'a>(alloc: Global, words: Option<&'a [String]>) -> Result<Word<'a>, Error> {
     let mut command = command_line(alloc)?;
-    word_given(&mut command, words)
+    read_by(&mut command, words)
 }
 
-fn word_given<'a>(command: &mut Command<'a>, words: &'a [String]) -> Result<Word<'a>, Error> {
+fn read_by<'a>(command: &mut Command<'a>, words: Option<&'a [String]>) -> Result<Word<'a>, Error> {
+    let Some(words) = words else {
+        return Err(command.error(ErrorKind::InvalidValue, "a word is not in UTF-8")?);
+    };
     let matches = command.try_get_matches_from_mut(words)?;
     match matches.subcommand().and_then(word_of) {
         Some(word) => Ok(word),
@@ -87,9 +91,4 @@ fn serving_of<'a>(values: &ArgMatches<'a>) -> Option<Serving<'a>> {
         port: values.get_one("port")?,
         turns: values.get_one("turns")?,
     })
-}
-
-/// The fault of words that are no text.
-pub fn no_text(alloc: Global) -> Result<Error, AllocError> {
-    command_line(alloc)?.error(ErrorKind::InvalidValue, "a word is not in UTF-8")
 }
