@@ -50,12 +50,23 @@ pub fn read_words<'a>(alloc: Global, words: Option<&'a [String]>) -> Result<Word
 
 fn read_by<'a>(command: &mut Command<'a>, words: Option<&'a [String]>) -> Result<Word<'a>, Error> {
     let Some(words) = words else {
-        return Err(command.error(ErrorKind::InvalidValue, "a word is not in UTF-8")?);
+        return Err(usage(command, ErrorKind::InvalidValue, "a word is not in UTF-8"));
     };
-    let matches = command.try_get_matches_from_mut(words)?;
-    match matches.subcommand().and_then(word_of) {
+    match word_met(command, words)? {
         Some(word) => Ok(word),
-        None => Err(command.error(ErrorKind::MissingSubcommand, "a word is missing")?),
+        None => Err(usage(command, ErrorKind::MissingSubcommand, "a word is missing")),
+    }
+}
+
+fn word_met<'a>(command: &mut Command<'a>, words: &'a [String]) -> Result<Option<Word<'a>>, Error> {
+    let matches = command.try_get_matches_from_mut(words)?;
+    Ok(matches.subcommand().and_then(word_of))
+}
+
+fn usage(command: &mut Command<'_>, kind: ErrorKind, message: &str) -> Error {
+    match command.error(kind, message) {
+        Ok(error) => error,
+        Err(refused) => Error::from(refused),
     }
 }
 
