@@ -3,3 +3,4 @@ pub mod Lives
 pub mod Stops
 pub mod Serving
 pub mod Laws
+pub mod Drill

@@ -1,0 +1,163 @@
+//! The drill: a batch of moves, stopped at each of its device calls.
+ghost use Rattle.std.specs.Prelude.{◌≡◌, ◌+◌, ◌-◌, ◌^◌, ◌==◌, cond, min, IfOk, IfErr, length};
+ghost use Rattle.chess_lives.specs.Drill.{IsDrillPlan, IsKeptOfCase, IsDrilled, IsFaultInMemory};
+
+use crate::in_memory::lives_in_memory;
+use crate::plan::{Life, Plan};
+use chess_bits::Colour;
+use chess_entry::{Act, Command, Text};
+use chess_store::StoreFault;
+use rec_codec::{Limits, Name};
+use sector_dev::Fate;
+use std::alloc::{AllocError, Global};
+
+/// How many cases were played, in how many no move of the batch shows, and in how many all five do.
+#[derive(Clone, Copy, Debug, PartialEq, Eq)]
+pub struct Tally {
+    pub cases: u32,
+    pub none: u32,
+    pub all: u32,
+}
+
+// The table's limits.
+const LIMITS: Limits = Limits {
+    games: 4,
+    plies: 60,
+};
+
+// How many cases there are.
+const CASES: u32 = 28;
+
+const MOMENT: u64 = 1_000;
+
+// The entries of the game's opening, of which none is a move, and those with all five moves.
+const WITHOUT_MOVES: u64 = 2;
+
+const WITH_MOVES: u64 = 7;
+
+// After how many calls the life of a case stops, and in which of the ways: there are three for each write that is pending
+// then. The opening makes three calls and the batch that opens and joins a game four. The batch of five moves makes five:
+// it writes two sectors, syncs, writes the header, and syncs.
+fn stop(case: u32) -> (Option<u64>, u32) {
+    match case {
+        0..=2 => (Some(7), case),
+        3..=11 => (Some(8), case - 3),
+        12..=20 => (Some(9), case - 12),
+        21..=23 => (Some(10), case - 21),
+        24..=26 => (Some(11), case - 24),
+        _ => (None, 0),
+    }
+}
+
+fn command(who: &str, act: Act) -> Command {
+    Command {
+        at: MOMENT,
+        who: Name::try_new(who),
+        act,
+    }
+}
+
+fn play(who: &str, ply: u32, text: &str) -> Command {
+    let text = match Text::from(text) {
+        Ok(text) => text,
+        Err(_) => Text::new(),
+    };
+    command(who, Act::Play { game: 1, ply, text })
+}
+
+fn opening(alloc: Global) -> Result<Vec<Command>, AllocError>
+    ensures { IfOk result (λ batch. length batch.items ≡ 2) }
+{
+    let game = Act::NewGame {
+        colour: Colour::White,
+        initial: 300,
+        increment: 0,
+        fen: None,
+        period: None,
+    };
+    Vec::from_slice(
+        alloc,
+        &[command("ann", game), command("bob", Act::Join { game: 1 })],
+    )
+}
+
+fn moves(alloc: Global) -> Result<Vec<Command>, AllocError>
+    ensures { IfOk result (λ batch. length batch.items ≡ 5) }
+{
+    Vec::from_slice(
+        alloc,
+        &[
+            play("ann", 0, "e4"),
+            play("bob", 1, "e5"),
+            play("ann", 2, "Nf3"),
+            play("bob", 3, "Nc6"),
+            play("ann", 4, "Bb5"),
+        ],
+    )
+}
+
+// What becomes of the first and the second pending write in one of the ways.
+fn fates(alloc: Global, way: u32) -> Result<Vec<Fate>, AllocError> {
+    Vec::from_slice(alloc, &[fate(way % 3), fate(way / 3 % 3)])
+}
+
+fn fate(way: u32) -> Fate {
+    match way {
+        0 => Fate::Lost,
+        1 => Fate::Kept,
+        _ => Fate::Unreadable,
+    }
+}
+
+// One life, in which both batches are submitted.
+fn plan(alloc: Global, case: u32) -> Result<Plan, AllocError>
+    ensures { IfOk result IsDrillPlan }
+{
+    let (calls, way) = stop(case);
+    let life = Life {
+        calls,
+        batches: Vec::from_array(alloc, [opening(alloc)?, moves(alloc)?])?,
+        fates: fates(alloc, way)?,
+    };
+    let lives = Vec::from_array(alloc, [life])?;
+    Ok(Plan { lives })
+}
+
+// How many entries show after the life of a case.
+fn kept_after(alloc: Global, case: u32) -> Result<u64, StoreFault>
+    ensures kept { IfOk result IsKeptOfCase }
+    ensures fault { IfErr result IsFaultInMemory }
+{
+    let plan = plan(alloc, case)?;
+    Ok(lives_in_memory(alloc, LIMITS, &plan)?.kept)
+}
+
+// Counts one case more, after which so many entries show.
+fn count(tally: &mut Tally, kept: u64)
+    ensures cases { tally.new.cases ≡ min (tally.old.cases + 1) (2 ^ 32 - 1) }
+    ensures none { tally.new.none ≡ min (tally.old.none + cond (kept == 2) 1 0) (2 ^ 32 - 1) }
+    ensures all { tally.new.all ≡ min (tally.old.all + cond (kept == 7) 1 0) (2 ^ 32 - 1) }
+{
+    tally.cases = tally.cases.saturating_add(1);
+    tally.none = tally.none.saturating_add(u32::from(kept == WITHOUT_MOVES));
+    tally.all = tally.all.saturating_add(u32::from(kept == WITH_MOVES));
+}
+
+/// Plays every case: a life on a device in memory, from the empty table, in which a game is opened and five moves are
+/// made as one batch, and which stops at one of the device calls of that batch, or at none, with each pending write lost,
+/// kept or unreadable. A fault, as of `lives_in_memory`, ends it.
+pub fn drill(alloc: Global) -> Result<Tally, StoreFault>
+    ensures drilled { IfOk result IsDrilled }
+    ensures fault { IfErr result IsFaultInMemory }
+{
+    let mut tally = Tally {
+        cases: 0,
+        none: 0,
+        all: 0,
+    };
+    for case in 0..CASES {
+        let kept = kept_after(alloc, case)?;
+        count(&mut tally, kept);
+    }
+    Ok(tally)
+}
