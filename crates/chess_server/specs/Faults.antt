@@ -3,6 +3,7 @@ use Rattle.std.specs.Prelude.{◌≤◌, ◌⊎◌, ⊤}
 use Rattle.rec_codec.specs.declared.limits.Limits.{Limits}
 use Rattle.chess_store.specs.Faults as store
 use Rattle.chess_sockets.specs.Turns as sockets
+use Rattle.chess_lives.specs.Drill as drill
 use Rattle.chess_server.specs.declared.ends.Fault.{Fault}
 use Rattle.chess_server.specs.declared.ends.Fault.TheVariants as faults
 
@@ -45,6 +46,12 @@ IsServeFault faults.Socket = ⊤
 IsServeFault faults.Write = ⊤
 IsServeFault (faults.Hub fault) = sockets.EndsServing fault
 IsServeFault _ = ⊥
+
+-- of `drill`
+abbrev pub IsDrillFault : Fault → Type 0
+IsDrillFault faults.Write = ⊤
+IsDrillFault (faults.Store fault) = drill.IsFaultInMemory fault
+IsDrillFault _ = ⊥
 
 -- no limit is below the present one
 pub record MayWiden (present wanted : Limits) : Type 0 where

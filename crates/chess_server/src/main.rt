@@ -1,8 +1,10 @@
 //! A chess game server: its words.
 #![tactic(auto)]
 
+ghost use Rattle.std.specs.Prelude.{IfErr};
+ghost use Rattle.chess_server.specs.Faults.{IsDrillFault};
+
 mod command_line;
-mod drill;
 mod ends;
 mod journals;
 mod playing;
@@ -11,8 +13,8 @@ mod tests;
 mod words;
 
 use board_session::board;
+use chess_lives::{Tally, drill};
 use clap::Error;
-use drill::{Tally, drill};
 use ends::{End, Fault, end_of_words, end_of_work, fault_of_board, name, status};
 use journals::{format, widen};
 use playing::{run_journal, serve};
@@ -65,8 +67,13 @@ fn do_work(rt: &HostRuntime, word: Word<'_>) -> Result<(), Fault> {
 }
 
 // Plays the drill, and prints what came of it.
-fn tell_drill(rt: &HostRuntime) -> Result<(), Fault> {
-    let Tally { cases, none, all } = drill(rt.alloc())?;
+fn tell_drill(rt: &HostRuntime) -> Result<(), Fault>
+    ensures { IfErr result IsDrillFault }
+{
+    let Tally { cases, none, all } = match drill(rt.alloc()) {
+        Ok(tally) => tally,
+        Err(fault) => return Err(Fault::Store(fault)),
+    };
     match println!(rt; "drill {cases} none {none} all {all}") {
         Ok(()) => Ok(()),
         Err(_) => Err(Fault::Write),
