@@ -277,6 +277,7 @@ is_life limits k failures life report fault course left next after stop lawful i
   acknowledged = refused.acknowledged;
   accepted = refused.accepted;
   unsent = refused.unsent;
+  counted = refused.counted;
   kept = nothing_left k course next refused.answered refused.failed is_left;
 })
 is_life limits k failures life report fault course left next after stop lawful is_course is_left (inr opened) = inr (record {
@@ -290,6 +291,7 @@ is_life limits k failures life report fault course left next after stop lawful i
   acknowledged = opened.acknowledged;
   accepted = opened.accepted;
   unsent = opened.unsent;
+  counted = opened.counted;
   kept = is_left;
 })
 

@@ -281,8 +281,8 @@ pub served-opened : (table : TableState) (batches : List (List Command)) (tally 
     → IsTallied table batches tally failures WasKept now after → WasKept → IsTable table → begun ≡ table.entries
     → report.opened ≡ Some begun → report.acknowledged ≡ tally.shown - begun
     → report.accepted ≡ tally.shown - begun + pending_of tally.fault → report.unsent ≡ tally.unsent
-    → IsServed table batches failures report tally.fault now after
-served-opened table batches tally failures WasKept now after begun report t was is_table count opened acknowledged accepted unsent =
+    → report.failures ≡ after → IsServed table batches failures report tally.fault now after
+served-opened table batches tally failures WasKept now after begun report t was is_table count opened acknowledged accepted unsent counted =
     let shown = judged-entries table t.course.answered t.kept t.is_course.answered in
     let pending = pending-ends tally.fault t.course.failed t.left failures after t.ends in
     record {
@@ -298,6 +298,7 @@ served-opened table batches tally failures WasKept now after begun report t was 
         acknowledged = omega (arith, acknowledged, count, t.shown, shown);
         accepted = omega (arith, accepted, count, t.shown, shown, pending);
         unsent = unsent ∙ t.unsent;
+        counted = counted;
       });
       worn = t.worn was;
       each = t.each was;
@@ -305,8 +306,8 @@ served-opened table batches tally failures WasKept now after begun report t was 
 
 -- ---- an opening that failed
 
-abbrev zeros : LifeReport
-zeros = record { opened = None; acknowledged = 0; accepted = 0; unsent = 0 }
+abbrev zeros : ℕ → LifeReport
+zeros failures = record { opened = None; acknowledged = 0; accepted = 0; unsent = 0; failures = failures }
 
 -- why an opening failed where every image means a table
 pub unopened : (fault : StoreFault) (failures after : ℕ) → IsOpenFault fault → IsOfTheCall fault
@@ -326,9 +327,9 @@ never_worn now entries left fault failures after ends is =
     absurd (subst (λ (f : Option StoreFault). EndsUnopened f failures after) is ends)
 
 pub served-refused : (table : TableState) (batches : List (List Command)) (failures : ℕ) (fault : StoreFault)
-    (now : State) (after : ℕ) → EndsUnopened (Some fault) failures after → AllMean now table
-    → IsServed table batches failures zeros (Some fault) now after
-served-refused table batches failures fault now after ends means = record {
+    (now : State) (after count : ℕ) → EndsUnopened (Some fault) failures after → AllMean now table → count ≡ after
+    → IsServed table batches failures (zeros count) (Some fault) now after
+served-refused table batches failures fault now after count ends means counted = record {
   course = record { answered = []; failed = None };
   left = batches;
   kept = table;
@@ -342,6 +343,7 @@ served-refused table batches failures fault now after ends means = record {
     acknowledged = refl;
     accepted = refl;
     unsent = refl;
+    counted = counted;
   });
   worn = never_worn now table.entries batches fault failures after ends;
   each = λ image is. inl (means image is);

@@ -36,6 +36,7 @@ pub record IsUnopened (k : List Entry) (failures : ℕ) (life : Life) (report : 
   pub acknowledged : report.acknowledged ≡ 0
   pub accepted : report.accepted ≡ 0
   pub unsent : report.unsent ≡ 0
+  pub counted : report.failures ≡ after
   pub kept : next ≡ k
 
 -- Every batch is answered and the device has not failed; or the device failed at one, and those behind it are left.
@@ -61,6 +62,7 @@ pub record IsOpened (limits : Limits) (k : List Entry) (failures : ℕ) (life : 
   pub acknowledged : report.acknowledged ≡ length (entries_of course.answered)
   pub accepted : report.accepted ≡ length (entries_of course.answered) + length (entries_of (list_of course.failed))
   pub unsent : report.unsent ≡ min (unsent_in course.answered) (2 ^ 64 - 1)
+  pub counted : report.failures ≡ after
   pub kept : IsLeft k course next
 
 -- A life that begins where the entries k are kept, and after which the entries `next` are.

@@ -93,6 +93,7 @@ pub record WasRefused (course : Course) (report : LifeReport) (fault : Option St
   pub acknowledged : report.acknowledged ≡ 0
   pub accepted : report.accepted ≡ 0
   pub unsent : report.unsent ≡ 0
+  pub counted : report.failures ≡ after
 
 -- a store was opened on this table, and the batches went their course
 pub record WasOpened (before : TableState) (course : Course) (left : List (List Command)) (report : LifeReport)
@@ -103,6 +104,7 @@ pub record WasOpened (before : TableState) (course : Course) (left : List (List 
   pub acknowledged : report.acknowledged ≡ length (entries_of course.answered)
   pub accepted : report.accepted ≡ length (entries_of course.answered) + length (entries_of (list_of course.failed))
   pub unsent : report.unsent ≡ min (unsent_in course.answered) (2 ^ 64 - 1)
+  pub counted : report.failures ≡ after
 
 -- What came of a device on which every image means this table.
 pub record IsServed (before : TableState) (batches : List (List Command)) (failures : ℕ) (report : LifeReport)

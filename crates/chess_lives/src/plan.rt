@@ -32,6 +32,8 @@ pub struct LifeReport {
     /// For how many commands of the answered batches memory was refused, so that they count as not sent; at most
     /// 2^64 - 1, also where there are more.
     pub unsent: u64,
+    /// How often the device has failed until the end of this life, as the device counts it: at 2^64 - 1 it stays.
+    pub failures: u64,
 }
 
 /// What came of all lives, and what the last opening showed.

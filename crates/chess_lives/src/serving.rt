@@ -11,7 +11,7 @@ use crate::plan::LifeReport;
 use chess_answer::{Reply, refusal_line};
 use chess_entry::{Command, Refusal};
 use chess_store::{Store, StoreFault};
-use sector_dev::Device;
+use sector_dev::{CrashDevice, Device};
 use std::alloc::Global;
 
 // What came of the batches of a life: the number of entries that the store has shown last, for how many commands memory
@@ -94,14 +94,15 @@ fn pending(fault: &Option<StoreFault>) -> u64
     }
 }
 
-// The report of a life that opened with so many entries.
-fn report_of(begun: u64, tally: &Tally) -> LifeReport
+// The report of a life that opened with so many entries, and after which the device has so many failures.
+fn report_of(begun: u64, tally: &Tally, failures: u64) -> LifeReport
     requires begun { begun ≤ tally.now.shown }
     requires room { HasRoomForPending tally.now }
     ensures opened { result.opened ≡ Some begun }
     ensures acknowledged { result.acknowledged ≡ tally.now.shown - begun }
     ensures accepted { result.accepted ≡ tally.now.shown - begun + pending_of tally.now.fault }
     ensures unsent { result.unsent ≡ tally.now.unsent }
+    ensures failures { result.failures ≡ failures }
 {
     let acknowledged = tally.shown - begun;
     LifeReport {
@@ -109,6 +110,7 @@ fn report_of(begun: u64, tally: &Tally) -> LifeReport
         acknowledged,
         accepted: acknowledged + pending(&tally.fault),
         unsent: tally.unsent,
+        failures,
     }
 }
 
@@ -121,7 +123,7 @@ pub(crate) struct Served<D> {
 }
 
 // Opens the store on a device and submits the batches, until one is not answered.
-pub(crate) fn serve<D: Device>(alloc: Global, device: D, batches: &[Vec<Command>]) -> Served<D>
+pub(crate) fn serve<D: CrashDevice>(alloc: Global, device: D, batches: &[Vec<Command>]) -> Served<D>
     requires { EachOf IsBatch (map (λ b. b.items) batches.now) }
     ensures served { (D.state device).keeps_model → (table : TableState) → AllMean (D.state device) table
         → IsServed table (map (λ b. b.items) batches.now) (D.failures device) result.report result.fault
@@ -138,20 +140,22 @@ pub(crate) fn serve<D: Device>(alloc: Global, device: D, batches: &[Vec<Command>
             let _limits = store.limits();
             let begun = shown(&store);
             let tally = submit_all(&mut store, batches);
+            let left = store.into_device();
             Served {
-                device: store.into_device(),
-                report: report_of(begun, &tally),
+                report: report_of(begun, &tally, left.failure_count()),
+                device: left,
                 fault: tally.fault,
             }
         }
         Err(refused) => Served {
-            device: refused.device,
             report: LifeReport {
                 opened: None,
                 acknowledged: 0,
                 accepted: 0,
                 unsent: 0,
+                failures: refused.device.failure_count(),
             },
+            device: refused.device,
             fault: Some(refused.fault),
         },
     }

@@ -113,6 +113,10 @@ pub trait CrashDevice: Device {
     /// clauses of a type, as `MemoryDevice`.
     ghost pending: { Self → List Write };
 
+    /// How often the device has failed, as `failures` says it.
+    fn failure_count(&self) -> u64
+        ensures { result ≡ Self.failures self.now };
+
     /// The next `calls` calls of `read`, `write` and `sync` are served, unless they fail for another reason, and every
     /// later one fails, until a crash or until the device is armed again. Nothing else changes.
     fn arm(&mut self, calls: u64)

@@ -367,6 +367,10 @@ impl CrashDevice for MemoryDevice {
 
     ghost of_disk = { λ m model. record { images = λ c. (λ i. i, λ i. i); reads = refl } };
 
+    fn failure_count(&self) -> u64 {
+        self.failures
+    }
+
     fn arm(&mut self, calls: u64)
         ensures sectors { sector_count_of self.new ≡ sector_count_of self.old }
         ensures model { (state_of self.new).keeps_model ↔ (state_of self.old).keeps_model }

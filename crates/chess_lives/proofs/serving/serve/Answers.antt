@@ -35,11 +35,12 @@ returns-in-Ok-clause-served g c = λ model table means.
     (IsKept (state store.journal.device) store.journal.header store.journal.compaction store.table) (state left)
     (failures left) c.shown-begun.result report c.submit_all-tally.ensures.tallied (c.in-Ok.ensures.kept model)
     c.limits-limits.ensures.table c.shown-begun.ensures c.report_of.ensures.opened c.report_of.ensures.acknowledged c.report_of.ensures.accepted
-    c.report_of.ensures.unsent in
-    subst (λ (t : TableState). IsServed t batches (failures device) report tally.fault (state c.into_device.result)
-    (failures c.into_device.result)) same
+    c.report_of.ensures.unsent
+    (c.report_of.ensures.failures ∙ c.failure_count.ensures ∙ ap failures c.into_device-left.ensures) in
+    subst (λ (t : TableState). IsServed t batches (failures device) report tally.fault (state c.into_device-left.result)
+    (failures c.into_device-left.result)) same
     (subst (λ (d : _). IsServed store.table batches (failures device) report tally.fault (state d) (failures d))
-    (sym c.into_device.ensures)
+    (sym c.into_device-left.ensures)
     (subst (λ (n : ℕ). IsServed store.table batches n report tally.fault (state left) (failures left))
     c.in-Ok.ensures.cause served))
 
@@ -47,12 +48,12 @@ pub returns-in-Err-clause-served : goal.returns-in-Err-clause-served
 returns-in-Err-clause-served g c = λ model table means.
     let refused = c.in-Err.refused in
     served-refused table (map (λ b. b.items) c.args.batches.now) (g.D.Device.failures c.args.device) refused.fault
-    (g.D.Device.state refused.device) (g.D.Device.failures refused.device)
+    (g.D.Device.state refused.device) (g.D.Device.failures refused.device) c.failure_count-in-Err.result
     (unopened refused.fault (g.D.Device.failures c.args.device) (g.D.Device.failures refused.device)
     c.in-Err.ensures.fault
     (c.in-Err.ensures.readable model (λ image is. record { table = table; means = means image is }))
     c.in-Err.ensures.cause_refused)
-    (λ image is. means image (c.in-Err.ensures.images_refused model image is))
+    (λ image is. means image (c.in-Err.ensures.images_refused model image is)) c.failure_count-in-Err.ensures
 
 pub returns-in-Err-clause-fault : goal.returns-in-Err-clause-fault
 returns-in-Err-clause-fault g c = opening_fault c.in-Err.refused.fault c.in-Err.ensures.fault
@@ -61,7 +62,7 @@ pub returns-in-Ok-clause-counts : goal.returns-in-Ok-clause-counts
 returns-in-Ok-clause-counts g c =
     let failures = g.D.Device.failures in
     let tally = c.submit_all-tally.result in
-    subst (λ (d : _). CountsEnd tally.fault (failures c.args.device) (failures d)) (sym c.into_device.ensures)
+    subst (λ (d : _). CountsEnd tally.fault (failures c.args.device) (failures d)) (sym c.into_device-left.ensures)
     (subst (λ (n : ℕ). CountsEnd tally.fault n (failures c.submit_all-tally.new.store.journal.device))
     c.in-Ok.ensures.cause c.submit_all-tally.ensures.counts)
 
@@ -70,9 +71,9 @@ returns-in-Ok-clause-model g c =
     let state = g.D.Device.state in
     let goes = c.in-Ok.ensures.goes in
     let tally = c.submit_all-tally.ensures in
-    subst (λ (d : _). (state d).keeps_model ↔ (state c.args.device).keeps_model) (sym c.into_device.ensures)
+    subst (λ (d : _). (state d).keeps_model ↔ (state c.args.device).keeps_model) (sym c.into_device-left.ensures)
     (λ model. goes.model.0 (tally.model.0 model), λ model. tally.model.1 (goes.model.1 model))
 
 pub returns-in-Ok-clause-sectors : goal.returns-in-Ok-clause-sectors
 returns-in-Ok-clause-sectors g c =
-    ap g.D.Device.sector_count c.into_device.ensures ∙ c.submit_all-tally.ensures.sectors ∙ c.in-Ok.ensures.goes.size
+    ap g.D.Device.sector_count c.into_device-left.ensures ∙ c.submit_all-tally.ensures.sectors ∙ c.in-Ok.ensures.goes.size
