@@ -1,4 +1,4 @@
-use Rattle.std.proofs.Common.{subst, arith, ◌≡◌, take, length}
+use Rattle.std.proofs.Common.{subst, arith, ◌≡◌, take}
 use Rattle.chess_sessions.specs.Turn.{turn_lines, waiting_of, rounds, AreTakenAs}
 use Rattle.chess_sessions.proofs.TakingLemmas.{open-turn, open-taken, rounds-more}
 use Rattle.chess_sessions.proofs.RoundLemmas.{turn-full, turn-none}
