@@ -196,9 +196,9 @@ line-within bytes part after count e =
     omega arith
 
 -- without the oldest line, of which the bytes may have been given up
-pub holding-after : (bytes part after rest now : List ℕ) (count left : ℕ) (is_long : Bool) → IsHolding bytes count rest is_long →
-    drop count bytes ≡ part ++ 10 ∷ after → HasNoFeed part → drop left now ≡ drop (count + (length part + 1)) bytes →
-    left + left ≤ length now → IsHolding now left rest is_long
+pub holding-after : (bytes part after rest now : List ℕ) (count left : ℕ) (is_long : Bool) →
+    IsHolding bytes count rest is_long → drop count bytes ≡ part ++ 10 ∷ after → HasNoFeed part →
+    drop left now ≡ drop (count + (length part + 1)) bytes → left + left ≤ length now → IsHolding now left rest is_long
 holding-after bytes part after rest now count left is_long h e f kept half = record {
   half = half;
   whole = subst IsWhole (sym (kept ∙ drop-line bytes part after count e))
@@ -210,9 +210,9 @@ holding-after bytes part after rest now count left is_long h e f kept half = rec
 abbrev pub TakesLine : List ℕ → List ℕ → Type 0
 TakesLine bytes more = (line : List ℕ) × IsFirstLine bytes line more
 
-pub takes-line : (bytes part after rest now : List ℕ) (count left : ℕ) (is_long : Bool) → IsHolding bytes count rest is_long →
-    drop count bytes ≡ part ++ 10 ∷ after → HasNoFeed part → drop left now ≡ drop (count + (length part + 1)) bytes →
-    TakesLine (drop count bytes ++ rest) (drop left now ++ rest)
+pub takes-line : (bytes part after rest now : List ℕ) (count left : ℕ) (is_long : Bool) →
+    IsHolding bytes count rest is_long → drop count bytes ≡ part ++ 10 ∷ after → HasNoFeed part →
+    drop left now ≡ drop (count + (length part + 1)) bytes → TakesLine (drop count bytes ++ rest) (drop left now ++ rest)
 takes-line bytes part after rest now count left is_long h e f kept = (
   strip_last 13 part,
   first-line (drop count bytes ++ rest) part (drop left now ++ rest)

@@ -126,8 +126,8 @@ fn drop_front(bytes: &mut Vec<u8>, count: usize)
 // The most room that stays where no byte is held; what a session mostly sends needs less.
 const EMPTY_ROOM: usize = 8192;
 
-// Gives up the bytes that were taken, once they are half of all, and answers how many of them are still held. Where no byte
-// is left, room beyond the usual is given up too.
+// Gives up the bytes that were taken, once they are half of all, and answers how many of them are still held. Where no
+// byte is left, room beyond the usual is given up too.
 fn drop_taken(bytes: &mut Vec<u8>, taken: usize) -> usize
     requires { taken ≤ vec_len bytes.old }
     ensures kept { drop result bytes.new.items ≡ drop taken bytes.old.items }
@@ -188,7 +188,8 @@ impl Lines {
         self.whole.len() - self.taken + self.rest.len()
     }
 
-    /// How many bytes are held, those that were taken and not yet given up too: all that wait, and at most twice as many.
+    /// How many bytes are held, those that were taken and not yet given up too: all that wait, and at most twice as
+    /// many.
     pub fn held(&self) -> usize
         ensures { IsHeldFor result self.now }
     {
