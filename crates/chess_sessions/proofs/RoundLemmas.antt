@@ -35,13 +35,14 @@ lines-none n k (w ∷ sessions) l nothing =
     ∙ lines-none n k sessions l parts.1
 
 -- no round after it has a line
-pub rounds-none : (n m : ℕ) (sessions : List Waiting) → n ≤ m → lines_at n sessions ≡ [] → rounds m sessions ≡ rounds n sessions
+pub rounds-none : (n m : ℕ) (sessions : List Waiting) → n ≤ m → lines_at n sessions ≡ [] →
+    rounds m sessions ≡ rounds n sessions
 rounds-none n zero sessions l nothing = let e : zero ≡ n = omega arith in ap (λ i. rounds i sessions) e
 rounds-none n (suc m) sessions l nothing =
     elim (cases_lt n (suc m)) [
       | inl before ↦
-          ap (λ xs. rounds m sessions ++ xs) (lines-none n m sessions (omega arith) nothing) ∙ append-nil (rounds m sessions)
-          ∙ rounds-none n m sessions (omega arith) nothing
+          ap (λ xs. rounds m sessions ++ xs) (lines-none n m sessions (omega arith) nothing)
+          ∙ append-nil (rounds m sessions) ∙ rounds-none n m sessions (omega arith) nothing
       | inr last ↦ let e : suc m ≡ n = omega arith in ap (λ i. rounds i sessions) e
     ]
 
@@ -61,7 +62,8 @@ rounds-full most n (suc m) sessions l full =
       | inl before ↦
           (let same : take most (rounds m sessions) ≡ take most (rounds n sessions) =
           rounds-full most n m sessions (omega arith) full in
-          let long : most ≤ length (rounds m sessions) = still-full most (rounds m sessions) (rounds n sessions) same full in
+          let long : most ≤ length (rounds m sessions) =
+          still-full most (rounds m sessions) (rounds n sessions) same full in
           take-append-le most (rounds m sessions) (lines_at m sessions) long ∙ same)
       | inr last ↦ let e : suc m ≡ n = omega arith in ap (λ i. take most (rounds i sessions)) e
     ]
@@ -78,8 +80,8 @@ turn-full most n sessions now l taken full =
     subst (λ xs. AreTakenAs xs now) (sym (rounds-full most n most sessions l enough)) taken
 
 -- a round that adds no line to what is taken has none, unless as many were taken as may be
-adds-none : (most : ℕ) (xs more : List SessionLine) → length xs < most → length (take most (xs ++ more)) ≡ length (take most xs) →
-    more ≡ []
+adds-none : (most : ℕ) (xs more : List SessionLine) → length xs < most →
+    length (take most (xs ++ more)) ≡ length (take most xs) → more ≡ []
 adds-none most xs more short same =
     nil_from_length more (omega (arith, length-take most (xs ++ more), length-take most xs, length-append xs more))
 
@@ -88,7 +90,8 @@ pub turn-none : (most n : ℕ) (sessions : List Waiting) (old now : List Taken) 
     AreTakenAs (take most (rounds n sessions)) old → AreTakenAs (take most (rounds (n + 1) sessions)) now →
     length now ≡ length old → AreTakenAs (turn_lines most sessions) now
 turn-none most n sessions old now l before after same =
-    let next : rounds (n + 1) sessions ≡ rounds n sessions ++ lines_at n sessions = ap (λ k. rounds k sessions) (add-one n) in
+    let next : rounds (n + 1) sessions ≡ rounds n sessions ++ lines_at n sessions =
+    ap (λ k. rounds k sessions) (add-one n) in
     let was : length old ≡ length (take most (rounds n sessions)) =
     AllZip-long IsTakenAs (take most (rounds n sessions)) old before in
     let is : length now ≡ length (take most (rounds (n + 1) sessions)) =
@@ -100,8 +103,10 @@ turn-none most n sessions old now l before after same =
           (let nothing : lines_at n sessions ≡ [] =
           adds-none most (rounds n sessions) (lines_at n sessions) short equal in
           subst (λ xs. AreTakenAs (take most xs) now)
-          (rounds-none n (n + 1) sessions (omega arith) nothing ∙ sym (rounds-none n most sessions (omega arith) nothing)) after)
+          (rounds-none n (n + 1) sessions (omega arith) nothing
+          ∙ sym (rounds-none n most sessions (omega arith) nothing)) after)
       | inr full ↦
           subst (λ xs. AreTakenAs xs now)
-          (rounds-full most n (n + 1) sessions (omega arith) full ∙ sym (rounds-full most n most sessions (omega arith) full)) after
+          (rounds-full most n (n + 1) sessions (omega arith) full
+          ∙ sym (rounds-full most n most sessions (omega arith) full)) after
     ]

@@ -23,7 +23,8 @@ returns-then-len-before-clause-taken c =
     let old = c.loop-place.taken.items in
     let now = c.take_round.new.taken.items in
     turn-none c.args.most c.loop-place.place sessions old now (omega arith) c.loop-place.invariant.1
-    (rounds-more c.args.most c.loop-place.place sessions old now c.loop-place.invariant.1 c.in_ok-take_round.ensures.taken)
+    (rounds-more c.args.most c.loop-place.place sessions old now c.loop-place.invariant.1
+    c.in_ok-take_round.ensures.taken)
     (omega arith)
 
 pub returns-then-len-before-clause-open : goal.returns-then-len-before-clause-open
@@ -33,9 +34,11 @@ returns-then-len-before-clause-open c =
     let now = c.take_round.new.taken.items in
     let all : AreTakenAs (turn_lines c.args.most sessions) now =
     turn-none c.args.most c.loop-place.place sessions old now (omega arith) c.loop-place.invariant.1
-    (rounds-more c.args.most c.loop-place.place sessions old now c.loop-place.invariant.1 c.in_ok-take_round.ensures.taken)
+    (rounds-more c.args.most c.loop-place.place sessions old now c.loop-place.invariant.1
+    c.in_ok-take_round.ensures.taken)
     (omega arith) in
-    open-taken c.args.self.now.slab (turn_lines c.args.most sessions) now all (open-turn c.args.self.now.slab c.args.most)
+    open-taken c.args.self.now.slab (turn_lines c.args.most sessions) now all
+    (open-turn c.args.self.now.slab c.args.most)
 
 pub returns-clause-open : goal.returns-clause-open
 returns-clause-open c =
