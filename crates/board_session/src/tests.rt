@@ -194,6 +194,27 @@ fn writes_once_what_is_at_hand(rt: HostRuntime) -> Result<(), Fail> {
     Ok(())
 }
 
+/// So many copies of a text.
+fn repeated(rt: &impl Abort, alloc: Global, text: &[u8], count: usize) -> Vec<u8> {
+    let mut whole = Vec::new(alloc);
+    for _ in 0..count {
+        assert!(rt; whole.extend_from_slice(text).is_ok());
+    }
+    whole
+}
+
+#[test]
+fn answers_after_many_reads(rt: HostRuntime) {
+    let alloc = rt.alloc();
+    // 70,000 reads of a byte each.
+    let input = repeated(&rt, alloc, b"hello!\n", 10_000);
+    let text = repeated(&rt, alloc, b"no 1 BadLine\n", 10_000);
+    let mut written = Vec::new(alloc);
+    let ended = board(&mut read_bytewise(input.as_slice()), &mut written);
+    assert_eq!(rt; ended, Ok(()));
+    assert!(rt; written.as_slice() == text.as_slice());
+}
+
 #[test]
 fn breaks_off_where_a_read_fails(rt: HostRuntime) {
     let alloc = rt.alloc();

@@ -21,13 +21,13 @@ pub enum Article {
     A523,
     /// 6.9: a player's time is over. It is a draw just where the opponent has the king alone.
     A69,
-    /// 9.2: a player claims that the position has come three times.
+    /// 9.2: a player claims that the position has come at least three times.
     A92,
-    /// 9.3: a player claims fifty moves of each side without a capture or a pawn move.
+    /// 9.3: a player claims at least fifty moves of each side without a capture or a pawn move.
     A93,
-    /// 9.6.1: the position has come five times, without a claim.
+    /// 9.6.1: the position has come at least five times, without a claim.
     A961,
-    /// 9.6.2: 75 moves of each side without a capture or a pawn move, without a claim.
+    /// 9.6.2: at least 75 moves of each side without a capture or a pawn move, without a claim.
     A962,
 }
 

@@ -70,8 +70,9 @@ pub record LawOfEndings : Type 0 where
 abbrev pub ending_after : Position → List Move → Option Ending
 ending_after start moves = ending_of_line (position_after start moves) (positions_of start moves)
 
--- A claim for the last position of the moves from a start is correct: that position has come three times (FIDE article
--- 9.2), or, where the claim is by the fifty-move rule, 100 moves have gone without a capture or a pawn move (9.3).
+-- A claim for the last position of the moves from a start is correct: that position has come at least three times (FIDE
+-- article 9.2), or, where the claim is by the fifty-move rule, at least 100 moves have gone without a capture or a pawn
+-- move (9.3).
 abbrev pub is_granted : Bool → Position → List Move → Bool
 is_granted true start moves = nat_le 100 (quiet_run (positions_of start moves))
 is_granted false start moves = nat_le 3 (times (position_after start moves) (positions_of start moves))

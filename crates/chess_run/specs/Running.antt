@@ -1,4 +1,4 @@
--- What a run is told: one session, each line a batch of its own.
+-- What a run is told: one session, each line in a turn of its own.
 use Rattle.std.specs.Prelude.{ℕ, ◌≡◌, ◌≢◌, ◌⊎◌, false, Bool, List, [], ◌∷◌, ◌++◌, Option, Some, None, Result, Ok, Err}
 use Rattle.std.specs.Io.KnownBytes.{Appends}
 use Rattle.session_lines.specs.Lines.{IsUnfinished}
@@ -109,8 +109,8 @@ of_loop loop.Write = faults.Write
 of_loop loop.LineTooLong = faults.LineTooLong
 of_loop (loop.Unanswered fault) = faults.Hub fault
 
--- The writer got the text of an input: the answers to its whole lines, each a batch of its own at the next moment, and the
--- farewell where a line was too long. `end` is where the run then stands.
+-- The writer got the text of an input: the answers to its whole lines, each in a turn of its own at the next moment,
+-- and the farewell where a line was too long. `end` is where the run then stands.
 pub record IsRunText {D M : Type 0} (state : D → State) (sector_count failures : D → ℕ) (gives : M → ℕ → M → Type 0)
     (store : Kept D) (moments : M) (old new : Option (List ℕ)) (input : List ℕ) : Type 0 where
   pub text : List ℕ

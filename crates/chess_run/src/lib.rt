@@ -1,4 +1,4 @@
-//! One session from a reader to a writer, over a store: each line is a batch of its own, at the next of its moments.
+//! One session from a reader to a writer, over a store: each line has a turn of its own, at the next of its moments.
 #![tactic(auto)]
 
 mod laws;

@@ -1,4 +1,4 @@
-//! Moments for the batches of a run.
+//! Moments for the turns of a run.
 ghost use Rattle.std.specs.Prelude.{ℕ, ◌≡◌};
 
 /// Gives moments in milliseconds, one after the other.

@@ -41,9 +41,10 @@ impl From<LoopFault<HubFault>> for RunFault {
     }
 }
 
-/// Answers the lines of a reader on a writer, as one session over a store, which it keeps: each whole line is a batch of
-/// its own and takes the next of the moments. Answers are written as they come, those to one piece of input at once. It
-/// ends where the reader does; a rest without a line feed is no line.
+/// Answers the lines of a reader on a writer, as one session over a store, which it keeps: each whole line has a turn
+/// of its own at the next of the moments, and each command is a batch of its own. The answers to the lines of one read,
+/// of at most 4,096 bytes, are gathered and written once all are answered, before that only as often as they outgrow
+/// 65,536 bytes. It ends where the reader does; a rest without a line feed is no line.
 ///
 /// `LineTooLong`: a line was, and `bye LineTooLong` was written. `Read` and `Write`: a read or a write failed, or reads
 /// did not end within 4,294,967,295. `Hub`: a line was refused memory, or the store refused it; the answers before it

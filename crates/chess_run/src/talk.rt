@@ -1,4 +1,4 @@
-//! One session of a hub, whose lines are answered one a batch.
+//! One session of a hub, whose lines are answered one a turn.
 ghost use Rattle.std.specs.Prelude.{ℕ, ◌≡◌, true, [], List, Option, None, Ok, Err, IfOk, IfErr, OnOk};
 ghost use Rattle.std.specs.Io.BufRead.{strip_last};
 ghost use Rattle.session_lines.specs.Lines.{IsUnfinished};
@@ -15,7 +15,7 @@ use line_loop::{Answer, Answerer};
 use sector_dev::Device;
 use std::alloc::Global;
 
-/// A hub with one session, and the moments of its batches.
+/// A hub with one session, and the moments of its turns.
 #[derive(Drop)]
 pub(crate) struct Talk<D: Device, M: Moments> {
     hub: Hub<D>,

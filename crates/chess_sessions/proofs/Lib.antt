@@ -1,4 +1,5 @@
 pub mod TakingLemmas
+pub mod RoundLemmas
 pub mod DeliveryLemmas
 pub mod NameLemmas
 pub mod RoomLemmas

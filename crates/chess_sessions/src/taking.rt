@@ -87,7 +87,15 @@ impl Sessions {
     {
         let mut taken = Vec::new(self.alloc);
         for place in 0..most {
+            if taken.len() == most {
+                return Ok(taken);
+            }
+            let before = taken.len();
             take_round(&self.slab, place, most, &mut taken)?;
+            // Who has no line at this place has none at a later one.
+            if taken.len() == before {
+                return Ok(taken);
+            }
         }
         Ok(taken)
     }

@@ -33,6 +33,14 @@ fn waiting(sessions: &Sessions, sid: Sid) -> Option<usize> {
     }
 }
 
+// How many bytes of a session are held.
+fn held(sessions: &Sessions, sid: Sid) -> Option<usize> {
+    match sessions.slab.get(sid) {
+        Some(session) => Some(session.lines.held()),
+        None => None,
+    }
+}
+
 // A turn whose lines ask nothing of the table; false where it is refused.
 fn turn(sessions: &mut Sessions, alloc: Global, at: u64, most: usize) -> bool {
     let Ok(taken) = sessions.next_lines(most) else {
@@ -67,8 +75,11 @@ fn lines_in_turn(rt: HostRuntime) {
     assert!(rt; is_given(&mut sessions, b, "no 1 BadLine"));
     assert!(rt; is_silent(&mut sessions, b));
     assert!(rt; waiting(&sessions, b) == Some(9));
+    // Seven bytes were taken, fewer than wait.
+    assert!(rt; held(&sessions, b) == Some(16));
     assert!(rt; turn(&mut sessions, alloc, 4_611_686_018_427_387_904, 64));
     assert!(rt; is_given(&mut sessions, b, "no 23 BadMoment"));
+    assert!(rt; held(&sessions, b) == Some(0));
 }
 
 #[test]

@@ -197,9 +197,10 @@ fn answer_all<A: Answerer, R: Read, W: Write>(
 }
 
 /// Answers the lines of the reader on the writer until the reader ends, a line is too long or one finds no answer, and
-/// hands who answers back. Answers are written as they come, those to one piece of at most 4,096 bytes at once. Between the
-/// bytes of a line any number of reads may come; a rest without a line feed is no line. After a line that is too long the
-/// farewell is written. `Read` also after 4,294,967,295 reads.
+/// hands who answers back. A read takes a piece of at most 4,096 bytes; the answers to its lines are gathered and
+/// written once all are answered, before that only as often as they outgrow 65,536 bytes. Between the bytes of a line any
+/// number of reads may come; a rest without a line feed is no line. After a line that is too long the farewell is
+/// written. `Read` also after 4,294,967,295 reads.
 pub fn answer_lines<A: Answerer + Drop, R: Read, W: Write>(
     answerer: A,
     reader: &mut R,

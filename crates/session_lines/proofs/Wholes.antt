@@ -1,17 +1,16 @@
 -- What is kept of an input.
 use Rattle.std.proofs.Common.{◌≡◌, ℕ, ◌<◌, ◌≤◌, ◌-◌, Bool, true, false, List, [], ◌∷◌, ◌++◌, ◌+◌, length, drop, inl, inr, subst, map, refl, ap, sym, ◌∙◌, arith, append_assoc, append-nil, length-append}
 use Rattle.std.specs.Prelude.{cond}
-use Rattle.std.specs.List.{All, slice_split}
 use Rattle.std.specs.Io.BufRead.{strip_last}
-use Rattle.std.proofs.lemmas.List.Splits.{slice_split_none, slice_split_at}
+use Rattle.std.proofs.lemmas.List.Splits.{slice_split_none}
 use Rattle.std.proofs.lemmas.List.Elements.{All-append, All-nil}
 use Rattle.std.proofs.lemmas.Bool.{cases_lt}
 use Rattle.std.proofs.lemmas.List.{append_cancel_left, drop-drop, drop-append-le, length-drop}
 use Rattle.std.proofs.Math.Seq.{drop-append_seam}
-use Rattle.session_lines.specs.Lines.{is_feed, HasNoFeed, parts_of, is_too_long, ended_parts, lines_of, has_long_line, IsUnfinished}
-use Rattle.session_lines.specs.Heard.{Heard, heard, heard_more, ended_bytes, kept_of, IsWhole, IsCut, IsFirstLine}
+use Rattle.session_lines.specs.Lines.{is_feed, HasNoFeed, parts_of, ended_parts, lines_of, has_long_line, IsUnfinished}
+use Rattle.session_lines.specs.Heard.{heard, heard_more, ended_bytes, kept_of, IsWhole, IsCut, IsFirstLine}
 use Rattle.session_lines.specs.Holding.{held_by, IsHolding}
-use Rattle.session_lines.proofs.LineLemmas.{ended-feed, ended-more-long, lines-feed, long-feed, long-rest, lines-rest, lines-long, long-long}
+use Rattle.session_lines.proofs.LineLemmas.{ended-feed, ended-more-long, lines-feed, long-feed, long-rest, lines-rest, long-long}
 
 -- a line is kept with its line feed
 pub kept-feed : (held more : List ℕ) → IsUnfinished held → kept_of (held ++ 10 ∷ more) ≡ held ++ 10 ∷ kept_of more
@@ -196,13 +195,13 @@ line-within bytes part after count e =
     sym (length-drop count bytes) ∙ ap length e ∙ length-append part (10 ∷ after) ∙ omega arith in
     omega arith
 
--- without the oldest line
-pub holding-after : (bytes part after rest : List ℕ) (count : ℕ) (is_long : Bool) → IsHolding bytes count rest is_long →
-    drop count bytes ≡ part ++ 10 ∷ after → HasNoFeed part →
-    IsHolding bytes (count + (length part + 1)) rest is_long
-holding-after bytes part after rest count is_long h e f = record {
-  taken = line-within bytes part after count e;
-  whole = subst IsWhole (sym (drop-line bytes part after count e))
+-- without the oldest line, of which the bytes may have been given up
+pub holding-after : (bytes part after rest now : List ℕ) (count left : ℕ) (is_long : Bool) →
+    IsHolding bytes count rest is_long → drop count bytes ≡ part ++ 10 ∷ after → HasNoFeed part →
+    drop left now ≡ drop (count + (length part + 1)) bytes → left + left ≤ length now → IsHolding now left rest is_long
+holding-after bytes part after rest now count left is_long h e f kept half = record {
+  half = half;
+  whole = subst IsWhole (sym (kept ∙ drop-line bytes part after count e))
       (whole-after part after (subst IsWhole e h.whole) f);
   unfinished = h.unfinished;
   nothing = h.nothing;
@@ -211,14 +210,14 @@ holding-after bytes part after rest count is_long h e f = record {
 abbrev pub TakesLine : List ℕ → List ℕ → Type 0
 TakesLine bytes more = (line : List ℕ) × IsFirstLine bytes line more
 
-pub takes-line : (bytes part after rest : List ℕ) (count : ℕ) (is_long : Bool) → IsHolding bytes count rest is_long →
-    drop count bytes ≡ part ++ 10 ∷ after → HasNoFeed part →
-    TakesLine (drop count bytes ++ rest) (drop (count + (length part + 1)) bytes ++ rest)
-takes-line bytes part after rest count is_long h e f = (
+pub takes-line : (bytes part after rest now : List ℕ) (count left : ℕ) (is_long : Bool) →
+    IsHolding bytes count rest is_long → drop count bytes ≡ part ++ 10 ∷ after → HasNoFeed part →
+    drop left now ≡ drop (count + (length part + 1)) bytes → TakesLine (drop count bytes ++ rest) (drop left now ++ rest)
+takes-line bytes part after rest now count left is_long h e f kept = (
   strip_last 13 part,
-  first-line (drop count bytes ++ rest) part (drop (count + (length part + 1)) bytes ++ rest)
+  first-line (drop count bytes ++ rest) part (drop left now ++ rest)
       (ap (λ xs. xs ++ rest) e ∙ append_assoc part (10 ∷ after) rest
-      ∙ ap (λ xs. part ++ 10 ∷ (xs ++ rest)) (sym (drop-line bytes part after count e)))
+      ∙ ap (λ xs. part ++ 10 ∷ (xs ++ rest)) (sym (kept ∙ drop-line bytes part after count e)))
       f (whole-short part after (subst IsWhole e h.whole) f),
 )
 
@@ -230,15 +229,19 @@ takes-none bytes rest count is_long h f l =
     ap length (lines-rest_after (drop count bytes) rest h.whole h.unfinished ∙ lines-no_feed (drop count bytes) f) in
     omega arith
 
+within-half : (count : ℕ) (bytes : List ℕ) → count + count ≤ length bytes → count ≤ length bytes
+within-half count bytes half = omega arith
+
 -- what is held after more bytes
 pub holding-more : (bytes piece rest now left : List ℕ) (count : ℕ) (was is_long : Bool) → IsHolding bytes count rest was →
     IsTaken bytes rest piece now left is_long → IsHolding now count left is_long
 holding-more bytes piece rest now left count was is_long h t =
     let cut = t.2 in
-    let same : drop count now ≡ drop count bytes ++ t.0 = ap (drop count) t.1 ∙ drop-append-le count bytes t.0 h.taken in
+    let held : count + count ≤ length bytes = h.half in
+    let same : drop count now ≡ drop count bytes ++ t.0 =
+    ap (drop count) t.1 ∙ drop-append-le count bytes t.0 (within-half count bytes held) in
     record {
-      taken = (let l : length now ≡ length bytes + length t.0 = ap length t.1 ∙ length-append bytes t.0 in
-          let k : count ≤ length bytes = h.taken in omega arith);
+      half = (let l : length now ≡ length bytes + length t.0 = ap length t.1 ∙ length-append bytes t.0 in omega arith);
       whole = subst IsWhole (sym same) (whole-append (drop count bytes) t.0 h.whole cut.whole);
       unfinished = cut.unfinished;
       nothing = cut.nothing;
@@ -250,7 +253,8 @@ pub held-more : (bytes piece rest now left : List ℕ) (count : ℕ) (was is_lon
 held-more bytes piece rest now left count was is_long h t =
     let cut = t.2 in
     let whole = drop count bytes in
-    let same : drop count now ≡ whole ++ t.0 = ap (drop count) t.1 ∙ drop-append-le count bytes t.0 h.taken in
+    let same : drop count now ≡ whole ++ t.0 =
+    ap (drop count) t.1 ∙ drop-append-le count bytes t.0 (within-half count bytes h.half) in
     let kept : drop count now ++ left ≡ kept_of ((whole ++ rest) ++ piece) =
     ap (λ xs. xs ++ left) same ∙ append_assoc whole t.0 left ∙ ap (λ xs. whole ++ xs) (sym cut.kept)
     ∙ sym (h.whole.kept (rest ++ piece)) ∙ ap kept_of (sym (append_assoc whole rest piece)) in

@@ -1,7 +1,7 @@
 -- What has come of a session's lines, and was not taken.
-use Rattle.std.specs.Prelude.{ℕ, ◌≡◌, Bool, true, List, [], ◌∷◌, ◌++◌, if◌then◌else◌, IfSome}
+use Rattle.std.specs.Prelude.{ℕ, ◌≡◌, Bool, true, List, [], ◌∷◌, ◌++◌, if◌then◌else◌}
 use Rattle.std.specs.Io.BufRead.{strip_last}
-use Rattle.session_lines.specs.Lines.{HasNoFeed, parts_of, ended_parts, lines_of, has_long_line, IsUnfinished}
+use Rattle.session_lines.specs.Lines.{parts_of, ended_parts, lines_of, has_long_line, IsUnfinished}
 
 -- lines, each with the line feed that ends it
 abbrev pub ended_bytes : List (List ℕ) → List ℕ

@@ -3,6 +3,7 @@ ghost use Rattle.std.specs.Prelude.{◌≡◌, ◌+◌, ◌<◌, ◌≤◌, ◌+
 ghost use Rattle.std.specs.Bool.{OnTrue, OnFalse};
 ghost use Rattle.session_lines.specs.Lines.{HasNoFeed, IsUnfinished, lines_of, has_long_line};
 ghost use Rattle.session_lines.specs.Heard.{kept_of, heard, heard_more, IsCut, IsFirstLine};
+ghost use Rattle.session_lines.specs.Holding.{IsHeldFor};
 
 use crate::cuts::{LINE_ROOM, first_feed, without_return};
 use arrayvec::ArrayVec;
@@ -30,10 +31,10 @@ impl From<AllocError> for FeedFault {
 }
 
 /// The bytes that a session has sent, and that were not taken: whole lines, and what has come of the next one. Of a line
-/// that is too long, and after it, no byte is kept.
+/// that is too long, and after it, no byte is kept; of the bytes that were taken at most as many are held as wait.
 #[derive(Drop)]
 pub struct Lines {
-    // Whole lines with their line feeds, the first bytes of which were taken.
+    // Whole lines with their line feeds, the first bytes of which were taken, at most half of them.
     whole: Vec<u8>,
     taken: usize,
     // What has come of the next line.
@@ -122,6 +123,27 @@ fn drop_front(bytes: &mut Vec<u8>, count: usize)
     bytes.truncate(left);
 }
 
+// The most room that stays where no byte is held; what a session mostly sends needs less.
+const EMPTY_ROOM: usize = 8192;
+
+// Gives up the bytes that were taken, once they are half of all, and answers how many of them are still held. Where no
+// byte is left, room beyond the usual is given up too.
+fn drop_taken(bytes: &mut Vec<u8>, taken: usize) -> usize
+    requires { taken ≤ vec_len bytes.old }
+    ensures kept { drop result bytes.new.items ≡ drop taken bytes.old.items }
+    ensures half { result + result ≤ length bytes.new.items }
+    ensures room { length bytes.new.items ≡ 0 → vec_capacity bytes.new ≤ 8192 }
+{
+    if taken < bytes.len() - taken {
+        return taken;
+    }
+    drop_front(bytes, taken);
+    if bytes.is_empty() && bytes.capacity() > EMPTY_ROOM {
+        bytes.shrink_to_fit();
+    }
+    0
+}
+
 impl Lines {
     /// Nothing has come.
     pub fn new(alloc: Global) -> Self
@@ -147,7 +169,6 @@ impl Lines {
         if self.is_long {
             return Err(FeedFault::LineTooLong);
         }
-        self.drop_taken();
         self.whole.reserve(self.rest.len() + piece.len())?;
         self.is_long = take_piece(&mut self.whole, &mut self.rest, piece);
         Ok(())
@@ -165,6 +186,14 @@ impl Lines {
         ensures { result ≡ length self.now.bytes }
     {
         self.whole.len() - self.taken + self.rest.len()
+    }
+
+    /// How many bytes are held, those that were taken and not yet given up too: all that wait, and at most twice as
+    /// many.
+    pub fn held(&self) -> usize
+        ensures { IsHeldFor result self.now }
+    {
+        self.whole.len() + self.rest.len()
     }
 
     /// The lines that wait, from the oldest on.
@@ -191,17 +220,8 @@ impl Lines {
         ensures long { self.new.is_long ≡ self.old.is_long }
     {
         if let Some((part, _)) = split_feed(&self.whole.as_slice()[self.taken..]) {
-            self.taken += part.len() + 1;
-        }
-    }
-
-    // Gives up the room of what was taken, once that is half of it all.
-    fn drop_taken(&mut self)
-        ensures { self.new ≡ self.old }
-    {
-        if self.whole.len() - self.taken <= self.taken {
-            drop_front(&mut self.whole, self.taken);
-            self.taken = 0;
+            let taken = self.taken + (part.len() + 1);
+            self.taken = drop_taken(&mut self.whole, taken);
         }
     }
 }

@@ -1,7 +1,7 @@
 use Rattle.std.proofs.Common.{◌≡◌, ℕ, ◌<◌, List, [], ◌∷◌, arith, true, false, Bool, subst, not, sym, length, ◌+◌, ◌++◌, ap, ◌∙◌, length-append, append-nil}
 use Rattle.std.specs.Bool.{OnTrue, OnFalse}
 use Rattle.session_lines.specs.Lines.{HasNoFeed, IsUnfinished}
-use Rattle.session_lines.proofs.Wholes.{HasTaken, IsTaken, taken-none, taken-line, taken-rest, taken-long}
+use Rattle.session_lines.proofs.Wholes.{HasTaken, IsTaken, taken-line, taken-rest, taken-long}
 use Rattle.session_lines.proofs.heard.take_piece.Goals as goal
 
 pub returns-then-not-take_part : goal.returns-then-not-take_part

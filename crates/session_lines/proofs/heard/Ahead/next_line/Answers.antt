@@ -1,5 +1,4 @@
-use Rattle.std.proofs.Common.{◌∙◌, ap, sym, subst, ◌∷◌, ℕ, List, arith, Option, None}
-use Rattle.std.specs.Prelude.{IfNone}
+use Rattle.std.proofs.Common.{◌∙◌, ap, sym, ◌∷◌, arith}
 use Rattle.session_lines.specs.Lines.{lines_of, IsUnfinished}
 use Rattle.session_lines.proofs.LineLemmas.{lines-feed, lines-long}
 use Rattle.session_lines.proofs.Wholes.{lines-no_feed}
