@@ -1,24 +1,22 @@
 //! A chess game server: its words.
 #![tactic(auto)]
 
-mod command_line;
 mod drill;
-mod ends;
-mod journals;
-mod playing;
-#[cfg(test)]
-mod tests;
-mod words;
+
+// By this name the drill has it.
+mod ends {
+    pub use server_work::Fault;
+}
 
 use board_session::board;
 use clap::Error;
 use drill::{Tally, drill};
-use ends::{End, Fault, end_of_words, end_of_work, fault_of_board, name, status};
-use journals::{format, widen};
-use playing::{run_journal, serve};
-use std::env;
+use server_words::{Word, read_words, words_given};
+use server_work::{
+    End, Fault, end_of_words, end_of_work, fault_of_board, format, name, run_journal, serve,
+    status, widen,
+};
 use std::process::ExitCode;
-use words::{Word, no_text, read_words};
 
 fn main(rt: HostRuntime) -> ExitCode {
     let end = match words_given(&rt) {
@@ -35,14 +33,6 @@ fn main(rt: HostRuntime) -> ExitCode {
     ExitCode::from(status(end))
 }
 
-// The words of the command line.
-fn words_given(rt: &HostRuntime) -> Result<Vec<String>, Error> {
-    let Ok(args) = env::args(rt) else {
-        return Err(no_text(rt.alloc())?);
-    };
-    Ok(args.collect(rt.alloc())?)
-}
-
 // Prints a text of the command line, as help.
 fn end_with(rt: &HostRuntime, error: &Error) -> End {
     let _ = error.print(rt);
@@ -52,7 +42,10 @@ fn end_with(rt: &HostRuntime, error: &Error) -> End {
 // Does what a word asks for.
 fn do_work(rt: &HostRuntime, word: Word<'_>) -> Result<(), Fault> {
     match word {
-        Word::Board => board(&mut rt.stdin(), &mut rt.stdout()).map_err(fault_of_board),
+        Word::Board => match board(&mut rt.stdin(), &mut rt.stdout()) {
+            Ok(()) => Ok(()),
+            Err(fault) => Err(fault_of_board(fault)),
+        },
         Word::Format(tables) => format(rt, rt.alloc(), &tables),
         Word::Run(journal) => {
             let (mut input, mut output) = (rt.stdin(), rt.stdout());

@@ -1,0 +1,12 @@
+//! What the program does for each word, and how its run ends.
+#![tactic(auto)]
+
+mod ends;
+mod journals;
+mod playing;
+#[cfg(test)]
+mod tests;
+
+pub use ends::{End, Fault, end_of_words, end_of_work, fault_of_board, name, status};
+pub use journals::{format, widen};
+pub use playing::{run_journal, serve};
