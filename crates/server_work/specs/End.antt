@@ -8,11 +8,11 @@ use Rattle.chess_run.specs.declared.running.RunFault.{RunFault}
 use Rattle.chess_run.specs.declared.running.RunFault.TheVariants as run
 use Rattle.board_session.specs.declared.board_loop.BoardFault.{BoardFault}
 use Rattle.board_session.specs.declared.board_loop.BoardFault.TheVariants as board
-use Rattle.chess_server.specs.declared.ends.End.{End}
-use Rattle.chess_server.specs.declared.ends.End.TheVariants as ends
-use Rattle.chess_server.specs.declared.ends.Fault.{Fault}
-use Rattle.chess_server.specs.declared.ends.Fault.TheVariants.{File, Read, Write, Limits, Socket, LineTooLong, Store, Hub}
-use Rattle.chess_server.specs.declared.ends.Fault.TheVariants as faults
+use Rattle.server_work.specs.declared.ends.End.{End}
+use Rattle.server_work.specs.declared.ends.End.TheVariants as ends
+use Rattle.server_work.specs.declared.ends.Fault.{Fault}
+use Rattle.server_work.specs.declared.ends.Fault.TheVariants.{File, Read, Write, Limits, Socket, LineTooLong, Store, Hub}
+use Rattle.server_work.specs.declared.ends.Fault.TheVariants as faults
 
 -- the exit status: 1 after a fault, 2 for words that the program does not know
 abbrev pub status_of : End → ℕ

@@ -1,7 +1,7 @@
 //! How a run of the program ends: its exit status, and what is told of a fault.
 ghost use Rattle.std.specs.Prelude.{◌≡◌, ◌≢◌};
 ghost use Rattle.clap.specs.Values.{kind_of};
-ghost use Rattle.chess_server.specs.End.{end_of, name_of, name_of_hub, name_of_store, of_board, of_run, status_of};
+ghost use Rattle.server_work.specs.End.{end_of, name_of, name_of_hub, name_of_store, of_board, of_run, status_of};
 
 use board_session::BoardFault;
 use chess_hub::HubFault;

@@ -2,13 +2,13 @@
 ghost use Rattle.std.specs.Prelude.{◌≡◌, ◌≤◌, ◌↔◌, IsTrue, IfErr, IsErrOf};
 ghost use Rattle.rec_codec.specs.declared.limits.Version.TheVariants.{Two};
 ghost use Rattle.rec_codec.specs.Limits.{IsInRange};
-ghost use Rattle.chess_server.specs.Faults.{IsFormatFault, IsOpenFault, IsWidenFault, MayWiden};
+ghost use Rattle.server_work.specs.Faults.{IsFormatFault, IsOpenFault, IsWidenFault, MayWiden};
 
 use crate::ends::Fault;
-use crate::words::Tables;
 use chess_store::{Store, StoreFault};
 use rec_codec::{Limits, need};
 use sector_dev::{Device, FileDevice};
+use server_words::Tables;
 use std::alloc::Global;
 use std::fs::File;
 use std::rt::Files;

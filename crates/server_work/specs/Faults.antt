@@ -4,8 +4,8 @@ use Rattle.rec_codec.specs.declared.limits.Limits.{Limits}
 use Rattle.chess_store.specs.Faults as store
 use Rattle.chess_sockets.specs.Turns as sockets
 use Rattle.chess_lives.specs.Drill as drill
-use Rattle.chess_server.specs.declared.ends.Fault.{Fault}
-use Rattle.chess_server.specs.declared.ends.Fault.TheVariants as faults
+use Rattle.server_work.specs.declared.ends.Fault.{Fault}
+use Rattle.server_work.specs.declared.ends.Fault.TheVariants as faults
 
 -- of opening a journal
 abbrev pub IsOpenFault : Fault → Type 0

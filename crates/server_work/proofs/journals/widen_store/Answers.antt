@@ -1,9 +1,9 @@
 -- No limit is below the present one, and the store's own fault is another.
 use Rattle.std.proofs.Common.{◌≡◌, Ok, Err, refl, subst}
 use Rattle.rec_codec.specs.declared.limits.Limits.{Limits}
-use Rattle.chess_server.specs.Faults.{MayWiden}
-use Rattle.chess_server.specs.declared.ends.Fault.TheVariants as fault
-use Rattle.chess_server.proofs.journals.widen_store.Goals as goal
+use Rattle.server_work.specs.Faults.{MayWiden}
+use Rattle.server_work.specs.declared.ends.Fault.TheVariants as fault
+use Rattle.server_work.proofs.journals.widen_store.Goals as goal
 
 pub returns-in-Ok-clause-below : goal.returns-in-Ok-clause-below
 returns-in-Ok-clause-below g c =

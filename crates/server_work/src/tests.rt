@@ -1,13 +1,13 @@
-//! The command line's words, and how a run ends.
+//! How a run ends.
 use crate::ends::{
     End, Fault, end_of_words, end_of_work, fault_of_board, fault_of_run, name, status,
 };
-use crate::words::{Word, read_words};
 use board_session::BoardFault;
 use chess_hub::HubFault;
 use chess_run::RunFault;
 use chess_store::StoreFault;
 use clap::Error;
+use server_words::read_words;
 use std::alloc::{AllocError, Global};
 use std::test::Fail;
 
@@ -78,33 +78,27 @@ fn names_each_fault(rt: HostRuntime) {
     }
 }
 
-// The words of a command line as the program gets them.
-fn words_of(alloc: Global, word: &str) -> Result<Vec<String>, AllocError> {
+// The exit status for a word that the program does not do, and `None` for one that it does.
+fn status_for(alloc: Global, word: &str) -> Result<Option<u8>, AllocError> {
     let mut words = Vec::new(alloc);
     words.push(String::from_str(alloc, "chess_server")?)?;
     words.push(String::from_str(alloc, word)?)?;
-    Ok(words)
+    match read_words(alloc, words.as_slice()) {
+        Ok(_) => Ok(None),
+        Err(error) => Ok(Some(status(end_of_words(&error)))),
+    }
 }
 
 #[test]
-fn reads_the_command_line(rt: HostRuntime) -> Result<(), Fail> {
+fn ends_by_the_command_line(rt: HostRuntime) -> Result<(), Fail> {
     let alloc = rt.alloc();
-    let words = words_of(alloc, "board")?;
-    assert!(rt; matches!(read_words(alloc, words.as_slice()), Ok(Word::Board)));
-    for unknown in ["lead", "--journal", ""] {
-        match read_words(alloc, words_of(alloc, unknown)?.as_slice()) {
-            Ok(_) => assert!(rt; false, "{unknown}"),
-            Err(error) => assert_eq!(rt; status(end_of_words(&error)), 2, "{unknown}"),
-        }
+    for (word, wanted) in [("lead", 2), ("--journal", 2), ("", 2), ("--help", 0)] {
+        assert_eq!(rt; status_for(alloc, word)?, Some(wanted), "{word}");
     }
     let refused = Error::from(AllocError);
     assert!(rt;
         end_of_words(&refused) == End::Fault(Fault::NoMemory),
         "memory"
     );
-    match read_words(alloc, words_of(alloc, "--help")?.as_slice()) {
-        Ok(_) => assert!(rt; false, "help"),
-        Err(error) => assert_eq!(rt; status(end_of_words(&error)), 0, "help"),
-    }
     Ok(())
 }

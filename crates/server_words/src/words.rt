@@ -7,6 +7,8 @@ use clap::error::ErrorKind;
 use clap::{ArgMatches, Command, Error};
 use rec_codec::{Limits, Version};
 use std::alloc::{AllocError, Global};
+use std::rt::Env;
+use std::{env, io};
 
 /// What the program is to do.
 #[derive(Clone, Copy)]
@@ -89,7 +91,17 @@ fn serving_of<'a>(values: &ArgMatches<'a>) -> Option<Serving<'a>> {
     })
 }
 
-/// The fault of words that are no text.
-pub fn no_text(alloc: Global) -> Result<Error, AllocError> {
+// The fault of words that are no text.
+fn no_text(alloc: Global) -> Result<Error, AllocError> {
     command_line(alloc)?.error(ErrorKind::InvalidValue, "a word is not in UTF-8")
+}
+
+/// The words of the command line, the program's own name first. An `Err` is a usage fault where one of them is no text,
+/// and `OutOfMemory` where memory was refused.
+pub fn words_given<R: Env + AllocGlobal>(rt: &R) -> Result<Vec<String>, Error> {
+    match env::args(rt) {
+        Ok(args) => Ok(args.collect(rt.alloc())?),
+        Err(fault) if fault.kind() == io::ErrorKind::OutOfMemory => Err(Error::from(AllocError)),
+        Err(_) => Err(no_text(rt.alloc())?),
+    }
 }

@@ -1,14 +1,15 @@
 //! The words that play in a journal.
 ghost use Rattle.std.specs.Prelude.{◌≡◌, IfErr};
-ghost use Rattle.chess_server.specs.Faults.{IsRunFault, IsServeFault};
+ghost use Rattle.server_work.specs.Faults.{IsRunFault, IsServeFault};
 
 use crate::ends::{Fault, fault_of_run};
 use crate::journals::open_journal;
-use crate::words::Serving;
 use chess_hub::Hub;
 use chess_run::{Moments, run};
 use chess_sockets::{Server, Turned};
+use chess_store::Store;
 use sector_dev::Device;
+use server_words::Serving;
 use std::alloc::Global;
 use std::fs::File;
 use std::io::{Read, Write};
@@ -88,6 +89,23 @@ fn take_turns<R: Clock + Print, D: Device>(
     Ok(())
 }
 
+// Serves players on a port, over the games of a store.
+fn serve_store<R, D: Device + Drop>(
+    rt: &R,
+    alloc: Global,
+    serving: &Serving<'_>,
+    store: Store<D>,
+) -> Result<(), Fault>
+where
+    R: Clock + Print + Net<Listener = TcpListener, Stream = TcpStream>,
+    ensures { IfErr result IsServeFault }
+{
+    match Server::bind(rt, alloc, serving.port, Hub::new(alloc, store)) {
+        Ok(mut server) => take_turns(rt, &mut server, serving.turns),
+        Err(_) => Err(Fault::Socket),
+    }
+}
+
 /// Serves players on a port, over the games of a journal's file, and first prints `port P`, P being the port that it
 /// listens on. Where a turn found nothing to do it waits until a socket is ready or 10 ms have passed.
 pub fn serve<R>(rt: &R, alloc: Global, serving: &Serving<'_>) -> Result<(), Fault>
@@ -95,9 +113,6 @@ where
     R: Files<File = File> + Clock + Print + Net<Listener = TcpListener, Stream = TcpStream>,
     ensures { IfErr result IsServeFault }
 {
-    let hub = Hub::new(alloc, open_journal(rt, alloc, serving.journal)?);
-    match Server::bind(rt, alloc, serving.port, hub) {
-        Ok(mut server) => take_turns(rt, &mut server, serving.turns),
-        Err(_) => Err(Fault::Socket),
-    }
+    let store = open_journal(rt, alloc, serving.journal)?;
+    serve_store(rt, alloc, serving, store)
 }

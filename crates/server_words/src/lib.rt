@@ -1,0 +1,9 @@
+//! The words of the program: what its command line may ask for, with the texts of their help.
+#![tactic(auto)]
+
+mod command_line;
+#[cfg(test)]
+mod tests;
+mod words;
+
+pub use words::{Serving, Tables, Word, read_words, words_given};

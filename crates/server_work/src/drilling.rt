@@ -1,0 +1,23 @@
+//! The word that plays the drill.
+ghost use Rattle.std.specs.Prelude.{IfErr};
+ghost use Rattle.server_work.specs.Faults.{IsDrillFault};
+
+use crate::ends::Fault;
+use chess_lives::{Tally, drill};
+use std::alloc::Global;
+use std::rt::Print;
+
+/// Plays the drill, and prints what came of it as `drill C none N all A`: the cases, those in which no move of the batch
+/// shows, and those in which all do.
+pub fn tell_drill(rt: &impl Print, alloc: Global) -> Result<(), Fault>
+    ensures { IfErr result IsDrillFault }
+{
+    let Tally { cases, none, all } = match drill(alloc) {
+        Ok(tally) => tally,
+        Err(fault) => return Err(Fault::Store(fault)),
+    };
+    match println!(rt; "drill {cases} none {none} all {all}") {
+        Ok(()) => Ok(()),
+        Err(_) => Err(Fault::Write),
+    }
+}
