@@ -8,7 +8,7 @@ use sector_dev::MemoryDevice;
 use std::alloc::Global;
 use std::io;
 use std::io::{Error, ErrorKind, Read, Write};
-use std::test::Fail;
+use std::process::Abort;
 
 /// What a connection gives at a read.
 #[derive(Clone, Copy)]
@@ -22,6 +22,7 @@ enum Gives {
 /// What a connection does at a write.
 #[derive(Clone, Copy)]
 enum Takes {
+    All,
     /// It takes so many bytes, and nothing at the next write.
     Some(usize),
     Nothing,
@@ -59,6 +60,7 @@ impl Read for Peer {
 impl Write for Peer {
     fn write(&mut self, buf: &[u8]) -> io::Result<usize> {
         let most = match self.takes {
+            Takes::All => buf.len(),
             Takes::Some(most) if !self.is_full => most,
             Takes::Some(_) | Takes::Nothing => {
                 self.is_full = false;
@@ -86,14 +88,7 @@ list\nlist\nlist\nlist\nlist\nlist\nlist\nlist\nlist\nlist\n";
 
 const LISTED: &str = "ok list 0\n";
 
-/// Two connections, the first of which is odd, and the sessions of both.
-#[derive(Drop)]
-struct Played {
-    hub: Hub<MemoryDevice>,
-    clients: Vec<Client<Peer>>,
-}
-
-fn peer(alloc: Global, gives: &'static [Gives], takes: Takes) -> Peer {
+fn made(alloc: Global, gives: &'static [Gives], takes: Takes) -> Peer {
     Peer {
         gives,
         reads: 0,
@@ -103,160 +98,118 @@ fn peer(alloc: Global, gives: &'static [Gives], takes: Takes) -> Peer {
     }
 }
 
-// The second asks for the list in each turn, and takes what it is given.
-fn begin(alloc: Global, gives: &'static [Gives], takes: Takes) -> Option<Played> {
+/// What came of turns in which one connection was served beside another, which asks for the list in each.
+#[derive(Clone, Copy, Debug, PartialEq, Eq)]
+struct Outcome {
+    is_open: bool,
+    /// How many whole lines it was written, all of them the one that is wanted.
+    lines: Option<usize>,
+    reads: usize,
+    /// How many the other was.
+    others: Option<usize>,
+}
+
+// How often a line stands in a text of such lines alone.
+fn count_lines(written: &[u8], line: &str) -> Option<usize> {
+    let line = line.as_bytes();
+    if line.is_empty() || written.len() % line.len() != 0 {
+        return None;
+    }
+    for (place, byte) in written.iter().enumerate() {
+        if *byte != line[place % line.len()] {
+            return None;
+        }
+    }
+    Some(written.len() / line.len())
+}
+
+fn hub(alloc: Global) -> Option<Hub<MemoryDevice>> {
     let limits = Limits {
         games: 4,
         plies: 60,
     };
     let device = MemoryDevice::new(alloc, 212).ok()?;
-    let mut hub = Hub::new(alloc, Store::create(alloc, device, limits).ok()?);
+    let store = Store::create(alloc, device, limits).ok()?;
+    Some(Hub::new(alloc, store))
+}
+
+// So many turns, one a millisecond from 1,000 on.
+fn take_turns(
+    clients: &mut Vec<Client<Peer>>,
+    hub: &mut Hub<MemoryDevice>,
+    turns: u64,
+    silence: Option<u64>,
+) -> bool {
+    for turn in 0..turns {
+        let reading = Reading {
+            at: 1_000u64.saturating_add(turn),
+            is_calm: false,
+            silence,
+        };
+        if serve_clients(clients, hub, reading).is_err() {
+            return false;
+        }
+    }
+    true
+}
+
+fn outcome_of(clients: &[Client<Peer>], hub: &Hub<MemoryDevice>, line: &str) -> Option<Outcome> {
+    let (odd, other) = (clients.first()?, clients.get(1)?);
+    Some(Outcome {
+        is_open: hub.is_open(odd.sid()),
+        lines: count_lines(odd.stream().written.as_slice(), line),
+        reads: odd.stream().reads,
+        others: count_lines(other.stream().written.as_slice(), LISTED),
+    })
+}
+
+fn connect(
+    clients: &mut Vec<Client<Peer>>,
+    hub: &mut Hub<MemoryDevice>,
+    alloc: Global,
+    peer: Peer,
+) -> bool {
+    match hub.connect() {
+        Ok(sid) => clients.push(Client::new(alloc, peer, sid, 1_000)).is_ok(),
+        Err(_) => false,
+    }
+}
+
+fn play(
+    alloc: Global,
+    peer: Peer,
+    line: &str,
+    turns: u64,
+    silence: Option<u64>,
+) -> Option<Outcome> {
+    let mut hub = hub(alloc)?;
     let mut clients = Vec::new(alloc);
-    for it in [
-        peer(alloc, gives, takes),
-        peer(alloc, &[Gives::Text("list\n")], Takes::Some(4096)),
-    ] {
-        let sid = hub.connect().ok()?;
-        clients.push(Client::new(alloc, it, sid, 1_000)).ok()?;
-    }
-    Some(Played { hub, clients })
-}
-
-impl Played {
-    // So many turns, one a millisecond.
-    fn turns(&mut self, from: u64, count: u64, silence: Option<u64>) -> bool {
-        for turn in 0..count {
-            let reading = Reading {
-                at: from.saturating_add(turn),
-                is_calm: false,
-                silence,
-            };
-            if serve_clients(&mut self.clients, &mut self.hub, reading).is_err() {
-                return false;
-            }
-        }
-        true
-    }
-
-    // Whether the session of one of them is open.
-    fn is_open(&self, place: usize) -> bool {
-        match self.clients.get(place) {
-            Some(client) => self.hub.is_open(client.sid()),
-            None => false,
-        }
-    }
-
-    // How many lines one of them was written, each of them this one; `None` where there is another.
-    fn lines(&self, place: usize, line: &str) -> Option<usize> {
-        let written = self.clients.get(place)?.stream().written.as_slice();
-        let mut rest = written;
-        let mut count = 0usize;
-        while let Some(more) = rest.strip_prefix(line.as_bytes()) {
-            if line.is_empty() {
-                return None;
-            }
-            rest = more;
-            count = count.saturating_add(1);
-        }
-        rest.is_empty().then_some(count)
-    }
-
-    // How often one of them was read.
-    fn reads(&self, place: usize) -> usize {
-        match self.clients.get(place) {
-            Some(client) => client.stream().reads,
-            None => 0,
-        }
+    let other = made(alloc, &[Gives::Text("list\n")], Takes::All);
+    let plays = connect(&mut clients, &mut hub, alloc, peer)
+        && connect(&mut clients, &mut hub, alloc, other)
+        && take_turns(&mut clients, &mut hub, turns, silence);
+    if plays {
+        outcome_of(clients.as_slice(), &hub, line)
+    } else {
+        None
     }
 }
 
-#[test]
-fn an_answer_goes_in_pieces(rt: HostRuntime) -> Result<(), Fail> {
-    let gives = &[Gives::Text("list\nlist\n"), Gives::Nothing];
-    let Some(mut played) = begin(rt.alloc(), gives, Takes::Some(3)) else {
-        assert!(rt; false);
-        return Ok(());
-    };
-    assert!(rt; played.turns(1_000, 3, None));
-    assert!(rt; played.lines(0, LISTED).is_none());
-    assert!(rt; played.turns(1_003, 17, None));
-    assert_eq!(rt; played.lines(0, LISTED), Some(2));
-    assert!(rt; played.is_open(0));
-    assert_eq!(rt; played.lines(1, LISTED), Some(20));
-    Ok(())
+// An outcome in which the other was served in each turn.
+fn left(is_open: bool, lines: Option<usize>, reads: usize, turns: usize) -> Option<Outcome> {
+    Some(Outcome {
+        is_open,
+        lines,
+        reads,
+        others: Some(turns),
+    })
 }
 
-#[test]
-fn a_broken_connection_is_closed(rt: HostRuntime) -> Result<(), Fail> {
-    for (gives, takes, lines) in [
-        (
-            [Gives::Text("list\n"), Gives::Reset].as_slice(),
-            Takes::Some(4096),
-            Some(1),
-        ),
-        (
-            [Gives::Text("list\n"), Gives::Nothing].as_slice(),
-            Takes::Fails(4),
-            None,
-        ),
-    ] {
-        let Some(mut played) = begin(rt.alloc(), gives, takes) else {
-            assert!(rt; false);
-            return Ok(());
-        };
-        assert!(rt; played.turns(1_000, 2, None));
-        assert!(rt; !played.is_open(0));
-        assert_eq!(rt; played.lines(0, LISTED), lines);
-        assert!(rt; played.turns(1_002, 2, None));
-        assert!(rt; played.is_open(1));
-        assert_eq!(rt; played.lines(1, LISTED), Some(4));
-    }
-    Ok(())
-}
+const TWO: &[Gives] = &[Gives::Text("list\nlist\n"), Gives::Nothing];
 
-#[test]
-fn who_sends_no_more_gets_all_answers(rt: HostRuntime) -> Result<(), Fail> {
-    let gives = &[Gives::Text(LISTS), Gives::Text("li"), Gives::End];
-    for takes in [Takes::Some(4096), Takes::Some(7)] {
-        let Some(mut played) = begin(rt.alloc(), gives, takes) else {
-            assert!(rt; false);
-            return Ok(());
-        };
-        assert!(rt; played.turns(1_000, 1, None));
-        assert!(rt; played.is_open(0));
-        assert!(rt; played.turns(1_001, 199, None));
-        assert_eq!(rt; played.lines(0, LISTED), Some(40));
-        assert!(rt; !played.is_open(0));
-    }
-    Ok(())
-}
+const ONE: &[Gives] = &[Gives::Text("list\n"), Gives::Nothing];
 
-#[test]
-fn a_turn_gives_a_session_sixteen_lines(rt: HostRuntime) -> Result<(), Fail> {
-    let gives = &[Gives::Text(LISTS), Gives::Nothing];
-    let Some(mut played) = begin(rt.alloc(), gives, Takes::Some(4096)) else {
-        assert!(rt; false);
-        return Ok(());
-    };
-    assert!(rt; played.turns(1_000, 1, None));
-    assert_eq!(rt; played.lines(0, LISTED), Some(16));
-    assert!(rt; played.turns(1_001, 4, None));
-    assert_eq!(rt; played.lines(0, LISTED), Some(40));
-    Ok(())
-}
-
-#[test]
-fn who_takes_nothing_is_read_no_further(rt: HostRuntime) -> Result<(), Fail> {
-    let Some(mut played) = begin(rt.alloc(), &[Gives::Text(LISTS)], Takes::Nothing) else {
-        assert!(rt; false);
-        return Ok(());
-    };
-    assert!(rt; played.turns(1_000, 50, None));
-    assert!(rt; played.is_open(0));
-    assert_eq!(rt; played.reads(0), 1);
-    assert_eq!(rt; played.lines(1, LISTED), Some(50));
-    Ok(())
-}
+const ENDS: &[Gives] = &[Gives::Text(LISTS), Gives::Text("li"), Gives::End];
 
 const LONG: &str = "\
 xxxxxxxxxxxxxxxxxxxxxxxxxxxxxxxxxxxxxxxxxxxxxxxxxxxxxxxxxxxxxxxxxxxxxxxxxxxxxxxxxxxxxxxxxxxxxxxxxxxx\
@@ -264,38 +217,92 @@ xxxxxxxxxxxxxxxxxxxxxxxxxxxxxxxxxxxxxxxxxxxxxxxxxxxxxxxxxxxxxxxxxxxxxxxxxxxxxxxx
 xxxxxxxxxxxxxxxxxxxxxxxxxxxxxxxxxxxxxxxxxxxxxxxxxxxxxxxxxxxxxxxxxxxxxxxxxxxxxxxxxxxxxxxxxxxxxxxxxxxx";
 
 #[test]
-fn who_sends_a_long_line_is_closed(rt: HostRuntime) -> Result<(), Fail> {
-    let Some(mut played) = begin(rt.alloc(), &[Gives::Text(LONG)], Takes::Some(4096)) else {
-        assert!(rt; false);
-        return Ok(());
-    };
-    assert!(rt; played.turns(1_000, 20, None));
-    assert_eq!(rt; played.lines(0, "bye LineTooLong\n"), Some(1));
-    assert!(rt; !played.is_open(0));
-    assert!(rt; played.is_open(1));
-    Ok(())
+fn answers_go_in_pieces(rt: HostRuntime) {
+    let alloc = rt.alloc();
+    let slow = Takes::Some(3);
+    assert_eq!(rt;
+        play(alloc, made(alloc, TWO, slow), LISTED, 3, None),
+        left(true, None, 1, 3)
+    );
+    let all = left(true, Some(2), 14, 20);
+    assert_eq!(rt; play(alloc, made(alloc, TWO, slow), LISTED, 20, None), all);
 }
 
 #[test]
-fn the_silent_are_closed(rt: HostRuntime) -> Result<(), Fail> {
-    let gives = &[Gives::Text("list\n"), Gives::Nothing];
-    let Some(mut played) = begin(rt.alloc(), gives, Takes::Some(4096)) else {
-        assert!(rt; false);
-        return Ok(());
-    };
-    assert!(rt; played.turns(1_000, 99, Some(100)));
-    assert!(rt; played.is_open(0));
-    assert!(rt; played.turns(1_100, 1, Some(100)));
-    assert!(rt; !played.is_open(0));
-    assert!(rt; played.is_open(1));
+fn broken_connections_are_closed(rt: HostRuntime) {
+    let alloc = rt.alloc();
+    let resets = &[Gives::Text("list\n"), Gives::Reset];
+    let reset = made(alloc, resets, Takes::All);
+    assert_eq!(rt;
+        play(alloc, reset, LISTED, 5, None),
+        left(false, Some(1), 2, 5)
+    );
+    let failed = made(alloc, ONE, Takes::Fails(4));
+    assert_eq!(rt;
+        play(alloc, failed, LISTED, 1, None),
+        left(false, None, 1, 1)
+    );
+}
+
+#[test]
+fn all_lines_before_an_end_are_answered(rt: HostRuntime) {
+    let alloc = rt.alloc();
+    let whole = Takes::All;
+    assert_eq!(rt;
+        play(alloc, made(alloc, ENDS, whole), LISTED, 1, None),
+        left(true, Some(16), 1, 1)
+    );
+    assert_eq!(rt;
+        play(alloc, made(alloc, ENDS, whole), LISTED, 9, None),
+        left(false, Some(40), 3, 9)
+    );
+    let slow = Takes::Some(7);
+    let all = left(false, Some(40), 3, 200);
+    assert_eq!(rt;
+        play(alloc, made(alloc, ENDS, slow), LISTED, 200, None),
+        all
+    );
+}
+
+#[test]
+fn who_takes_nothing_is_read_no_further(rt: HostRuntime) {
+    let alloc = rt.alloc();
+    let floods = made(alloc, &[Gives::Text(LISTS)], Takes::Nothing);
+    assert_eq!(rt;
+        play(alloc, floods, LISTED, 50, None),
+        left(true, Some(0), 1, 50)
+    );
+}
+
+#[test]
+fn who_sends_a_long_line_is_closed(rt: HostRuntime) {
+    let alloc = rt.alloc();
+    let floods = made(alloc, &[Gives::Text(LONG)], Takes::All);
+    let told = left(false, Some(1), 16, 20);
+    assert_eq!(rt; play(alloc, floods, "bye LineTooLong\n", 20, None), told);
+}
+
+#[test]
+fn the_silent_are_closed(rt: HostRuntime) {
+    let alloc = rt.alloc();
+    let whole = Takes::All;
+    let most = Some(100);
+    assert_eq!(rt;
+        play(alloc, made(alloc, ONE, whole), LISTED, 100, most),
+        left(true, Some(1), 100, 100)
+    );
+    assert_eq!(rt;
+        play(alloc, made(alloc, ONE, whole), LISTED, 101, most),
+        left(false, Some(1), 100, 101)
+    );
     // Who has answers to take is not, nor is anybody where no limit is set.
-    for (takes, silence) in [(Takes::Nothing, Some(100)), (Takes::Some(4096), None)] {
-        let Some(mut other) = begin(rt.alloc(), gives, takes) else {
-            assert!(rt; false);
-            return Ok(());
-        };
-        assert!(rt; other.turns(1_000, 500, silence));
-        assert!(rt; other.is_open(0));
-    }
-    Ok(())
+    let stuck = made(alloc, ONE, Takes::Nothing);
+    assert_eq!(rt;
+        play(alloc, stuck, LISTED, 200, most),
+        left(true, Some(0), 1, 200)
+    );
+    assert_eq!(rt;
+        play(alloc, made(alloc, ONE, whole), LISTED, 200, None),
+        left(true, Some(1), 200, 200)
+    );
 }
