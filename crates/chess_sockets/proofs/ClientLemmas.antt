@@ -110,6 +110,16 @@ hands-first (Some s) b c w v h is_open = record {
   waits = refl;
 }
 
+-- a write, after which the session was closed
+pub hands-lost : (m : Option SessionState) (b c : Option (List ℕ)) (w v : List ℕ) → HandsOn b c w v →
+    HandsOut b c (to_go m w) None
+hands-lost None b c w v h = record { left = []; hands = tt; waits = tt }
+hands-lost (Some s) b c w v h = record {
+  left = v ++ bytes_of_all (due s);
+  hands = hands-behind b c w v (bytes_of_all (due s)) h;
+  waits = tt;
+}
+
 -- a write, after which all that was due was gathered, and another write
 pub hands-both : (m n : Option SessionState) (b c d : Option (List ℕ)) (w v u t : List ℕ) → HandsOn b c w v →
     to_go n u ≡ to_go m v → HandsOn c d u t → IsSome m → IsSome n → HandsOut b d (to_go m w) (to_go n t)

@@ -1,3 +1,4 @@
+pub mod PortionLemmas
 pub mod SendLemmas
 pub mod ClientLemmas
 pub mod StoreLemmas

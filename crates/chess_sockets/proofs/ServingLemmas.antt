@@ -1,12 +1,13 @@
 -- Calls one after the other, and clients one after the other.
 use Rattle.std.proofs.Common.{◌≡◌, ◌≢◌, ◌≤◌, ◌<◌, ◌+◌, ℕ, Bool, true, false, List, [], ◌∷◌, ◌++◌, Option, Some, None, IfSome, length, get_or, set, take, refl, ap, sym, ◌∙◌, subst, inl, inr, arith, append-nil}
-use Rattle.std.specs.Prelude.{IsSome, IsSomeAnd, ◌==◌, ◌&&◌, ◌||◌, not, if◌then◌else◌, option_map, Result, Ok, Err, OnOk}
+use Rattle.std.specs.Prelude.{IsSome, IsSomeAnd, ◌==◌, ◌&&◌, ◌||◌, not, if◌then◌else◌, option_map}
 use Rattle.std.specs.Io.KnownBytes.{Consumes}
 use Rattle.std.proofs.KnownBytes.{Consumes-nil, Appends-nil}
 use Rattle.std.proofs.lemmas.Bool.{cases_Bool, false≢true}
 use Rattle.std.proofs.lemmas.Bool.Decides.{Decides-eqb}
 use Rattle.std.proofs.lemmas.List.{take_more, take_more_set, length-set, get_or-set_other}
 use Rattle.std.proofs.lemmas.List.Elements.{All-nil, All-cons, All-append}
+use Rattle.session_lines.specs.Lines.{IsUnfinished}
 use Rattle.session_lines.specs.Heard.{Heard}
 use Rattle.chess_answer.specs.declared.reads.Reply.{Reply}
 use Rattle.chess_entry.specs.State.{TableState}
@@ -16,6 +17,7 @@ use Rattle.chess_hub.specs.Calls.{Call, Closed, Fed, Given}
 use Rattle.chess_hub.specs.Law.{HubState, Steps, Stays}
 use Rattle.chess_sockets.specs.declared.client.Client.{Client}
 use Rattle.chess_sockets.specs.Clients.{OthersStay, TakesIn, HandsOut, to_go}
+use Rattle.chess_sockets.specs.Incoming.{held}
 use Rattle.chess_sockets.specs.Sending.{waiting}
 use Rattle.chess_sockets.specs.Serving.{state_of, LeadsOn, AreEach, PassesClosed, IsSent, IsRead, Welcomes, IsGivenTo, AreGiven, IsWritten}
 
@@ -61,41 +63,45 @@ unchanged old new sid same others = λ other. elim (cases_Bool (other == sid)) [
 ]
 
 -- what was read and sent
-pub record Sends (before after : Option (List ℕ)) (sid : ℕ) (old new : HubState) : Type 0 where
+pub record Sends (before after : Option (List ℕ)) (holds keeps : List ℕ) (sid : ℕ) (old new : HubState) : Type 0 where
   pub taken : List ℕ
   pub consumed : Consumes before after taken
-  pub short : length taken ≤ 4096
-  pub room : IfSome (session_at old.sessions sid) (λ s. 4096 ≤ length s.heard.bytes → taken ≡ [])
-  pub sent : IsSent sid taken old new
+  pub room : taken ≢ [] → IsUnfinished holds
+  pub fed : List ℕ
+  pub order : holds ++ taken ≡ fed ++ keeps
+  pub sent : IsSent sid fed old new
 
--- what holds of an open session holds where it stands
-there : (m : Option SessionState) (P : SessionState → Type 0) (s : SessionState) → m ≡ Some s → P s → IfSome m P
-there m P s e p = subst (λ (o : Option SessionState). IfSome o P) (sym e) p
-
-pub sends : (before after : Option (List ℕ)) (sid : ℕ) (old new : Sessions) (t u : TableState) (m n : Option SessionState) →
-    session_at old sid ≡ m → session_at new sid ≡ n → IsSome m → IfSome m (λ s. TakesIn before after s n) →
-    OthersStay old new sid → u ≡ t → Sends before after sid (state_of old t) (state_of new u)
-sends before after sid old new t u None n e f is_open takes others same =
+pub sends : (before after : Option (List ℕ)) (holds keeps : List ℕ) (sid : ℕ) (old new : Sessions) (t u : TableState)
+    (m n : Option SessionState) → session_at old sid ≡ m → session_at new sid ≡ n → IsSome m →
+    IfSome m (λ s. TakesIn before after holds keeps s n) → OthersStay old new sid → u ≡ t →
+    Sends before after holds keeps sid (state_of old t) (state_of new u)
+sends before after holds keeps sid old new t u None n e f is_open takes others same =
     absurd (let bad : false ≡ true = is_open in false≢true bad)
-sends before after sid old new t u (Some s) None e f is_open takes others same = record {
+sends before after holds keeps sid old new t u (Some s) None e f is_open takes others same = record {
   taken = takes.taken;
   consumed = takes.consumed;
-  short = takes.short;
-  room = there (session_at old sid) (λ x. 4096 ≤ length x.heard.bytes → takes.taken ≡ []) s e takes.room;
+  room = takes.room;
+  fed = takes.fed;
+  order = takes.order;
   sent = inr (inr (inl (
     takes.gone refl,
     one_step (state_of old t) (state_of new u) (Closed sid)
         (record { changed = f; others = others }, same),
   )));
 }
-sends before after sid old new t u (Some s) (Some r) e f is_open takes others same = record {
+sends before after holds keeps sid old new t u (Some s) (Some r) e f is_open takes others same = record {
   taken = takes.taken;
   consumed = takes.consumed;
-  short = takes.short;
-  room = there (session_at old sid) (λ x. 4096 ≤ length x.heard.bytes → takes.taken ≡ []) s e takes.room;
+  room = takes.room;
+  fed = takes.fed;
+  order = takes.order;
   sent = elim takes.heard [
-    | inl (short_so_far, is) ↦ inl (one_step (state_of old t) (state_of new u) (Fed sid takes.taken)
-        (s, e, short_so_far, record { changed = f ∙ ap Some is; others = others }, same))
+    | inl (short_so_far, portion, alone, is) ↦ inl (
+      portion,
+      subst (λ (o : Option SessionState). IsSomeAnd o (λ s. s.heard.bytes ≡ [])) (sym e) alone,
+      one_step (state_of old t) (state_of new u) (Fed sid takes.fed)
+          (s, e, short_so_far, record { changed = f ∙ ap Some is; others = others }, same),
+    )
     | inr (inl (is, none)) ↦ inr (inl (
       none,
       record {
@@ -111,9 +117,13 @@ sends before after sid old new t u (Some s) (Some r) e f is_open takes others sa
   ];
 }
 
-pub sent_after : (a b c : HubState) (sid : ℕ) (taken : List ℕ) → Stays a b → IsSent sid taken b c → IsSent sid taken a c
-sent_after a b c sid taken h sent = elim sent [
-  | inl leads ↦ inl (stay_leads a b c (Fed sid taken ∷ []) h leads)
+pub sent_after : (a b c : HubState) (sid : ℕ) (fed : List ℕ) → Stays a b → IsSent sid fed b c → IsSent sid fed a c
+sent_after a b c sid fed h sent = elim sent [
+  | inl (portion, alone, leads) ↦ inl (
+    portion,
+    subst (λ (o : Option SessionState). IsSomeAnd o (λ s. s.heard.bytes ≡ [])) (h.sessions sid) alone,
+    stay_leads a b c (Fed sid fed ∷ []) h leads,
+  )
   | inr (inl (none, stays)) ↦ inr (inl (none, stays-trans a b c h stays))
   | inr (inr (inl (none, leads))) ↦ inr (inr (inl (none, stay_leads a b c (Closed sid ∷ []) h leads)))
   | inr (inr (inr (long, stays))) ↦ inr (inr (inr (
@@ -130,11 +140,6 @@ closed_after client after a b c h passes none =
     let past = passes (h.sessions client.sid ∙ none) in
     (past.0, stays-trans a b c h past.1)
 
--- what holds of every session
-pub of_all : (m : Option SessionState) (P : SessionState → Type 0) → ((s : SessionState) → P s) → IfSome m P
-of_all None P each = tt
-of_all (Some s) P each = each s
-
 -- this one is not closed
 pub not_closed : {A : Type 0} (m : Option A) (P : Type 0) → IsSome m → m ≡ None → P
 not_closed None P is_open e = absurd (false≢true is_open)
@@ -149,22 +154,27 @@ module _ {S : Type 0} (remaining : S → Option (List ℕ)) where
     outgoing = refl;
     taken = [];
     consumed = Consumes-nil (remaining client.stream);
-    short = omega arith;
-    room = of_all (session_at s.sessions client.sid) _ (λ state full. refl);
+    room = λ some. absurd (some refl);
+    fed = [];
+    order = append-nil (held client.incoming);
+    short = client.incoming.few;
     sent = inr (inl (refl, stays-refl s));
     closed = λ none. (refl, stays-refl s);
   }
 
   pub is_read : (client after : Client S) (old new : HubState) → after.sid ≡ client.sid →
       waiting after.outgoing ≡ waiting client.outgoing → PassesClosed client after old new →
-      Sends (remaining client.stream) (remaining after.stream) client.sid old new → IsRead remaining client after old new
+      Sends (remaining client.stream) (remaining after.stream) (held client.incoming) (held after.incoming) client.sid
+      old new → IsRead remaining client after old new
   is_read client after old new sid outgoing closed sends = record {
     sid = sid;
     outgoing = outgoing;
     taken = sends.taken;
     consumed = sends.consumed;
-    short = sends.short;
     room = sends.room;
+    fed = sends.fed;
+    order = sends.order;
+    short = after.incoming.few;
     sent = sends.sent;
     closed = closed;
   }
@@ -176,10 +186,11 @@ module _ {S : Type 0} (remaining : S → Option (List ℕ)) where
     outgoing = read.outgoing;
     taken = read.taken;
     consumed = read.consumed;
+    room = read.room;
+    fed = read.fed;
+    order = read.order;
     short = read.short;
-    room = subst (λ (o : Option SessionState). IfSome o (λ s. 4096 ≤ length s.heard.bytes → read.taken ≡ []))
-        (h.sessions client.sid) read.room;
-    sent = sent_after a b c client.sid read.taken h read.sent;
+    sent = sent_after a b c client.sid read.fed h read.sent;
     closed = closed_after client after a b c h read.closed;
   }
 
@@ -195,23 +206,6 @@ pub welcomed_there : {S H : Type 0} (h k : H) (to : H → HubState) (kept client
 welcomed_there {S = S} {H = H} h k to kept clients asked begun same are w =
     subst (λ (x : H). Welcomes clients asked (to x) begun) same
     (subst (λ (l : List (Client S)). Welcomes l asked (to h) begun) are w)
-
--- ---- what holds where a call is answered
-
-module _ {T E : Type 0} where
-  pub ok_all : {A : Type 0} (r : Result T E) (m : Option A) (P : A → Type 0) → IfSome m (λ s. OnOk r (P s)) →
-      OnOk r (IfSome m P)
-  ok_all (Ok x) None P h = tt
-  ok_all (Ok x) (Some s) P h = h
-  ok_all (Err e) m P h = tt
-
-  pub ok_so : (r : Result T E) (P Q : Type 0) → (P → Q) → OnOk r P → OnOk r Q
-  ok_so (Ok x) P Q f h = f h
-  ok_so (Err e) P Q f h = tt
-
-  pub ok_both : (r : Result T E) (P Q R : Type 0) → (P → Q → R) → OnOk r P → OnOk r Q → OnOk r R
-  ok_both (Ok x) P Q R f h k = f h k
-  ok_both (Err e) P Q R f h k = tt
 
 -- ---- clients one after the other
 
@@ -335,6 +329,7 @@ module _ {S : Type 0} (contents : S → Option (List ℕ)) where
   pub skipped : (client : Client S) (t : HubState) → IsWritten contents client client t t
   skipped client t = record {
     sid = refl;
+    incoming = refl;
     given = given_none_yet client.sid t t (stays-refl t);
     hands = hands_none (contents client.stream) (to_go (session_at t.sessions client.sid) (waiting client.outgoing));
     closed = λ none. (refl, stays-refl t);
@@ -344,6 +339,7 @@ module _ {S : Type 0} (contents : S → Option (List ℕ)) where
       IsWritten contents client after a c
   written_after client after a b c h written = record {
     sid = written.sid;
+    incoming = written.incoming;
     given = given_more client.sid a b c (given_none_yet client.sid a b h) written.given;
     hands = subst (λ (o : Option SessionState). HandsOut (contents client.stream) (contents after.stream)
         (to_go o (waiting client.outgoing)) (to_go (session_at c.sessions client.sid) (waiting after.outgoing)))

@@ -1,5 +1,5 @@
 -- What a turn leaves of the store.
-use Rattle.std.proofs.Common.{◌≡◌, ◌∙◌, ℕ, List, refl, subst, sym, inl}
+use Rattle.std.proofs.Common.{◌≡◌, ◌∙◌, ℕ, List, refl, subst, sym}
 use Rattle.std.specs.Prelude.{Bool, Option, Result, Ok, Err, IfErr, OnOk}
 use Rattle.sector_dev.specs.Device.{State, IsCoherent}
 use Rattle.rec_codec.specs.declared.header.Header.{Header}
@@ -15,7 +15,6 @@ use Rattle.chess_hub.specs.declared.fault.HubFault.{HubFault}
 use Rattle.chess_hub.specs.declared.fault.HubFault.TheVariants as hub
 use Rattle.chess_hub.specs.Faults.{UnlessDevice}
 use Rattle.chess_hub.specs.Turning.{AsksFor, IsBatchFault, AreRefused, IsTurnFault, Lasts}
-use Rattle.chess_hub.proofs.TurnLemmas.{lasts_idle}
 use Rattle.chess_hub.specs.Law.{HubState}
 use Rattle.chess_sockets.specs.declared.client.Client.{Client}
 use Rattle.chess_sockets.specs.Serving.{state_of, AreEach, IsRead}
@@ -85,14 +84,6 @@ module _ {S T : Type 0} where
       (subst (λ (f : HubFault). Lasts {T = T} (Err f) old new header compaction before after) (sym same)
       (lasts_refused (Err fault) fault old new header compaction before after refl l))
 
--- nothing was asked of the store
-pub lasts_unasked : {T : Type 0} (made : Result T HubFault) (sectors : ℕ) (now : State) (header : Header)
-    (compaction : Compaction) (table : TableState) → IsCoherent sectors now → IsKept now header compaction table
-    → Lasts made now now header compaction table table
-lasts_unasked {T = T} made sectors now header compaction table coherent kept =
-    over {S = Unit {0}} {T = T} tt made now now header compaction table table
-    (lasts_idle {T = Unit {0}} tt sectors now header compaction table coherent kept)
-
 -- what holds where a call is answered holds of this call, which was
 pub of_answered : {S P : Type 0} (given : Result S HubFault) (x : S) → given ≡ Ok x → OnOk given P → P
 of_answered {S = S} {P = P} given x was holds = subst (λ (r : Result S HubFault). OnOk r P) was holds
@@ -104,11 +95,6 @@ module _ {T : Type 0} where
   pub of_fault : (made : Result T HubFault) (y fault : HubFault) (P : HubFault → Type 0) → made ≡ Err y → y ≡ fault
       → P fault → IfErr made P
   of_fault made y fault P is same p = subst (λ (r : Result T HubFault). IfErr r P) (sym is) (subst P (sym same) p)
-
-  -- A call around the hub's turn was refused memory.
-  pub of_memory : (made : Result T HubFault) (y fault : HubFault) (P : HubFault → Type 0) → made ≡ Err y → y ≡ fault
-      → fault ≡ hub.NoMemory → P hub.NoMemory → IfErr made P
-  of_memory made y fault P is same none p = of_fault made y hub.NoMemory P is (same ∙ none) p
 
   pub at_err : (made : Result T HubFault) (fault : HubFault) (P : HubFault → Type 0) → made ≡ Err fault → IfErr made P
       → P fault
@@ -142,7 +128,7 @@ module _ (Same : Type 0) (at : ℕ) (sessions : Sessions) (seq : ℕ) (failed : 
       (Same → after ≡ before) → (fault : HubFault) → IsOfTurn fault →
       IsRefusal remaining fault at seq failed clients old after
   turn_refusal remaining clients read old table hears same idle hub.Busy why = why
-  turn_refusal remaining clients read old table hears same idle hub.NoMemory why = inl (idle why ∙ same)
+  turn_refusal remaining clients read old table hears same idle hub.NoMemory why = idle why ∙ same
   turn_refusal remaining clients read old table hears same idle hub.LineTooLong why = why
   turn_refusal remaining clients read old table hears same idle (hub.Store fault) why = (
     read,

@@ -1,9 +1,11 @@
 -- What a connection does for its session.
-use Rattle.std.specs.Prelude.{ℕ, ◌≡◌, ◌≢◌, ◌⊎◌, ◌≤◌, true, false, List, [], ◌∷◌, ◌++◌, Option, None, IsSome, IfSome, option_map, length}
+use Rattle.std.specs.Prelude.{ℕ, ◌≡◌, ◌≢◌, ◌⊎◌, true, false, List, [], ◌∷◌, ◌++◌, Option, None, IsSome, IfSome, option_map}
 use Rattle.std.specs.Io.KnownBytes.{Consumes}
+use Rattle.session_lines.specs.Lines.{IsUnfinished}
 use Rattle.session_lines.specs.Heard.{heard_more}
 use Rattle.chess_sessions.specs.declared.sessions.Sessions.{Sessions}
 use Rattle.chess_sessions.specs.Session.{Said, SessionState, session_at, due}
+use Rattle.chess_sockets.specs.Portions.{IsPortion}
 use Rattle.chess_sockets.specs.Sending.{HandsOn}
 
 abbrev pub IsOpen : Sessions → ℕ → Type 0
@@ -15,21 +17,32 @@ OthersStay old new sid = (other : ℕ) → other ≢ sid → session_at new othe
 
 -- ---- what comes
 
--- The session has heard these bytes. None leaves it as it was, and so does what comes behind a line that is too long.
+-- The session is given bytes that were held back for it. Where no line of it was too long these are a portion, and
+-- nothing of it waits. None leaves it as it was; and what comes behind a line that is too long is dropped.
 abbrev pub HasHeard : SessionState → List ℕ → SessionState → Type 0
-HasHeard old taken new = (old.heard.is_long ≡ false) × (new ≡ record old { heard = heard_more old.heard taken })
-    ⊎ (new ≡ old) × (taken ≡ [])
+HasHeard old fed new = (old.heard.is_long ≡ false) × IsPortion fed × (old.heard.bytes ≡ [])
+    × (new ≡ record old { heard = heard_more old.heard fed })
+    ⊎ (new ≡ old) × (fed ≡ [])
     ⊎ (new ≡ old) × (old.heard.is_long ≡ true)
 
--- Bytes came from the peer, a piece at most, and none where a piece's bytes wait already. The session has heard them; it
--- is closed only where none came.
-pub record TakesIn (before after : Option (List ℕ)) (old : SessionState) (new : Option SessionState) : Type 0 where
+-- The session is given what stands in front of what is held back for it. It is closed only where it is given nothing.
+pub record GivesOn (holds keeps : List ℕ) (old : SessionState) (new : Option SessionState) : Type 0 where
+  pub fed : List ℕ
+  pub order : holds ≡ fed ++ keeps
+  pub heard : IfSome new (HasHeard old fed)
+  pub gone : new ≡ None → fed ≡ []
+
+-- Bytes came from the peer, none where a line is held back, and the session is given what stands in front of all that is
+-- held back. It is closed only where it is given nothing.
+pub record TakesIn (before after : Option (List ℕ)) (holds keeps : List ℕ) (old : SessionState)
+    (new : Option SessionState) : Type 0 where
   pub taken : List ℕ
   pub consumed : Consumes before after taken
-  pub heard : IfSome new (HasHeard old taken)
-  pub short : length taken ≤ 4096
-  pub room : 4096 ≤ length old.heard.bytes → taken ≡ []
-  pub gone : new ≡ None → taken ≡ []
+  pub room : taken ≢ [] → IsUnfinished holds
+  pub fed : List ℕ
+  pub order : holds ++ taken ≡ fed ++ keeps
+  pub heard : IfSome new (HasHeard old fed)
+  pub gone : new ≡ None → fed ≡ []
 
 -- ---- what goes
 

@@ -1,6 +1,7 @@
 -- What a read brought.
-use Rattle.std.specs.Prelude.{ℕ, ◌<◌, ◌≤◌, List, [], Option, length, take}
+use Rattle.std.specs.Prelude.{ℕ, ◌≡◌, ◌≢◌, ◌<◌, ◌≤◌, List, [], ◌++◌, Option, length, take}
 use Rattle.std.specs.Io.KnownBytes.{Keeps, Consumes, IsAtEnd}
+use Rattle.session_lines.specs.Lines.{IsUnfinished}
 use Rattle.chess_sockets.specs.declared.pieces.Came.{Came}
 use Rattle.chess_sockets.specs.declared.pieces.Came.TheVariants.{Nothing, Interrupted, Bytes, End, Fault}
 
@@ -12,3 +13,10 @@ HasCome old new piece Interrupted = Keeps old new
 HasCome old new piece (Bytes count) = (0 < count) × (count ≤ length piece) × Consumes old new (take count piece)
 HasCome old new piece End = Consumes old new [] × IsAtEnd new
 HasCome old new piece Fault = Keeps old new
+
+-- Bytes came of a reader, and stand behind those that were held back; none came where these have a line.
+pub record Takes (before after : Option (List ℕ)) (old new : List ℕ) : Type 0 where
+  pub taken : List ℕ
+  pub consumed : Consumes before after taken
+  pub room : taken ≢ [] → IsUnfinished old
+  pub order : new ≡ old ++ taken

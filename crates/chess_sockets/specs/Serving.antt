@@ -1,8 +1,9 @@
 -- What a turn of the server calls the hub for: where what the sessions hear comes from, and where what they are given
 -- goes.
-use Rattle.std.specs.Prelude.{ℕ, ◌≡◌, ◌≤◌, ◌⊎◌, true, List, [], ◌∷◌, ◌++◌, Option, None, IfSome, IsSomeAnd, is_some, length, filter}
+use Rattle.std.specs.Prelude.{ℕ, ◌≡◌, ◌≢◌, ◌≤◌, ◌⊎◌, true, List, [], ◌∷◌, ◌++◌, Option, None, IfSome, IsSomeAnd, is_some, length, filter}
 use Rattle.std.specs.List.{All}
 use Rattle.std.specs.Io.KnownBytes.{Consumes}
+use Rattle.session_lines.specs.Lines.{IsUnfinished}
 use Rattle.chess_entry.specs.State.{TableState}
 use Rattle.chess_entry.specs.declared.commands.Command.{Command}
 use Rattle.chess_sessions.specs.declared.sessions.Sessions.{Sessions}
@@ -12,6 +13,8 @@ use Rattle.chess_hub.specs.Law.{HubState, Steps, Stays}
 use Rattle.chess_hub.specs.Turning.{AsksFor}
 use Rattle.chess_sockets.specs.declared.client.Client.{Client}
 use Rattle.chess_sockets.specs.Clients.{HandsOut, to_go}
+use Rattle.chess_sockets.specs.Portions.{IsPortion}
+use Rattle.chess_sockets.specs.Incoming.{held}
 use Rattle.chess_sockets.specs.Sending.{waiting}
 
 abbrev pub state_of : Sessions → TableState → HubState
@@ -42,26 +45,29 @@ PassesClosed client after old new =
 
 -- ---- what comes
 
--- A session is sent bytes: it is fed them; or there were none, and it is as it was or closed; or a line of it was too
--- long before, and what comes behind that is dropped.
+-- A session is given bytes that were held back for it: a portion, where nothing of it waits; or none, and it is as it was
+-- or closed; or a line of it was too long before, and what comes behind that is dropped.
 abbrev pub IsSent : ℕ → List ℕ → HubState → HubState → Type 0
-IsSent sid taken old new =
-    LeadsOn old (Fed sid taken ∷ []) new
-    ⊎ (taken ≡ []) × Stays old new
-    ⊎ (taken ≡ []) × LeadsOn old (Closed sid ∷ []) new
+IsSent sid fed old new =
+    IsPortion fed × IsSomeAnd (session_at old.sessions sid) (λ s. s.heard.bytes ≡ [])
+    × LeadsOn old (Fed sid fed ∷ []) new
+    ⊎ (fed ≡ []) × Stays old new
+    ⊎ (fed ≡ []) × LeadsOn old (Closed sid ∷ []) new
     ⊎ IsSomeAnd (session_at old.sessions sid) (λ s. s.heard.is_long ≡ true) × Stays old new
 
--- A client's session is sent what came on the client's connection, a piece at most, and nothing else; none is read where
--- a piece's bytes wait already.
+-- What comes on a client's connection is held back, and its session is given what stands in front of that, and nothing
+-- else. None is read where a line is held back, and no more is held back than a piece.
 pub record IsRead {S : Type 0} (remaining : S → Option (List ℕ)) (client after : Client S) (old new : HubState) : Type 0
   where
     pub sid : after.sid ≡ client.sid
     pub outgoing : waiting after.outgoing ≡ waiting client.outgoing
     pub taken : List ℕ
     pub consumed : Consumes (remaining client.stream) (remaining after.stream) taken
-    pub short : length taken ≤ 4096
-    pub room : IfSome (session_at old.sessions client.sid) (λ s. 4096 ≤ length s.heard.bytes → taken ≡ [])
-    pub sent : IsSent client.sid taken old new
+    pub room : taken ≢ [] → IsUnfinished (held client.incoming)
+    pub fed : List ℕ
+    pub order : held client.incoming ++ taken ≡ fed ++ held after.incoming
+    pub short : length (held after.incoming) ≤ 4096
+    pub sent : IsSent client.sid fed old new
     pub closed : PassesClosed client after old new
 
 -- ---- what goes
@@ -80,10 +86,12 @@ pub record AreGiven (sid : ℕ) (old new : HubState) : Type 0 where
   pub own : All (IsGivenTo sid) calls
   pub leads : LeadsOn old calls new
 
--- What a client's session is given goes to its connection, behind what waited and as far as that takes it.
+-- What a client's session is given goes to its connection, behind what waited and as far as that takes it. What is held
+-- back stays.
 pub record IsWritten {S : Type 0} (contents : S → Option (List ℕ)) (client after : Client S) (old new : HubState)
     : Type 0 where
   pub sid : after.sid ≡ client.sid
+  pub incoming : held after.incoming ≡ held client.incoming
   pub given : AreGiven client.sid old new
   pub hands : HandsOut (contents client.stream) (contents after.stream)
       (to_go (session_at old.sessions client.sid) (waiting client.outgoing))
@@ -96,11 +104,11 @@ pub record IsWritten {S : Type 0} (contents : S → Option (List ℕ)) (client a
 abbrev pub open_in : {S : Type 0} → Sessions → List (Client S) → List (Client S)
 open_in sessions clients = filter (λ client. is_some (session_at sessions client.sid)) clients
 
--- At most one client comes: a session begins for it, and nothing waits for it.
+-- At most one client comes: a session begins for it, nothing is held back, and nothing waits for it.
 abbrev pub AreWelcomed : {S : Type 0} → List (Client S) → HubState → HubState → Type 0
 AreWelcomed [] old new = Stays old new
 AreWelcomed (client ∷ []) old new =
-    LeadsOn old (Connected client.sid ∷ []) new × (waiting client.outgoing ≡ [])
+    LeadsOn old (Connected client.sid ∷ []) new × (held client.incoming ≡ []) × (waiting client.outgoing ≡ [])
 AreWelcomed (client ∷ other ∷ more) old new = ⊥
 
 -- Who came stands behind those who were there.

@@ -1,30 +1,28 @@
 -- Which faults end serving.
-use Rattle.std.specs.Prelude.{ℕ, ◌≡◌, ◌⊎◌, Bool, List, Option, ⊤}
+use Rattle.std.specs.Prelude.{ℕ, ◌≡◌, Bool, List, Option, ⊤}
 use Rattle.chess_entry.specs.State.{TableState}
 use Rattle.chess_store.specs.Faults.{IsSubmitFault}
 use Rattle.chess_hub.specs.declared.fault.HubFault.{HubFault}
 use Rattle.chess_hub.specs.declared.fault.HubFault.TheVariants.{Busy, NoMemory, LineTooLong, Store}
 use Rattle.chess_hub.specs.Law.{HubState}
-use Rattle.chess_hub.specs.Turning.{AsksFor, MayBeAsked, AreRefused}
+use Rattle.chess_hub.specs.Turning.{AsksFor, AreRefused}
 use Rattle.chess_sockets.specs.declared.client.Client.{Client}
-use Rattle.chess_sockets.specs.Serving.{AreEach, IsRead, HasReadAndAnswered, Welcomes, open_in}
+use Rattle.chess_sockets.specs.Serving.{AreEach, IsRead, Welcomes, open_in}
 
--- Memory was refused, or the store refused a batch. What is one client's trouble ends nothing but its session.
+-- Memory was refused to the hub, or the store refused a batch. What is one client's trouble, want of memory too, ends
+-- nothing but its session.
 abbrev pub EndsServing : HubFault → Type 0
 EndsServing NoMemory = ⊤
 EndsServing (Store fault) = IsSubmitFault fault
 EndsServing Busy = ⊥
 EndsServing LineTooLong = ⊥
 
--- Why clients are not served on, and what is left of the table. Where memory was refused, the table is as it was, or the
--- hub's turn was answered before; a store's fault is that of the commands of at most 64 lines, of what the sessions had
--- sent by then, which went to it as one batch at this moment.
+-- Why clients are not served on, and what is left of the table. Where memory was refused to the hub, the table is as it
+-- was; a store's fault is that of the commands of at most 64 lines, of what the sessions had sent by then, which went to
+-- it as one batch at this moment.
 abbrev pub IsRefusal : {S : Type 0} → (S → Option (List ℕ)) → HubFault → ℕ → ℕ → Bool → List (Client S) → HubState →
     TableState → Type 0
-IsRefusal {S = S} remaining NoMemory at seq failed clients old after =
-    (after ≡ old.table) ⊎ (read : List (Client S)) × (answered : HubState)
-    × HasReadAndAnswered remaining (MayBeAsked failed seq old.table.entries) at clients read old answered
-    × (after ≡ answered.table)
+IsRefusal remaining NoMemory at seq failed clients old after = after ≡ old.table
 IsRefusal {S = S} remaining (Store fault) at seq failed clients old after =
     (read : List (Client S)) × (heard : HubState) × AreEach (IsRead remaining) clients read old heard
     × AsksFor at 64 heard.sessions (AreRefused fault seq failed old.table after)

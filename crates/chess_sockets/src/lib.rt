@@ -2,9 +2,13 @@
 #![tactic(auto)]
 
 mod client;
+mod incoming;
 mod outgoing;
 mod pieces;
 mod server;
 mod watch;
 
 pub use server::{Server, SocketFault, Turned};
+
+#[cfg(test)]
+mod tests;

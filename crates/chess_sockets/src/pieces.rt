@@ -1,9 +1,10 @@
 //! The bytes that a peer sends, piece by piece.
+ghost use Rattle.std.specs.Prelude.{◌<◌, length};
 ghost use Rattle.chess_sockets.specs.Pieces.{HasCome};
 
 use std::io::{ErrorKind, Read};
 
-/// The most bytes that one read takes.
+/// The most bytes of a peer that are held back, and that one read takes.
 pub const PIECE_ROOM: usize = 4096;
 
 /// What a read brought.
@@ -22,7 +23,8 @@ pub enum Came {
 }
 
 /// Reads a piece, without waiting where the reader doesn't wait.
-pub fn read_piece<R: Read>(reader: &mut R, piece: &mut [u8; PIECE_ROOM]) -> Came
+pub fn read_piece<R: Read>(reader: &mut R, piece: &mut [u8]) -> Came
+    requires { 0 < length piece.old }
     ensures { HasCome (R.remaining reader.old) (R.remaining reader.new) piece.new result }
 {
     match reader.read(piece) {

@@ -1,8 +1,9 @@
 //! The server.
-ghost use Rattle.std.specs.Prelude.{◌≡◌, ◌+◌, [], Ok, IfOk, IfErr, OnOk};
+ghost use Rattle.std.specs.Prelude.{◌≡◌, ◌+◌, true, false, [], Some, None, Ok, IfOk, IfErr, OnOk};
 ghost use Rattle.chess_store.specs.Means.{IsKept};
 ghost use Rattle.chess_hub.specs.Faults.{CountsFault};
 ghost use Rattle.chess_hub.specs.Turning.{MayBeAsked, Lasts, IsTried};
+ghost use Rattle.chess_sockets.specs.Clients.{IsOpen};
 ghost use Rattle.chess_sockets.specs.Serving.{state_of, unknown, AreEach, IsRead, IsWritten, Welcomes, HasServed, HasGoneRound, open_in};
 ghost use Rattle.chess_sockets.specs.Turns.{EndsServing, IsRefusal, IsTurnRefusal};
 
@@ -13,7 +14,7 @@ use chess_hub::{Hub, HubFault};
 use sector_dev::Device;
 use std::alloc::Global;
 use std::io;
-use std::io::{Read, Write};
+use std::io::{ErrorKind, Read, Write};
 use std::net::{Ipv4Addr, Net, TcpListener, TcpStream};
 use std::os::fd::AsRawFd;
 
@@ -49,6 +50,10 @@ pub struct Server<D: Device> {
     clients: Vec<Client<TcpStream>>,
     watch: Watch,
     rested: Rested,
+    /// For how many milliseconds a client may be silent.
+    silence: Option<u64>,
+    /// Whether a connection may wait that could not be accepted.
+    has_missed: bool,
 }
 
 /// The most lines that a turn takes: one at least of each session that has one.
@@ -73,94 +78,110 @@ fn accept(listener: &TcpListener) -> io::Result<TcpStream> {
     Ok(stream)
 }
 
-// Reads for a session that is open, but after calm rests not for a quiet client, and tells whether anything came.
+/// When clients are read for.
+#[derive(Clone, Copy, Debug)]
+pub(crate) struct Reading {
+    /// The moment of the turn, in milliseconds.
+    pub(crate) at: u64,
+    /// Whether quiet clients are passed over.
+    pub(crate) is_calm: bool,
+    /// For how many milliseconds a client may be silent.
+    pub(crate) silence: Option<u64>,
+}
+
+// Whether a client has been silent for longer than it may.
+fn is_over_silent<S, D: Device>(client: &Client<S>, hub: &Hub<D>, reading: Reading) -> bool
+    requires { IsOpen hub.now.sessions client.now.sid }
+    ensures never { reading.silence ≡ None → result ≡ false }
+{
+    match reading.silence {
+        Some(most) => client.is_silent(hub, reading.at, most),
+        None => false,
+    }
+}
+
+// Reads for a session that is open, but after calm rests not for a quiet client, and closes that of a client that has been
+// silent for too long. It tells whether there may be more to do.
 fn read_for<S: Read + Write, D: Device>(
     client: &mut Client<S>,
     hub: &mut Hub<D>,
-    is_calm: bool,
+    reading: Reading,
     piece: &mut [u8; PIECE_ROOM],
-) -> Result<bool, HubFault>
-    ensures read { OnOk result (IsRead S.remaining client.old client.new
-        (state_of hub.old.sessions hub.old.store.table) (state_of hub.new.sessions hub.new.store.table)) }
-    ensures fault { IfErr result (λ fault. fault ≡ HubFault.NoMemory) }
+) -> bool
+    ensures read { IsRead S.remaining client.old client.new (state_of hub.old.sessions hub.old.store.table)
+        (state_of hub.new.sessions hub.new.store.table) }
     ensures store { hub.new.store ≡ hub.old.store }
 {
-    if is_calm && client.is_quiet() {
-        return Ok(false);
-    }
     if !hub.is_open(client.sid()) {
-        return Ok(false);
+        return false;
     }
-    client.take_in(hub, piece)
+    if is_over_silent(client, hub, reading) {
+        hub.close(client.sid());
+        return true;
+    }
+    if reading.is_calm && client.is_quiet() {
+        return false;
+    }
+    client.take_in(hub, reading.at, piece)
 }
 
-// Reads for each session, and tells whether anything came.
+// Reads for each session, and tells whether there may be more to do.
 fn take_in_all<S: Read + Write, D: Device>(
     clients: &mut Vec<Client<S>>,
     hub: &mut Hub<D>,
-    is_calm: bool,
-) -> Result<bool, HubFault>
-    ensures read { OnOk result (AreEach (IsRead S.remaining) clients.old.items clients.new.items
-        (state_of hub.old.sessions hub.old.store.table) (state_of hub.new.sessions hub.new.store.table)) }
-    ensures fault { IfErr result (λ fault. fault ≡ HubFault.NoMemory) }
+    reading: Reading,
+) -> bool
+    ensures read { AreEach (IsRead S.remaining) clients.old.items clients.new.items
+        (state_of hub.old.sessions hub.old.store.table) (state_of hub.new.sessions hub.new.store.table) }
     ensures store { hub.new.store ≡ hub.old.store }
 {
     let mut piece = [0u8; PIECE_ROOM];
     let mut any = false;
     for client in clients.iter_mut() {
-        any |= read_for(client, hub, is_calm, &mut piece)?;
+        any |= read_for(client, hub, reading, &mut piece);
     }
-    Ok(any)
+    any
 }
 
 // Writes for a session that is open, and tells whether there was anything to do.
-fn write_for<S: Read + Write, D: Device>(
-    client: &mut Client<S>,
-    hub: &mut Hub<D>,
-) -> Result<bool, HubFault>
-    ensures written { OnOk result (IsWritten S.contents client.old client.new
-        (state_of hub.old.sessions hub.old.store.table) (state_of hub.new.sessions hub.new.store.table)) }
-    ensures fault { IfErr result (λ fault. fault ≡ HubFault.NoMemory) }
+fn write_for<S: Read + Write, D: Device>(client: &mut Client<S>, hub: &mut Hub<D>) -> bool
+    ensures written { IsWritten S.contents client.old client.new (state_of hub.old.sessions hub.old.store.table)
+        (state_of hub.new.sessions hub.new.store.table) }
     ensures store { hub.new.store ≡ hub.old.store }
 {
     if !hub.is_open(client.sid()) {
-        return Ok(false);
+        return false;
     }
     client.hand_out(hub)
 }
 
 // Writes for each session, and tells whether there was anything to do.
-fn hand_out_all<S: Read + Write, D: Device>(
-    clients: &mut Vec<Client<S>>,
-    hub: &mut Hub<D>,
-) -> Result<bool, HubFault>
-    ensures written { OnOk result (AreEach (IsWritten S.contents) clients.old.items clients.new.items
-        (state_of hub.old.sessions hub.old.store.table) (state_of hub.new.sessions hub.new.store.table)) }
-    ensures fault { IfErr result (λ fault. fault ≡ HubFault.NoMemory) }
+fn hand_out_all<S: Read + Write, D: Device>(clients: &mut Vec<Client<S>>, hub: &mut Hub<D>) -> bool
+    ensures written { AreEach (IsWritten S.contents) clients.old.items clients.new.items
+        (state_of hub.old.sessions hub.old.store.table) (state_of hub.new.sessions hub.new.store.table) }
     ensures store { hub.new.store ≡ hub.old.store }
 {
     let mut any = false;
     for client in clients.iter_mut() {
-        any |= write_for(client, hub)?;
+        any |= write_for(client, hub);
     }
-    Ok(any)
+    any
 }
 
 // Reads for each session, has the hub answer lines that wait, and writes; and tells whether there was anything to read or
 // to write.
-fn serve_clients<S: Read + Write, D: Device>(
+pub(crate) fn serve_clients<S: Read + Write, D: Device>(
     clients: &mut Vec<Client<S>>,
     hub: &mut Hub<D>,
-    at: u64,
-    is_calm: bool,
+    reading: Reading,
 ) -> Result<bool, HubFault>
     ensures fault { IfErr result EndsServing }
-    ensures refused { IfErr result (λ fault. IsRefusal S.remaining fault at hub.old.store.journal.header.seq
+    ensures refused { IfErr result (λ fault. IsRefusal S.remaining fault reading.at hub.old.store.journal.header.seq
         hub.old.store.failed clients.old.items (state_of hub.old.sessions hub.old.store.table) hub.new.store.table) }
     // Each session hears what its client's stream gave, and nothing else, but for what comes behind a line that is too
     // long; and what it is given goes to that stream, as far as that takes it, unless the session is closed.
     ensures served { OnOk result (HasServed S.remaining S.contents (MayBeAsked hub.old.store.failed
-        hub.old.store.journal.header.seq hub.old.store.table.entries) at clients.old.items clients.new.items
+        hub.old.store.journal.header.seq hub.old.store.table.entries) reading.at clients.old.items clients.new.items
         (state_of hub.old.sessions hub.old.store.table) (state_of hub.new.sessions hub.new.store.table)) }
     ensures tried { OnOk result (IsTried D.state D.sector_count D.failures hub.old.store.journal.device
         hub.new.store.journal.device (Ok (tt {0})) hub.old.store.table hub.new.store.table hub.old.store.failed
@@ -172,21 +193,23 @@ fn serve_clients<S: Read + Write, D: Device>(
         → Lasts result (D.state hub.old.store.journal.device) (D.state hub.new.store.journal.device)
         hub.new.store.journal.header hub.new.store.journal.compaction hub.old.store.table hub.new.store.table }
 {
-    let has_read = take_in_all(clients, hub, is_calm)?;
-    if let Err(fault) = hub.turn(at, LINES) {
+    let has_read = take_in_all(clients, hub, reading);
+    if let Err(fault) = hub.turn(reading.at, LINES) {
         return Err(fault);
     }
-    let has_written = hand_out_all(clients, hub)?;
+    let has_written = hand_out_all(clients, hub);
     Ok(has_read | has_written)
 }
 
 impl<D: Device> Server<D> {
     /// Listens on a port of 127.0.0.1; of port 0 the system chooses one. `SocketFault` where it cannot be bound or
-    /// watched; the hub is then given up.
+    /// watched; the hub is then given up. A client from which nothing came for `silence` milliseconds, and for which
+    /// nothing waits, is closed; without that none is closed for silence.
     pub fn bind<R: Net<Listener = TcpListener, Stream = TcpStream>>(
         net: &R,
         alloc: Global,
         port: u16,
+        silence: Option<u64>,
         hub: Hub<D>,
     ) -> Result<Server<D>, SocketFault>
     where
@@ -209,6 +232,8 @@ impl<D: Device> Server<D> {
             clients: Vec::new(alloc),
             watch,
             rested: Rested::Not,
+            silence,
+            has_missed: false,
         })
     }
 
@@ -219,50 +244,51 @@ impl<D: Device> Server<D> {
         self.port
     }
 
-    // Begins a session for a connection.
-    fn admit(&mut self, stream: TcpStream) -> Result<(), HubFault>
-        ensures welcomes { OnOk result (Welcomes self.old.clients.items self.new.clients.items
+    // Begins a session for a connection, which is dropped where the hub is busy or memory is refused.
+    fn admit(&mut self, stream: TcpStream, at: u64)
+        ensures welcomes { Welcomes self.old.clients.items self.new.clients.items
             (state_of self.old.hub.sessions self.old.hub.store.table)
-            (state_of self.new.hub.sessions self.new.hub.store.table)) }
-        ensures fault { IfErr result (λ fault. fault ≡ HubFault.NoMemory) }
+            (state_of self.new.hub.sessions self.new.hub.store.table) }
         ensures store { self.new.hub.store ≡ self.old.hub.store }
         ensures port { self.new.port ≡ self.old.port }
         ensures waits { self.new.watch.calm_waits ≡ self.old.watch.calm_waits }
     {
+        match self.clients.reserve(1) {
+            Ok(()) => {}
+            Err(_) => return,
+        }
         let sid = match self.hub.connect() {
             Ok(sid) => sid,
-            Err(HubFault::NoMemory) => return Err(HubFault::NoMemory),
-            // The hub is busy, and the connection is dropped.
-            Err(_) => return Ok(()),
+            Err(_) => return,
         };
         self.watch.add(stream.as_raw_fd());
-        let client = Client::new(self.alloc, stream, sid);
-        if self.clients.push(client).is_err() {
-            self.hub.close(sid);
-            return Err(HubFault::NoMemory);
-        }
-        Ok(())
+        self.clients
+            .push_reserved(Client::new(self.alloc, stream, sid, at));
     }
 
-    // Accepts at most one connection, after calm rests none, and tells whether one came.
-    fn welcome(&mut self) -> Result<bool, HubFault>
-        ensures welcomes { OnOk result (Welcomes self.old.clients.items self.new.clients.items
+    // Accepts at most one connection, and tells whether one came; after calm rests none, unless one may wait that could not
+    // be accepted.
+    fn welcome(&mut self, at: u64) -> bool
+        ensures welcomes { Welcomes self.old.clients.items self.new.clients.items
             (state_of self.old.hub.sessions self.old.hub.store.table)
-            (state_of self.new.hub.sessions self.new.hub.store.table)) }
-        ensures fault { IfErr result (λ fault. fault ≡ HubFault.NoMemory) }
+            (state_of self.new.hub.sessions self.new.hub.store.table) }
         ensures store { self.new.hub.store ≡ self.old.hub.store }
         ensures port { self.new.port ≡ self.old.port }
         ensures waits { self.new.watch.calm_waits ≡ self.old.watch.calm_waits }
     {
-        if self.rested == Rested::Calm {
-            return Ok(false);
+        if self.rested == Rested::Calm && !self.has_missed {
+            return false;
         }
         match accept(&self.listener) {
             Ok(stream) => {
-                self.admit(stream)?;
-                Ok(true)
+                self.has_missed = false;
+                self.admit(stream, at);
+                true
             }
-            Err(_) => Ok(false),
+            Err(error) => {
+                self.has_missed = error.kind() != ErrorKind::WouldBlock;
+                false
+            }
         }
     }
 
@@ -279,10 +305,12 @@ impl<D: Device> Server<D> {
     }
 
     /// One turn at the moment `at`, in milliseconds. It accepts at most one connection, which it drops where there are 64
-    /// sessions; reads at most one piece of 4,096 bytes for each session that has fewer waiting; has the hub answer up to
-    /// 64 lines; and writes what can be written. After calm rests it accepts none, and reads only for clients that were
-    /// not read to their end. It waits for nothing. `Err` is a fault that ends serving: that of a store, or `NoMemory`;
-    /// what is one client's own trouble closes that client alone.
+    /// sessions; reads at most one piece for each session of which no line is held back, so that at most 4,096 bytes are;
+    /// gives each up to 16 lines, once those before are answered and their answers are written; has the hub answer up to
+    /// 64 lines; and writes what can be written. After calm rests it accepts none, unless an accept has failed, and reads
+    /// only for clients that were not read to their end. It waits for nothing. `Err` is a fault that ends serving: that of
+    /// a store, or `NoMemory`, where memory was refused to the hub; what is one client's own trouble, want of memory too,
+    /// closes that client alone.
     ///
     /// Where the store was kept, a crash at any moment of the turn leaves what means the table from before or that with
     /// the whole batch; at `Ok` every image means the latter.
@@ -315,10 +343,14 @@ impl<D: Device> Server<D> {
     {
         // A number of a session that was closed may be given again.
         self.part();
-        let came = self.welcome()?;
-        let is_calm = self.rested == Rested::Calm;
+        let came = self.welcome(at);
+        let reading = Reading {
+            at,
+            is_calm: self.rested == Rested::Calm,
+            silence: self.silence,
+        };
         self.rested = Rested::Not;
-        let has_served = serve_clients(&mut self.clients, &mut self.hub, at, is_calm)?;
+        let has_served = serve_clients(&mut self.clients, &mut self.hub, reading)?;
         self.part();
         Ok(if came | has_served {
             Turned::Worked

@@ -77,3 +77,13 @@ returns-in_default-clause-given g c =
     (output_gives (session_at c.loop.hub.sessions c.args.sid) c.loop.hub.sessions c.output.new.self.sessions
     c.args.sid c.output.result c.loop.hub.store.table c.output.new.self.store.table refl is_open
     c.output.ensures.given c.output.ensures.after (ap (λ s. s.table) c.output.ensures.store))
+
+pub returns-in_err-push-clause-given : goal.returns-in_err-push-clause-given
+returns-in_err-push-clause-given g c =
+    let (is_open, same, others, store, given) = c.loop.invariant in
+    given_more c.args.sid (state_of c.args.hub.now.sessions c.args.hub.now.store.table)
+    (state_of c.loop.hub.sessions c.loop.hub.store.table)
+    (state_of c.output.new.self.sessions c.output.new.self.store.table) given
+    (output_gives (session_at c.loop.hub.sessions c.args.sid) c.loop.hub.sessions c.output.new.self.sessions
+    c.args.sid c.output.result c.loop.hub.store.table c.output.new.self.store.table refl is_open
+    c.output.ensures.given c.output.ensures.after (ap (λ s. s.table) c.output.ensures.store))

@@ -9,13 +9,13 @@ loop-client-preserved g c =
     let items = c.loop-client.client-items in
     let so_far = c.loop-client.invariant in
     let before = c.loop-client.hub in
-    let hub = c.read_for.new.hub in
+    let hub = c.read_for-any.new.hub in
     let lt : c.loop-client.client-index < length items =
     omega (arith, c.loop-client-test.true, c.loop-client.auto.client-items) in
     record {
       read = done_further (IsRead g.S.Read.remaining) (read_after g.S.Read.remaining) c.args.clients.now.items items
-          c.loop-client.client-index c.client-item.result c.read_for.new.client
+          c.loop-client.client-index c.client-item.result c.read_for-any.new.client
           (state_of c.args.hub.now.sessions c.args.hub.now.store.table) (state_of before.sessions before.store.table)
-          (state_of hub.sessions hub.store.table) lt so_far.read c.in_ok-any.ensures.read;
-      store = c.read_for.ensures.store ∙ so_far.store;
+          (state_of hub.sessions hub.store.table) lt so_far.read c.read_for-any.ensures.read;
+      store = c.read_for-any.ensures.store ∙ so_far.store;
     }

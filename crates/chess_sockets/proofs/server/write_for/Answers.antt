@@ -3,7 +3,7 @@ use Rattle.std.proofs.Common.{subst}
 use Rattle.std.specs.Prelude.{IsSome}
 use Rattle.chess_sessions.specs.Session.{session_at}
 use Rattle.chess_sockets.specs.Serving.{state_of}
-use Rattle.chess_sockets.proofs.ServingLemmas.{not_closed, skipped, ok_both}
+use Rattle.chess_sockets.proofs.ServingLemmas.{not_closed, skipped}
 use Rattle.chess_sockets.proofs.server.write_for.Goals as goal
 
 pub returns-then-not-is_open-clause-written : goal.returns-then-not-is_open-clause-written
@@ -15,11 +15,10 @@ returns-clause-written g c =
     let old = c.args.hub.now.sessions in
     let open_now = subst (λ sid. IsSome (session_at old sid)) c.sid.ensures
     (c.is_open.ensures.0 c.if-not-is_open.false) in
-    ok_both c.hand_out.result _ _ _
-    (λ hands given. record {
+    record {
       sid = c.hand_out.ensures.peer.0;
-      given = given;
-      hands = hands;
+      incoming = c.hand_out.ensures.peer.3;
+      given = c.hand_out.ensures.given;
+      hands = c.hand_out.ensures.hands;
       closed = not_closed (session_at old c.args.client.now.sid) _ open_now;
-    })
-    c.hand_out.ensures.hands c.hand_out.ensures.given
+    }

@@ -1,24 +1,39 @@
--- A session begins for the connection.
-use Rattle.std.proofs.Common.{◌≡◌, ◌∙◌, true, [], ◌∷◌, ◌++◌, ap}
-use Rattle.std.specs.Prelude.{is_ok, not, if◌then◌else◌}
+-- A session begins for the connection, or none.
+use Rattle.std.proofs.Common.{◌∙◌, [], ◌∷◌, ◌++◌, ap, refl, sym, append-nil}
 use Rattle.chess_hub.specs.Calls.{Connected}
 use Rattle.chess_sockets.specs.Serving.{state_of}
-use Rattle.chess_sockets.proofs.ServingLemmas.{one_step}
+use Rattle.chess_sockets.proofs.ServingLemmas.{one_step, stays-refl}
 use Rattle.chess_sockets.proofs.server.Server.admit.Goals as goal
 
 pub returns-clause-welcomes : goal.returns-clause-welcomes
 returns-clause-welcomes g c =
     let old = c.args.self.now.hub in
     let new = c.connect.new.self in
-    let clients = c.args.self.now.clients.items in
-    let client = c.new-client.result in
-    let kept : is_ok c.push.result ≡ true = c.is_err.ensures.negation ∙ ap not c.if-is_err.false in
+    let client = c.new.result in
     record {
       came = client ∷ [];
-      whole = c.push.ensures.items ∙ ap (λ b. if b then clients ++ client ∷ [] else clients) kept;
+      whole = c.push_reserved.ensures.items ∙ ap (λ l. l ++ client ∷ []) c.reserve.ensures.items;
       welcomed = (
         one_step (state_of old.sessions old.store.table) (state_of new.sessions new.store.table) (Connected client.sid)
-            (rw c.new-client.ensures.sid (c.in-Ok.ensures.new, c.in-Ok.ensures.opened, ap (λ s. s.table) c.connect.ensures.store)),
-        c.new-client.ensures.nothing,
+            (rw c.new.ensures.sid (c.in-Ok-connect.ensures.new, c.in-Ok-connect.ensures.opened, ap (λ s. s.table) c.connect.ensures.store)),
+        c.new.ensures.nothing.0,
+        c.new.ensures.nothing.1,
       );
     }
+
+pub returns-in-Err-clause-welcomes : goal.returns-in-Err-clause-welcomes
+returns-in-Err-clause-welcomes g c = record {
+  came = [];
+  whole = c.reserve.ensures.items ∙ sym (append-nil c.args.self.now.clients.items);
+  welcomed = stays-refl (state_of c.args.self.now.hub.sessions c.args.self.now.hub.store.table);
+}
+
+pub returns-in-Err-connect-clause-welcomes : goal.returns-in-Err-connect-clause-welcomes
+returns-in-Err-connect-clause-welcomes g c = record {
+  came = [];
+  whole = c.reserve.ensures.items ∙ sym (append-nil c.args.self.now.clients.items);
+  welcomed = record {
+    sessions = c.in-Err-connect.ensures.refused;
+    table = ap (λ s. s.table) c.connect.ensures.store;
+  };
+}

@@ -1,0 +1,308 @@
+//! Clients over connections that give and take little, or fail.
+use crate::client::Client;
+use crate::server::{Reading, serve_clients};
+use chess_hub::Hub;
+use chess_store::Store;
+use rec_codec::Limits;
+use sector_dev::MemoryDevice;
+use std::alloc::Global;
+use std::io;
+use std::io::{Error, ErrorKind, Read, Write};
+use std::process::Abort;
+
+/// What a connection gives at a read.
+#[derive(Clone, Copy)]
+enum Gives {
+    Text(&'static str),
+    Nothing,
+    End,
+    Reset,
+}
+
+/// What a connection does at a write.
+#[derive(Clone, Copy)]
+enum Takes {
+    All,
+    /// It takes so many bytes, and nothing at the next write.
+    Some(usize),
+    Nothing,
+    /// It fails once it has taken so many bytes.
+    Fails(usize),
+}
+
+/// A connection that gives these, one at a read, and the last one again and again.
+#[derive(Drop)]
+struct Peer {
+    gives: &'static [Gives],
+    reads: usize,
+    takes: Takes,
+    is_full: bool,
+    written: Vec<u8>,
+}
+
+impl Read for Peer {
+    fn read(&mut self, buf: &mut [u8]) -> io::Result<usize> {
+        let last = self.gives.len().saturating_sub(1);
+        let place = if self.reads < last { self.reads } else { last };
+        self.reads = self.reads.saturating_add(1);
+        match self.gives.get(place) {
+            Some(Gives::Text(text)) if text.len() <= buf.len() => {
+                buf[..text.len()].copy_from_slice(text.as_bytes());
+                Ok(text.len())
+            }
+            Some(Gives::Nothing) => Err(Error::from(ErrorKind::WouldBlock)),
+            Some(Gives::Reset) => Err(Error::from(ErrorKind::ConnectionReset)),
+            _ => Ok(0),
+        }
+    }
+}
+
+impl Write for Peer {
+    fn write(&mut self, buf: &[u8]) -> io::Result<usize> {
+        let most = match self.takes {
+            Takes::All => buf.len(),
+            Takes::Some(most) if !self.is_full => most,
+            Takes::Some(_) | Takes::Nothing => {
+                self.is_full = false;
+                return Err(Error::from(ErrorKind::WouldBlock));
+            }
+            Takes::Fails(most) if self.written.len() < most => most - self.written.len(),
+            Takes::Fails(_) => return Err(Error::from(ErrorKind::BrokenPipe)),
+        };
+        let count = if buf.len() < most { buf.len() } else { most };
+        self.written.extend_from_slice(&buf[..count])?;
+        self.is_full = true;
+        Ok(count)
+    }
+
+    fn flush(&mut self) -> io::Result<()> {
+        Ok(())
+    }
+}
+
+const LISTS: &str = "\
+list\nlist\nlist\nlist\nlist\nlist\nlist\nlist\nlist\nlist\n\
+list\nlist\nlist\nlist\nlist\nlist\nlist\nlist\nlist\nlist\n\
+list\nlist\nlist\nlist\nlist\nlist\nlist\nlist\nlist\nlist\n\
+list\nlist\nlist\nlist\nlist\nlist\nlist\nlist\nlist\nlist\n";
+
+const LISTED: &str = "ok list 0\n";
+
+fn made(alloc: Global, gives: &'static [Gives], takes: Takes) -> Peer {
+    Peer {
+        gives,
+        reads: 0,
+        takes,
+        is_full: false,
+        written: Vec::new(alloc),
+    }
+}
+
+/// What came of turns in which one connection was served beside another, which asks for the list in each.
+#[derive(Clone, Copy, Debug, PartialEq, Eq)]
+struct Outcome {
+    is_open: bool,
+    /// How many whole lines it was written, all of them the one that is wanted.
+    lines: Option<usize>,
+    reads: usize,
+    /// How many the other was.
+    others: Option<usize>,
+}
+
+// How often a line stands in a text of such lines alone.
+fn count_lines(written: &[u8], line: &str) -> Option<usize> {
+    let line = line.as_bytes();
+    if line.is_empty() || written.len() % line.len() != 0 {
+        return None;
+    }
+    for (place, byte) in written.iter().enumerate() {
+        if *byte != line[place % line.len()] {
+            return None;
+        }
+    }
+    Some(written.len() / line.len())
+}
+
+fn hub(alloc: Global) -> Option<Hub<MemoryDevice>> {
+    let limits = Limits {
+        games: 4,
+        plies: 60,
+    };
+    let device = MemoryDevice::new(alloc, 212).ok()?;
+    let store = Store::create(alloc, device, limits).ok()?;
+    Some(Hub::new(alloc, store))
+}
+
+// So many turns, one a millisecond from 1,000 on.
+fn take_turns(
+    clients: &mut Vec<Client<Peer>>,
+    hub: &mut Hub<MemoryDevice>,
+    turns: u64,
+    silence: Option<u64>,
+) -> bool {
+    for turn in 0..turns {
+        let reading = Reading {
+            at: 1_000u64.saturating_add(turn),
+            is_calm: false,
+            silence,
+        };
+        if serve_clients(clients, hub, reading).is_err() {
+            return false;
+        }
+    }
+    true
+}
+
+fn outcome_of(clients: &[Client<Peer>], hub: &Hub<MemoryDevice>, line: &str) -> Option<Outcome> {
+    let (odd, other) = (clients.first()?, clients.get(1)?);
+    Some(Outcome {
+        is_open: hub.is_open(odd.sid()),
+        lines: count_lines(odd.stream().written.as_slice(), line),
+        reads: odd.stream().reads,
+        others: count_lines(other.stream().written.as_slice(), LISTED),
+    })
+}
+
+fn connect(
+    clients: &mut Vec<Client<Peer>>,
+    hub: &mut Hub<MemoryDevice>,
+    alloc: Global,
+    peer: Peer,
+) -> bool {
+    match hub.connect() {
+        Ok(sid) => clients.push(Client::new(alloc, peer, sid, 1_000)).is_ok(),
+        Err(_) => false,
+    }
+}
+
+fn play(
+    alloc: Global,
+    peer: Peer,
+    line: &str,
+    turns: u64,
+    silence: Option<u64>,
+) -> Option<Outcome> {
+    let mut hub = hub(alloc)?;
+    let mut clients = Vec::new(alloc);
+    let other = made(alloc, &[Gives::Text("list\n")], Takes::All);
+    let plays = connect(&mut clients, &mut hub, alloc, peer)
+        && connect(&mut clients, &mut hub, alloc, other)
+        && take_turns(&mut clients, &mut hub, turns, silence);
+    if plays {
+        outcome_of(clients.as_slice(), &hub, line)
+    } else {
+        None
+    }
+}
+
+// An outcome in which the other was served in each turn.
+fn left(is_open: bool, lines: Option<usize>, reads: usize, turns: usize) -> Option<Outcome> {
+    Some(Outcome {
+        is_open,
+        lines,
+        reads,
+        others: Some(turns),
+    })
+}
+
+const TWO: &[Gives] = &[Gives::Text("list\nlist\n"), Gives::Nothing];
+
+const ONE: &[Gives] = &[Gives::Text("list\n"), Gives::Nothing];
+
+const ENDS: &[Gives] = &[Gives::Text(LISTS), Gives::Text("li"), Gives::End];
+
+const LONG: &str = "\
+xxxxxxxxxxxxxxxxxxxxxxxxxxxxxxxxxxxxxxxxxxxxxxxxxxxxxxxxxxxxxxxxxxxxxxxxxxxxxxxxxxxxxxxxxxxxxxxxxxxx\
+xxxxxxxxxxxxxxxxxxxxxxxxxxxxxxxxxxxxxxxxxxxxxxxxxxxxxxxxxxxxxxxxxxxxxxxxxxxxxxxxxxxxxxxxxxxxxxxxxxxx\
+xxxxxxxxxxxxxxxxxxxxxxxxxxxxxxxxxxxxxxxxxxxxxxxxxxxxxxxxxxxxxxxxxxxxxxxxxxxxxxxxxxxxxxxxxxxxxxxxxxxx";
+
+#[test]
+fn answers_go_in_pieces(rt: HostRuntime) {
+    let alloc = rt.alloc();
+    let slow = Takes::Some(3);
+    assert_eq!(rt;
+        play(alloc, made(alloc, TWO, slow), LISTED, 3, None),
+        left(true, None, 1, 3)
+    );
+    let all = left(true, Some(2), 14, 20);
+    assert_eq!(rt; play(alloc, made(alloc, TWO, slow), LISTED, 20, None), all);
+}
+
+#[test]
+fn broken_connections_are_closed(rt: HostRuntime) {
+    let alloc = rt.alloc();
+    let resets = &[Gives::Text("list\n"), Gives::Reset];
+    let reset = made(alloc, resets, Takes::All);
+    assert_eq!(rt;
+        play(alloc, reset, LISTED, 5, None),
+        left(false, Some(1), 2, 5)
+    );
+    let failed = made(alloc, ONE, Takes::Fails(4));
+    assert_eq!(rt;
+        play(alloc, failed, LISTED, 1, None),
+        left(false, None, 1, 1)
+    );
+}
+
+#[test]
+fn all_lines_before_an_end_are_answered(rt: HostRuntime) {
+    let alloc = rt.alloc();
+    let whole = Takes::All;
+    assert_eq!(rt;
+        play(alloc, made(alloc, ENDS, whole), LISTED, 1, None),
+        left(true, Some(16), 1, 1)
+    );
+    assert_eq!(rt;
+        play(alloc, made(alloc, ENDS, whole), LISTED, 9, None),
+        left(false, Some(40), 3, 9)
+    );
+    let slow = Takes::Some(7);
+    let all = left(false, Some(40), 3, 200);
+    assert_eq!(rt;
+        play(alloc, made(alloc, ENDS, slow), LISTED, 200, None),
+        all
+    );
+}
+
+#[test]
+fn who_takes_nothing_is_read_no_further(rt: HostRuntime) {
+    let alloc = rt.alloc();
+    let floods = made(alloc, &[Gives::Text(LISTS)], Takes::Nothing);
+    assert_eq!(rt;
+        play(alloc, floods, LISTED, 50, None),
+        left(true, Some(0), 1, 50)
+    );
+}
+
+#[test]
+fn who_sends_a_long_line_is_closed(rt: HostRuntime) {
+    let alloc = rt.alloc();
+    let floods = made(alloc, &[Gives::Text(LONG)], Takes::All);
+    let told = left(false, Some(1), 16, 20);
+    assert_eq!(rt; play(alloc, floods, "bye LineTooLong\n", 20, None), told);
+}
+
+#[test]
+fn the_silent_are_closed(rt: HostRuntime) {
+    let alloc = rt.alloc();
+    let whole = Takes::All;
+    let most = Some(100);
+    assert_eq!(rt;
+        play(alloc, made(alloc, ONE, whole), LISTED, 100, most),
+        left(true, Some(1), 100, 100)
+    );
+    assert_eq!(rt;
+        play(alloc, made(alloc, ONE, whole), LISTED, 101, most),
+        left(false, Some(1), 100, 101)
+    );
+    // Who has answers to take is not, nor is anybody where no limit is set.
+    let stuck = made(alloc, ONE, Takes::Nothing);
+    assert_eq!(rt;
+        play(alloc, stuck, LISTED, 200, most),
+        left(true, Some(0), 1, 200)
+    );
+    assert_eq!(rt;
+        play(alloc, made(alloc, ONE, whole), LISTED, 200, None),
+        left(true, Some(1), 200, 200)
+    );
+}
