@@ -119,10 +119,11 @@ or fallen lasts, but for names, also where serve is killed.
 
 A line has at most 255 bytes before its line feed, a carriage return among them. A
 longer one is answered by bye LineTooLong, which closes the connection. Where a client
-sends no more its whole lines are still answered. One that does not take its answers
-is read no further until it does.
+sends no more its whole lines are still answered. Up to 16 lines of a client are taken
+at a time: the next once these are answered and it has taken the answers. With --idle
+a client is closed from which nothing came for S seconds and for which nothing waits.
 
-Limits: P 0 to 65535, where 0 leaves the choice to the system; N 1 to 4294967295.
+Limits: P 0 to 65535, where 0 leaves the choice to the system; N and S 1 to 4294967295.
 
 Exit status: 0 after N turns; 1 with fault NAME on standard error: File (the file
 isn't there, or another program has it open), NotOurs (no journal stands in it),
@@ -144,6 +145,7 @@ prints
 struct Argument {
     name: &'static str,
     value_name: &'static str,
+    is_required: bool,
     parser: ValueParser<'static>,
     help: &'static str,
 }
@@ -159,6 +161,7 @@ struct Entry {
 const JOURNAL: Argument = Argument {
     name: "journal",
     value_name: "F",
+    is_required: true,
     parser: ValueParser::String,
     help: "The journal's file",
 };
@@ -166,6 +169,7 @@ const JOURNAL: Argument = Argument {
 const GAMES: Argument = Argument {
     name: "games",
     value_name: "G",
+    is_required: true,
     parser: ValueParser::Unsigned(1, 4_096),
     help: "How many games the table holds, 1 to 4096",
 };
@@ -173,6 +177,7 @@ const GAMES: Argument = Argument {
 const PLIES: Argument = Argument {
     name: "plies",
     value_name: "P",
+    is_required: true,
     parser: ValueParser::Unsigned(1, 20_000),
     help: "How many moves a game may have, 1 to 20000",
 };
@@ -180,6 +185,7 @@ const PLIES: Argument = Argument {
 const PORT: Argument = Argument {
     name: "port",
     value_name: "P",
+    is_required: true,
     parser: ValueParser::Unsigned(0, 65_535),
     help: "The port on 127.0.0.1, 0 to 65535; 0 leaves the choice to the system",
 };
@@ -187,8 +193,17 @@ const PORT: Argument = Argument {
 const TURNS: Argument = Argument {
     name: "turns",
     value_name: "N",
+    is_required: true,
     parser: ValueParser::Unsigned(1, 4_294_967_295),
     help: "After how many turns it ends, 1 to 4294967295",
+};
+
+const IDLE: Argument = Argument {
+    name: "idle",
+    value_name: "S",
+    is_required: false,
+    parser: ValueParser::Unsigned(1, 4_294_967_295),
+    help: "After how many seconds of silence a client is closed, 1 to 4294967295",
 };
 
 /// The words, in the order in which help lists them.
@@ -215,7 +230,7 @@ const WORDS: &[Entry] = &[
         name: "serve",
         about: "Serves players on a port, over the games of a journal",
         help: HELP_OF_SERVE,
-        arguments: &[JOURNAL, PORT, TURNS],
+        arguments: &[JOURNAL, PORT, TURNS, IDLE],
     },
     Entry {
         name: "drill",
@@ -235,7 +250,7 @@ fn arg_of<'a>(alloc: Global, argument: &Argument) -> Arg<'a> {
     Arg::new(alloc, argument.name)
         .long(argument.name)
         .value_name(argument.value_name)
-        .required(true)
+        .required(argument.is_required)
         .value_parser(argument.parser)
         .help(argument.help)
 }

@@ -35,12 +35,15 @@ pub struct Tables<'a> {
     ghost in_range: { IsInRange Two limits },
 }
 
-/// A journal's file, the port on which its games are played, and after how many turns the serving ends.
+/// A journal's file, the port on which its games are played, after how many turns the serving ends, and how long a client
+/// may be silent.
 #[derive(Clone, Copy)]
 pub struct Serving<'a> {
     pub journal: &'a str,
     pub port: u16,
     pub turns: u32,
+    /// For how many milliseconds a client may be silent.
+    pub silence: Option<u64>,
 }
 
 /// Reads the words, the program's own name first. An `Err` is a usage fault, or a request for help.
@@ -88,7 +91,13 @@ fn serving_of<'a>(values: &ArgMatches<'a>) -> Option<Serving<'a>> {
         journal: values.get_str("journal")?,
         port: values.get_one("port")?,
         turns: values.get_one("turns")?,
+        silence: silence_of(values),
     })
+}
+
+fn silence_of(values: &ArgMatches<'_>) -> Option<u64> {
+    let seconds: u32 = values.get_one("idle")?;
+    Some(u64::from(seconds) * 1_000)
 }
 
 // The fault of words that are no text.

@@ -5,7 +5,6 @@ ghost use Rattle.server_work.specs.Faults.{IsDrillFault};
 use crate::ends::Fault;
 use chess_lives::{Tally, drill};
 use std::alloc::Global;
-use std::rt::Print;
 
 /// Plays the drill, and prints what came of it as `drill C none N all A`: the cases, those in which no move of the batch
 /// shows, and those in which all do.

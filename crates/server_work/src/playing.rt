@@ -100,7 +100,8 @@ where
     R: Clock + Print + Net<Listener = TcpListener, Stream = TcpStream>,
     ensures { IfErr result IsServeFault }
 {
-    match Server::bind(rt, alloc, serving.port, Hub::new(alloc, store)) {
+    let hub = Hub::new(alloc, store);
+    match Server::bind(rt, alloc, serving.port, serving.silence, hub) {
         Ok(mut server) => take_turns(rt, &mut server, serving.turns),
         Err(_) => Err(Fault::Socket),
     }

@@ -53,7 +53,7 @@ fn main(rt: HostRuntime) -> ExitCode {
 fn start(rt: &HostRuntime, alloc: Global) -> Option<Server<MemoryDevice>> {
     let device = MemoryDevice::new(alloc, SECTORS).ok()?;
     match Store::create(alloc, device, LIMITS) {
-        Ok(store) => Server::bind(rt, alloc, 0, Hub::new(alloc, store)).ok(),
+        Ok(store) => Server::bind(rt, alloc, 0, None, Hub::new(alloc, store)).ok(),
         Err(_) => None,
     }
 }
