@@ -33,7 +33,8 @@ pub struct Client<S> {
     is_quiet: bool,
     /// The moment at which it began, or last sent something, in milliseconds.
     heard_at: u64,
-    /// So many bytes of its answers it has to sit out yet.
+    /// So many bytes its last answers had, and so many of them it has to sit out yet.
+    dear: usize,
     owed: usize,
     /// For so many turns more it is heard after its farewell.
     patience: u8,
@@ -61,6 +62,7 @@ impl<S> Client<S> {
             has_ended: false,
             is_quiet: false,
             heard_at: at,
+            dear: 0,
             owed: 0,
             patience: PATIENCE,
         }
@@ -193,9 +195,30 @@ impl<S: Read + Write> Client<S> {
         came
     }
 
+    // Whether the client may have lines answered in this turn: it has sat out what its last answers took, and answers like
+    // these find room among those of others who ask for much.
+    fn takes_turn(&mut self, room: &mut usize) -> bool
+        ensures peer { (self.new.sid ≡ self.old.sid) × (waiting self.new.outgoing ≡ waiting self.old.outgoing)
+            × (self.new.is_quiet ≡ self.old.is_quiet) × (self.new.stream ≡ self.old.stream)
+            × (self.new.incoming ≡ self.old.incoming) }
+    {
+        self.owed = self.owed.saturating_sub(ALLOWANCE);
+        if self.owed > 0 {
+            return false;
+        }
+        if self.dear <= ALLOWANCE {
+            return true;
+        }
+        if *room == 0 {
+            return false;
+        }
+        *room = room.saturating_sub(self.dear);
+        true
+    }
+
     // Gives the session a portion of what is held back for it, unless something of it waits, or the client sits out what it
     // owes. Where memory is refused the session is closed.
-    fn hand_on<D: Device>(&mut self, hub: &mut Hub<D>)
+    fn hand_on<D: Device>(&mut self, hub: &mut Hub<D>, room: &mut usize)
         requires { IsOpen hub.old.sessions self.old.sid }
         ensures gives { IfSome (session_at hub.old.sessions self.old.sid) (λ s. GivesOn (held self.old.incoming)
             (held self.new.incoming) s (session_at hub.new.sessions self.old.sid)) }
@@ -205,8 +228,7 @@ impl<S: Read + Write> Client<S> {
         ensures others { OthersStay hub.old.sessions hub.new.sessions self.old.sid }
         ensures store { hub.new.store ≡ hub.old.store }
     {
-        self.owed = self.owed.saturating_sub(ALLOWANCE);
-        if self.owed > 0 || hub.waiting(self.sid) > 0 {
+        if hub.waiting(self.sid) > 0 || !self.takes_turn(room) {
             return;
         }
         let portion = self.incoming.portion();
@@ -217,13 +239,15 @@ impl<S: Read + Write> Client<S> {
     }
 
     /// Reads at most one piece for the session, unless a line of it is held back or the peer doesn't take its answers; and
-    /// gives the session up to 16 lines, once those before are answered and the answers are written. The session is
-    /// closed after a fault, and where memory is refused for it. It tells whether there may be more to do.
+    /// gives the session up to 16 lines, once those before are answered and the answers are written; `room` is how many
+    /// bytes of answers those who ask for much may still have in this turn. The session is closed after a fault, and where
+    /// memory is refused for it. It tells whether there may be more to do.
     pub fn take_in<D: Device>(
         &mut self,
         hub: &mut Hub<D>,
         at: u64,
         piece: &mut [u8; PIECE_ROOM],
+        room: &mut usize,
     ) -> bool
         requires { IsOpen hub.old.sessions self.old.sid }
         ensures taken { IfSome (session_at hub.old.sessions self.old.sid) (λ s. TakesIn
@@ -243,7 +267,7 @@ impl<S: Read + Write> Client<S> {
         }
         match self.read_more(at, piece) {
             Came::Nothing => return false,
-            Came::Bytes(_) | Came::Interrupted => self.hand_on(hub),
+            Came::Bytes(_) | Came::Interrupted => self.hand_on(hub, room),
             Came::End => {}
             Came::Fault => hub.close(self.sid),
         }
@@ -275,7 +299,8 @@ impl<S: Read + Write> Client<S> {
             Ok(any) => any,
             Err(refused) => return Err(refused),
         };
-        self.owed = self.owed.saturating_add(self.outgoing.len());
+        self.dear = if any { self.outgoing.len() } else { self.dear };
+        self.owed = if any { self.dear } else { self.owed };
         let sent = self.outgoing.write_to(&mut self.stream);
         Ok(Wrote { any, sent })
     }

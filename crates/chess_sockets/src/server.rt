@@ -56,6 +56,9 @@ pub struct Server<D: Device> {
     has_missed: bool,
 }
 
+/// For so many bytes of answers those clients are given lines in a turn whose last answers were long.
+const DEAR_ROOM: usize = 1 << 20;
+
 /// The most lines that a turn takes: one at least of each session that has one.
 const LINES: usize = 64;
 
@@ -107,6 +110,7 @@ fn read_for<S: Read + Write, D: Device>(
     hub: &mut Hub<D>,
     reading: Reading,
     piece: &mut [u8; PIECE_ROOM],
+    room: &mut usize,
 ) -> bool
     ensures read { IsRead S.remaining client.old client.new (state_of hub.old.sessions hub.old.store.table)
         (state_of hub.new.sessions hub.new.store.table) }
@@ -122,7 +126,7 @@ fn read_for<S: Read + Write, D: Device>(
     if reading.is_calm && client.is_quiet() {
         return false;
     }
-    client.take_in(hub, reading.at, piece)
+    client.take_in(hub, reading.at, piece, room)
 }
 
 // Reads for each session, and tells whether there may be more to do.
@@ -136,9 +140,10 @@ fn take_in_all<S: Read + Write, D: Device>(
     ensures store { hub.new.store ≡ hub.old.store }
 {
     let mut piece = [0u8; PIECE_ROOM];
+    let mut room = DEAR_ROOM;
     let mut any = false;
     for client in clients.iter_mut() {
-        any |= read_for(client, hub, reading, &mut piece);
+        any |= read_for(client, hub, reading, &mut piece, &mut room);
     }
     any
 }
