@@ -46,7 +46,7 @@ const ALLOWANCE: usize = 16_384;
 
 /// For so many turns a client is heard after its farewell, so that this is not lost: a connection that is closed before
 /// all is read is reset.
-const PATIENCE: u8 = 16;
+const PATIENCE: u8 = u8::MAX;
 
 impl<S> Client<S> {
     /// A connection that begins, for a session that is open.
@@ -306,7 +306,7 @@ impl<S: Read + Write> Client<S> {
     }
 
     // Whether the session is over, after a write. Where the peer sends no more, that is once its whole lines are answered: a
-    // turn answers a line of every session that has one. After its farewell it is once nothing comes, or after 16 turns.
+    // turn answers a line of every session that has one. After its farewell it is once nothing comes, or after 255 turns.
     fn is_over<D: Device>(&mut self, hub: &Hub<D>, wrote: Wrote) -> bool
         requires { IsOpen hub.now.sessions self.old.sid }
         ensures fault { wrote.sent ≡ Sent.Fault → result ≡ true }
@@ -328,7 +328,7 @@ impl<S: Read + Write> Client<S> {
 
     /// Writes what can be written of the session's answers, after a turn of the hub. The session is closed after a fault,
     /// and where memory is refused for it; where the peer sends no more, once its whole lines are answered; and after its
-    /// farewell to a line that is too long, once nothing comes behind that line, or after 16 turns. It tells whether there
+    /// farewell to a line that is too long, once nothing comes behind that line, or after 255 turns. It tells whether there
     /// was anything to do.
     pub fn hand_out<D: Device>(&mut self, hub: &mut Hub<D>) -> bool
         requires { IsOpen hub.old.sessions self.old.sid }

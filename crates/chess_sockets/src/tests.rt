@@ -278,8 +278,8 @@ fn who_takes_nothing_is_read_no_further(rt: HostRuntime) {
 fn who_sends_a_long_line_is_closed(rt: HostRuntime) {
     let alloc = rt.alloc();
     let floods = made(alloc, &[Gives::Text(LONG)], Takes::All);
-    let told = left(false, Some(1), 16, 20);
-    assert_eq!(rt; play(alloc, floods, "bye LineTooLong\n", 20, None), told);
+    let told = left(false, Some(1), 255, 300);
+    assert_eq!(rt; play(alloc, floods, "bye LineTooLong\n", 300, None), told);
 }
 
 #[test]
