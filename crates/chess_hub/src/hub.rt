@@ -66,6 +66,13 @@ impl<D: Device> Hub<D> {
         }
     }
 
+    /// The store. The sessions end.
+    pub fn into_store(self) -> Store<D>
+        ensures { result ≡ self.store }
+    {
+        self.store
+    }
+
     /// Begins a session, under a number that no open one has. `Busy` exactly where 64 are open, or more; `NoMemory`
     /// where memory is refused. After both nothing has changed.
     pub fn connect(&mut self) -> Result<Sid, HubFault>

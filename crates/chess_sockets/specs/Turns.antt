@@ -1,5 +1,5 @@
 -- Which faults end serving.
-use Rattle.std.specs.Prelude.{ℕ, ◌≡◌, Bool, List, Option, ⊤}
+use Rattle.std.specs.Prelude.{ℕ, ◌≡◌, ◌+◌, ◌-◌, ◌^◌, min, Bool, List, Option, ⊤}
 use Rattle.chess_entry.specs.State.{TableState}
 use Rattle.chess_store.specs.Faults.{IsSubmitFault}
 use Rattle.chess_hub.specs.declared.fault.HubFault.{HubFault}
@@ -16,6 +16,11 @@ EndsServing NoMemory = ⊤
 EndsServing (Store fault) = IsSubmitFault fault
 EndsServing Busy = ⊥
 EndsServing LineTooLong = ⊥
+
+-- A connection that came is counted as turned away where there are as many clients as before, and else not.
+pub record IsCounted (clients after count counted : ℕ) : Type 0 where
+  pub dropped : after ≡ clients → counted ≡ min (count + 1) (2 ^ 64 - 1)
+  pub taken : after ≡ clients + 1 → counted ≡ count
 
 -- Why clients are not served on, and what is left of the table. Where memory was refused to the hub, the table is as it
 -- was; a store's fault is that of the commands of at most 64 lines, of what the sessions had sent by then, which went to

@@ -8,7 +8,7 @@ mod pieces;
 mod server;
 mod watch;
 
-pub use server::{Server, SocketFault, Turned};
+pub use server::{Server, Turned};
 
 #[cfg(test)]
 mod tests;

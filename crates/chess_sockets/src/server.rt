@@ -1,11 +1,12 @@
 //! The server.
-ghost use Rattle.std.specs.Prelude.{◌≡◌, ◌+◌, true, false, [], Some, None, Ok, IfOk, IfErr, OnOk};
+ghost use Rattle.std.specs.Prelude.{◌≡◌, ◌+◌, true, false, [], Some, None, Ok, IfOk, IfErr, OnOk, length};
+ghost use Rattle.std.specs.Bool.{OnTrue, OnFalse};
 ghost use Rattle.chess_store.specs.Means.{IsKept};
 ghost use Rattle.chess_hub.specs.Faults.{CountsFault};
 ghost use Rattle.chess_hub.specs.Turning.{MayBeAsked, Lasts, IsTried};
 ghost use Rattle.chess_sockets.specs.Clients.{IsOpen};
 ghost use Rattle.chess_sockets.specs.Serving.{state_of, unknown, AreEach, IsRead, IsWritten, Welcomes, HasServed, HasGoneRound, open_in};
-ghost use Rattle.chess_sockets.specs.Turns.{EndsServing, IsRefusal, IsTurnRefusal};
+ghost use Rattle.chess_sockets.specs.Turns.{EndsServing, IsCounted, IsRefusal, IsTurnRefusal};
 
 use crate::client::Client;
 use crate::pieces::PIECE_ROOM;
@@ -17,10 +18,6 @@ use std::io;
 use std::io::{ErrorKind, Read, Write};
 use std::net::{Ipv4Addr, Net, TcpListener, TcpStream};
 use std::os::fd::AsRawFd;
-
-/// The port cannot be bound or watched.
-#[derive(Clone, Copy, Debug, PartialEq, Eq)]
-pub struct SocketFault;
 
 /// Whether a turn found something to do.
 #[derive(Clone, Copy, Debug, PartialEq, Eq)]
@@ -54,6 +51,8 @@ pub struct Server<D: Device> {
     silence: Option<u64>,
     /// Whether a connection may wait that could not be accepted.
     has_missed: bool,
+    /// How many connections were dropped for want of a place or of memory.
+    turned_away: u64,
 }
 
 /// For so many bytes of answers those clients are given lines in a turn whose last answers were long.
@@ -207,7 +206,7 @@ pub(crate) fn serve_clients<S: Read + Write, D: Device>(
 }
 
 impl<D: Device> Server<D> {
-    /// Listens on a port of 127.0.0.1; of port 0 the system chooses one. `SocketFault` where it cannot be bound or
+    /// Listens on a port of 127.0.0.1; of port 0 the system chooses one. The system's error where it cannot be bound or
     /// watched; the hub is then given up. A client from which nothing came for `silence` milliseconds, and for which
     /// nothing waits, is closed; without that none is closed for silence.
     pub fn bind<R: Net<Listener = TcpListener, Stream = TcpStream>>(
@@ -216,18 +215,15 @@ impl<D: Device> Server<D> {
         port: u16,
         silence: Option<u64>,
         hub: Hub<D>,
-    ) -> Result<Server<D>, SocketFault>
+    ) -> io::Result<Server<D>>
     where
         D: Drop,
         ensures hub { IfOk result (λ server. server.hub ≡ hub) }
         ensures nobody { IfOk result (λ server. server.clients.items ≡ []) }
     {
-        let (Ok(listener), Ok(mut watch)) = (listen(net, port), Watch::new(net, alloc)) else {
-            return Err(SocketFault);
-        };
-        let Ok(address) = listener.local_addr() else {
-            return Err(SocketFault);
-        };
+        let listener = listen(net, port)?;
+        let mut watch = Watch::new(net, alloc)?;
+        let address = listener.local_addr()?;
         watch.add(listener.as_raw_fd());
         Ok(Server {
             alloc,
@@ -239,6 +235,7 @@ impl<D: Device> Server<D> {
             rested: Rested::Not,
             silence,
             has_missed: false,
+            turned_away: 0,
         })
     }
 
@@ -249,30 +246,49 @@ impl<D: Device> Server<D> {
         self.port
     }
 
-    // Begins a session for a connection, which is dropped where the hub is busy or memory is refused.
-    fn admit(&mut self, stream: TcpStream, at: u64)
+    /// How many connections were dropped since it was bound, for want of a place or of memory; at most 2^64 - 1.
+    pub fn turned_away(&self) -> u64
+        ensures { result ≡ self.now.turned_away }
+    {
+        self.turned_away
+    }
+
+    /// The hub, with its sessions as they stand. The connections are closed.
+    pub fn into_hub(self) -> Hub<D>
+        ensures { result ≡ self.hub }
+    {
+        self.hub
+    }
+
+    // Begins a session for a connection, and tells whether it did: the connection is dropped where the hub is busy or memory
+    // is refused.
+    fn admit(&mut self, stream: TcpStream, at: u64) -> bool
         ensures welcomes { Welcomes self.old.clients.items self.new.clients.items
             (state_of self.old.hub.sessions self.old.hub.store.table)
             (state_of self.new.hub.sessions self.new.hub.store.table) }
         ensures store { self.new.hub.store ≡ self.old.hub.store }
         ensures port { self.new.port ≡ self.old.port }
         ensures waits { self.new.watch.calm_waits ≡ self.old.watch.calm_waits }
+        ensures turned_away { self.new.turned_away ≡ self.old.turned_away }
+        ensures came { OnTrue result (length self.new.clients.items ≡ length self.old.clients.items + 1) }
+        ensures dropped { OnFalse result (self.new.clients.items ≡ self.old.clients.items) }
     {
         match self.clients.reserve(1) {
             Ok(()) => {}
-            Err(_) => return,
+            Err(_) => return false,
         }
         let sid = match self.hub.connect() {
             Ok(sid) => sid,
-            Err(_) => return,
+            Err(_) => return false,
         };
         self.watch.add(stream.as_raw_fd());
         self.clients
             .push_reserved(Client::new(self.alloc, stream, sid, at));
+        true
     }
 
     // Accepts at most one connection, and tells whether one came; after calm rests none, unless one may wait that could not
-    // be accepted.
+    // be accepted. One that came and is no client is counted.
     fn welcome(&mut self, at: u64) -> bool
         ensures welcomes { Welcomes self.old.clients.items self.new.clients.items
             (state_of self.old.hub.sessions self.old.hub.store.table)
@@ -280,6 +296,9 @@ impl<D: Device> Server<D> {
         ensures store { self.new.hub.store ≡ self.old.hub.store }
         ensures port { self.new.port ≡ self.old.port }
         ensures waits { self.new.watch.calm_waits ≡ self.old.watch.calm_waits }
+        ensures counted { OnTrue result (IsCounted (length self.old.clients.items) (length self.new.clients.items)
+            self.old.turned_away self.new.turned_away) }
+        ensures none { OnFalse result (self.new.turned_away ≡ self.old.turned_away) }
     {
         if self.rested == Rested::Calm && !self.has_missed {
             return false;
@@ -287,7 +306,9 @@ impl<D: Device> Server<D> {
         match accept(&self.listener) {
             Ok(stream) => {
                 self.has_missed = false;
-                self.admit(stream, at);
+                if !self.admit(stream, at) {
+                    self.turned_away = self.turned_away.saturating_add(1);
+                }
                 true
             }
             Err(error) => {
