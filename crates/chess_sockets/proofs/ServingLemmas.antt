@@ -5,7 +5,7 @@ use Rattle.std.specs.Io.KnownBytes.{Consumes}
 use Rattle.std.proofs.KnownBytes.{Consumes-nil, Appends-nil}
 use Rattle.std.proofs.lemmas.Bool.{cases_Bool, false≢true}
 use Rattle.std.proofs.lemmas.Bool.Decides.{Decides-eqb}
-use Rattle.std.proofs.lemmas.List.{take_more, take_more_set, length-set, get_or-set_other}
+use Rattle.std.proofs.lemmas.List.{take_more, take_more_set, take_all, length-set, get_or-set_other}
 use Rattle.std.proofs.lemmas.List.Elements.{All-nil, All-cons, All-append}
 use Rattle.session_lines.specs.Lines.{IsUnfinished}
 use Rattle.session_lines.specs.Heard.{Heard}
@@ -16,10 +16,12 @@ use Rattle.chess_sessions.specs.Session.{Said, said, SessionState, session_at, C
 use Rattle.chess_hub.specs.Calls.{Call, Closed, Fed, Given}
 use Rattle.chess_hub.specs.Law.{HubState, Steps, Stays}
 use Rattle.chess_sockets.specs.declared.client.Client.{Client}
-use Rattle.chess_sockets.specs.Clients.{OthersStay, TakesIn, HandsOut, to_go}
+use Rattle.chess_sockets.specs.Clients.{OthersStay, IsSilent, TakesIn, HandsOut, to_go}
 use Rattle.chess_sockets.specs.Incoming.{held}
 use Rattle.chess_sockets.specs.Sending.{waiting}
-use Rattle.chess_sockets.specs.Serving.{state_of, LeadsOn, AreEach, PassesClosed, IsSent, IsRead, Welcomes, IsGivenTo, AreGiven, IsWritten}
+use Rattle.chess_sockets.specs.Portions.{IsDearLine}
+use Rattle.chess_sockets.proofs.PortionLemmas.{none-dear}
+use Rattle.chess_sockets.specs.Serving.{state_of, Intake, Holds, LeadsOn, AreEach, PassesClosed, IsSent, IsRead, Welcomes, IsGivenTo, AreGiven, IsWritten}
 
 -- ---- calls
 
@@ -63,43 +65,50 @@ unchanged old new sid same others = λ other. elim (cases_Bool (other == sid)) [
 ]
 
 -- what was read and sent
-pub record Sends (before after : Option (List ℕ)) (holds keeps : List ℕ) (sid : ℕ) (old new : HubState) : Type 0 where
+pub record Sends (room left : ℕ) (before after : Option (List ℕ)) (holds keeps : List ℕ) (sid : ℕ) (old new : HubState)
+    : Type 0 where
   pub taken : List ℕ
   pub consumed : Consumes before after taken
-  pub room : taken ≢ [] → IsUnfinished holds
+  pub unfinished : taken ≢ [] → IsUnfinished holds
   pub fed : List ℕ
   pub order : holds ++ taken ≡ fed ++ keeps
+  pub fewer : left ≤ room
+  pub dear : IsDearLine fed → left + 1 ≤ room
   pub sent : IsSent sid fed old new
 
-pub sends : (before after : Option (List ℕ)) (holds keeps : List ℕ) (sid : ℕ) (old new : Sessions) (t u : TableState)
-    (m n : Option SessionState) → session_at old sid ≡ m → session_at new sid ≡ n → IsSome m →
-    IfSome m (λ s. TakesIn before after holds keeps s n) → OthersStay old new sid → u ≡ t →
-    Sends before after holds keeps sid (state_of old t) (state_of new u)
-sends before after holds keeps sid old new t u None n e f is_open takes others same =
+pub sends : (room left : ℕ) (before after : Option (List ℕ)) (holds keeps : List ℕ) (sid : ℕ) (old new : Sessions)
+    (t u : TableState) (m n : Option SessionState) → session_at old sid ≡ m → session_at new sid ≡ n → IsSome m →
+    IfSome m (λ s. TakesIn room left before after holds keeps s n) → OthersStay old new sid → u ≡ t →
+    Sends room left before after holds keeps sid (state_of old t) (state_of new u)
+sends room left before after holds keeps sid old new t u None n e f is_open takes others same =
     absurd (let bad : false ≡ true = is_open in false≢true bad)
-sends before after holds keeps sid old new t u (Some s) None e f is_open takes others same = record {
+sends room left before after holds keeps sid old new t u (Some s) None e f is_open takes others same = record {
   taken = takes.taken;
   consumed = takes.consumed;
-  room = takes.room;
-  fed = takes.fed;
-  order = takes.order;
+  unfinished = takes.unfinished;
+  fed = takes.gives.fed;
+  order = takes.gives.order;
+  fewer = takes.gives.fewer;
+  dear = takes.gives.dear;
   sent = inr (inr (inl (
-    takes.gone refl,
+    takes.gives.gone refl,
     one_step (state_of old t) (state_of new u) (Closed sid)
         (record { changed = f; others = others }, same),
   )));
 }
-sends before after holds keeps sid old new t u (Some s) (Some r) e f is_open takes others same = record {
+sends room left before after holds keeps sid old new t u (Some s) (Some r) e f is_open takes others same = record {
   taken = takes.taken;
   consumed = takes.consumed;
-  room = takes.room;
-  fed = takes.fed;
-  order = takes.order;
-  sent = elim takes.heard [
+  unfinished = takes.unfinished;
+  fed = takes.gives.fed;
+  order = takes.gives.order;
+  fewer = takes.gives.fewer;
+  dear = takes.gives.dear;
+  sent = elim takes.gives.heard [
     | inl (short_so_far, portion, alone, is) ↦ inl (
       portion,
       subst (λ (o : Option SessionState). IsSomeAnd o (λ s. s.heard.bytes ≡ [])) (sym e) alone,
-      one_step (state_of old t) (state_of new u) (Fed sid takes.fed)
+      one_step (state_of old t) (state_of new u) (Fed sid takes.gives.fed)
           (s, e, short_so_far, record { changed = f ∙ ap Some is; others = others }, same),
     )
     | inr (inl (is, none)) ↦ inr (inl (
@@ -145,53 +154,78 @@ pub not_closed : {A : Type 0} (m : Option A) (P : Type 0) → IsSome m → m ≡
 not_closed None P is_open e = absurd (false≢true is_open)
 not_closed (Some s) P is_open e = absurd (let bad : Some s ≡ None = e in cc)
 
+-- a hub that is the one from before
+pub stays_by : {H : Type 0} (old new : H) (to : H → HubState) → new ≡ old → Stays (to old) (to new)
+stays_by old new to same = subst (λ h. Stays (to old) (to h)) (sym same) (stays-refl (to old))
+
+pub silent_written : {S : Type 0} (silence : Option ℕ) (client : Client S) (sessions : Sessions) (at : ℕ) →
+    IsSomeAnd silence (IsSilent client sessions at) → waiting client.outgoing ≡ []
+silent_written None client sessions at silent = absurd silent
+silent_written (Some most) client sessions at silent = silent.written
+
 -- ---- who is read for
 
+pub holds-refl : (s : Intake) → Holds s s
+holds-refl s = (stays-refl s.hub, refl)
+
 module _ {S : Type 0} (remaining : S → Option (List ℕ)) where
-  pub passed_over : (client : Client S) (s : HubState) → IsRead remaining client client s s
+  pub passed_over : (client : Client S) (s : Intake) → IsRead remaining client client s s
   passed_over client s = record {
     sid = refl;
     outgoing = refl;
     taken = [];
     consumed = Consumes-nil (remaining client.stream);
-    room = λ some. absurd (some refl);
+    unfinished = λ some. absurd (some refl);
     fed = [];
     order = append-nil (held client.incoming);
     short = client.incoming.few;
-    sent = inr (inl (refl, stays-refl s));
-    closed = λ none. (refl, stays-refl s);
+    sent = inr (inl (refl, stays-refl s.hub));
+    fewer = omega arith;
+    dear = none-dear;
+    unread = λ waits. (refl, refl, stays-refl s.hub);
+    closed = λ none. (refl, stays-refl s.hub);
   }
 
-  pub is_read : (client after : Client S) (old new : HubState) → after.sid ≡ client.sid →
-      waiting after.outgoing ≡ waiting client.outgoing → PassesClosed client after old new →
-      Sends (remaining client.stream) (remaining after.stream) (held client.incoming) (held after.incoming) client.sid
-      old new → IsRead remaining client after old new
-  is_read client after old new sid outgoing closed sends = record {
+  pub is_read : (client after : Client S) (old new : Intake) → after.sid ≡ client.sid →
+      waiting after.outgoing ≡ waiting client.outgoing →
+      (waiting client.outgoing ≢ [] → (after.stream ≡ client.stream) × (held after.incoming ≡ held client.incoming)
+      × Stays old.hub new.hub) → PassesClosed client after old.hub new.hub →
+      Sends old.room new.room (remaining client.stream) (remaining after.stream) (held client.incoming)
+      (held after.incoming) client.sid old.hub new.hub → IsRead remaining client after old new
+  is_read client after old new sid outgoing unread closed sends = record {
     sid = sid;
     outgoing = outgoing;
     taken = sends.taken;
     consumed = sends.consumed;
-    room = sends.room;
+    unfinished = sends.unfinished;
     fed = sends.fed;
     order = sends.order;
     short = after.incoming.few;
     sent = sends.sent;
+    fewer = sends.fewer;
+    dear = sends.dear;
+    unread = unread;
     closed = closed;
   }
 
-  pub read_after : (client after : Client S) (a b c : HubState) → Stays a b → IsRead remaining client after b c →
+  pub read_after : (client after : Client S) (a b c : Intake) → Holds a b → IsRead remaining client after b c →
       IsRead remaining client after a c
   read_after client after a b c h read = record {
     sid = read.sid;
     outgoing = read.outgoing;
     taken = read.taken;
     consumed = read.consumed;
-    room = read.room;
+    unfinished = read.unfinished;
     fed = read.fed;
     order = read.order;
     short = read.short;
-    sent = sent_after a b c client.sid read.fed h read.sent;
-    closed = closed_after client after a b c h read.closed;
+    sent = sent_after a.hub b.hub c.hub client.sid read.fed h.0 read.sent;
+    fewer = subst (λ r. c.room ≤ r) h.1 read.fewer;
+    dear = λ dear. subst (λ r. c.room + 1 ≤ r) h.1 (read.dear dear);
+    unread = λ waits.
+        let same = read.unread waits in
+        (same.0, same.1, stays-trans a.hub b.hub c.hub h.0 same.2);
+    closed = closed_after client after a.hub b.hub c.hub h.0 read.closed;
   }
 
 -- ---- who comes
@@ -214,54 +248,68 @@ abbrev pub SameFrom : {A : Type 0} → ℕ → List A → List A → Type 0
 SameFrom {A = A} from old new = (d : A) (k : ℕ) → from ≤ k → get_or new k d ≡ get_or old k d
 
 -- It is done for the clients before a place, and the others are as they were.
-pub record IsDoneTo {S : Type 0} (Done : Client S → Client S → HubState → HubState → Type 0) (i : ℕ)
-    (old items : List (Client S)) (s t : HubState) : Type 0 where
-  pub each : AreEach Done (take i old) (take i items) s t
+pub record IsDoneTo {S A : Type 0} (Same : A → A → Type 0) (Done : Client S → Client S → A → A → Type 0) (i : ℕ)
+    (old items : List (Client S)) (s t : A) : Type 0 where
+  pub each : AreEach Same Done (take i old) (take i items) s t
   pub same : SameFrom i old items
   pub whole : length items ≡ length old
 
-module _ {S : Type 0} (Done : Client S → Client S → HubState → HubState → Type 0) where
-  -- It may be done later, where nothing has changed.
-  abbrev pub MayWait : Type 0
-  MayWait = (client after : Client S) (a b c : HubState) → Stays a b → Done client after b c → Done client after a c
+module _ {S A : Type 0} (Same : A → A → Type 0) (same : (a : A) → Same a a) (Done : Client S → Client S → A → A → Type 0)
+  where
+    -- It may be done later, where nothing has changed.
+    abbrev pub MayWait : Type 0
+    MayWait = (client after : Client S) (a b c : A) → Same a b → Done client after b c → Done client after a c
 
-  one_more : MayWait → (clients done : List (Client S)) (client after : Client S) (a b c : HubState) →
-      AreEach Done clients done a b → Done client after b c → AreEach Done (clients ++ client ∷ []) (done ++ after ∷ []) a c
-  one_more waits [] done client after a b c (none, stays) one = (
-    after,
-    [],
-    c,
-    ap (λ (l : List (Client S)). l ++ after ∷ []) none,
-    waits client after a b c stays one,
-    (refl, stays-refl c),
-  )
-  one_more waits (first ∷ clients) done client after a b c (it, rest, between, whole, is, are) one = (
-    it,
-    rest ++ after ∷ [],
-    between,
-    ap (λ (l : List (Client S)). l ++ after ∷ []) whole,
-    is,
-    one_more waits clients rest client after between b c are one,
-  )
+    one_more : MayWait → (clients done : List (Client S)) (client after : Client S) (a b c : A) →
+        AreEach Same Done clients done a b → Done client after b c →
+        AreEach Same Done (clients ++ client ∷ []) (done ++ after ∷ []) a c
+    one_more waits [] done client after a b c (none, stays) one = (
+      after,
+      [],
+      c,
+      ap (λ (l : List (Client S)). l ++ after ∷ []) none,
+      waits client after a b c stays one,
+      (refl, same c),
+    )
+    one_more waits (first ∷ clients) done client after a b c (it, rest, between, whole, is, are) one = (
+      it,
+      rest ++ after ∷ [],
+      between,
+      ap (λ (l : List (Client S)). l ++ after ∷ []) whole,
+      is,
+      one_more waits clients rest client after between b c are one,
+    )
 
-  -- and it is done for one client more
-  pub done_further : MayWait → (old items : List (Client S)) (i : ℕ) (d after : Client S) (s t u : HubState) →
-      i < length items → IsDoneTo Done i old items s t → Done (get_or items i d) after t u →
-      IsDoneTo Done (i + 1) old (set items i after) s u
-  done_further waits old items i d after s t u lt so_far one =
-      let below : i < length old = omega (arith, lt, so_far.whole) in
-      let front : take (i + 1) old ≡ take i old ++ get_or items i d ∷ [] =
-      take_more old i d below ∙ ap (λ x. take i old ++ x ∷ []) (sym (so_far.same d i (omega arith))) in
-      record {
-        each = subst (λ (l : List (Client S)). AreEach Done l (take (i + 1) (set items i after)) s u) (sym front)
-            (subst (λ (l : List (Client S)). AreEach Done (take i old ++ get_or items i d ∷ []) l s u)
-            (sym (take_more_set items i after lt))
-            (one_more waits (take i old) (take i items) (get_or items i d) after s t u so_far.each one));
-        same = λ d' k from.
-            let ne : k ≢ i = omega (arith, from) in
-            get_or-set_other items i k after d' ne ∙ so_far.same d' k (omega (arith, from));
-        whole = length-set items i after ∙ so_far.whole;
-      }
+    -- and it is done for one client more
+    pub done_further : MayWait → (old items : List (Client S)) (i : ℕ) (d after : Client S) (s t u : A) →
+        i < length items → IsDoneTo Same Done i old items s t → Done (get_or items i d) after t u →
+        IsDoneTo Same Done (i + 1) old (set items i after) s u
+    done_further waits old items i d after s t u lt so_far one =
+        let below : i < length old = omega (arith, lt, so_far.whole) in
+        let front : take (i + 1) old ≡ take i old ++ get_or items i d ∷ [] =
+        take_more old i d below ∙ ap (λ x. take i old ++ x ∷ []) (sym (so_far.same d i (omega arith))) in
+        record {
+          each = subst (λ (l : List (Client S)). AreEach Same Done l (take (i + 1) (set items i after)) s u) (sym front)
+              (subst (λ (l : List (Client S)). AreEach Same Done (take i old ++ get_or items i d ∷ []) l s u)
+              (sym (take_more_set items i after lt))
+              (one_more waits (take i old) (take i items) (get_or items i d) after s t u so_far.each one));
+          same = λ d' k from.
+              let ne : k ≢ i = omega (arith, from) in
+              get_or-set_other items i k after d' ne ∙ so_far.same d' k (omega (arith, from));
+          whole = length-set items i after ∙ so_far.whole;
+        }
+
+    -- before the first
+    pub done_none : (clients : List (Client S)) (s t : A) → Same s t → IsDoneTo Same Done 0 clients clients s t
+    done_none clients s t stays = record { each = (refl, stays); same = λ d k from. refl; whole = refl }
+
+    -- and for all
+    pub done_all : (i : ℕ) (old items : List (Client S)) (s t : A) → length items ≤ i → IsDoneTo Same Done i old items s t →
+        AreEach Same Done old items s t
+    done_all i old items s t le so_far =
+        let below : length old ≤ i = omega (arith, le, so_far.whole) in
+        subst (λ (l : List (Client S)). AreEach Same Done l items s t) (take_all i old below)
+        (subst (λ (l : List (Client S)). AreEach Same Done (take i old) l s t) (take_all i items le) so_far.each)
 
 -- ---- what a session is given
 

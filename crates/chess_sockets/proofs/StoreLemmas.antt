@@ -17,7 +17,7 @@ use Rattle.chess_hub.specs.Faults.{UnlessDevice}
 use Rattle.chess_hub.specs.Turning.{AsksFor, IsBatchFault, AreRefused, IsTurnFault, Lasts}
 use Rattle.chess_hub.specs.Law.{HubState}
 use Rattle.chess_sockets.specs.declared.client.Client.{Client}
-use Rattle.chess_sockets.specs.Serving.{state_of, AreEach, IsRead}
+use Rattle.chess_sockets.specs.Serving.{state_of, AreRead}
 use Rattle.chess_sockets.specs.Turns.{EndsServing, IsRefusal}
 
 unless_any : (fault : HubFault) (P : Type 0) → P → UnlessDevice fault P
@@ -124,7 +124,7 @@ module _ (Same : Type 0) (at : ℕ) (sessions : Sessions) (seq : ℕ) (failed : 
 
   -- nothing was asked of the store, or it refused
   pub turn_refusal : {S : Type 0} (remaining : S → Option (List ℕ)) (clients read : List (Client S)) (old : HubState)
-      (table : TableState) → AreEach (IsRead remaining) clients read old (state_of sessions table) → before ≡ old.table →
+      (table : TableState) → AreRead remaining clients read old (state_of sessions table) → before ≡ old.table →
       (Same → after ≡ before) → (fault : HubFault) → IsOfTurn fault →
       IsRefusal remaining fault at seq failed clients old after
   turn_refusal remaining clients read old table hears same idle hub.Busy why = why

@@ -1,12 +1,14 @@
 -- What a connection does for its session.
-use Rattle.std.specs.Prelude.{ℕ, ◌≡◌, ◌≢◌, ◌⊎◌, true, false, List, [], ◌∷◌, ◌++◌, Option, None, IsSome, IfSome, option_map}
+use Rattle.std.specs.Prelude.{ℕ, ◌≡◌, ◌≢◌, ◌≤◌, ◌+◌, ◌⊎◌, true, false, List, [], ◌∷◌, ◌++◌, Option, None, IsSome, IfSome, option_map}
 use Rattle.std.specs.Io.KnownBytes.{Consumes}
 use Rattle.session_lines.specs.Lines.{IsUnfinished}
 use Rattle.session_lines.specs.Heard.{heard_more}
 use Rattle.chess_sessions.specs.declared.sessions.Sessions.{Sessions}
 use Rattle.chess_sessions.specs.Session.{Said, SessionState, session_at, due}
-use Rattle.chess_sockets.specs.Portions.{IsPortion}
-use Rattle.chess_sockets.specs.Sending.{HandsOn}
+use Rattle.chess_sockets.specs.declared.client.Client.{Client}
+use Rattle.chess_sockets.specs.Portions.{IsDearLine, IsPortion}
+use Rattle.chess_sockets.specs.Incoming.{held}
+use Rattle.chess_sockets.specs.Sending.{waiting, HandsOn}
 
 abbrev pub IsOpen : Sessions → ℕ → Type 0
 IsOpen sessions sid = IsSome (session_at sessions sid)
@@ -14,6 +16,14 @@ IsOpen sessions sid = IsSome (session_at sessions sid)
 -- No other session is touched.
 abbrev pub OthersStay : Sessions → Sessions → ℕ → Type 0
 OthersStay old new sid = (other : ℕ) → other ≢ sid → session_at new other ≡ session_at old other
+
+-- Nothing came of a client for so long, by this moment, and nothing waits for it: nothing to be written, no line of its
+-- session, and no line that is held back.
+pub record IsSilent {S : Type 0} (client : Client S) (sessions : Sessions) (at most : ℕ) : Type 0 where
+  pub long : client.heard_at + most ≤ at
+  pub written : waiting client.outgoing ≡ []
+  pub answered : IfSome (session_at sessions client.sid) (λ s. s.heard.bytes ≡ [])
+  pub unfinished : IsUnfinished (held client.incoming)
 
 -- ---- what comes
 
@@ -25,24 +35,24 @@ HasHeard old fed new = (old.heard.is_long ≡ false) × IsPortion fed × (old.he
     ⊎ (new ≡ old) × (fed ≡ [])
     ⊎ (new ≡ old) × (old.heard.is_long ≡ true)
 
--- The session is given what stands in front of what is held back for it. It is closed only where it is given nothing.
-pub record GivesOn (holds keeps : List ℕ) (old : SessionState) (new : Option SessionState) : Type 0 where
+-- The session is given what stands in front of what is held back for it; a line that asks for much takes of the room that the
+-- turn has for such lines. It is closed only where it is given nothing.
+pub record GivesOn (room left : ℕ) (holds keeps : List ℕ) (old : SessionState) (new : Option SessionState) : Type 0 where
   pub fed : List ℕ
   pub order : holds ≡ fed ++ keeps
   pub heard : IfSome new (HasHeard old fed)
   pub gone : new ≡ None → fed ≡ []
+  pub fewer : left ≤ room
+  pub dear : IsDearLine fed → left + 1 ≤ room
 
 -- Bytes came from the peer, none where a line is held back, and the session is given what stands in front of all that is
--- held back. It is closed only where it is given nothing.
-pub record TakesIn (before after : Option (List ℕ)) (holds keeps : List ℕ) (old : SessionState)
+-- held back.
+pub record TakesIn (room left : ℕ) (before after : Option (List ℕ)) (holds keeps : List ℕ) (old : SessionState)
     (new : Option SessionState) : Type 0 where
   pub taken : List ℕ
   pub consumed : Consumes before after taken
-  pub room : taken ≢ [] → IsUnfinished holds
-  pub fed : List ℕ
-  pub order : holds ++ taken ≡ fed ++ keeps
-  pub heard : IfSome new (HasHeard old fed)
-  pub gone : new ≡ None → fed ≡ []
+  pub unfinished : taken ≢ [] → IsUnfinished holds
+  pub gives : GivesOn room left (holds ++ taken) keeps old new
 
 -- ---- what goes
 

@@ -18,5 +18,5 @@ HasCome old new piece Fault = Keeps old new
 pub record Takes (before after : Option (List ℕ)) (old new : List ℕ) : Type 0 where
   pub taken : List ℕ
   pub consumed : Consumes before after taken
-  pub room : taken ≢ [] → IsUnfinished old
+  pub unfinished : taken ≢ [] → IsUnfinished old
   pub order : new ≡ old ++ taken

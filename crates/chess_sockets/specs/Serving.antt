@@ -1,6 +1,6 @@
 -- What a turn of the server calls the hub for: where what the sessions hear comes from, and where what they are given
 -- goes.
-use Rattle.std.specs.Prelude.{ℕ, ◌≡◌, ◌≢◌, ◌≤◌, ◌⊎◌, true, List, [], ◌∷◌, ◌++◌, Option, None, IfSome, IsSomeAnd, is_some, length, filter}
+use Rattle.std.specs.Prelude.{ℕ, ◌≡◌, ◌≢◌, ◌≤◌, ◌+◌, ◌⊎◌, true, List, [], ◌∷◌, ◌++◌, Option, None, IfSome, IsSomeAnd, is_some, length, filter}
 use Rattle.std.specs.List.{All}
 use Rattle.std.specs.Io.KnownBytes.{Consumes}
 use Rattle.session_lines.specs.Lines.{IsUnfinished}
@@ -13,7 +13,7 @@ use Rattle.chess_hub.specs.Law.{HubState, Steps, Stays}
 use Rattle.chess_hub.specs.Turning.{AsksFor}
 use Rattle.chess_sockets.specs.declared.client.Client.{Client}
 use Rattle.chess_sockets.specs.Clients.{HandsOut, to_go}
-use Rattle.chess_sockets.specs.Portions.{IsPortion}
+use Rattle.chess_sockets.specs.Portions.{IsDearLine, IsPortion}
 use Rattle.chess_sockets.specs.Incoming.{held}
 use Rattle.chess_sockets.specs.Sending.{waiting}
 
@@ -30,13 +30,13 @@ LeadsOn old [] new = Stays old new
 LeadsOn old (call ∷ calls) new =
     (before : HubState) × (after : HubState) × LeadsOn old calls before × Steps before call after × Stays after new
 
--- This is done for each of these clients, one after the other.
-abbrev pub AreEach : {S : Type 0} → (Client S → Client S → HubState → HubState → Type 0) → List (Client S)
-    → List (Client S) → HubState → HubState → Type 0
-AreEach Done [] after old new = (after ≡ []) × Stays old new
-AreEach {S = S} Done (client ∷ clients) after old new =
-    (next : Client S) × (rest : List (Client S)) × (between : HubState) × (after ≡ next ∷ rest)
-    × Done client next old between × AreEach Done clients rest between new
+-- This is done for each of these clients, one after the other; between them all is the same.
+abbrev pub AreEach : {S A : Type 0} → (A → A → Type 0) → (Client S → Client S → A → A → Type 0) → List (Client S)
+    → List (Client S) → A → A → Type 0
+AreEach Same Done [] after old new = (after ≡ []) × Same old new
+AreEach {S = S} {A = A} Same Done (client ∷ clients) after old new =
+    (next : Client S) × (rest : List (Client S)) × (between : A) × (after ≡ next ∷ rest)
+    × Done client next old between × AreEach Same Done clients rest between new
 
 -- Nothing is done for a client whose session is closed.
 abbrev pub PassesClosed : {S : Type 0} → Client S → Client S → HubState → HubState → Type 0
@@ -55,20 +55,41 @@ IsSent sid fed old new =
     ⊎ (fed ≡ []) × LeadsOn old (Closed sid ∷ []) new
     ⊎ IsSomeAnd (session_at old.sessions sid) (λ s. s.heard.is_long ≡ true) × Stays old new
 
+-- A turn while it reads: the hub, and for how many lines that ask for much it has room yet.
+pub record Intake : Type 0 where
+  pub hub : HubState
+  pub room : ℕ
+
+abbrev pub intake : HubState → ℕ → Intake
+intake hub room = record { hub = hub; room = room }
+
+abbrev pub Holds : Intake → Intake → Type 0
+Holds old new = Stays old.hub new.hub × (new.room ≡ old.room)
+
 -- What comes on a client's connection is held back, and its session is given what stands in front of that, and nothing
--- else. None is read where a line is held back, and no more is held back than a piece.
-pub record IsRead {S : Type 0} (remaining : S → Option (List ℕ)) (client after : Client S) (old new : HubState) : Type 0
+-- else. None is read where a line is held back, and no more is held back than a piece. A line that asks for much is given
+-- only where there is room. Of a client for which answers wait nothing is read, and nothing that it sent goes on.
+pub record IsRead {S : Type 0} (remaining : S → Option (List ℕ)) (client after : Client S) (old new : Intake) : Type 0
   where
     pub sid : after.sid ≡ client.sid
     pub outgoing : waiting after.outgoing ≡ waiting client.outgoing
     pub taken : List ℕ
     pub consumed : Consumes (remaining client.stream) (remaining after.stream) taken
-    pub room : taken ≢ [] → IsUnfinished (held client.incoming)
+    pub unfinished : taken ≢ [] → IsUnfinished (held client.incoming)
     pub fed : List ℕ
     pub order : held client.incoming ++ taken ≡ fed ++ held after.incoming
     pub short : length (held after.incoming) ≤ 4096
-    pub sent : IsSent client.sid fed old new
-    pub closed : PassesClosed client after old new
+    pub sent : IsSent client.sid fed old.hub new.hub
+    pub fewer : new.room ≤ old.room
+    pub dear : IsDearLine fed → new.room + 1 ≤ old.room
+    pub unread : waiting client.outgoing ≢ [] → (after.stream ≡ client.stream)
+        × (held after.incoming ≡ held client.incoming) × Stays old.hub new.hub
+    pub closed : PassesClosed client after old.hub new.hub
+
+-- Each client is read for. A turn has room for one line that asks for much.
+abbrev pub AreRead : {S : Type 0} → (S → Option (List ℕ)) → List (Client S) → List (Client S) → HubState → HubState → Type 0
+AreRead remaining clients read old new =
+    (left : ℕ) × AreEach Holds (IsRead remaining) clients read (intake old 1) (intake new left)
 
 -- ---- what goes
 
@@ -122,7 +143,7 @@ pub record Welcomes {S : Type 0} (clients after : List (Client S)) (old new : Hu
 pub record HasReadAndAnswered {S : Type 0} (remaining : S → Option (List ℕ)) (May : List Command → Type 0) (at : ℕ)
     (clients read : List (Client S)) (old answered : HubState) : Type 0 where
   pub heard : HubState
-  pub reads : AreEach (IsRead remaining) clients read old heard
+  pub reads : AreRead remaining clients read old heard
   pub turned : Steps heard (Turned at 64) answered
   pub works : AsksFor at 64 heard.sessions May
 
@@ -132,7 +153,7 @@ pub record HasServed {S : Type 0} (remaining contents : S → Option (List ℕ))
   pub read : List (Client S)
   pub answered : HubState
   pub answers : HasReadAndAnswered remaining May at clients read old answered
-  pub writes : AreEach (IsWritten contents) read written answered new
+  pub writes : AreEach Stays (IsWritten contents) read written answered new
 
 -- A turn of the server: each client whose session is open, and who came, is served. Who is left has an open session.
 pub record HasGoneRound {S : Type 0} (remaining contents : S → Option (List ℕ)) (May : List Command → Type 0) (at : ℕ)

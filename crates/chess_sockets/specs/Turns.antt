@@ -7,7 +7,7 @@ use Rattle.chess_hub.specs.declared.fault.HubFault.TheVariants.{Busy, NoMemory, 
 use Rattle.chess_hub.specs.Law.{HubState}
 use Rattle.chess_hub.specs.Turning.{AsksFor, AreRefused}
 use Rattle.chess_sockets.specs.declared.client.Client.{Client}
-use Rattle.chess_sockets.specs.Serving.{AreEach, IsRead, Welcomes, open_in}
+use Rattle.chess_sockets.specs.Serving.{AreRead, Welcomes, open_in}
 
 -- Memory was refused to the hub, or the store refused a batch. What is one client's trouble, want of memory too, ends
 -- nothing but its session.
@@ -29,7 +29,7 @@ abbrev pub IsRefusal : {S : Type 0} → (S → Option (List ℕ)) → HubFault �
     TableState → Type 0
 IsRefusal remaining NoMemory at seq failed clients old after = after ≡ old.table
 IsRefusal {S = S} remaining (Store fault) at seq failed clients old after =
-    (read : List (Client S)) × (heard : HubState) × AreEach (IsRead remaining) clients read old heard
+    (read : List (Client S)) × (heard : HubState) × AreRead remaining clients read old heard
     × AsksFor at 64 heard.sessions (AreRefused fault seq failed old.table after)
 IsRefusal remaining Busy at seq failed clients old after = ⊥
 IsRefusal remaining LineTooLong at seq failed clients old after = ⊥

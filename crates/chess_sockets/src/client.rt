@@ -1,9 +1,10 @@
 //! A connection and its session.
-ghost use Rattle.std.specs.Prelude.{◌≡◌, ◌≤◌, ◌++◌, ◌+◌, true, false, [], None, length, IsSome, IfSome, IsSomeAnd, OnOk, OnErr};
+ghost use Rattle.std.specs.Prelude.{◌≡◌, ◌≢◌, ◌≤◌, ◌++◌, ◌+◌, ◌-◌, ◌↔◌, ◌⊎◌, true, false, [], None, length, IsTrue, IsSome, IfSome, IsSomeAnd, OnOk, OnErr};
 ghost use Rattle.std.specs.Bool.{OnTrue, OnFalse};
 ghost use Rattle.chess_sessions.specs.Session.{said, session_at};
-ghost use Rattle.chess_sockets.specs.Clients.{IsOpen, OthersStay, HasHeard, GivesOn, TakesIn, HandsOut, bytes_of, to_go};
+ghost use Rattle.chess_sockets.specs.Clients.{IsOpen, OthersStay, IsSilent, HasHeard, GivesOn, TakesIn, HandsOut, bytes_of, to_go};
 ghost use Rattle.chess_sockets.specs.Portions.{IsPortion};
+ghost use Rattle.session_lines.specs.Lines.{IsUnfinished};
 ghost use Rattle.chess_sockets.specs.Incoming.{held};
 ghost use Rattle.chess_sockets.specs.Pieces.{Takes};
 ghost use Rattle.chess_sockets.specs.Sending.{waiting};
@@ -12,6 +13,7 @@ ghost use Rattle.chess_sockets.specs.Serving.{AreGiven, state_of};
 use crate::incoming::Incoming;
 use crate::outgoing::{Outgoing, Sent};
 use crate::pieces::{Came, PIECE_ROOM};
+use crate::room::Room;
 use chess_answer::Reply;
 use chess_hub::{Hub, HubFault, Sid};
 use sector_dev::Device;
@@ -33,16 +35,11 @@ pub struct Client<S> {
     is_quiet: bool,
     /// The moment at which it began, or last sent something, in milliseconds.
     heard_at: u64,
-    /// So many bytes its last answers had, and so many of them it has to sit out yet.
-    dear: usize,
-    owed: usize,
+    /// For so many turns on end it had a line that asks for much, and there was no room for it.
+    waited: u32,
     /// For so many turns more it is heard after its farewell.
     patience: u8,
 }
-
-/// So many bytes of answers a client may have in each turn, on the average: who asks for more waits, so that others do
-/// not wait for it.
-const ALLOWANCE: usize = 16_384;
 
 /// For so many turns a client is heard after its farewell, so that this is not lost: a connection that is closed before
 /// all is read is reset.
@@ -62,8 +59,7 @@ impl<S> Client<S> {
             has_ended: false,
             is_quiet: false,
             heard_at: at,
-            dear: 0,
-            owed: 0,
+            waited: 0,
             patience: PATIENCE,
         }
     }
@@ -88,12 +84,17 @@ impl<S> Client<S> {
         self.is_quiet
     }
 
+    /// For how many turns on end a line that asks for much has waited.
+    pub fn waited(&self) -> u32
+        ensures { result ≡ self.now.waited }
+    {
+        self.waited
+    }
+
     /// Whether nothing came from it for so many milliseconds, by this moment, and nothing waits for it.
     pub fn is_silent<D: Device>(&self, hub: &Hub<D>, at: u64, most: u64) -> bool
         requires { IsOpen hub.now.sessions self.now.sid }
-        ensures long { result ≡ true → self.now.heard_at + most ≤ at }
-        ensures written { result ≡ true → waiting self.now.outgoing ≡ [] }
-        ensures answered { result ≡ true → IfSome (session_at hub.now.sessions self.now.sid) (λ s. s.heard.bytes ≡ []) }
+        ensures { IsTrue result ↔ IsSilent self.now hub.now.sessions at most }
     {
         self.heard_at <= at
             && at - self.heard_at >= most
@@ -170,18 +171,16 @@ struct Wrote {
 }
 
 impl<S: Read + Write> Client<S> {
-    // Reads at most one piece, unless a line is held back already or the peer sends no more, and holds it back. `Nothing`
-    // where there is none to read for now.
+    // Reads at most one piece, unless the peer sends no more, and holds it back. `Nothing` where there is none to read for
+    // now.
     fn read_more(&mut self, at: u64, piece: &mut [u8; PIECE_ROOM]) -> Came
+        requires { IsUnfinished (held self.old.incoming) }
         ensures takes { Takes (S.remaining self.old.stream) (S.remaining self.new.stream) (held self.old.incoming)
             (held self.new.incoming) }
         ensures quiet { self.new.is_quiet ≡ true → result ≡ Came.Nothing }
         ensures peer { (self.new.sid ≡ self.old.sid) × (waiting self.new.outgoing ≡ waiting self.old.outgoing) }
     {
         self.is_quiet = false;
-        if !self.incoming.is_unfinished() {
-            return Came::Interrupted;
-        }
         if self.has_ended {
             return Came::Nothing;
         }
@@ -195,43 +194,27 @@ impl<S: Read + Write> Client<S> {
         came
     }
 
-    // Whether the client may have lines answered in this turn: it has sat out what its last answers took, and answers like
-    // these find room among those of others who ask for much.
-    fn takes_turn(&mut self, room: &mut usize) -> bool
-        ensures peer { (self.new.sid ≡ self.old.sid) × (waiting self.new.outgoing ≡ waiting self.old.outgoing)
-            × (self.new.is_quiet ≡ self.old.is_quiet) × (self.new.stream ≡ self.old.stream)
-            × (self.new.incoming ≡ self.old.incoming) }
-    {
-        self.owed = self.owed.saturating_sub(ALLOWANCE);
-        if self.owed > 0 {
-            return false;
-        }
-        if self.dear <= ALLOWANCE {
-            return true;
-        }
-        if *room == 0 {
-            return false;
-        }
-        *room = room.saturating_sub(self.dear);
-        true
-    }
-
-    // Gives the session a portion of what is held back for it, unless something of it waits, or the client sits out what it
-    // owes. Where memory is refused the session is closed.
-    fn hand_on<D: Device>(&mut self, hub: &mut Hub<D>, room: &mut usize)
+    // Gives the session a portion of what is held back for it, unless something of it waits, or a line asks for much and the
+    // turn has no room for it. Where memory is refused the session is closed.
+    fn hand_on<D: Device>(&mut self, hub: &mut Hub<D>, room: &mut Room)
         requires { IsOpen hub.old.sessions self.old.sid }
-        ensures gives { IfSome (session_at hub.old.sessions self.old.sid) (λ s. GivesOn (held self.old.incoming)
-            (held self.new.incoming) s (session_at hub.new.sessions self.old.sid)) }
+        ensures gives { IfSome (session_at hub.old.sessions self.old.sid) (λ s. GivesOn room.old.lines room.new.lines
+            (held self.old.incoming) (held self.new.incoming) s (session_at hub.new.sessions self.old.sid)) }
         ensures peer { (self.new.sid ≡ self.old.sid) × (waiting self.new.outgoing ≡ waiting self.old.outgoing) }
         ensures quiet { self.new.is_quiet ≡ self.old.is_quiet }
         ensures stream { self.new.stream ≡ self.old.stream }
         ensures others { OthersStay hub.old.sessions hub.new.sessions self.old.sid }
         ensures store { hub.new.store ≡ hub.old.store }
     {
-        if hub.waiting(self.sid) > 0 || !self.takes_turn(room) {
+        if hub.waiting(self.sid) > 0 {
             return;
         }
         let portion = self.incoming.portion();
+        if !room.admit(portion, self.waited) {
+            self.waited = self.waited.saturating_add(1);
+            return;
+        }
+        self.waited = 0;
         let count = portion.len();
         if feed(hub, self.sid, portion) {
             self.incoming.give_up(count);
@@ -239,31 +222,36 @@ impl<S: Read + Write> Client<S> {
     }
 
     /// Reads at most one piece for the session, unless a line of it is held back or the peer doesn't take its answers; and
-    /// gives the session up to 16 lines, once those before are answered and the answers are written; `room` is how many
-    /// bytes of answers those who ask for much may still have in this turn. The session is closed after a fault, and where
-    /// memory is refused for it. It tells whether there may be more to do.
+    /// gives the session a portion, once the lines before are answered and the answers are written: one line that asks for
+    /// much, where the turn has room for it, or up to 16 that don't. The session is closed after a fault, and where memory is
+    /// refused for it. It tells whether there may be more to do.
     pub fn take_in<D: Device>(
         &mut self,
         hub: &mut Hub<D>,
         at: u64,
         piece: &mut [u8; PIECE_ROOM],
-        room: &mut usize,
+        room: &mut Room,
     ) -> bool
         requires { IsOpen hub.old.sessions self.old.sid }
-        ensures taken { IfSome (session_at hub.old.sessions self.old.sid) (λ s. TakesIn
+        ensures taken { IfSome (session_at hub.old.sessions self.old.sid) (λ s. TakesIn room.old.lines room.new.lines
             (S.remaining self.old.stream) (S.remaining self.new.stream) (held self.old.incoming)
             (held self.new.incoming) s (session_at hub.new.sessions self.old.sid)) }
         ensures peer { (self.new.sid ≡ self.old.sid) × (waiting self.new.outgoing ≡ waiting self.old.outgoing) }
         // Who has sent something is asked for more.
         ensures quiet { self.new.is_quiet ≡ true → result ≡ false }
-        // Who doesn't take its answers is read no further.
-        ensures unread { (waiting self.old.outgoing ≡ [] → ⊥) → held self.new.incoming ≡ held self.old.incoming }
+        // Of who doesn't take its answers nothing is read, and nothing that it sent goes on.
+        ensures unread { waiting self.old.outgoing ≢ [] → (self.new.stream ≡ self.old.stream)
+            × (held self.new.incoming ≡ held self.old.incoming) × (hub.new ≡ hub.old) }
         ensures others { OthersStay hub.old.sessions hub.new.sessions self.old.sid }
         ensures store { hub.new.store ≡ hub.old.store }
     {
+        self.is_quiet = false;
         if !self.outgoing.is_empty() {
-            self.is_quiet = false;
             return false;
+        }
+        if !self.incoming.is_unfinished() {
+            self.hand_on(hub, room);
+            return true;
         }
         match self.read_more(at, piece) {
             Came::Nothing => return false,
@@ -299,8 +287,6 @@ impl<S: Read + Write> Client<S> {
             Ok(any) => any,
             Err(refused) => return Err(refused),
         };
-        self.dear = if any { self.outgoing.len() } else { self.dear };
-        self.owed = if any { self.dear } else { self.owed };
         let sent = self.outgoing.write_to(&mut self.stream);
         Ok(Wrote { any, sent })
     }
@@ -311,6 +297,11 @@ impl<S: Read + Write> Client<S> {
         requires { IsOpen hub.now.sessions self.old.sid }
         ensures fault { wrote.sent ≡ Sent.Fault → result ≡ true }
         ensures part { wrote.sent ≡ Sent.Part → result ≡ false }
+        ensures answered { wrote.sent ≡ Sent.All → IfSome (session_at hub.now.sessions self.old.sid)
+            (λ s. s.has_left ≡ false → (IsTrue result ↔ ((self.old.has_ended ≡ true) × (wrote.any ≡ false)))) }
+        ensures left { wrote.sent ≡ Sent.All → IfSome (session_at hub.now.sessions self.old.sid)
+            (λ s. s.has_left ≡ true → (self.new.patience ≡ self.old.patience - 1) × (IsTrue result
+            ↔ ((self.old.has_ended ≡ true) ⊎ (self.old.is_quiet ≡ true) ⊎ (self.old.patience ≤ 1)))) }
         ensures peer { (self.new.sid ≡ self.old.sid) × (self.new.has_ended ≡ self.old.has_ended)
             × (self.new.is_quiet ≡ self.old.is_quiet) × (held self.new.incoming ≡ held self.old.incoming)
             × (waiting self.new.outgoing ≡ waiting self.old.outgoing) × (self.new.stream ≡ self.old.stream) }

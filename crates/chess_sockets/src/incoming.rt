@@ -1,7 +1,7 @@
 //! What a peer has sent and its session was not given yet.
-ghost use Rattle.std.specs.Prelude.{ℕ, ◌≡◌, ◌≤◌, ◌++◌, ◌↔◌, List, [], IsTrue, length, take, drop};
-ghost use Rattle.session_lines.specs.Lines.{IsUnfinished};
-ghost use Rattle.chess_sockets.specs.Portions.{AreLines, IsPortion};
+ghost use Rattle.std.specs.Prelude.{ℕ, ◌≡◌, ◌≤◌, ◌↔◌, ◌⊎◌, [], IsTrue, length, take, drop};
+ghost use Rattle.session_lines.specs.Lines.{HasNoFeed, IsUnfinished};
+ghost use Rattle.chess_sockets.specs.Portions.{is_dear, AreLines, AreFewLines, BeginDear, IsPortionOf};
 ghost use Rattle.chess_sockets.specs.Pieces.{Takes};
 
 use crate::pieces::{Came, PIECE_ROOM, read_piece};
@@ -20,20 +20,32 @@ pub struct Incoming {
 /// what waits for one client is bounded.
 const PORTION: usize = 16;
 
-// Where the last of so many lines ends that are whole, of which the first ends here.
+/// Whether a line asks for much, by its first word: only `list` and `pgn` are answered by more than a line.
+pub fn is_dear(line: &[u8]) -> bool
+    ensures { result ≡ is_dear line.now }
+{
+    line.starts_with(b"list") || line.starts_with(b"pgn ")
+}
+
+// Where the last of so many lines ends that are whole and ask for little, of which the first ends here.
 fn end_of_lines(bytes: &[u8], first: usize) -> usize
     requires within { first ≤ length bytes.now }
     requires line { AreLines 1 (take first bytes.now) }
     ensures further { first ≤ result }
     ensures within { result ≤ length bytes.now }
-    ensures lines { AreLines 16 (take result bytes.now) }
+    ensures lines { AreFewLines (take result bytes.now) }
+    ensures most { AreLines 16 (take result bytes.now) ⊎ HasNoFeed (drop result bytes.now)
+        ⊎ BeginDear (drop result bytes.now) }
 {
     let mut end = first;
     for _ in 1..PORTION {
-        match first_feed(&bytes[end..]) {
-            Some(at) => end += at + 1,
-            None => return end,
+        let Some(at) = first_feed(&bytes[end..]) else {
+            return end;
+        };
+        if is_dear(&bytes[end..end + at]) {
+            return end;
         }
+        end += at + 1;
     }
     end
 }
@@ -57,15 +69,15 @@ impl Incoming {
         self.bytes.len() <= LINE_ROOM && first_feed(self.bytes.as_slice()).is_none()
     }
 
-    /// The most of what is held back that a session may be given at once: up to 16 lines, or what belongs to a line that
-    /// is too long; and nothing just where no line is held back.
+    /// The most of what is held back that a session may be given at once: one line that asks for much, or up to 16 that
+    /// don't, or what belongs to a line that is too long; and nothing just where no line is held back.
     pub fn portion(&self) -> &[u8]
-        ensures front { (rest : List ℕ) × (held self.now ≡ result.now ++ rest) }
-        ensures portion { IsPortion result.now }
+        ensures portion { IsPortionOf (held self.now) result.now }
         ensures some { result.now ≡ [] → IsUnfinished (held self.now) }
     {
         let bytes = self.bytes.as_slice();
         match first_feed(bytes) {
+            Some(at) if is_dear(&bytes[..at]) => &bytes[..at + 1],
             Some(at) => &bytes[..end_of_lines(bytes, at + 1)],
             None if bytes.len() > LINE_ROOM => bytes,
             None => &bytes[..0],

@@ -5,6 +5,7 @@ mod client;
 mod incoming;
 mod outgoing;
 mod pieces;
+mod room;
 mod server;
 mod watch;
 

@@ -1,15 +1,17 @@
 //! The server.
-ghost use Rattle.std.specs.Prelude.{◌≡◌, ◌+◌, true, false, [], Some, None, Ok, IfOk, IfErr, OnOk, length};
+ghost use Rattle.std.specs.Prelude.{◌≡◌, ◌+◌, ◌↔◌, true, false, [], Some, None, Ok, IsTrue, IsSomeAnd, IfOk, IfErr, OnOk, length};
 ghost use Rattle.std.specs.Bool.{OnTrue, OnFalse};
 ghost use Rattle.chess_store.specs.Means.{IsKept};
 ghost use Rattle.chess_hub.specs.Faults.{CountsFault};
 ghost use Rattle.chess_hub.specs.Turning.{MayBeAsked, Lasts, IsTried};
-ghost use Rattle.chess_sockets.specs.Clients.{IsOpen};
-ghost use Rattle.chess_sockets.specs.Serving.{state_of, unknown, AreEach, IsRead, IsWritten, Welcomes, HasServed, HasGoneRound, open_in};
+ghost use Rattle.chess_hub.specs.Law.{Stays};
+ghost use Rattle.chess_sockets.specs.Clients.{IsOpen, IsSilent};
+ghost use Rattle.chess_sockets.specs.Serving.{state_of, unknown, intake, AreEach, AreRead, IsRead, IsWritten, Welcomes, HasServed, HasGoneRound, open_in};
 ghost use Rattle.chess_sockets.specs.Turns.{EndsServing, IsCounted, IsRefusal, IsTurnRefusal};
 
 use crate::client::Client;
 use crate::pieces::PIECE_ROOM;
+use crate::room::Room;
 use crate::watch::Watch;
 use chess_hub::{Hub, HubFault};
 use sector_dev::Device;
@@ -55,9 +57,6 @@ pub struct Server<D: Device> {
     turned_away: u64,
 }
 
-/// For so many bytes of answers those clients are given lines in a turn whose last answers were long.
-const DEAR_ROOM: usize = 1 << 20;
-
 /// The most lines that a turn takes: one at least of each session that has one.
 const LINES: usize = 64;
 
@@ -94,7 +93,7 @@ pub(crate) struct Reading {
 // Whether a client has been silent for longer than it may.
 fn is_over_silent<S, D: Device>(client: &Client<S>, hub: &Hub<D>, reading: Reading) -> bool
     requires { IsOpen hub.now.sessions client.now.sid }
-    ensures never { reading.silence ≡ None → result ≡ false }
+    ensures { IsTrue result ↔ IsSomeAnd reading.silence (IsSilent client.now hub.now.sessions reading.at) }
 {
     match reading.silence {
         Some(most) => client.is_silent(hub, reading.at, most),
@@ -109,10 +108,11 @@ fn read_for<S: Read + Write, D: Device>(
     hub: &mut Hub<D>,
     reading: Reading,
     piece: &mut [u8; PIECE_ROOM],
-    room: &mut usize,
+    room: &mut Room,
 ) -> bool
-    ensures read { IsRead S.remaining client.old client.new (state_of hub.old.sessions hub.old.store.table)
-        (state_of hub.new.sessions hub.new.store.table) }
+    ensures read { IsRead S.remaining client.old client.new
+        (intake (state_of hub.old.sessions hub.old.store.table) room.old.lines)
+        (intake (state_of hub.new.sessions hub.new.store.table) room.new.lines) }
     ensures store { hub.new.store ≡ hub.old.store }
 {
     if !hub.is_open(client.sid()) {
@@ -128,18 +128,29 @@ fn read_for<S: Read + Write, D: Device>(
     client.take_in(hub, reading.at, piece, room)
 }
 
+// For how many turns a client of an open session has waited that has waited longest with a line that asks for much.
+fn longest_wait<S, D: Device>(clients: &[Client<S>], hub: &Hub<D>) -> u32 {
+    let mut longest = 0;
+    for client in clients {
+        if hub.is_open(client.sid()) && client.waited() > longest {
+            longest = client.waited();
+        }
+    }
+    longest
+}
+
 // Reads for each session, and tells whether there may be more to do.
 fn take_in_all<S: Read + Write, D: Device>(
     clients: &mut Vec<Client<S>>,
     hub: &mut Hub<D>,
     reading: Reading,
 ) -> bool
-    ensures read { AreEach (IsRead S.remaining) clients.old.items clients.new.items
+    ensures read { AreRead S.remaining clients.old.items clients.new.items
         (state_of hub.old.sessions hub.old.store.table) (state_of hub.new.sessions hub.new.store.table) }
     ensures store { hub.new.store ≡ hub.old.store }
 {
     let mut piece = [0u8; PIECE_ROOM];
-    let mut room = DEAR_ROOM;
+    let mut room = Room::new(longest_wait(clients, hub));
     let mut any = false;
     for client in clients.iter_mut() {
         any |= read_for(client, hub, reading, &mut piece, &mut room);
@@ -161,7 +172,7 @@ fn write_for<S: Read + Write, D: Device>(client: &mut Client<S>, hub: &mut Hub<D
 
 // Writes for each session, and tells whether there was anything to do.
 fn hand_out_all<S: Read + Write, D: Device>(clients: &mut Vec<Client<S>>, hub: &mut Hub<D>) -> bool
-    ensures written { AreEach (IsWritten S.contents) clients.old.items clients.new.items
+    ensures written { AreEach Stays (IsWritten S.contents) clients.old.items clients.new.items
         (state_of hub.old.sessions hub.old.store.table) (state_of hub.new.sessions hub.new.store.table) }
     ensures store { hub.new.store ≡ hub.old.store }
 {
@@ -332,8 +343,9 @@ impl<D: Device> Server<D> {
 
     /// One turn at the moment `at`, in milliseconds. It accepts at most one connection, which it drops where there are 64
     /// sessions; reads at most one piece for each session of which no line is held back, so that at most 4,096 bytes are;
-    /// gives each up to 16 lines, once those before are answered and their answers are written; has the hub answer up to
-    /// 64 lines; and writes what can be written. After calm rests it accepts none, unless an accept has failed, and reads
+    /// gives each, once the lines before are answered and their answers are written, up to 16 lines that ask for little, or
+    /// one that asks for much, of which a turn gives one; has the hub answer up to 64 lines; and writes what can be
+    /// written. After calm rests it accepts none, unless an accept has failed, and reads
     /// only for clients that were not read to their end. It waits for nothing. `Err` is a fault that ends serving: that of
     /// a store, or `NoMemory`, where memory was refused to the hub; what is one client's own trouble, want of memory too,
     /// closes that client alone.

@@ -80,6 +80,14 @@ impl Write for Peer {
     }
 }
 
+const NAMES: &str = "\
+name a\nname a\nname a\nname a\nname a\nname a\nname a\nname a\nname a\nname a\n\
+name a\nname a\nname a\nname a\nname a\nname a\nname a\nname a\nname a\nname a\n\
+name a\nname a\nname a\nname a\nname a\nname a\nname a\nname a\nname a\nname a\n\
+name a\nname a\nname a\nname a\nname a\nname a\nname a\nname a\nname a\nname a\n";
+
+const NAMED: &str = "ok name a\n";
+
 const LISTS: &str = "\
 list\nlist\nlist\nlist\nlist\nlist\nlist\nlist\nlist\nlist\n\
 list\nlist\nlist\nlist\nlist\nlist\nlist\nlist\nlist\nlist\n\
@@ -98,7 +106,7 @@ fn made(alloc: Global, gives: &'static [Gives], takes: Takes) -> Peer {
     }
 }
 
-/// What came of turns in which one connection was served beside another, which asks for the list in each.
+/// What came of turns in which one connection was served beside another, which says its name in each.
 #[derive(Clone, Copy, Debug, PartialEq, Eq)]
 struct Outcome {
     is_open: bool,
@@ -159,7 +167,7 @@ fn outcome_of(clients: &[Client<Peer>], hub: &Hub<MemoryDevice>, line: &str) -> 
         is_open: hub.is_open(odd.sid()),
         lines: count_lines(odd.stream().written.as_slice(), line),
         reads: odd.stream().reads,
-        others: count_lines(other.stream().written.as_slice(), LISTED),
+        others: count_lines(other.stream().written.as_slice(), NAMED),
     })
 }
 
@@ -184,7 +192,7 @@ fn play(
 ) -> Option<Outcome> {
     let mut hub = hub(alloc)?;
     let mut clients = Vec::new(alloc);
-    let other = made(alloc, &[Gives::Text("list\n")], Takes::All);
+    let other = made(alloc, &[Gives::Text("name a\n")], Takes::All);
     let plays = connect(&mut clients, &mut hub, alloc, peer)
         && connect(&mut clients, &mut hub, alloc, other)
         && take_turns(&mut clients, &mut hub, turns, silence);
@@ -205,11 +213,11 @@ fn left(is_open: bool, lines: Option<usize>, reads: usize, turns: usize) -> Opti
     })
 }
 
-const TWO: &[Gives] = &[Gives::Text("list\nlist\n"), Gives::Nothing];
+const TWO: &[Gives] = &[Gives::Text("name a\nname a\n"), Gives::Nothing];
 
-const ONE: &[Gives] = &[Gives::Text("list\n"), Gives::Nothing];
+const ONE: &[Gives] = &[Gives::Text("name a\n"), Gives::Nothing];
 
-const ENDS: &[Gives] = &[Gives::Text(LISTS), Gives::Text("li"), Gives::End];
+const ENDS: &[Gives] = &[Gives::Text(NAMES), Gives::Text("li"), Gives::End];
 
 const LONG: &str = "\
 xxxxxxxxxxxxxxxxxxxxxxxxxxxxxxxxxxxxxxxxxxxxxxxxxxxxxxxxxxxxxxxxxxxxxxxxxxxxxxxxxxxxxxxxxxxxxxxxxxxx\
@@ -221,25 +229,25 @@ fn answers_go_in_pieces(rt: HostRuntime) {
     let alloc = rt.alloc();
     let slow = Takes::Some(3);
     assert_eq!(rt;
-        play(alloc, made(alloc, TWO, slow), LISTED, 3, None),
+        play(alloc, made(alloc, TWO, slow), NAMED, 3, None),
         left(true, None, 1, 3)
     );
     let all = left(true, Some(2), 14, 20);
-    assert_eq!(rt; play(alloc, made(alloc, TWO, slow), LISTED, 20, None), all);
+    assert_eq!(rt; play(alloc, made(alloc, TWO, slow), NAMED, 20, None), all);
 }
 
 #[test]
 fn broken_connections_are_closed(rt: HostRuntime) {
     let alloc = rt.alloc();
-    let resets = &[Gives::Text("list\n"), Gives::Reset];
+    let resets = &[Gives::Text("name a\n"), Gives::Reset];
     let reset = made(alloc, resets, Takes::All);
     assert_eq!(rt;
-        play(alloc, reset, LISTED, 5, None),
+        play(alloc, reset, NAMED, 5, None),
         left(false, Some(1), 2, 5)
     );
     let failed = made(alloc, ONE, Takes::Fails(4));
     assert_eq!(rt;
-        play(alloc, failed, LISTED, 1, None),
+        play(alloc, failed, NAMED, 1, None),
         left(false, None, 1, 1)
     );
 }
@@ -249,27 +257,24 @@ fn all_lines_before_an_end_are_answered(rt: HostRuntime) {
     let alloc = rt.alloc();
     let whole = Takes::All;
     assert_eq!(rt;
-        play(alloc, made(alloc, ENDS, whole), LISTED, 1, None),
+        play(alloc, made(alloc, ENDS, whole), NAMED, 1, None),
         left(true, Some(16), 1, 1)
     );
     assert_eq!(rt;
-        play(alloc, made(alloc, ENDS, whole), LISTED, 9, None),
+        play(alloc, made(alloc, ENDS, whole), NAMED, 9, None),
         left(false, Some(40), 3, 9)
     );
     let slow = Takes::Some(7);
     let all = left(false, Some(40), 3, 200);
-    assert_eq!(rt;
-        play(alloc, made(alloc, ENDS, slow), LISTED, 200, None),
-        all
-    );
+    assert_eq!(rt; play(alloc, made(alloc, ENDS, slow), NAMED, 200, None), all);
 }
 
 #[test]
 fn who_takes_nothing_is_read_no_further(rt: HostRuntime) {
     let alloc = rt.alloc();
-    let floods = made(alloc, &[Gives::Text(LISTS)], Takes::Nothing);
+    let floods = made(alloc, &[Gives::Text(NAMES)], Takes::Nothing);
     assert_eq!(rt;
-        play(alloc, floods, LISTED, 50, None),
+        play(alloc, floods, NAMED, 50, None),
         left(true, Some(0), 1, 50)
     );
 }
@@ -288,21 +293,65 @@ fn the_silent_are_closed(rt: HostRuntime) {
     let whole = Takes::All;
     let most = Some(100);
     assert_eq!(rt;
-        play(alloc, made(alloc, ONE, whole), LISTED, 100, most),
+        play(alloc, made(alloc, ONE, whole), NAMED, 100, most),
         left(true, Some(1), 100, 100)
     );
     assert_eq!(rt;
-        play(alloc, made(alloc, ONE, whole), LISTED, 101, most),
+        play(alloc, made(alloc, ONE, whole), NAMED, 101, most),
         left(false, Some(1), 100, 101)
     );
     // Who has answers to take is not, nor is anybody where no limit is set.
     let stuck = made(alloc, ONE, Takes::Nothing);
     assert_eq!(rt;
-        play(alloc, stuck, LISTED, 200, most),
+        play(alloc, stuck, NAMED, 200, most),
         left(true, Some(0), 1, 200)
     );
     assert_eq!(rt;
-        play(alloc, made(alloc, ONE, whole), LISTED, 200, None),
+        play(alloc, made(alloc, ONE, whole), NAMED, 200, None),
         left(true, Some(1), 200, 200)
     );
+}
+
+#[test]
+fn lists_are_answered_one_a_turn(rt: HostRuntime) {
+    let alloc = rt.alloc();
+    let asks = &[Gives::Text(LISTS), Gives::Nothing];
+    assert_eq!(rt;
+        play(alloc, made(alloc, asks, Takes::All), LISTED, 7, None),
+        left(true, Some(7), 1, 7)
+    );
+    assert_eq!(rt;
+        play(alloc, made(alloc, asks, Takes::All), LISTED, 50, None),
+        left(true, Some(40), 11, 50)
+    );
+}
+
+// The fewest and the most answers of nine clients who ask for the list again and again.
+fn flood(alloc: Global, turns: u64) -> Option<(usize, usize)> {
+    let mut hub = hub(alloc)?;
+    let mut clients = Vec::new(alloc);
+    for _ in 0..9 {
+        let asks = made(alloc, &[Gives::Text(LISTS)], Takes::All);
+        if !connect(&mut clients, &mut hub, alloc, asks) {
+            return None;
+        }
+    }
+    if !take_turns(&mut clients, &mut hub, turns, None) {
+        return None;
+    }
+    let (mut least, mut most) = (usize::MAX, 0);
+    for client in clients.iter() {
+        let lines = count_lines(client.stream().written.as_slice(), LISTED)?;
+        least = if lines < least { lines } else { least };
+        most = if lines > most { lines } else { most };
+    }
+    Some((least, most))
+}
+
+#[test]
+fn who_asks_for_much_is_answered_in_turn(rt: HostRuntime) {
+    let alloc = rt.alloc();
+    assert_eq!(rt; flood(alloc, 8), Some((0, 1)));
+    assert_eq!(rt; flood(alloc, 9), Some((1, 1)));
+    assert_eq!(rt; flood(alloc, 100), Some((11, 12)));
 }

@@ -1,9 +1,10 @@
 -- One line more.
-use Rattle.std.proofs.Common.{◌≡◌, ◌-◌, ◌<◌, length, drop, take, subst, arith}
+use Rattle.std.proofs.Common.{◌≡◌, ◌∙◌, ◌+◌, ◌-◌, ◌≤◌, ◌<◌, true, false, length, drop, take, inl, inr, subst, sym, arith}
 use Rattle.std.specs.Prelude.{slice_index}
 use Rattle.session_lines.specs.Lines.{HasNoFeed}
 use Rattle.std.proofs.lemmas.List.{take_rest, length-drop}
-use Rattle.chess_sockets.proofs.PortionLemmas.{more-lines}
+use Rattle.chess_sockets.specs.Portions.{is_dear, AreLines}
+use Rattle.chess_sockets.proofs.PortionLemmas.{more-lines, begin-dear}
 use Rattle.chess_sockets.proofs.incoming.end_of_lines.Goals as goal
 
 pub loop-preserved : goal.loop-preserved
@@ -14,8 +15,22 @@ loop-preserved c =
     let at = c.in-Some.at in
     let rest : take (length bytes - end) (drop end bytes) ≡ drop end bytes = take_rest bytes end in
     let (lt, feed) = subst (λ l. (at < length l) × (slice_index l at ≡ 10)) rest c.in-Some.ensures.found in
-    let none = subst (λ l. HasNoFeed (take at l)) rest c.in-Some.ensures.first in (
+    let none = subst (λ l. HasNoFeed (take at l)) rest c.in-Some.ensures.first in
+    let same : (end + at) - end ≡ at = omega arith in
+    let cheap = subst (λ n. is_dear (take n (drop end bytes)) ≡ false) same (sym c.is_dear.ensures ∙ c.if-is_dear.false) in (
       omega (arith, first),
       omega (arith, within, lt, length-drop end bytes),
-      more-lines c.loop.counter bytes end at lines lt feed none,
+      more-lines c.loop.counter bytes end at lines lt feed none cheap,
     )
+
+pub returns-then-is_dear-clause-most : goal.returns-then-is_dear-clause-most
+returns-then-is_dear-clause-most c =
+    let bytes = c.args.bytes.now in
+    let end = c.loop.end in
+    let at = c.in-Some.at in
+    let rest : take (length bytes - end) (drop end bytes) ≡ drop end bytes = take_rest bytes end in
+    let (lt, feed) = subst (λ l. (at < length l) × (slice_index l at ≡ 10)) rest c.in-Some.ensures.found in
+    let none = subst (λ l. HasNoFeed (take at l)) rest c.in-Some.ensures.first in
+    let same : (end + at) - end ≡ at = omega arith in
+    let dear = subst (λ n. is_dear (take n (drop end bytes)) ≡ true) same (sym c.is_dear.ensures ∙ c.if-is_dear.true) in
+    inr (inr (begin-dear (drop end bytes) at lt feed none dear))
