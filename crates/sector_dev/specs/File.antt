@@ -1,6 +1,8 @@
--- What a device on a file is when it is opened.
-use Rattle.std.specs.Prelude.{◌≡◌, ◌≤◌, ◌-◌, ◌/◌, ◌^◌, min, ℕ, refl}
+-- What a device on a file is when it is opened, and where its file still stands.
+use Rattle.std.specs.Prelude.{◌≡◌, ◌≤◌, ◌-◌, ◌*◌, ◌/◌, ◌^◌, min, ℕ, refl}
 use Rattle.std.proofs.Common.{◌∙◌}
+use Rattle.sector_dev.specs.declared.positioned.Standing.{Standing}
+use Rattle.sector_dev.specs.declared.positioned.Standing.TheVariants.{Named, Lost}
 use Rattle.sector_dev.specs.Device.{State, IsCoherent}
 
 -- at least this many sectors, and no failure so far
@@ -17,6 +19,11 @@ one_byte_short = refl
 
 two_tebibytes : whole_sectors (2 ^ 41) ≡ 4294967295
 two_tebibytes = refl
+
+-- the file has its name still, and the bytes of so many sectors
+abbrev pub IsInPlace : ℕ → Standing → Type 0
+IsInPlace sectors (Named length) = 512 * sectors ≤ length
+IsInPlace sectors Lost = ⊥
 
 -- what holds of the state of a file with so many sectors holds of a device with as many
 pub sized_is_coherent : (now : State) (whole sectors : ℕ) → IsCoherent whole now → (now.keeps_model → whole ≡ sectors)

@@ -4,6 +4,7 @@
 mod device;
 mod file;
 mod memory;
+mod named;
 mod once;
 mod positioned;
 mod sector_file;
@@ -11,6 +12,7 @@ mod sector_file;
 pub use device::{CrashDevice, Device, DeviceFault, Fate, Got, Sector};
 pub use file::FileDevice;
 pub use memory::MemoryDevice;
+pub use named::NamedFile;
 pub use once::OnceDevice;
-pub use positioned::PositionedFile;
+pub use positioned::{PositionedFile, Standing};
 pub use sector_file::SectorFile;

@@ -1,21 +1,33 @@
 // A file that is read and written at byte offsets.
-ghost use Rattle.std.specs.Prelude.{◌≡◌, ◌<◌, ◌*◌, ◌↔◌, ℕ, OnOk, OnErr};
+ghost use Rattle.std.specs.Prelude.{◌≡◌, ◌<◌, ◌*◌, ◌↔◌, ℕ, Option, Some, Ok, OnOk, OnErr};
 ghost use Rattle.sector_dev.specs.declared.device.Sector.TheVariants.{Bytes};
 ghost use Rattle.sector_dev.specs.Image.{sector_at};
 ghost use Rattle.sector_dev.specs.Device.{State, IsCoherent, WithOrWithout, IsUnchanged, IsPending, MayBePending, IsStable, MayBeStable, Elapses};
 
-use std::fs::File;
 use std::io;
-use std::os::unix::fs::FileExt;
+
+/// Whether a file still stands where it was opened.
+#[derive(Clone, Copy, Debug, PartialEq, Eq)]
+pub enum Standing {
+    /// It has its name still, and so many bytes.
+    Named(u64),
+    /// Another has its name, or none: it was removed, renamed or replaced.
+    Lost,
+}
 
 /// A file that is read and written at offsets, 512 bytes at a time. Where it keeps its bytes, its sector `n` is the 512
 /// bytes from byte `512 * n` on, and what holds of the sectors of a device holds of these.
 pub trait PositionedFile {
+    ghost use Rattle.sector_dev.specs.declared.positioned.Standing.{Standing};
+
     /// What reads give and what a crash may leave, where the file keeps its bytes.
     ghost state: { Self → State };
 
     /// How many whole sectors it has, where it keeps its bytes.
     ghost sector_count: { Self → ℕ };
+
+    /// What `standing` answers, where that is known beforehand.
+    ghost known_standing: { Self → Option Standing };
 
     /// Reads 512 bytes from this offset on.
     fn read_at(&mut self, into: &mut [u8; 512], offset: u64) -> io::Result<()>
@@ -53,30 +65,10 @@ pub trait PositionedFile {
         ensures time { (state self.old).keeps_model
             → Elapses (state self.old) (state self.new) (state self.old).image };
 
+    /// Whether the file still has its name, and how many bytes it has. Nothing changes.
+    fn standing(&self) -> io::Result<Standing>
+        ensures known { (standing : Standing) → known_standing self.now ≡ Some standing → result ≡ Ok standing };
+
     /// The parts of the state belong together.
     ghost coherent: { (file : Self) → IsCoherent (sector_count file) (state file) };
-}
-
-/// The system's file. Nothing can be shown of what it keeps.
-impl PositionedFile for File {
-    ghost use Rattle.sector_dev.specs.Unknown.{unknown, unknown_is_coherent};
-
-    ghost state = { λ _. unknown };
-
-    ghost sector_count = { λ _. 0 };
-
-    ghost coherent = { λ _. unknown_is_coherent 0 };
-
-    // Tried again where a signal interrupts it, and continued where it was short.
-    fn read_at(&mut self, into: &mut [u8; 512], offset: u64) -> io::Result<()> {
-        FileExt::read_exact_at(self, into, offset)
-    }
-
-    fn write_at(&mut self, from: &[u8; 512], offset: u64) -> io::Result<()> {
-        FileExt::write_all_at(self, from, offset)
-    }
-
-    fn sync(&mut self) -> io::Result<()> {
-        self.sync_data()
-    }
 }

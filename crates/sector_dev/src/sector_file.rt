@@ -1,10 +1,11 @@
 // A device as a positioned file.
-ghost use Rattle.std.specs.Prelude.{◌≡◌, ◌⊎◌, ◌<◌, ◌*◌, ◌↔◌, ℕ, Some, IfSome, OnOk, OnErr};
+ghost use Rattle.std.specs.Prelude.{◌≡◌, ◌⊎◌, ◌<◌, ◌*◌, ◌↔◌, ℕ, Some, IfSome, Ok, OnOk, OnErr};
 ghost use Rattle.sector_dev.specs.declared.device.Sector.TheVariants.{Bytes, Unreadable};
+ghost use Rattle.sector_dev.specs.declared.positioned.Standing.TheVariants.{Named};
 ghost use Rattle.sector_dev.specs.Image.{sector_at};
 ghost use Rattle.sector_dev.specs.Device.{WithOrWithout, IsUnchanged, IsPending, MayBePending, IsStable, MayBeStable, Elapses, HasRisen, CountsFailure};
 
-use crate::{Device, Got, PositionedFile};
+use crate::{Device, Got, PositionedFile, Standing};
 use std::io::{self, ErrorKind};
 
 /// The sectors of a device, one after the other, as a file. It keeps its bytes where the device keeps the model, so a
@@ -47,6 +48,8 @@ impl<D: Device> PositionedFile for SectorFile<D> {
     ghost state = { λ file. D.state file.device };
 
     ghost sector_count = { λ file. D.sector_count file.device };
+
+    ghost known_standing = { λ file. Some (Named (512 * D.sector_count file.device)) };
 
     ghost coherent = { λ file. D.coherent file.device };
 
@@ -116,5 +119,12 @@ impl<D: Device> PositionedFile for SectorFile<D> {
             Ok(()) => Ok(()),
             Err(_) => Err(io::Error::from(ErrorKind::Other)),
         }
+    }
+
+    fn standing(&self) -> io::Result<Standing>
+        ensures known { (standing : Standing)
+            → Some (Named (512 * D.sector_count self.now.device)) ≡ Some standing → result ≡ Ok standing }
+    {
+        Ok(Standing::Named(512 * u64::from(self.device.sectors())))
     }
 }

@@ -1,11 +1,14 @@
-use super::{FileDevice, folder_of};
+ghost use Rattle.std.specs.Prelude.{◌≡◌, Some, Ok};
+
+use super::FileDevice;
 use crate::{
     CrashDevice, Device, DeviceFault, Fate, Got, MemoryDevice, OnceDevice, PositionedFile,
-    SectorFile,
+    SectorFile, Standing,
 };
-use std::fs::{File, OpenOptions};
+use std::fs::OpenOptions;
 use std::io::{self, ErrorKind};
 use std::os::fd::AsRawFd;
+use std::os::unix::fs::{FileExt, MetadataExt};
 use std::path::PathBuf;
 use std::process::Abort;
 use std::{env, fs, process};
@@ -229,18 +232,6 @@ fn what_can_be_opened_and_is_no_file_is_refused(rt: HostRuntime) {
     assert!(rt; is_refused(&rt, path.as_str(), 1, ErrorKind::InvalidInput));
 }
 
-#[test]
-fn a_name_stands_in_a_folder(rt: HostRuntime) {
-    for (path, folder) in [
-        ("games", "."),
-        ("../games", ".."),
-        ("/games", "/"),
-        ("a/b/games", "a/b"),
-    ] {
-        assert!(rt; folder_of(path).as_str() == folder);
-    }
-}
-
 fn shorten(rt: &HostRuntime, path: &PathBuf, length: u64) -> io::Result<()> {
     let file = OpenOptions::new().write(true).open(rt, path)?;
     file.set_len(length)
@@ -259,45 +250,18 @@ fn a_short_read_fails(rt: HostRuntime) {
     assert!(rt; fs::remove_file(&rt, &path).is_ok());
 }
 
-// The device has failed so often, last with this number of the system's.
-fn check_failures(rt: &impl Abort, device: &FileDevice, failures: u64, number: i32) {
-    assert!(rt; device.failures == failures);
-    assert!(rt; last_number(device) == Some(number));
-}
-
-// The file can't be written, nor can it be synced: EBADF and EINVAL.
-fn fail_to_write_and_sync(rt: &impl Abort, device: &mut FileDevice) {
-    assert!(rt; device.last_error().is_none());
-    assert!(rt; write_sector(rt, device, 1, &[3; 512]).is_err());
-    check_failures(rt, device, 1, 9);
-    assert!(rt; device.sync().is_err());
-    check_failures(rt, device, 2, 22);
-}
-
-#[test]
-fn a_write_and_a_sync_that_the_system_refuses_fail(rt: HostRuntime) {
-    // No file, so that it cannot be synced, and opened for reading alone.
-    let null = File::open(&rt, "/dev/null").expect(&rt, "a file to open");
-    let mut device = FileDevice {
-        file: null,
-        sectors: 2,
-        failures: 0,
-        sync_failed: false,
-        last_error: None,
-    };
-    fail_to_write_and_sync(&rt, &mut device);
-    // A file that can be synced does not mend it.
-    let path = free_path(&rt, "synced").expect(&rt, "a path");
-    device.file = File::create_new(&rt, &path).expect(&rt, "a file to create");
-    assert!(rt; device.sync().is_err());
-    check_failures(&rt, &device, 3, 22);
-    assert!(rt; fs::remove_file(&rt, &path).is_ok());
-}
-
-// A file that notes where it was last read or written.
+// A file that notes where it was last read or written, and of which this is known.
 #[derive(Drop)]
 struct FakeFile {
     offset: u64,
+    standing: Option<Standing>,
+}
+
+fn fake_of(standing: Option<Standing>) -> FakeFile {
+    FakeFile {
+        offset: 0,
+        standing,
+    }
 }
 
 impl PositionedFile for FakeFile {
@@ -306,6 +270,8 @@ impl PositionedFile for FakeFile {
     ghost state = { λ _. unknown };
 
     ghost sector_count = { λ _. 0 };
+
+    ghost known_standing = { λ file. file.standing };
 
     ghost coherent = { λ _. unknown_is_coherent 0 };
 
@@ -323,11 +289,17 @@ impl PositionedFile for FakeFile {
     fn sync(&mut self) -> io::Result<()> {
         Ok(())
     }
+
+    fn standing(&self) -> io::Result<Standing>
+        ensures known { (standing : Standing) → self.now.standing ≡ Some standing → result ≡ Ok standing }
+    {
+        self.standing.ok_or(io::Error::from(ErrorKind::Other))
+    }
 }
 
 #[test]
 fn the_last_sector_stands_before_two_tebibytes(rt: HostRuntime) {
-    let mut device = FileDevice::over(FakeFile { offset: 0 }, u32::MAX);
+    let mut device = FileDevice::over(fake_of(None), u32::MAX);
     write_filled(&rt, &mut device, &[(4_294_967_294, 1)]);
     assert!(rt; device.file.offset == 2_199_023_254_528);
     check_filled(&rt, &mut device, &[(8_388_608, 6)]);
@@ -415,4 +387,132 @@ fn a_file_of_sectors_has_no_other_bytes(rt: HostRuntime) {
         assert!(rt; failure(file.read_at(&mut [0; 512], offset)) == past);
         assert!(rt; failure(file.write_at(&[1; 512], offset)) == past);
     }
+}
+
+// How the first sync of a device of two sectors fails over a file of which this is known. A later one fails too then,
+// though the file is back.
+fn sync_failure(rt: &impl Abort, standing: Option<Standing>) -> Option<ErrorKind> {
+    let mut device = FileDevice::over(fake_of(standing), 2);
+    let failed = device.sync().is_err();
+    assert!(rt; device.failures == u64::from(failed));
+    let kind = device.last_error().map(|error| error.kind());
+    device.file.standing = Some(Standing::Named(1024));
+    assert!(rt; device.sync().is_err() == failed);
+    kind
+}
+
+#[test]
+fn a_sync_finds_a_file_that_was_cut_or_lost(rt: HostRuntime) {
+    let cut = Some(ErrorKind::UnexpectedEof);
+    for (standing, kind) in [
+        (Some(Standing::Named(1024)), None),
+        (Some(Standing::Named(u64::MAX)), None),
+        (Some(Standing::Named(1023)), cut),
+        (Some(Standing::Named(0)), cut),
+        (Some(Standing::Lost), Some(ErrorKind::NotFound)),
+        (None, Some(ErrorKind::Other)),
+    ] {
+        assert!(rt; sync_failure(&rt, standing) == kind);
+    }
+}
+
+// Whether a sync fails, and the error is of this kind.
+fn sync_fails(device: &mut FileDevice, kind: ErrorKind) -> bool {
+    device.sync().is_err() && device.last_error().map(|error| error.kind()) == Some(kind)
+}
+
+#[test]
+fn a_cut_file_fails_to_sync(rt: HostRuntime) {
+    let path = free_path(&rt, "cut").expect(&rt, "a path");
+    let mut device = FileDevice::create(&rt, &path, 2).expect(&rt, "a file");
+    assert!(rt; shorten(&rt, &path, 1024).is_ok() && device.sync().is_ok());
+    assert!(rt; shorten(&rt, &path, 1023).is_ok());
+    assert!(rt; sync_fails(&mut device, ErrorKind::UnexpectedEof));
+    assert!(rt; fs::remove_file(&rt, &path).is_ok());
+}
+
+#[test]
+fn a_removed_file_fails_to_sync(rt: HostRuntime) {
+    let path = free_path(&rt, "removed").expect(&rt, "a path");
+    let mut device = FileDevice::create(&rt, &path, 2).expect(&rt, "a file");
+    assert!(rt; device.sync().is_ok());
+    assert!(rt; fs::remove_file(&rt, &path).is_ok());
+    assert!(rt; sync_fails(&mut device, ErrorKind::NotFound));
+}
+
+// A file of the same bytes at the same name is another one.
+#[test]
+fn a_replaced_file_fails_to_sync(rt: HostRuntime) {
+    let path = free_path(&rt, "replaced").expect(&rt, "a path");
+    let copy = free_path(&rt, "copy").expect(&rt, "a path");
+    let mut device = FileDevice::create(&rt, &path, 2).expect(&rt, "a file");
+    assert!(rt; device.sync().is_ok());
+    assert!(rt; fs::copy(&rt, &path, &copy).is_ok());
+    assert!(rt; fs::rename(&rt, &copy, &path).is_ok());
+    assert!(rt; sync_fails(&mut device, ErrorKind::NotFound));
+    assert!(rt; fs::remove_file(&rt, &path).is_ok());
+}
+
+// One that has another name as well, and is found at the first again, is what it was.
+#[test]
+fn a_renamed_file_fails_to_sync(rt: HostRuntime) {
+    let path = free_path(&rt, "renamed").expect(&rt, "a path");
+    let other = free_path(&rt, "other").expect(&rt, "a path");
+    let mut device = FileDevice::create(&rt, &path, 2).expect(&rt, "a file");
+    assert!(rt; fs::hard_link(&rt, &path, &other).is_ok() && device.sync().is_ok());
+    assert!(rt; fs::remove_file(&rt, &path).is_ok());
+    assert!(rt; fs::rename(&rt, &other, &path).is_ok() && device.sync().is_ok());
+    assert!(rt; fs::rename(&rt, &path, &other).is_ok());
+    assert!(rt; sync_fails(&mut device, ErrorKind::NotFound));
+    assert!(rt; fs::remove_file(&rt, &other).is_ok());
+}
+
+// Three pages: a hole, bytes that are not zero, and a hole with a part of a page behind it.
+fn make_holes(rt: &HostRuntime, path: &PathBuf) -> io::Result<()> {
+    fs::write(rt, path, [0u8; 0].as_slice())?;
+    let file = OpenOptions::new().write(true).open(rt, path)?;
+    file.set_len(12_388)?;
+    file.write_all_at(&[7; 100], 6_000)
+}
+
+// Whether those bytes are there still, and zeros up to the end of 32 sectors.
+fn keeps_holes(rt: &HostRuntime, path: &PathBuf) -> bool {
+    let mut whole = [0u8; 16_384];
+    whole[6_000..6_100].copy_from_slice(&[7; 100]);
+    file_is(rt, path, &whole)
+}
+
+// A file that is long enough may have no room on the disk.
+#[test]
+fn what_is_zeros_is_written_again(rt: HostRuntime) {
+    let path = free_path(&rt, "holes").expect(&rt, "a path");
+    assert!(rt; make_holes(&rt, &path).is_ok());
+    assert!(rt; FileDevice::create(&rt, &path, 32).is_ok());
+    assert!(rt; keeps_holes(&rt, &path));
+    let blocks = fs::metadata(&rt, &path).expect(&rt, "a file").blocks();
+    assert!(rt; blocks >= 32);
+    assert!(rt; fs::remove_file(&rt, &path).is_ok());
+}
+
+// It reads what another has locked, and writes nothing: EBADF.
+#[test]
+fn a_file_is_read_beside_its_device(rt: HostRuntime) {
+    let path = free_path(&rt, "read").expect(&rt, "a path");
+    let mut device = FileDevice::create(&rt, &path, 2).expect(&rt, "a file");
+    write_filled(&rt, &mut device, &[(1, 8)]);
+    let mut reader = FileDevice::open_to_read(&rt, &path).expect(&rt, "a file");
+    assert!(rt; reader.sectors() == 2 && reader.sync().is_ok());
+    check_filled(&rt, &mut reader, &[(0, 0), (1, 8)]);
+    assert!(rt; write_sector(&rt, &mut reader, 1, &[3; 512]).is_err());
+    assert!(rt; last_number(&reader) == Some(9));
+    check_filled(&rt, &mut device, &[(1, 8)]);
+    assert!(rt; fs::remove_file(&rt, &path).is_ok());
+}
+
+// A device that isn't there is not made as a file.
+#[test]
+fn no_file_is_made_among_the_devices(rt: HostRuntime) {
+    let path = "/dev/sector_dev-no-such-device";
+    assert!(rt; is_refused(&rt, path, 1, ErrorKind::NotFound));
+    assert!(rt; fs::exists(&rt, path).is_ok_and(|found| !found));
 }
