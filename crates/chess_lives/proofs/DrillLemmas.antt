@@ -1,7 +1,6 @@
 -- The cases of the drill, and their tally.
-use Rattle.std.specs.Prelude.{ℕ, ◌≡◌, ◌≤◌, ◌<◌, ◌+◌, ◌-◌, ◌^◌, ◌==◌, min, cond, Bool, true, false, List, [], ◌∷◌, ◌++◌, map, length, count_by, Ok, Err, Result, IsOk, MatchResult, IfErr}
-use Rattle.std.proofs.Common.{arith, ap, sym, subst, refl, ◌∙◌, length-append, Vec, Global}
-use Rattle.std.proofs.lemmas.List.Sums.{sum_by_push, count_by-le-length}
+use Rattle.std.specs.Prelude.{ℕ, ◌≡◌, ◌+◌, List, [], ◌∷◌, ◌++◌, map, length, Ok, Err, Result, IfErr}
+use Rattle.std.proofs.Common.{arith, ap, sym, subst, ◌∙◌, Vec, Global}
 use Rattle.sector_dev.specs.declared.memory.MemoryDevice.{MemoryDevice}
 use Rattle.chess_board.specs.Legal.{EachOf}
 use Rattle.chess_entry.specs.declared.commands.Command.{Command}
@@ -12,7 +11,7 @@ use Rattle.chess_lives.specs.declared.plan.Report.{Report}
 use Rattle.chess_lives.specs.declared.drilling.Tally.{Tally}
 use Rattle.chess_lives.specs.Courses.{IsBatch}
 use Rattle.chess_lives.specs.Lives.{AreSubmittable, batches_of}
-use Rattle.chess_lives.specs.Drill.{IsCase, AreCases, IsReported, IsTallyOf, IsFirstFault, IsTold, IsFaultInMemory, IsDrillLife, shows, shows_at_end}
+use Rattle.chess_lives.specs.Drill.{IsCase, AreCases, IsTold, IsFaultInMemory, IsDrillLife}
 
 -- ---- its batches may be submitted
 
@@ -48,38 +47,6 @@ AreCases-more first next [] case are at is =
     (subst (λ (n : ℕ). IsCase n case) same is, tt)
 AreCases-more first next (c ∷ cases) case are at is =
     (are.0, AreCases-more (first + 1) next cases case are.1 (omega (arith, at)) is)
-
-each-more : (cases : List (Lived MemoryDevice)) (case : Lived MemoryDevice) → EachOf IsReported cases
-    → IsReported case → EachOf IsReported (cases ++ case ∷ [])
-each-more [] case are is = (is, tt)
-each-more (c ∷ cases) case are is = (are.0, each-more cases case are.1 is)
-
-at_most_one : (b : Bool) → cond b 1 0 ≤ 1
-at_most_one true = omega arith
-at_most_one false = omega arith
-
--- a count that has room for one more
-counted : (cases : List (Lived MemoryDevice)) (case : Lived MemoryDevice) (entries old new : ℕ) (shown : Bool)
-    → length cases + 1 < 2 ^ 32 → shows entries case ≡ shown → old ≡ count_by (shows entries) cases
-    → new ≡ min (old + cond shown 1 0) (2 ^ 32 - 1) → new ≡ count_by (shows entries) (cases ++ case ∷ [])
-counted cases case entries old new shown few is was now =
-    let within = count_by-le-length (shows entries) cases in
-    let one = at_most_one shown in
-    let sum : new ≡ count_by (shows entries) cases + cond shown 1 0 = omega (arith, now, was, within, few, one) in
-    sum ∙ ap (λ (b : Bool). count_by (shows entries) cases + cond b 1 0) (sym is)
-    ∙ sym (sum_by_push (λ c. cond (shows entries c) 1 0) cases case)
-
-pub tally-more : (cases : List (Lived MemoryDevice)) (case : Lived MemoryDevice) (report : Report) (old new : Tally)
-    → IsTallyOf cases old → length cases + 1 < 2 ^ 32 → case.report ≡ Ok report
-    → new.cases ≡ min (old.cases + 1) (2 ^ 32 - 1)
-    → new.none ≡ min (old.none + cond (report.kept == 2) 1 0) (2 ^ 32 - 1)
-    → new.all ≡ min (old.all + cond (report.kept == 7) 1 0) (2 ^ 32 - 1) → IsTallyOf (cases ++ case ∷ []) new
-tally-more cases case report old new tally few is count none all = record {
-  reported = each-more cases case tally.reported (subst (λ (r : Result Report StoreFault). IsOk r) (sym is) refl);
-  count = omega (arith, count, tally.count, few, length-append cases (case ∷ []));
-  none = counted cases case 2 old.none new.none (report.kept == 2) few (ap (shows_at_end 2) is) tally.none none;
-  all = counted cases case 7 old.all new.all (report.kept == 7) few (ap (shows_at_end 7) is) tally.all all;
-}
 
 -- ---- the faults
 
