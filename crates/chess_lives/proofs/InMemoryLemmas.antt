@@ -1,5 +1,5 @@
 -- Lives from the empty table, on a device in memory.
-use Rattle.std.specs.Prelude.{ℕ, ◌≡◌, ◌⊎◌, ◌<◌, ◌≤◌, ◌+◌, ◌*◌, List, [], take, replicate, get_or, codes, Some, Err, Result, IfOk, IfErr}
+use Rattle.std.specs.Prelude.{ℕ, ◌≡◌, ◌⊎◌, ◌<◌, ◌≤◌, ◌+◌, ◌*◌, List, [], take, replicate, get_or, codes, Some, Err, IfOk, IfErr}
 use Rattle.std.proofs.Common.{arith, ap, sym, subst, inl, inr}
 use Rattle.std.proofs.lemmas.List.{get_or-replicate}
 use Rattle.rec_codec.specs.declared.limits.Limits.{Limits}
@@ -22,7 +22,6 @@ use Rattle.chess_store.specs.Faults.{IsCreateFault, CountsFault}
 use Rattle.chess_store.specs.Means.{AllMean}
 use Rattle.chess_lives.specs.declared.plan.Life.{Life}
 use Rattle.chess_lives.specs.declared.plan.Lived.{Lived}
-use Rattle.chess_lives.specs.declared.plan.Report.{Report}
 use Rattle.chess_lives.specs.Courses.{Course}
 use Rattle.chess_lives.specs.Lives.{IsBegun, IsReport}
 use Rattle.chess_lives.specs.Stops.{IsCutShort, IsReturned}

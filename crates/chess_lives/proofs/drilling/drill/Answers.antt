@@ -1,4 +1,4 @@
-use Rattle.std.proofs.Common.{arith, ap, subst, sym, length, List}
+use Rattle.std.proofs.Common.{arith, subst, sym, List}
 use Rattle.sector_dev.specs.declared.memory.MemoryDevice.{MemoryDevice}
 use Rattle.chess_lives.specs.declared.plan.Lived.{Lived}
 use Rattle.chess_lives.specs.Drill.{AreCases, IsTold}

@@ -1,4 +1,4 @@
-use Rattle.std.proofs.Common.{◌≡◌, ◌≤◌, length, take}
+use Rattle.std.proofs.Common.{◌≤◌, length, take}
 use Rattle.chess_lives.specs.Drill.{IsTallyOf}
 use Rattle.chess_lives.proofs.drilling.told.Given as goal
 
