@@ -32,12 +32,9 @@ fn tell(rt: &impl Print, report: &Report) -> io::Result<()> {
             Some(opened) => print!(rt; "life {opened}")?,
             None => print!(rt; "life -")?,
         }
-        println!(
-            rt; " {} {} {} {}",
-            life.acknowledged,
-            life.accepted,
-            life.unsent,
-            life.failures
+        println!(rt;
+            " {} {} {} {}",
+            life.acknowledged, life.accepted, life.unsent, life.failures
         )?;
     }
     println!(rt; "kept {}", report.kept)
