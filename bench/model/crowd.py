@@ -50,9 +50,7 @@ byte_by_byte(OTHERS)
 do(f"{LATE} !")
 connects(LATE)
 has(LATE, "end")
-# The first closes, and another has its place.
-do(f"{SILENT} -")
-has(SILENT, "end")
+# The first closes, and ten turns later another has its place.
 do(f"{SILENT} !", "turns 10")
 connects(NEW)
 byte_by_byte(NEW)

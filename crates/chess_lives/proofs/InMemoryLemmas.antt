@@ -1,5 +1,5 @@
 -- Lives from the empty table, on a device in memory.
-use Rattle.std.specs.Prelude.{ℕ, ◌≡◌, ◌⊎◌, ◌<◌, ◌≤◌, ◌+◌, ◌*◌, List, [], take, replicate, get_or, codes, Some, Result, IfOk, IfErr}
+use Rattle.std.specs.Prelude.{ℕ, ◌≡◌, ◌⊎◌, ◌<◌, ◌≤◌, ◌+◌, ◌*◌, List, [], take, replicate, get_or, codes, Some, Err, IfOk, IfErr}
 use Rattle.std.proofs.Common.{arith, ap, sym, subst, inl, inr}
 use Rattle.std.proofs.lemmas.List.{get_or-replicate}
 use Rattle.rec_codec.specs.declared.limits.Limits.{Limits}
@@ -7,9 +7,9 @@ use Rattle.rec_codec.specs.declared.record.Entry.{Entry}
 use Rattle.rec_codec.specs.Limits.{half_sectors, need}
 use Rattle.sector_dev.specs.declared.device.Sector.TheVariants.{Bytes, Unreadable}
 use Rattle.sector_dev.specs.Image.{Sectors}
-use Rattle.sector_dev.specs.Device.{State}
+use Rattle.sector_dev.specs.Device.{State, HasRisen}
 use Rattle.sector_dev.specs.declared.memory.MemoryDevice.{MemoryDevice}
-use Rattle.sector_dev.specs.InMemory.{state_of, zeros}
+use Rattle.sector_dev.specs.InMemory.{state_of, sector_count_of, zeros}
 use Rattle.sector_journal.specs.Parts.{readable, bytes_at}
 use Rattle.sector_journal.specs.Stands.{StartsOurs, IsOurs}
 use Rattle.chess_entry.specs.declared.commands.Command.{Command}
@@ -18,15 +18,15 @@ use Rattle.chess_entry.proofs.LawfulLists.{IsLawful-none}
 use Rattle.chess_store.specs.declared.fault.StoreFault.{StoreFault}
 use Rattle.chess_store.specs.declared.fault.StoreFault.TheVariants.{Exists, TooSmall, NotOurs, Damaged, Device, NoMemory, Worn, Failed}
 use Rattle.chess_store.specs.Creating.{IsCreateRefusal}
-use Rattle.chess_store.specs.Faults.{IsCreateFault}
+use Rattle.chess_store.specs.Faults.{IsCreateFault, CountsFault}
 use Rattle.chess_store.specs.Means.{AllMean}
 use Rattle.chess_lives.specs.declared.plan.Life.{Life}
-use Rattle.chess_lives.specs.declared.plan.Report.{Report}
+use Rattle.chess_lives.specs.declared.plan.Lived.{Lived}
 use Rattle.chess_lives.specs.Courses.{Course}
 use Rattle.chess_lives.specs.Lives.{IsBegun, IsReport}
 use Rattle.chess_lives.specs.Stops.{IsCutShort, IsReturned}
-use Rattle.chess_lives.specs.Drill.{IsReportInMemory, IsCutShortInMemory, IsUnbegun, IsFaultInMemory}
-use Rattle.chess_lives.proofs.LivesLemmas.{IfOk-map, IfErr-map}
+use Rattle.chess_lives.specs.Drill.{IsLivedInMemory, IsUnbegun, IsFaultInMemory}
+use Rattle.chess_lives.proofs.LivesLemmas.{IfErr-map}
 
 -- ---- a new device
 
@@ -50,18 +50,21 @@ not_below : (n m : ℕ) → n ≡ m → n < m → ⊥
 not_below n m is lt = absurd (omega (arith, is, lt))
 
 -- it has the sectors, and no journal
-pub made_or_not : (reads : Sectors) (count : ℕ) (limits : Limits) (fault : StoreFault) → reads ≡ zeros count
-    → count ≡ need limits → IsCreateFault fault → IsCreateRefusal reads count limits fault → IsUnbegun fault
-made_or_not reads count limits Exists blank is may refused =
+pub made_or_not : (reads : Sectors) (count : ℕ) (limits : Limits) (fault : StoreFault) (failures after : ℕ)
+    → reads ≡ zeros count → count ≡ need limits → failures ≡ 0 → IsCreateFault fault
+    → IsCreateRefusal reads count limits fault → CountsFault fault failures after → IsUnbegun fault after
+made_or_not reads count limits Exists failures after blank is none may refused counts =
     absurd (zeros_fresh count (subst (λ (n : ℕ). 2 ≤ n) (sym is) (two_and_halves (half_sectors limits)))
     (subst IsOurs blank refused))
-made_or_not reads count limits TooSmall blank is may refused = absurd (not_below count (need limits) is refused.1)
-made_or_not reads count limits (Device pending) blank is may refused = may
-made_or_not reads count limits NotOurs blank is may refused = absurd may
-made_or_not reads count limits Damaged blank is may refused = absurd may
-made_or_not reads count limits NoMemory blank is may refused = absurd may
-made_or_not reads count limits Worn blank is may refused = absurd may
-made_or_not reads count limits Failed blank is may refused = absurd may
+made_or_not reads count limits TooSmall failures after blank is none may refused counts =
+    absurd (not_below count (need limits) is refused.1)
+made_or_not reads count limits (Device pending) failures after blank is none may refused counts =
+    (may, subst (λ (n : ℕ). HasRisen n after) none counts.0)
+made_or_not reads count limits NotOurs failures after blank is none may refused counts = absurd may
+made_or_not reads count limits Damaged failures after blank is none may refused counts = absurd may
+made_or_not reads count limits NoMemory failures after blank is none may refused counts = absurd may
+made_or_not reads count limits Worn failures after blank is none may refused counts = absurd may
+made_or_not reads count limits Failed failures after blank is none may refused counts = absurd may
 
 -- ---- lives from the empty table
 
@@ -69,40 +72,17 @@ pub begun_empty : (limits : Limits) (now : State) → now.keeps_model → AllMea
     → IsBegun limits [] now
 begun_empty limits now model means = record { model = model; lawful = IsLawful-none limits; means = means }
 
-pub reported : (limits : Limits) (lives : List Life) (result : Result Report StoreFault) (failures after : ℕ)
-    → failures ≡ 0 → IfOk result (λ report. IsReport limits [] failures lives report after)
-    → IfOk result (λ report. IsReportInMemory limits lives report)
-reported limits lives result failures after none is =
-    IfOk-map result (λ report. IsReport limits [] failures lives report after)
-    (λ report. IsReportInMemory limits lives report) is
-    (λ report one. record {
-      after = after;
-      is_report = subst (λ (n : ℕ). IsReport limits [] n lives report after) none one;
-    })
-
-pub cut_short : (limits : Limits) (lives : List Life) (result : Result Report StoreFault) (failures : ℕ)
-    (device : MemoryDevice) → failures ≡ 0
-    → IfErr result (λ fault. IsCutShort limits [] failures lives fault (state_of device) device.failures)
-    → IfErr result (λ fault. IsCutShortInMemory limits lives fault)
-cut_short limits lives result failures device none is =
-    IfErr-map result (λ fault. IsCutShort limits [] failures lives fault (state_of device) device.failures)
-    (λ fault. IsCutShortInMemory limits lives fault) is
-    (λ fault one. record {
-      device = device;
-      cut_short = subst (λ (n : ℕ). IsCutShort limits [] n lives fault (state_of device) device.failures) none one;
-    })
-
 -- ---- which faults there are
 
-unbegun_fault : (fault : StoreFault) → IsUnbegun fault → IsFaultInMemory fault
-unbegun_fault NoMemory is = tt
-unbegun_fault (Device pending) is = tt
-unbegun_fault Worn is = absurd is
-unbegun_fault Exists is = absurd is
-unbegun_fault TooSmall is = absurd is
-unbegun_fault NotOurs is = absurd is
-unbegun_fault Damaged is = absurd is
-unbegun_fault Failed is = absurd is
+unbegun_fault : (fault : StoreFault) (after : ℕ) → IsUnbegun fault after → IsFaultInMemory fault
+unbegun_fault (Device pending) after is = tt
+unbegun_fault NoMemory after is = absurd is
+unbegun_fault Worn after is = absurd is
+unbegun_fault Exists after is = absurd is
+unbegun_fault TooSmall after is = absurd is
+unbegun_fault NotOurs after is = absurd is
+unbegun_fault Damaged after is = absurd is
+unbegun_fault Failed after is = absurd is
 
 returned_fault : (fault : StoreFault) (IsUnarmed : Type 0) (k : List Entry) (course : Course)
     (left : List (List Command)) (now : State) (failures after : ℕ)
@@ -116,14 +96,42 @@ returned_fault NotOurs IsUnarmed k course left now failures after is = absurd is
 returned_fault Damaged IsUnarmed k course left now failures after is = absurd is
 returned_fault Failed IsUnarmed k course left now failures after is = absurd is
 
-cut_fault : (limits : Limits) (lives : List Life) (fault : StoreFault) → IsCutShortInMemory limits lives fault
-    → IsFaultInMemory fault
-cut_fault limits lives fault is =
-    let stopped = is.cut_short.stopped in
-    returned_fault fault _ is.cut_short.last stopped.course stopped.left (state_of is.device) is.cut_short.count
-    is.device.failures stopped.returned
+ended_fault : (limits : Limits) (lives : List Life) (fault : StoreFault) (now : State) (after : ℕ)
+    → IsUnbegun fault after ⊎ IsCutShort limits [] 0 lives fault now after → IsFaultInMemory fault
+ended_fault limits lives fault now after (inl is) = unbegun_fault fault after is
+ended_fault limits lives fault now after (inr is) =
+    returned_fault fault _ is.last is.stopped.course is.stopped.left now is.count after is.stopped.returned
 
-pub ended_fault : (limits : Limits) (lives : List Life) (fault : StoreFault)
-    → IsUnbegun fault ⊎ IsCutShortInMemory limits lives fault → IsFaultInMemory fault
-ended_fault limits lives fault (inl is) = unbegun_fault fault is
-ended_fault limits lives fault (inr is) = cut_fault limits lives fault is
+-- ---- what came of them
+
+pub lived_out : (limits : Limits) (lives : List Life) (lived : Lived MemoryDevice) (failures : ℕ) → failures ≡ 0
+    → IfOk lived.report (λ report. IsReport limits [] failures lives report lived.device.failures)
+    → IfOk lived.report (λ report. AllMean (state_of lived.device) report.table)
+    → IfErr lived.report (λ fault.
+    IsCutShort limits [] failures lives fault (state_of lived.device) lived.device.failures)
+    → sector_count_of lived.device ≡ need limits → IsLivedInMemory limits lives lived
+lived_out limits lives lived failures none reported images returned sectors =
+    let now = state_of lived.device in
+    let after = lived.device.failures in
+    let ended = IfErr-map lived.report (λ fault. IsCutShort limits [] failures lives fault now after)
+    (λ fault. IsUnbegun fault after ⊎ IsCutShort limits [] 0 lives fault now after) returned
+    (λ fault is. inr (subst (λ (n : ℕ). IsCutShort limits [] n lives fault now after) none is)) in
+    record {
+      reported = subst (λ (n : ℕ). IfOk lived.report (λ report. IsReport limits [] n lives report after)) none reported;
+      images = images;
+      returned = ended;
+      fault = IfErr-map lived.report (λ fault. IsUnbegun fault after ⊎ IsCutShort limits [] 0 lives fault now after)
+          IsFaultInMemory ended (λ fault is. ended_fault limits lives fault now after is);
+      sectors = sectors;
+    }
+
+pub not_begun : (limits : Limits) (lives : List Life) (device : MemoryDevice) (fault : StoreFault)
+    → IsUnbegun fault device.failures → sector_count_of device ≡ need limits
+    → IsLivedInMemory limits lives (record { device = device; report = Err fault })
+not_begun limits lives device fault is sectors = record {
+  reported = tt;
+  images = tt;
+  returned = inl is;
+  fault = unbegun_fault fault device.failures is;
+  sectors = sectors;
+}

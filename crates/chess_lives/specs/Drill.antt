@@ -1,32 +1,26 @@
 -- What comes of lives on a device in memory that is made for them, and of the drill.
-use Rattle.std.specs.Prelude.{ℕ, ◌≡◌, ◌==◌, ⊤, Bool, List, [], ◌∷◌, map, length, count_by}
+use Rattle.std.specs.Prelude.{ℕ, ◌≡◌, ◌⊎◌, ◌==◌, ◌+◌, ⊤, Bool, false, nat_lt, if◌then◌else◌, List, [], ◌∷◌, ◌++◌, map, length, count_by, Option, Some, None, Result, Ok, Err, IsOk, IfOk, IfErr, MatchResult}
+use Rattle.chess_board.specs.Legal.{EachOf}
 use Rattle.rec_codec.specs.declared.limits.Limits.{Limits}
+use Rattle.rec_codec.specs.Limits.{need}
 use Rattle.sector_dev.specs.declared.memory.MemoryDevice.{MemoryDevice}
-use Rattle.sector_dev.specs.InMemory.{state_of}
+use Rattle.sector_dev.specs.Device.{HasRisen}
+use Rattle.sector_dev.specs.InMemory.{state_of, sector_count_of}
 use Rattle.chess_store.specs.declared.fault.StoreFault.{StoreFault}
 use Rattle.chess_store.specs.declared.fault.StoreFault.TheVariants.{Device, NoMemory, Worn}
+use Rattle.chess_store.specs.Means.{AllMean}
 use Rattle.chess_lives.specs.declared.plan.Life.{Life}
+use Rattle.chess_lives.specs.declared.plan.Lived.{Lived}
 use Rattle.chess_lives.specs.declared.plan.Plan.{Plan}
 use Rattle.chess_lives.specs.declared.plan.Report.{Report}
 use Rattle.chess_lives.specs.declared.drilling.Tally.{Tally}
 use Rattle.chess_lives.specs.Lives.{IsReport, batches_of}
 use Rattle.chess_lives.specs.Stops.{IsCutShort}
 
--- The report of lives that begin with the empty table: no entry is kept before them, and the device has not failed.
-pub record IsReportInMemory (limits : Limits) (lives : List Life) (report : Report) : Type 0 where
-  pub after : ℕ
-  pub is_report : IsReport limits [] 0 lives report after
-
--- A fault was returned in the midst of such lives, which left this device.
-pub record IsCutShortInMemory (limits : Limits) (lives : List Life) (fault : StoreFault) : Type 0 where
-  pub device : MemoryDevice
-  pub cut_short : IsCutShort limits [] 0 lives fault (state_of device) device.failures
-
--- No life began: memory was refused for the device, or the device failed while it was made a store.
-abbrev pub IsUnbegun : StoreFault → Type 0
-IsUnbegun NoMemory = ⊤
-IsUnbegun (Device pending) = pending ≡ 0
-IsUnbegun fault = ⊥
+-- No life began: the device failed while it was made a store, and counted it.
+abbrev pub IsUnbegun : StoreFault → ℕ → Type 0
+IsUnbegun (Device pending) after = (pending ≡ 0) × HasRisen 0 after
+IsUnbegun fault after = ⊥
 
 -- which faults there are of lives on such a device
 abbrev pub IsFaultInMemory : StoreFault → Type 0
@@ -35,55 +29,82 @@ IsFaultInMemory (Device pending) = ⊤
 IsFaultInMemory Worn = ⊤
 IsFaultInMemory fault = ⊥
 
+-- What came of lives that begin with the empty table on a device which has not failed, and the device that is left of it.
+-- Their report goes from no entry and no failure to the failures of this device, on which every image means the table that
+-- is reported. Or a fault was returned: before them, or in their midst, and it left this device.
+pub record IsLivedInMemory (limits : Limits) (lives : List Life) (lived : Lived MemoryDevice) : Type 0 where
+  pub reported : IfOk lived.report (λ report. IsReport limits [] 0 lives report lived.device.failures)
+  pub images : IfOk lived.report (λ report. AllMean (state_of lived.device) report.table)
+  pub returned : IfErr lived.report (λ fault. IsUnbegun fault lived.device.failures
+      ⊎ IsCutShort limits [] 0 lives fault (state_of lived.device) lived.device.failures)
+  pub fault : IfErr lived.report IsFaultInMemory
+  pub sectors : sector_count_of lived.device ≡ need limits
+
 -- the limits of the drill's table
 abbrev pub drill_limits : Limits
 drill_limits = record { games = 4; plies = 60 }
 
--- One case of the drill: a life, and what was reported of it alone.
-pub record Case : Type 0 where
-  pub life : Life
-  pub report : Report
+-- After how many calls the device fails in the life of a case: in the last it is not to fail.
+abbrev pub calls_of : ℕ → Option ℕ
+calls_of case =
+    if nat_lt case 3 then Some 7
+    else if nat_lt case 12 then Some 8
+    else if nat_lt case 21 then Some 9
+    else if nat_lt case 24 then Some 10
+    else if nat_lt case 27 then Some 11
+    else None
 
--- two batches, of two commands and of five
-abbrev pub IsDrillLife : Life → Type 0
-IsDrillLife life = map length (batches_of life) ≡ 2 ∷ 5 ∷ []
+-- the life of a case: two batches, of two commands and of five
+pub record IsDrillLife (case : ℕ) (life : Life) : Type 0 where
+  pub calls : life.calls ≡ calls_of case
+  pub batches : map length (batches_of life) ≡ 2 ∷ 5 ∷ []
 
--- a plan of one such life
-pub record IsDrillPlan (plan : Plan) : Type 0 where
+-- a plan of such a life alone
+pub record IsDrillPlan (case : ℕ) (plan : Plan) : Type 0 where
   pub life : Life
   pub alone : plan.lives.items ≡ life ∷ []
-  pub is_life : IsDrillLife life
+  pub is_life : IsDrillLife case life
 
--- Its life was lived, from the empty table.
-pub record IsCase (case : Case) : Type 0 where
-  pub is_life : IsDrillLife case.life
-  pub lived : IsReportInMemory drill_limits (case.life ∷ []) case.report
+-- Such a life was lived, alone, from the empty table.
+pub record IsCase (case : ℕ) (lived : Lived MemoryDevice) : Type 0 where
+  pub life : Life
+  pub is_life : IsDrillLife case life
+  pub is_lived : IsLivedInMemory drill_limits (life ∷ []) lived
 
--- so many entries show at the end of some case
-pub record IsKeptOfCase (kept : ℕ) : Type 0 where
-  pub case : Case
-  pub is_case : IsCase case
-  pub is : kept ≡ case.report.kept
+-- each of them is a case, the first the one with this number
+abbrev pub AreCases : ℕ → List (Lived MemoryDevice) → Type 0
+AreCases case [] = ⊤
+AreCases case (lived ∷ others) = IsCase case lived × AreCases (case + 1) others
 
--- whether so many entries show at the end of a case
-abbrev pub shows : ℕ → Case → Bool
-shows entries case = case.report.kept == entries
+-- it has a report, and no fault
+abbrev pub IsReported : Lived MemoryDevice → Type 0
+IsReported lived = IsOk lived.report
 
--- each of them is a case
-abbrev pub AreCases : List Case → Type 0
-AreCases [] = ⊤
-AreCases (case ∷ cases) = IsCase case × AreCases cases
+-- whether so many entries show at its end
+abbrev pub shows_at_end : ℕ → Result Report StoreFault → Bool
+shows_at_end entries (Ok report) = report.kept == entries
+shows_at_end entries (Err fault) = false
 
--- What the tally counts: cases, those of which the two entries of the opened game show and no move, and those of which all
--- five moves show.
-pub record IsTallyOf (cases : List Case) (tally : Tally) : Type 0 where
-  pub are_cases : AreCases cases
+abbrev pub shows : ℕ → Lived MemoryDevice → Bool
+shows entries lived = shows_at_end entries lived.report
+
+-- What the tally counts, where all have a report: cases, those at whose end the two entries of the opened game show and
+-- no move, and those at whose end all five moves show.
+pub record IsTallyOf (cases : List (Lived MemoryDevice)) (tally : Tally) : Type 0 where
+  pub reported : EachOf IsReported cases
   pub count : tally.cases ≡ length cases
   pub none : tally.none ≡ count_by (shows 2) cases
   pub all : tally.all ≡ count_by (shows 7) cases
 
--- the tally of 28 cases
-pub record IsDrilled (tally : Tally) : Type 0 where
-  pub cases : List Case
-  pub is_tally : IsTallyOf cases tally
-  pub all : length cases ≡ 28
+-- the fault of the first case that has one
+pub record IsFirstFault (cases : List (Lived MemoryDevice)) (fault : StoreFault) : Type 0 where
+  pub front : List (Lived MemoryDevice)
+  pub case : Lived MemoryDevice
+  pub others : List (Lived MemoryDevice)
+  pub order : cases ≡ front ++ case ∷ others
+  pub reported : EachOf IsReported front
+  pub is : case.report ≡ Err fault
+
+-- what is told of cases: their tally, or the first fault
+abbrev pub IsTold : List (Lived MemoryDevice) → Result Tally StoreFault → Type 0
+IsTold cases told = MatchResult told (IsTallyOf cases) (IsFirstFault cases)

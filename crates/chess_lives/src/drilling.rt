@@ -1,14 +1,14 @@
 //! The drill: a batch of moves, stopped at each of its device calls.
-ghost use Rattle.std.specs.Prelude.{◌≡◌, ◌+◌, ◌-◌, ◌^◌, ◌==◌, cond, min, IfOk, IfErr, length};
-ghost use Rattle.chess_lives.specs.Drill.{IsDrillPlan, IsKeptOfCase, IsDrilled, IsFaultInMemory};
+ghost use Rattle.std.specs.Prelude.{◌≡◌, ◌+◌, ◌-◌, ◌^◌, ◌<◌, ◌==◌, cond, min, IfOk, IfErr, length};
+ghost use Rattle.chess_lives.specs.Drill.{IsDrillPlan, IsCase, AreCases, IsTold, IsFaultInMemory, calls_of};
 
 use crate::in_memory::lives_in_memory;
-use crate::plan::{Life, Plan};
+use crate::plan::{Life, Lived, Plan};
 use chess_bits::Colour;
 use chess_entry::{Act, Command, Text};
 use chess_store::StoreFault;
 use rec_codec::{Limits, Name};
-use sector_dev::Fate;
+use sector_dev::{Fate, MemoryDevice};
 use std::alloc::{AllocError, Global};
 
 /// How many cases were played, in how many no move of the batch shows, and in how many all five do.
@@ -17,6 +17,14 @@ pub struct Tally {
     pub cases: u32,
     pub none: u32,
     pub all: u32,
+}
+
+/// Of each case of the drill, the device that is left and what came of its life.
+#[derive(Drop)]
+pub struct Drilled {
+    pub cases: Vec<Lived<MemoryDevice>>,
+    /// Their tally, or the fault of the first case that has one.
+    pub tally: Result<Tally, StoreFault>,
 }
 
 // The table's limits.
@@ -38,7 +46,9 @@ const WITH_MOVES: u64 = 7;
 // After how many calls the life of a case stops, and in which of the ways: there are three for each write that is pending
 // then. The opening makes three calls and the batch that opens and joins a game four. The batch of five moves makes five:
 // it writes two sectors, syncs, writes the header, and syncs.
-fn stop(case: u32) -> (Option<u64>, u32) {
+fn stop(case: u32) -> (Option<u64>, u32)
+    ensures { result.0 ≡ calls_of case }
+{
     match case {
         0..=2 => (Some(7), case),
         3..=11 => (Some(8), case - 3),
@@ -111,7 +121,7 @@ fn fate(way: u32) -> Fate {
 
 // One life, in which both batches are submitted.
 fn plan(alloc: Global, case: u32) -> Result<Plan, AllocError>
-    ensures { IfOk result IsDrillPlan }
+    ensures { IfOk result (IsDrillPlan case) }
 {
     let (calls, way) = stop(case);
     let life = Life {
@@ -123,13 +133,12 @@ fn plan(alloc: Global, case: u32) -> Result<Plan, AllocError>
     Ok(Plan { lives })
 }
 
-// How many entries show after the life of a case.
-fn kept_after(alloc: Global, case: u32) -> Result<u64, StoreFault>
-    ensures kept { IfOk result IsKeptOfCase }
-    ensures fault { IfErr result IsFaultInMemory }
+// Lives the life of a case.
+fn live(alloc: Global, case: u32) -> Result<Lived<MemoryDevice>, AllocError>
+    ensures { IfOk result (IsCase case) }
 {
     let plan = plan(alloc, case)?;
-    Ok(lives_in_memory(alloc, LIMITS, &plan)?.kept)
+    lives_in_memory(alloc, LIMITS, &plan)
 }
 
 // Counts one case more, after which so many entries show.
@@ -143,21 +152,39 @@ fn count(tally: &mut Tally, kept: u64)
     tally.all = tally.all.saturating_add(u32::from(kept == WITH_MOVES));
 }
 
-/// Plays every case: a life on a device in memory, from the empty table, in which a game is opened and five moves are
-/// made as one batch, and which stops at one of the device calls of that batch, or at none, with each pending write lost,
-/// kept or unreadable. A fault, as of `lives_in_memory`, ends it.
-pub fn drill(alloc: Global) -> Result<Tally, StoreFault>
-    ensures drilled { IfOk result IsDrilled }
-    ensures fault { IfErr result IsFaultInMemory }
+// The tally of cases, or the first fault.
+fn told(cases: &[Lived<MemoryDevice>]) -> Result<Tally, StoreFault>
+    requires { length cases.now < 2 ^ 32 }
+    ensures { IsTold cases.now result }
 {
     let mut tally = Tally {
         cases: 0,
         none: 0,
         all: 0,
     };
-    for case in 0..CASES {
-        let kept = kept_after(alloc, case)?;
-        count(&mut tally, kept);
+    for case in cases {
+        match &case.report {
+            Ok(report) => count(&mut tally, report.kept),
+            Err(fault) => return Err(*fault),
+        }
     }
     Ok(tally)
+}
+
+/// Plays every case: a life on a device in memory, from the empty table, in which a game is opened and five moves are
+/// made as one batch, and which stops at one of the device calls of that batch, or at none, with each pending write lost,
+/// kept or unreadable. A fault is that of its case, as `lives_in_memory` says it. `AllocError`: memory was refused for a
+/// plan, for a device or for the cases.
+pub fn drill(alloc: Global) -> Result<Drilled, AllocError>
+    ensures cases { IfOk result (λ drilled. AreCases 0 drilled.cases.items) }
+    ensures all { IfOk result (λ drilled. length drilled.cases.items ≡ 28) }
+    ensures told { IfOk result (λ drilled. IsTold drilled.cases.items drilled.tally) }
+    ensures fault { IfOk result (λ drilled. IfErr drilled.tally IsFaultInMemory) }
+{
+    let mut cases = Vec::with_capacity(alloc, CASES as usize)?;
+    for case in 0..CASES {
+        cases.push_reserved(live(alloc, case)?);
+    }
+    let tally = told(&cases);
+    Ok(Drilled { cases, tally })
 }

@@ -9,7 +9,7 @@ mod living;
 mod plan;
 mod serving;
 
-pub use drilling::{Tally, drill};
+pub use drilling::{Drilled, Tally, drill};
 pub use in_memory::lives_in_memory;
 pub use laws::{law_of_batches, law_of_beginning, law_of_kept, law_of_raising};
 pub use living::lives;

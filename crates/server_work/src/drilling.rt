@@ -4,6 +4,7 @@ ghost use Rattle.server_work.specs.Faults.{IsDrillFault};
 
 use crate::ends::Fault;
 use chess_lives::{Tally, drill};
+use chess_store::StoreFault;
 use std::alloc::Global;
 
 /// Plays the drill, and prints what came of it as `drill C none N all A`: the cases, those in which no move of the batch
@@ -11,7 +12,10 @@ use std::alloc::Global;
 pub fn tell_drill(rt: &impl Print, alloc: Global) -> Result<(), Fault>
     ensures { IfErr result IsDrillFault }
 {
-    let Tally { cases, none, all } = match drill(alloc) {
+    let Ok(drilled) = drill(alloc) else {
+        return Err(Fault::Store(StoreFault::NoMemory));
+    };
+    let Tally { cases, none, all } = match drilled.tally {
         Ok(tally) => tally,
         Err(fault) => return Err(Fault::Store(fault)),
     };

@@ -1,9 +1,12 @@
-use Rattle.std.proofs.Common.{◌≡◌, ◌≤◌, List, length}
-use Rattle.chess_lives.specs.Drill.{Case, IsTallyOf}
+use Rattle.std.proofs.Common.{◌≡◌, ◌≤◌, length}
+use Rattle.std.specs.Vec.{vec_capacity}
+use Rattle.chess_lives.specs.Drill.{AreCases}
 use Rattle.chess_lives.proofs.drilling.drill.Given as goal
 
 abbrev pub invariant-loop-case : goal.invariant-loop-case
 invariant-loop-case l = record {
   within : l.case ≤ 28;
-  so_far : (cases : List Case) × IsTallyOf cases l.tally × (length cases ≡ l.case);
+  count : length l.cases.items ≡ l.case;
+  room : 28 ≤ vec_capacity l.cases;
+  are_cases : AreCases 0 l.cases.items;
 }

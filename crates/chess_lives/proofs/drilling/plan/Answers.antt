@@ -1,10 +1,13 @@
-use Rattle.chess_lives.proofs.DrillLemmas.{drill_life}
+use Rattle.chess_lives.proofs.DrillLemmas.{drill_batches}
 use Rattle.chess_lives.proofs.drilling.plan.Goals as goal
 
 pub returns : goal.returns
 returns c = record {
   life = _;
   alone = c.in_ok-lives.ensures.items;
-  is_life = drill_life c.in_ok-from_array.field-0.items c.in_ok-opening.field-0 c.in_ok-moves.field-0
-      c.in_ok-from_array.ensures.items c.in_ok-opening.ensures c.in_ok-moves.ensures;
+  is_life = record {
+    calls = c.stop-calls.ensures;
+    batches = drill_batches c.in_ok-from_array.field-0.items c.in_ok-opening.field-0 c.in_ok-moves.field-0
+        c.in_ok-from_array.ensures.items c.in_ok-opening.ensures c.in_ok-moves.ensures;
+  };
 }
