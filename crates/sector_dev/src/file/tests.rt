@@ -453,18 +453,19 @@ fn a_replaced_file_fails_to_sync(rt: HostRuntime) {
     assert!(rt; fs::remove_file(&rt, &path).is_ok());
 }
 
-// One that has another name as well, and is found at the first again, is what it was.
+// Another link does not change it, and it may be away while nobody syncs.
 #[test]
 fn a_renamed_file_fails_to_sync(rt: HostRuntime) {
     let path = free_path(&rt, "renamed").expect(&rt, "a path");
+    let link = free_path(&rt, "link").expect(&rt, "a path");
     let other = free_path(&rt, "other").expect(&rt, "a path");
     let mut device = FileDevice::create(&rt, &path, 2).expect(&rt, "a file");
-    assert!(rt; fs::hard_link(&rt, &path, &other).is_ok() && device.sync().is_ok());
-    assert!(rt; fs::remove_file(&rt, &path).is_ok());
+    assert!(rt; fs::hard_link(&rt, &path, &link).is_ok() && device.sync().is_ok());
+    assert!(rt; fs::rename(&rt, &path, &other).is_ok());
     assert!(rt; fs::rename(&rt, &other, &path).is_ok() && device.sync().is_ok());
     assert!(rt; fs::rename(&rt, &path, &other).is_ok());
     assert!(rt; sync_fails(&mut device, ErrorKind::NotFound));
-    assert!(rt; fs::remove_file(&rt, &other).is_ok());
+    assert!(rt; fs::remove_file(&rt, &other).is_ok() && fs::remove_file(&rt, &link).is_ok());
 }
 
 // Three pages: a hole, bytes that are not zero, and a hole with a part of a page behind it.
