@@ -174,7 +174,8 @@ class Disk:
         self.held = mmap.mmap(-1, len(image))
         self.held[:] = image
         self.log_path = os.path.join(folder, 'log')
-        self.shared = mmap.mmap(-1, 4096)
+        # (a word of it is written and read as one; struct would write it byte by byte)
+        self.shared = memoryview(mmap.mmap(-1, 4096)).cast('Q')
         fuse = os.open('/dev/fuse', os.O_RDWR)
         mount('disk', self.folder, 'fuse', 0, 'fd=%d,rootmode=40000,user_id=0,group_id=0' % fuse)
         log = open(self.log_path, 'wb', buffering=0)
@@ -193,26 +194,19 @@ class Disk:
         os.close(fuse)
         log.close()
 
-    def word(self, at, value=None):
-        if value is None:
-            return struct.unpack_from('<Q', self.shared, 8 * at)[0]
-        struct.pack_into('<Q', self.shared, 8 * at, value)
-
     def position(self):
         """How many events are logged."""
-        return self.word(COUNT)
+        return self.shared[COUNT]
 
     def fail(self, kind, after=0, ranges=(0, 2 ** 63)):
         """Of the coming writes into that part of the disk, or of the coming flushes, `after` are served and the next
         one fails, once."""
-        self.word(FAIL_AFTER, after)
-        self.word(FAIL_FROM, ranges[0])
-        self.word(FAIL_TO, ranges[1])
-        self.word(FAILED, 0)
-        self.word(FAIL_KIND, kind)
+        self.shared[FAIL_AFTER], self.shared[FAIL_FROM], self.shared[FAIL_TO] = after, *ranges
+        self.shared[FAILED] = 0
+        self.shared[FAIL_KIND] = kind
 
     def has_failed(self):
-        return self.word(FAILED) == 1
+        return self.shared[FAILED] == 1
 
     def events(self):
         return Log(self.log_path)
@@ -293,18 +287,18 @@ class Server:
     def event(self, kind, offset=0, data=b''):
         self.log.write(EVENT.pack(kind, len(data), offset) + bytes(data))
         self.count += 1
-        struct.pack_into('<Q', self.shared, 8 * COUNT, self.count)
+        self.shared[COUNT] = self.count
 
     def fails(self, kind, offset=0, length=0):
         """Whether this one is to fail."""
-        wanted, after, low, high = struct.unpack_from('<4Q', self.shared, 8 * FAIL_KIND)
-        if wanted != kind or kind == WRITE_FAILED and (offset + length <= low or offset >= high):
+        shared = self.shared
+        low, high = shared[FAIL_FROM], shared[FAIL_TO]
+        if shared[FAIL_KIND] != kind or kind == WRITE_FAILED and (offset + length <= low or offset >= high):
             return False
-        if after:
-            struct.pack_into('<Q', self.shared, 8 * FAIL_AFTER, after - 1)
+        if shared[FAIL_AFTER]:
+            shared[FAIL_AFTER] -= 1
             return False
-        struct.pack_into('<Q', self.shared, 8 * FAIL_KIND, 0)
-        struct.pack_into('<Q', self.shared, 8 * FAILED, 1)
+        shared[FAIL_KIND], shared[FAILED] = 0, 1
         return True
 
     def write(self, offset, data):
