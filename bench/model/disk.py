@@ -38,15 +38,15 @@ EVENT = struct.Struct('<BxxxIQ')
 COUNT, FAIL_KIND, FAIL_AFTER, FAIL_FROM, FAIL_TO, FAILED = range(6)
 
 
-def needs(root=True):
+def needs(*tools):
     """What a bench over this needs, and how to get it; ends it with status 2 where something is missing."""
     missing = []
-    if root and os.geteuid() != 0:
+    if os.geteuid() != 0:
         missing.append('root: run it by sudo')
     for path in ('/dev/fuse', '/dev/loop-control'):
         if not os.path.exists(path):
             missing.append(path + ': a kernel with FUSE and loop devices (modprobe fuse; modprobe loop)')
-    for tool, package in (('mkfs.ext4', 'e2fsprogs'), ('cc', 'gcc')):
+    for tool, package in (('mkfs.ext4', 'e2fsprogs'), *tools):
         if not any(os.access(os.path.join(folder, tool), os.X_OK)
                    for folder in os.environ['PATH'].split(':') + ['/usr/sbin', '/sbin']):
             missing.append('%s: apt-get install %s' % (tool, package))
@@ -87,6 +87,30 @@ def die_with_parent():
     LIBC.prctl(1, signal.SIGKILL)
 
 
+def work_for_parent():
+    """For a process that works for the bench: it leaves what is to be cleaned up to its parent."""
+    die_with_parent()
+    signal.signal(signal.SIGTERM, signal.SIG_DFL)
+    signal.signal(signal.SIGINT, signal.SIG_IGN)
+
+
+def end_on_signals(seconds):
+    """A signal ends the bench like an exception, so that it cleans up; and so does the end of its time."""
+    for number in (signal.SIGTERM, signal.SIGINT):
+        signal.signal(number, lambda *_: sys.exit(1))
+    signal.signal(signal.SIGALRM, lambda *_: sys.exit('not done in %d seconds' % seconds))
+    signal.alarm(seconds)
+
+
+def unmount_below(folder):
+    """What a bench that was interrupted has left mounted."""
+    with open('/proc/self/mounts') as mounts:
+        found = [line.split(' ')[1] for line in mounts]
+    for one in reversed(found):
+        if one.startswith(folder + '/'):
+            LIBC.umount2(one.encode(), DETACH)
+
+
 # ------------------------------------------------------------------- loop devices
 
 def attach(path, direct=False):
@@ -115,10 +139,10 @@ def attach(path, direct=False):
 
 
 class Mounted:
-    """The file system of an image's file (or of a disk's), mounted on a folder."""
+    """The file system of an image's file (or of a disk's), mounted on a folder; `journal` is a file in it."""
 
     def __init__(self, path, folder, options='', direct=False):
-        self.folder = folder
+        self.folder, self.journal = folder, os.path.join(folder, 'club.journal')
         os.makedirs(folder, exist_ok=True)
         name, device = attach(path, direct)
         try:
@@ -129,11 +153,46 @@ class Mounted:
     def close(self):
         unmount(self.folder)
 
+    def blocks(self):
+        return extents(self.journal)
+
+    def given_up(self):
+        """Whether the file system itself takes no more writes, as after a journal of its own that failed."""
+        try:
+            with open(os.path.join(self.folder, 'probe'), 'wb') as out:
+                out.write(b'probe')
+                os.fsync(out.fileno())
+            return False
+        except OSError:
+            return True
+
     def __enter__(self):
         return self
 
     def __exit__(self, *_):
         self.close()
+
+
+class Attached(Mounted):
+    """The same without a file system: `journal` is the loop device."""
+
+    def __init__(self, path, folder='', options='', direct=False):
+        self.journal, self.device = attach(path, direct)
+        self.size = os.path.getsize(path)
+
+    def close(self):
+        os.close(self.device)
+
+    def blocks(self):
+        return [(0, 0, self.size, True)]
+
+    def given_up(self):
+        return False
+
+
+def stood(path, folder, options, direct=False):
+    """What stands on an image: with None for options the journal itself, else a file system with it."""
+    return (Attached if options is None else Mounted)(path, folder, options, direct)
 
 
 def made_image(path, size, block, journal):
