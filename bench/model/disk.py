@@ -25,11 +25,10 @@ SECTOR = 512
 LIBC = ctypes.CDLL(None, use_errno=True)
 NEW_MOUNTS, PRIVATE, DETACH = 0x20000, 1 << 18 | 1 << 14, 2
 LOOP_CONFIGURE, LOOP_FREE, AUTOCLEAR, DIRECT = 0x4C0A, 0x4C82, 4, 16
-FIEMAP, FIEMAP_SYNC, LAST, NOT_WRITTEN = 0xC020660B, 1, 1, 0x800 | 0x4 | 0x2
+FIEMAP, FIEMAP_SYNC, NOT_WRITTEN = 0xC020660B, 1, 0x800 | 0x4 | 0x2
 # of the protocol of FUSE
-FORGET, GETATTR, SETATTR, OPEN, READ, WRITE, STATFS, RELEASE, FSYNC, FLUSH, INIT, INTERRUPT, DESTROY, BATCH, FALLOCATE = (
-    2, 3, 4, 14, 15, 16, 17, 18, 20, 25, 26, 36, 38, 42, 43)
-LOOKUP, OPENDIR, READDIR, RELEASEDIR = 1, 27, 28, 29
+LOOKUP, FORGET, GETATTR, SETATTR, OPEN, READ, WRITE, STATFS, RELEASE, FSYNC = 1, 2, 3, 4, 14, 15, 16, 17, 18, 20
+FLUSH, INIT, OPENDIR, READDIR, RELEASEDIR, INTERRUPT, DESTROY, BATCH, FALLOCATE = 25, 26, 27, 28, 29, 36, 38, 42, 43
 MOST = 1 << 18                  # of bytes of a write
 # of the log
 WROTE, FLUSHED, WRITE_FAILED, FLUSH_FAILED = 1, 2, 3, 4
@@ -335,8 +334,9 @@ class Server:
         if code == STATFS:
             return 0, struct.pack('<5Q4I24x', 0, 0, 0, 0, 0, 4096, 255, 4096, 0)
         if code == INIT:
-            # of what the kernel can: big writes, and their pages
-            return 0, struct.pack('<IIIIHHIIHHI28x', 7, 31, 1 << 17, 1 << 5 | 1 << 22, 16, 12, MOST, 1, MOST >> 12, 0, 0)
+            # of what the kernel can: big writes, and so many pages of one
+            flags = 1 << 5 | 1 << 22
+            return 0, struct.pack('<IIIIHHIIHHI28x', 7, 31, 1 << 17, flags, 16, 12, MOST, 1, MOST >> 12, 0, 0)
         return errno.ENOSYS, b''
 
     def attributes(self, node):
