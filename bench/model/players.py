@@ -7,6 +7,7 @@ call `note`.
 import collections
 import hashlib
 import os
+import re
 import selectors
 import socket
 import subprocess
@@ -54,6 +55,12 @@ def digest(lines):
 
 # ------------------------------------------------------------------- the program
 
+def fault_of(error):
+    """The fault that standard error tells, as `fault NAME`, or all of it."""
+    told = re.search('^fault [A-Za-z]+', error, re.MULTILINE)
+    return told.group() if told else error.strip()
+
+
 class Chess:
     """The program under test, on one journal."""
 
@@ -64,7 +71,7 @@ class Chess:
     def work(self, word, *more, given=''):
         done = subprocess.run([self.server, word, '--journal', self.journal, *map(str, more)], input=given, text=True,
                               capture_output=True, timeout=PATIENCE, env=self.environment)
-        return done.returncode, done.stdout, done.stderr.strip()
+        return done.returncode, done.stdout, fault_of(done.stderr)
 
     def limits(self, word, limits):
         return self.work(word, '--games', limits[0], '--plies', limits[1])
