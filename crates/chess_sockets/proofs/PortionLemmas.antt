@@ -1,16 +1,15 @@
 -- Lines one behind the other, and those that ask for much.
-use Rattle.std.proofs.Common.{◌≡◌, ◌∙◌, ◌≤◌, ◌<◌, ◌+◌, ℕ, Bool, true, false, List, [], ◌∷◌, ◌++◌, length, get_or, take, drop, refl, ap, sym, subst, inl, inr, arith, append_assoc, length-append, take-append-drop}
+use Rattle.std.proofs.Common.{◌≡◌, ◌∙◌, ◌<◌, ◌+◌, ℕ, Bool, true, false, List, [], ◌∷◌, ◌++◌, length, get_or, take, drop, refl, ap, sym, subst, arith, append_assoc, length-append, take-append-drop}
 use Rattle.std.specs.Prelude.{◌||◌, eqb, codes}
 use Rattle.std.specs.List.{starts_with}
 use Rattle.std.proofs.Math.Seq.{take-add}
-use Rattle.std.proofs.lemmas.Bool.{false≢true}
 use Rattle.std.proofs.lemmas.Bool.Decides.{Decides-eqb}
 use Rattle.std.proofs.lemmas.List.{take_more}
 use Rattle.std.proofs.lemmas.List.Elements.{All-nil, All-cons, All-append}
 use Rattle.std.proofs.lemmas.Slice.Eq.{starts_is}
 use Rattle.session_lines.specs.Lines.{HasNoFeed}
 use Rattle.session_lines.specs.Heard.{ended_bytes}
-use Rattle.chess_sockets.specs.Portions.{is_dear, AreLines, AreFewLines, BeginDear, IsDearLine, IsTooLong, IsPortion, AreMost, IsPortionOf}
+use Rattle.chess_sockets.specs.Portions.{is_dear, AreLines, BeginDear, IsDearLine}
 
 abbrev IsCheap : List ℕ → Type 0
 IsCheap line = is_dear line ≡ false

@@ -1,7 +1,7 @@
 -- What a turn leaves of the store.
 use Rattle.std.proofs.Common.{◌≡◌, ◌∙◌, ℕ, List, refl, subst, sym}
 use Rattle.std.specs.Prelude.{Bool, Option, Result, Ok, Err, IfErr, OnOk}
-use Rattle.sector_dev.specs.Device.{State, IsCoherent}
+use Rattle.sector_dev.specs.Device.{State}
 use Rattle.rec_codec.specs.declared.header.Header.{Header}
 use Rattle.sector_journal.specs.declared.compactions.Compaction.{Compaction}
 use Rattle.chess_entry.specs.State.{TableState}

@@ -1,7 +1,6 @@
 -- What comes from a peer is held back, and goes to its session.
-use Rattle.std.proofs.Common.{◌≡◌, ◌∙◌, ◌≢◌, ◌≤◌, ◌+◌, ℕ, List, [], ◌++◌, Option, None, Some, IfSome, length, drop, refl, sym, subst, ap, inl, inr, append-nil, append_assoc}
+use Rattle.std.proofs.Common.{◌≡◌, ◌∙◌, ◌≤◌, ◌+◌, ℕ, List, [], ◌++◌, Option, None, Some, IfSome, length, drop, refl, sym, subst, ap, inl, inr, append-nil}
 use Rattle.std.specs.Prelude.{IsSomeAnd}
-use Rattle.std.specs.Io.KnownBytes.{Consumes}
 use Rattle.std.proofs.KnownBytes.{Consumes-nil}
 use Rattle.std.proofs.Math.Seq.{drop-append_seam}
 use Rattle.chess_sessions.specs.Session.{SessionState}

@@ -1,6 +1,6 @@
 -- What a turn of the server calls the hub for: where what the sessions hear comes from, and where what they are given
 -- goes.
-use Rattle.std.specs.Prelude.{ℕ, ◌≡◌, ◌≢◌, ◌≤◌, ◌+◌, ◌⊎◌, true, List, [], ◌∷◌, ◌++◌, Option, None, IfSome, IsSomeAnd, is_some, length, filter}
+use Rattle.std.specs.Prelude.{ℕ, ◌≡◌, ◌≢◌, ◌≤◌, ◌+◌, ◌⊎◌, true, List, [], ◌∷◌, ◌++◌, Option, None, IsSomeAnd, is_some, length, filter}
 use Rattle.std.specs.List.{All}
 use Rattle.std.specs.Io.KnownBytes.{Consumes}
 use Rattle.session_lines.specs.Lines.{IsUnfinished}

@@ -341,14 +341,14 @@ impl<D: Device> Server<D> {
         self.clients.retain(|client| hub.is_open(client.sid()));
     }
 
-    /// One turn at the moment `at`, in milliseconds. It accepts at most one connection, which it drops where there are 64
-    /// sessions; reads at most one piece for each session of which no line is held back, so that at most 4,096 bytes are;
-    /// gives each, once the lines before are answered and their answers are written, up to 16 lines that ask for little, or
-    /// one that asks for much, of which a turn gives one; has the hub answer up to 64 lines; and writes what can be
-    /// written. After calm rests it accepts none, unless an accept has failed, and reads
-    /// only for clients that were not read to their end. It waits for nothing. `Err` is a fault that ends serving: that of
-    /// a store, or `NoMemory`, where memory was refused to the hub; what is one client's own trouble, want of memory too,
-    /// closes that client alone.
+    /// One turn at the moment `at`, in milliseconds. It accepts at most one connection, which it drops where there are
+    /// 64 sessions; reads at most one piece for each session of which no line is held back, so that at most 4,096 bytes
+    /// are; gives each, once the lines before are answered and their answers are written, up to 16 lines that ask for
+    /// little, or one that asks for much, of which a turn gives one; has the hub answer up to 64 lines; and writes what
+    /// can be written. After calm rests it accepts none, unless an accept has failed, and reads only for clients that
+    /// were not read to their end. It waits for nothing. `Err` is a fault that ends serving: that of a store, or
+    /// `NoMemory`, where memory was refused to the hub; what is one client's own trouble, want of memory too, closes
+    /// that client alone.
     ///
     /// Where the store was kept, a crash at any moment of the turn leaves what means the table from before or that with
     /// the whole batch; at `Ok` every image means the latter.

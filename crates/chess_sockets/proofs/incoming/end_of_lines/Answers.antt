@@ -1,9 +1,9 @@
 -- One line more.
-use Rattle.std.proofs.Common.{◌≡◌, ◌∙◌, ◌+◌, ◌-◌, ◌≤◌, ◌<◌, true, false, length, drop, take, inl, inr, subst, sym, arith}
+use Rattle.std.proofs.Common.{◌≡◌, ◌∙◌, ◌+◌, ◌-◌, ◌<◌, true, false, length, drop, take, inr, subst, sym, arith}
 use Rattle.std.specs.Prelude.{slice_index}
 use Rattle.session_lines.specs.Lines.{HasNoFeed}
 use Rattle.std.proofs.lemmas.List.{take_rest, length-drop}
-use Rattle.chess_sockets.specs.Portions.{is_dear, AreLines}
+use Rattle.chess_sockets.specs.Portions.{is_dear}
 use Rattle.chess_sockets.proofs.PortionLemmas.{more-lines, begin-dear}
 use Rattle.chess_sockets.proofs.incoming.end_of_lines.Goals as goal
 

@@ -3,7 +3,6 @@ use Rattle.std.proofs.Common.{◌≡◌, ap, sym}
 use Rattle.chess_hub.specs.Faults.{CountsFault}
 use Rattle.chess_hub.specs.Turning.{AsksFor, AreRefused, IsTurnFault}
 use Rattle.chess_sockets.specs.Serving.{state_of}
-use Rattle.chess_sockets.specs.Turns.{EndsServing, IsRefusal}
 use Rattle.chess_sockets.proofs.StoreLemmas.{lasts_over, lasts_refused, at_err, turn_ends, turn_refusal}
 use Rattle.chess_sockets.proofs.server.serve_clients.Goals as goal
 

@@ -1,5 +1,5 @@
 -- A session begins for the connection, or none.
-use Rattle.std.proofs.Common.{◌∙◌, [], ◌∷◌, ◌++◌, ap, refl, sym, append-nil}
+use Rattle.std.proofs.Common.{◌∙◌, [], ◌∷◌, ◌++◌, ap, sym, append-nil}
 use Rattle.chess_hub.specs.Calls.{Connected}
 use Rattle.chess_sockets.specs.Serving.{state_of}
 use Rattle.chess_sockets.proofs.ServingLemmas.{one_step, stays-refl}
