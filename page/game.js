@@ -1,0 +1,585 @@
+// One game: what the lobby told of it, how it is shown, and what is done in it.
+
+import { Board } from './board.js';
+import { Clock } from './clock.js';
+import { readLine, readPgn, readRefusal, readStanding, readTimes, sideOf, squaresOf } from './lines.js';
+import { byId, copy, make, save, say, setText } from './make.js';
+import {
+  FLAG_UP, NO_GAME, OVER, clockWords, colourWord, kindWord, manWords, refusalWords, resultWords, sanWords, timesInFull, timesWords,
+} from './words.js';
+
+const SIDES = ['w', 'b'];
+const OTHER = { w: 'b', b: 'w' };
+
+export class GameView {
+  /** app: {wire, me(), nameWords(name), go(route)}. */
+  constructor(app) {
+    this.app = app;
+    this.root = byId('game-view');
+    this.number = 0;
+    this.board = new Board((move) => this.move(move), say);
+    byId('board').append(this.board.root);
+    this.players = { far: byId('far'), near: byId('near') };
+    this.clocks = {};
+    for (const place of ['far', 'near']) {
+      this.clocks[place] = new Clock(this.players[place].querySelector('.clock'), () => this.flagFell(place));
+    }
+    this.listen();
+  }
+
+  listen() {
+    const on = (id, act) => byId(id).addEventListener('click', act);
+    on('first-move', () => this.goTo(0));
+    on('previous-move', () => this.goTo(this.shown() - 1));
+    on('next-move', () => this.goTo(this.shown() + 1));
+    on('last-move', () => this.goTo(this.last()));
+    on('turn-board', () => this.turn());
+    on('offer', () => this.act('offer'));
+    on('accept', () => this.act('accept'));
+    on('decline', () => this.act('decline'));
+    on('resign', () => this.askResign());
+    on('claim', () => this.askClaim());
+    on('join', () => this.act('join'));
+    on('drop', () => this.act('drop'));
+    on('again', () => this.again());
+    on('copy-fen', () => this.share('FEN', async () => this.fenShown()));
+    on('copy-pgn', () => this.share('PGN', () => this.pgnText()));
+    on('save-fen', async () => save(`game-${this.number}.fen`, 'text/plain', this.fenShown() + '\n'));
+    on('save-pgn', async () => {
+      const text = await this.pgnText();
+      if (text) save(`game-${this.number}.pgn`, 'application/x-chess-pgn', text);
+    });
+    on('copy-link', () => this.share('link', async () => `${location.href.split('#')[0]}#/game/${this.number}`));
+    byId('move-form').addEventListener('submit', (event) => {
+      event.preventDefault();
+      this.typed();
+    });
+    byId('resign-dialog').addEventListener('close', (event) => event.target.returnValue === 'yes' && this.act('resign'));
+    byId('claim-dialog').addEventListener('close', (event) => event.target.returnValue === 'yes' && this.claim());
+  }
+
+  // ---- coming and going
+
+  open(number) {
+    if (number !== this.number) {
+      this.close();
+      Object.assign(this, { number, standing: null, line: [], tags: {}, back: null, turned: null, unsure: null, gone: false });
+      this.note('');
+      this.suggest(null);
+      byId('move-text').value = '';
+    }
+    this.root.hidden = false;
+    this.refresh();
+    this.render();
+  }
+
+  close() {
+    if (this.number) this.app.wire.say(`leave ${this.number}`, true);
+    this.number = 0;
+    this.root.hidden = true;
+    Object.values(this.clocks).forEach((clock) => clock.stop());
+  }
+
+  /** Asks for the whole truth: how the game stands, its moves, its tags. */
+  async refresh() {
+    const number = this.number;
+    if (!number || !this.app.wire.state.open) return;
+    const ours = (answer) => (this.number === number && answer[0].startsWith('ok ') ? answer : null);
+    const asked = [`watch ${number}`, `line ${number}`, `pgn ${number}`].map((line) => this.app.wire.say(line));
+    const watched = await asked[0];
+    const refusal = readRefusal(watched[0]);
+    if (this.number !== number) return;
+    if (refusal) {
+      this.gone = refusal.number === NO_GAME;
+      this.note(refusalWords(refusal));
+      this.render();
+      return;
+    }
+    if (ours(watched)) this.stand(readStanding(watched.slice(1)));
+    const line = ours(await asked[1]);
+    if (line) this.line = readLine(line.slice(1));
+    const pgn = ours(await asked[2]);
+    if (pgn) this.tags = readPgn(pgn.slice(1)).tags;
+    if (this.number === number) this.settleUnsure();
+    this.render();
+  }
+
+  async askLine() {
+    const number = this.number, answer = await this.app.wire.say(`line ${number}`);
+    if (this.number !== number || !answer[0].startsWith('ok line')) return;
+    this.line = readLine(answer.slice(1));
+    this.render();
+  }
+
+  stand(standing) {
+    const before = this.standing;
+    this.standing = standing && { ...standing, at: performance.now() };
+    this.gone = !standing;
+    if (standing && before && before.article !== standing.article) this.over();
+  }
+
+  /** A notice of this game: an act was accepted. */
+  notice(by, sent, answer, standing) {
+    this.stand(standing);
+    if (!standing) {
+      this.note('The game was taken off the table.');
+      this.render();
+      return;
+    }
+    this.follow(sent, answer);
+    this.tell(by, sent, answer);
+    this.render();
+  }
+
+  /** Adds the move of a notice to the line; asks for the line where that does not do. */
+  follow(sent, answer) {
+    const found = /^ok (?:move \d+|claim \d+ wrong) (\d+) (\S+)/.exec(answer);
+    const { from, to } = squaresOf(sent.split(' ').pop());
+    const { ply, fen } = this.standing;
+    if (found && Number(found[1]) === ply && this.line.length === ply && from) {
+      this.line.push({ san: found[2], from, to, fen });
+    } else if (this.line.length !== ply + 1) {
+      this.askLine();
+    }
+    if (found && this.back === null) this.suggest(null);
+  }
+
+  // ---- what is said
+
+  tell(by, sent, answer) {
+    const word = sent.split(' ')[0], name = this.app.nameWords(by), own = by === this.app.me();
+    const moved = /^ok (?:move \d+|claim \d+ wrong) \d+ (\S+)/.exec(answer);
+    const side = this.standing.white === by ? 'w' : 'b';
+    if (moved) say(`${colourWord(side)}: ${sanWords(moved[1])}`);
+    if (answer.startsWith('fallen')) say('The flag has fallen.');
+    else if (word === 'join') this.news(`${name} has joined. The game has begun.`);
+    else if (word === 'offer') this.news(own ? 'You have offered a draw.' : `${name} offers a draw.`);
+    else if (word === 'decline') this.news(own ? 'You have declined the draw.' : `${name} declines the draw.`);
+    else if (/^ok claim \d+ wrong/.test(answer)) {
+      this.news(own ? 'Your claim was wrong: your opponent has two minutes more, and your offer of a draw stands.'
+        : `${name} has claimed a draw wrongly: it stands as an offer, and the opponent has two minutes more.`);
+    } else if (moved && this.noteKind === 'news') this.note('');
+  }
+
+  over() {
+    const words = resultWords(this.standing.result, this.standing.article);
+    if (words.result) say(`${words.result} ${words.reason}.`);
+    this.note('');
+  }
+
+  note(text, kind = 'refused') {
+    this.noteKind = kind;
+    const note = byId('note');
+    note.className = text ? `note ${kind}` : 'note';
+    setText(note, text);
+  }
+
+  /** What is shown and, once, said. */
+  news(text) {
+    this.note(text, 'news');
+  }
+
+  // ---- acting
+
+  seat() {
+    const me = this.app.me(), standing = this.standing;
+    if (!me || !standing) return '';
+    return standing.white === me ? 'w' : standing.black === me ? 'b' : '';
+  }
+
+  started() {
+    return Boolean(this.standing && this.standing.white && this.standing.black);
+  }
+
+  running() {
+    return this.started() && !this.standing.article;
+  }
+
+  myTurn() {
+    return this.running() && this.seat() === this.standing.side;
+  }
+
+  move(move) {
+    this.send(`move ${this.number} ${this.standing.ply} ${move}`, { word: 'move', ply: this.standing.ply });
+  }
+
+  typed() {
+    const field = byId('move-text'), text = field.value.trim().replace(/^0-0-0/, 'O-O-O').replace(/^0-0/, 'O-O');
+    if (!text || !this.standing) return;
+    if (!/^[\x21-\x7e]{1,16}$/.test(text)) {
+      this.note('A move is one word, such as e4, Nf3, exd5, O-O or e2e4.');
+      return;
+    }
+    field.value = '';
+    this.goTo(this.last());
+    this.move(text);
+  }
+
+  act(word) {
+    this.send(`${word} ${this.number}`, { word });
+  }
+
+  /** Sends an act. What is refused is told in words; what was lost is asked for. */
+  async send(line, asked) {
+    const number = this.number;
+    this.note('');
+    this.busy = true;
+    this.render();
+    const answer = await this.app.wire.say(line);
+    this.busy = false;
+    if (this.number !== number) return;
+    const refusal = readRefusal(answer[0]);
+    if (refusal) {
+      if (asked.word === 'flag' && (refusal.number === FLAG_UP || refusal.number === OVER)) this.note('');
+      else this.note(refusalWords(refusal));
+      if (refusal.number === 7 || asked.word === 'flag') this.refresh();
+    } else if (answer[0] === 'lost') {
+      this.unsure = { ...asked, side: this.seat() };
+      this.note('The connection broke before the answer came. Asking how the game stands …');
+      this.refresh();
+    } else if (answer[0] === 'unsent') {
+      this.note('There is no connection. Nothing was sent.');
+    }
+    this.render();
+  }
+
+  /** After an answer that was lost: what the game shows of that act. */
+  settleUnsure() {
+    const unsure = this.unsure, now = this.standing;
+    if (!unsure || !now) return;
+    this.unsure = null;
+    const mine = unsure.side, done = {
+      move: () => now.ply > unsure.ply, join: () => this.seat() !== '', offer: () => now.offer.includes(mine),
+      accept: () => now.article === '5.2.3', decline: () => !now.offer.includes(OTHER[mine]),
+      resign: () => now.article === '5.1.2', flag: () => now.article === '6.9', drop: () => this.gone,
+      claim: () => now.article === '9.2' || now.article === '9.3' || now.offer.includes(mine) || now.ply > unsure.ply,
+    }[unsure.word]();
+    const what = { move: 'move', join: 'joining', offer: 'offer', accept: 'acceptance', decline: 'answer',
+      resign: 'resignation', flag: 'call', drop: 'order', claim: 'claim' }[unsure.word];
+    if (done) this.news(`The connection broke, but your ${what} was taken.`);
+    else if (!now.article) this.note(`The connection broke, and your ${what} has not been taken so far. Look, and do it again.`);
+  }
+
+  askResign() {
+    byId('resign-dialog').returnValue = '';
+    byId('resign-dialog').showModal();
+  }
+
+  askClaim() {
+    const dialog = byId('claim-dialog'), men = this.board.men;
+    const groups = new Map();
+    for (const move of [...this.standing.moves].sort()) {
+      const letter = men.get(move.slice(0, 2));
+      const man = letter ? `${kindWord(letter.letter)} ${move.slice(0, 2)}` : move.slice(0, 2);
+      groups.set(man, [...groups.get(man) || [], move]);
+    }
+    byId('claim-move').replaceChildren(
+      make('option', { value: '' }, 'none: for the position on the board'),
+      ...[...groups].map(([man, moves]) => make('optgroup', { label: man }, ...moves.map((move) => make('option',
+        { value: move }, `${man} – ${move.slice(2, 4)}${move[4] ? ', becomes a ' + kindWord(move[4]) : ''}`)))));
+    setText(byId('claim-clock'), this.standing.fen.split(' ')[4]);
+    dialog.returnValue = '';
+    dialog.showModal();
+  }
+
+  claim() {
+    const form = byId('claim-form').elements, move = form.move.value;
+    const { ply } = this.standing;
+    this.send(`claim ${this.number} ${ply} ${form.kind.value}${move ? ' ' + move : ''}`, { word: 'claim', ply });
+  }
+
+  /** The flag of a side fell on this page's clock: who plays calls it, and the server decides. */
+  flagFell(place) {
+    const side = this.sideAt(place), seat = this.seat(), number = this.number;
+    if (!seat || !this.running()) {
+      this.renderOutcome();
+      return;
+    }
+    setTimeout(() => {
+      if (this.number === number && this.running() && this.standing.side === side) this.act('flag');
+    }, seat === side ? 1500 : 100);
+    this.renderOutcome();
+  }
+
+  /** A new game of the same times, with the colours changed. */
+  async again() {
+    const times = readTimes(this.tags.TimeControl || '');
+    if (!times) return;
+    const period = times.moves ? `${times.moves}/${times.initial}:${times.second}` : times.initial;
+    const start = this.tags.FEN ? ` ${this.tags.FEN}` : '';
+    this.app.openGame(`open ${this.seat() === 'w' ? 'black' : 'white'} ${period} ${times.increment}${start}`,
+      (text) => this.note(text));
+  }
+
+  /** Offers a way to another game: the opponent has opened one. */
+  suggest(invitation) {
+    const place = byId('invitation');
+    place.hidden = !invitation;
+    place.replaceChildren();
+    if (!invitation) return;
+    place.append(`${this.app.nameWords(invitation.by)} opens another game. `,
+      make('a', { class: 'button', href: `#/game/${invitation.number}` }, `Look at game ${invitation.number}`));
+  }
+
+  isOpponent(name) {
+    const standing = this.standing;
+    return Boolean(standing && standing.article && this.seat() && name !== this.app.me()
+      && (standing.white === name || standing.black === name));
+  }
+
+  // ---- going through the moves
+
+  last() {
+    return Math.max(0, this.line.length - 1);
+  }
+
+  shown() {
+    return this.back === null ? this.last() : Math.min(this.back, this.last());
+  }
+
+  goTo(ply) {
+    const place = Math.max(0, Math.min(ply, this.last()));
+    this.back = place === this.last() ? null : place;
+    this.render();
+    const { san } = this.line[place] || {};
+    setText(byId('where'), `Move ${place} of ${this.last()}${san ? ': ' + sanWords(san) : ', the start'}`);
+  }
+
+  turn() {
+    this.turned = !this.isTurned();
+    this.render();
+  }
+
+  isTurned() {
+    return this.turned === null ? this.seat() === 'b' : this.turned;
+  }
+
+  sideAt(place) {
+    return (place === 'near') === this.isTurned() ? 'b' : 'w';
+  }
+
+  fenShown() {
+    const shown = this.line[this.shown()];
+    if (this.back === null && this.standing) return this.standing.fen;
+    return shown ? shown.fen : '';
+  }
+
+  async pgnText() {
+    const answer = await this.app.wire.say(`pgn ${this.number}`);
+    return answer[0].startsWith('ok pgn') ? readPgn(answer.slice(1)).text : '';
+  }
+
+  async share(what, text) {
+    const found = await text(), done = found && await copy(found);
+    setText(byId('shared'), done ? `${what === 'link' ? 'The link' : what} is copied.`
+      : `The ${what} could not be copied. Save it instead.`);
+  }
+
+  // ---- drawing
+
+  render() {
+    const standing = this.standing;
+    this.root.classList.toggle('empty', !standing || this.gone);
+    byId('no-game').hidden = !this.gone;
+    if (!standing || this.gone) return;
+    this.renderPlayers();
+    this.renderBoard();
+    this.renderMoves();
+    this.renderActions();
+    this.renderOutcome();
+    this.renderFacts();
+    this.app.titled(this.title());
+  }
+
+  title() {
+    const { white, black } = this.standing;
+    const names = `${white || '…'} – ${black || '…'}`;
+    if (this.myTurn()) return `Your turn: ${names}`;
+    return this.running() ? names : `${names}, ${this.standing.article ? this.standing.result : 'waiting'}`;
+  }
+
+  renderBoard() {
+    const shown = this.shown(), move = this.line[shown] || {}, now = this.back === null;
+    const live = now && this.myTurn() && !this.busy && this.app.wire.state.open;
+    this.board.show({
+      fen: this.fenShown(), last: move, check: now ? this.standing.check : /[+#]$/.test(move.san || ''),
+      moves: live ? this.standing.moves : [], turned: this.isTurned(),
+    });
+  }
+
+  renderPlayers() {
+    const standing = this.standing, times = readTimes(this.tags.TimeControl || '');
+    for (const place of ['far', 'near']) {
+      const side = this.sideAt(place), root = this.players[place], name = side === 'w' ? standing.white : standing.black;
+      const turn = this.running() && standing.side === side;
+      root.classList.toggle('white', side === 'w');
+      root.classList.toggle('black', side === 'b');
+      root.classList.toggle('turn', turn);
+      root.classList.toggle('won', standing.result === (side === 'w' ? '1-0' : '0-1'));
+      setText(root.querySelector('.name'), name ? this.app.nameWords(name) : 'waiting …');
+      root.querySelector('.name').title = name;
+      setText(root.querySelector('.colour'), colourWord(side));
+      setText(root.querySelector('.period'), periodWords(times, standing.ply, this.startSide(), side));
+      setText(root.querySelector('.score'), scoreOf(standing.result, side));
+      const clock = this.clocks[place];
+      clock.label = `${colourWord(side)}’s clock`;
+      clock.set({ left: standing.left[side], at: standing.at, running: turn });
+    }
+  }
+
+  startSide() {
+    return this.line.length ? sideOf(this.line[0].fen) : 'w';
+  }
+
+  renderMoves() {
+    const list = byId('moves'), shown = this.shown();
+    const start = this.line[0] ? this.line[0].fen : '', first = Number(start.split(' ')[5] || 1);
+    const shift = this.startSide() === 'b' ? 1 : 0;
+    const key = `${this.number} ${this.line.length} ${this.last() ? this.line[this.last()].fen : ''} ${start}`;
+    if (list.dataset.key !== key) {
+      list.dataset.key = key;
+      const rows = [];
+      for (let ply = 1; ply <= this.last(); ply += 1) {
+        const place = ply - 1 + shift;
+        if (place % 2 === 0 || ply === 1) {
+          const number = first + Math.floor(place / 2);
+          rows.push(make('li', {}, make('span', { class: 'number', 'aria-hidden': 'true' }, String(number)),
+            place % 2 === 1 ? make('span', { class: 'ply none' }, '…') : ''));
+        }
+        rows[rows.length - 1].append(this.moveButton(ply, first + Math.floor(place / 2), place % 2));
+      }
+      list.replaceChildren(...rows);
+    }
+    list.querySelectorAll('button').forEach((button) => {
+      if (Number(button.dataset.ply) === shown) button.setAttribute('aria-current', 'true');
+      else button.removeAttribute('aria-current');
+    });
+    const current = list.querySelector('[aria-current]');
+    if (current) keepInSight(list, current);
+    else list.scrollTop = list.scrollLeft = 0;
+    byId('first-move').disabled = byId('previous-move').disabled = shown === 0;
+    byId('last-move').disabled = byId('next-move').disabled = this.back === null;
+    byId('last-move').classList.toggle('news', this.back !== null);
+    setText(byId('last-san'), this.last() ? this.lastWords() : '');
+  }
+
+  lastWords() {
+    const { san, fen } = this.line[this.last()], full = Number(fen.split(' ')[5]);
+    return sideOf(fen) === 'b' ? `${full}. ${san}` : `${full - 1}… ${san}`;
+  }
+
+  moveButton(ply, number, black) {
+    const { san } = this.line[ply];
+    return make('button', { type: 'button', class: 'ply', 'data-ply': String(ply),
+      'aria-label': `${number}${black ? ', Black' : ''}: ${sanWords(san)}`, onclick: () => this.goTo(ply) }, san);
+  }
+
+  renderActions() {
+    const standing = this.standing, seat = this.seat(), runs = this.running(), me = this.app.me();
+    const can = !this.busy && this.app.wire.state.open;
+    const show = (id, shown, enabled = true) => {
+      byId(id).hidden = !shown;
+      byId(id).disabled = !(enabled && can);
+    };
+    const offered = runs && seat && standing.offer.includes(OTHER[seat]);
+    show('offer', runs && seat && !offered, !standing.offer);
+    setText(byId('offer').querySelector('.words'), standing.offer.includes(seat) && seat ? 'Draw offered' : 'Offer draw');
+    byId('offered').hidden = !offered;
+    show('accept', offered);
+    show('decline', offered);
+    show('claim', runs && seat, this.myTurn());
+    show('resign', runs && seat);
+    show('join', !this.started() && !seat && me);
+    show('drop', this.app.isArbiter() && (!this.started() || standing.article));
+    show('again', standing.article && seat && this.tags.TimeControl);
+    byId('move-form').hidden = !(runs && seat);
+    byId('move-text').disabled = !can || !this.myTurn();
+    byId('actions').hidden = ![...byId('actions').children].some((one) => !one.hidden);
+  }
+
+  renderOutcome() {
+    const standing = this.standing, place = byId('outcome');
+    const words = standing.article ? resultWords(standing.result, standing.article) : null;
+    place.classList.toggle('over', Boolean(words));
+    let [head, more] = ['', ''];
+    if (words) {
+      [head, more] = [`${words.score}  ${words.result} ${words.reason}`, words.article];
+    } else if (!this.started()) {
+      head = this.seat() ? 'Waiting for an opponent' : 'This seat is free';
+      more = this.seat() ? 'The clocks start as soon as somebody joins.' : 'The clocks start as soon as you join.';
+      if (!this.seat() && !this.app.me()) more = 'To play, open your personal link.';
+    } else if (SIDES.some((side) => standing.side === side && this.clockOf(side).now() <= 0)) {
+      head = `${colourWord(standing.side)}’s flag has fallen`;
+      more = this.seat() ? 'Calling it …' : 'A player has to call it.';
+    } else if (this.back !== null) {
+      head = 'An earlier position';
+      more = 'The game goes on: go to the last move to play.';
+    } else if (this.seat()) {
+      head = this.myTurn() ? 'Your turn' : 'Waiting for your opponent';
+      more = standing.check ? 'Check!' : '';
+    } else {
+      head = `${colourWord(standing.side)} to move`;
+      more = standing.check ? 'Check!' : '';
+    }
+    setText(place.querySelector('.head'), head);
+    setText(place.querySelector('.more'), more);
+  }
+
+  clockOf(side) {
+    return this.clocks[this.sideAt('near') === side ? 'near' : 'far'];
+  }
+
+  renderFacts() {
+    const { white, black } = this.standing, times = readTimes(this.tags.TimeControl || '');
+    setText(byId('game-title'), `Game ${this.number}`);
+    setText(byId('game-times'), timesWords(times));
+    byId('game-times').title = timesInFull(times);
+    setText(byId('game-white'), white ? this.app.nameWords(white) : 'free seat');
+    setText(byId('game-black'), black ? this.app.nameWords(black) : 'free seat');
+    setText(byId('game-start'), this.tags.FEN ? 'From a position of its own' : '');
+    byId('fen-text').value = this.fenShown();
+    byId('watching').hidden = Boolean(this.seat()) || !this.started();
+  }
+
+  clocksInWords() {
+    return this.standing ? SIDES.map((side) => `${colourWord(side)} has ${clockWords(this.clockOf(side).now())}`).join(', ')
+      : '';
+  }
+
+  /** The position in words, for who asks for it. */
+  inWords() {
+    const men = { w: [], b: [] };
+    for (const [name, man] of this.board.men) {
+      men[man.letter === man.letter.toUpperCase() ? 'w' : 'b'].push(`${manWords(man.letter).split(' ')[1]} ${name}`);
+    }
+    return SIDES.map((side) => `${colourWord(side)}: ${men[side].join(', ')}.`).join(' ');
+  }
+}
+
+function scoreOf(result, side) {
+  if (result === '*') return '';
+  if (result === '1/2-1/2') return '½';
+  return result === (side === 'w' ? '1-0' : '0-1') ? '1' : '0';
+}
+
+/** What a side's clock gets: the second period until it has come, and the increment. */
+function periodWords(times, ply, startSide, side) {
+  if (!times) return '';
+  const own = Math.floor((ply + (side === startSide ? 1 : 0)) / 2);
+  const parts = [];
+  if (times.increment) parts.push(`+${times.increment} s a move`);
+  if (times.moves) {
+    const left = times.moves - own, more = timesWords({ initial: times.second, increment: 0, moves: 0 }).split('+')[0];
+    const unit = /^\d+$/.test(more) ? ' min' : '';
+    parts.push(left > 0 ? `+${more}${unit} in ${left} ${left === 1 ? 'move' : 'moves'}` : 'second period');
+  }
+  return parts.join(', ');
+}
+
+function keepInSight(list, child) {
+  const box = list.getBoundingClientRect(), at = child.getBoundingClientRect();
+  if (at.top < box.top) list.scrollTop += at.top - box.top - 4;
+  if (at.bottom > box.bottom) list.scrollTop += at.bottom - box.bottom + 4;
+  if (at.left < box.left) list.scrollLeft += at.left - box.left - 24;
+  if (at.right > box.right) list.scrollLeft += at.right - box.right + 24;
+}
