@@ -133,10 +133,18 @@ export class Board extends Picture {
       square.setAttribute('role', 'gridcell');
       square.tabIndex = -1;
     });
+    this.edges = [7, 15, 23, 31, 39, 47, 55, 63].map((index) => this.edge(index, 'rank-number'))
+      .concat([56, 57, 58, 59, 60, 61, 62, 63].map((index) => this.edge(index, 'file-letter')));
     this.promotion = make('div', { class: 'promotion', role: 'group', 'aria-label': 'The pawn becomes', hidden: true });
     this.root.append(this.promotion);
     this.listen();
     this.label();
+  }
+
+  edge(index, kind) {
+    const text = make('span', { class: kind, 'aria-hidden': 'true' });
+    this.squares[index].append(text);
+    return { index, text, place: kind === 'rank-number' ? 1 : 0 };
   }
 
   listen() {
@@ -397,9 +405,8 @@ export class Board extends Picture {
       square.classList.toggle('target', target && !man);
       square.classList.toggle('taking', target && Boolean(man));
       square.classList.toggle('movable', this.moves.has(name));
-      if (row === 7) square.dataset.file = name[0];
-      if (column === 7) square.dataset.rank = name[1];
       square.tabIndex = index === this.at ? 0 : -1;
     });
+    for (const { index, text, place } of this.edges) text.textContent = this.nameAt(index >> 3, index & 7)[place];
   }
 }

@@ -4,8 +4,9 @@ import { Board } from './board.js';
 import { Clock } from './clock.js';
 import { readLine, readPgn, readRefusal, readStanding, readTimes, sideOf, squaresOf } from './lines.js';
 import { byId, copy, make, save, say, setText } from './make.js';
+import { sound } from './sound.js';
 import {
-  FLAG_UP, NO_GAME, OVER, clockWords, colourWord, kindWord, manWords, refusalWords, resultWords, sanWords, timesInFull, timesWords,
+  FLAG_UP, NOT_YOUR_MOVE, NO_GAME, OVER, clockWords, colourWord, kindWord, manWords, refusalWords, resultWords, sanWords, timesInFull, timesWords,
 } from './words.js';
 
 const SIDES = ['w', 'b'];
@@ -17,7 +18,8 @@ export class GameView {
     this.app = app;
     this.root = byId('game-view');
     this.number = 0;
-    this.board = new Board((move) => this.move(move), say);
+    this.pending = null;               // the ply of a move that was made on the board and is not answered
+    this.board = new Board((move) => this.moveOnBoard(move), say);
     byId('board').append(this.board.root);
     this.players = { far: byId('far'), near: byId('near') };
     this.clocks = {};
@@ -42,6 +44,7 @@ export class GameView {
     on('join', () => this.act('join'));
     on('drop', () => this.act('drop'));
     on('again', () => this.again());
+    on('copy-invitation', () => this.invitationCopied());
     on('copy-fen', () => this.share('FEN', async () => this.fenShown()));
     on('copy-pgn', () => this.share('PGN', () => this.pgnText()));
     on('save-fen', async () => save(`game-${this.number}.fen`, 'text/plain', this.fenShown() + '\n'));
@@ -49,11 +52,12 @@ export class GameView {
       const text = await this.pgnText();
       if (text) save(`game-${this.number}.pgn`, 'application/x-chess-pgn', text);
     });
-    on('copy-link', () => this.share('link', async () => `${location.href.split('#')[0]}#/game/${this.number}`));
+    on('copy-link', () => this.share('link', async () => this.link()));
     byId('move-form').addEventListener('submit', (event) => {
       event.preventDefault();
       this.typed();
     });
+    addEventListener('resize', () => this.render());
     byId('resign-dialog').addEventListener('close', (event) => event.target.returnValue === 'yes' && this.act('resign'));
     byId('claim-dialog').addEventListener('close', (event) => event.target.returnValue === 'yes' && this.claim());
   }
@@ -63,7 +67,8 @@ export class GameView {
   open(number) {
     if (number !== this.number) {
       this.close();
-      Object.assign(this, { number, standing: null, line: [], tags: {}, back: null, turned: null, unsure: null, gone: false });
+      Object.assign(this, { number, standing: null, line: [], tags: {}, back: null, turned: null, unsure: null, gone: false,
+        pending: null });
       this.note('');
       this.suggest(null);
       byId('move-text').value = '';
@@ -74,7 +79,7 @@ export class GameView {
   }
 
   close() {
-    if (this.number) this.app.wire.say(`leave ${this.number}`, true);
+    if (this.number) this.app.wire.say(`leave ${this.number}`);
     this.number = 0;
     this.root.hidden = true;
     Object.values(this.clocks).forEach((clock) => clock.stop());
@@ -83,7 +88,7 @@ export class GameView {
   /** Asks for the whole truth: how the game stands, its moves, its tags. */
   async refresh() {
     const number = this.number;
-    if (!number || !this.app.wire.state.open) return;
+    if (!number || !this.app.reachable()) return;
     const ours = (answer) => (this.number === number && answer[0].startsWith('ok ') ? answer : null);
     const asked = [`watch ${number}`, `line ${number}`, `pgn ${number}`].map((line) => this.app.wire.say(line));
     const watched = await asked[0];
@@ -113,6 +118,7 @@ export class GameView {
 
   stand(standing) {
     const before = this.standing;
+    if (!standing || standing.ply !== this.pending) this.pending = null;
     this.standing = standing && { ...standing, at: performance.now() };
     this.gone = !standing;
     if (standing && before && before.article !== standing.article) this.over();
@@ -150,9 +156,13 @@ export class GameView {
     const word = sent.split(' ')[0], name = this.app.nameWords(by), own = by === this.app.me();
     const moved = /^ok (?:move \d+|claim \d+ wrong) \d+ (\S+)/.exec(answer);
     const side = this.standing.white === by ? 'w' : 'b';
-    if (moved) say(`${colourWord(side)}: ${sanWords(moved[1])}`);
+    if (moved) {
+      say(`${colourWord(side)}: ${sanWords(moved[1])}`);
+      sound(moved[1].includes('x') ? 'take' : 'move');
+    }
     if (answer.startsWith('fallen')) say('The flag has fallen.');
     else if (word === 'join') this.news(`${name} has joined. The game has begun.`);
+    else if (word === 'offer' && !own && this.seat()) say(`${name} offers a draw.`);
     else if (word === 'offer') this.news(own ? 'You have offered a draw.' : `${name} offers a draw.`);
     else if (word === 'decline') this.news(own ? 'You have declined the draw.' : `${name} declines the draw.`);
     else if (/^ok claim \d+ wrong/.test(answer)) {
@@ -164,6 +174,7 @@ export class GameView {
   over() {
     const words = resultWords(this.standing.result, this.standing.article);
     if (words.result) say(`${words.result} ${words.reason}.`);
+    sound('end');
     this.note('');
   }
 
@@ -172,6 +183,8 @@ export class GameView {
     const note = byId('note');
     note.className = text ? `note ${kind}` : 'note';
     setText(note, text);
+    clearTimeout(this.fading);
+    if (text && kind === 'news') this.fading = setTimeout(() => this.note(''), 15000);
   }
 
   /** What is shown and, once, said. */
@@ -199,6 +212,11 @@ export class GameView {
     return this.running() && this.seat() === this.standing.side;
   }
 
+  moveOnBoard(move) {
+    this.pending = this.standing.ply;
+    this.move(move);
+  }
+
   move(move) {
     this.send(`move ${this.number} ${this.standing.ply} ${move}`, { word: 'move', ply: this.standing.ply });
   }
@@ -210,6 +228,10 @@ export class GameView {
       this.note('A move is one word, such as e4, Nf3, exd5, O-O or e2e4.');
       return;
     }
+    if (!this.myTurn()) {
+      this.note(refusalWords({ number: NOT_YOUR_MOVE }));
+      return;
+    }
     field.value = '';
     this.goTo(this.last());
     this.move(text);
@@ -219,8 +241,9 @@ export class GameView {
     this.send(`${word} ${this.number}`, { word });
   }
 
-  /** Sends an act. What is refused is told in words; what was lost is asked for. */
+  /** Sends an act, one at a time. What is refused is told in words; what was lost is asked for. */
   async send(line, asked) {
+    if (this.busy) return;
     const number = this.number;
     this.note('');
     this.busy = true;
@@ -229,6 +252,7 @@ export class GameView {
     this.busy = false;
     if (this.number !== number) return;
     const refusal = readRefusal(answer[0]);
+    this.answered(answer[0].startsWith('ok '));
     if (refusal) {
       if (asked.word === 'flag' && (refusal.number === FLAG_UP || refusal.number === OVER)) this.note('');
       else this.note(refusalWords(refusal));
@@ -241,6 +265,18 @@ export class GameView {
       this.note('There is no connection. Nothing was sent.');
     }
     this.render();
+  }
+
+  /** A move on the board is answered: the notice behind the answer brings the position, else it is asked for. */
+  answered(accepted) {
+    if (!accepted) this.pending = null;
+    const pending = this.pending;
+    if (pending === null) return;
+    setTimeout(() => {
+      if (this.pending !== pending) return;
+      this.pending = null;
+      this.refresh();
+    }, 2000);
   }
 
   /** After an answer that was lost: what the game shows of that act. */
@@ -369,6 +405,15 @@ export class GameView {
     return answer[0].startsWith('ok pgn') ? readPgn(answer.slice(1)).text : '';
   }
 
+  link() {
+    return `${location.href.split('#')[0]}#/game/${this.number}`;
+  }
+
+  async invitationCopied() {
+    const done = await copy(this.link());
+    this.note(done ? 'The link is copied.' : `The game’s address is ${this.link()}`, 'news');
+  }
+
   async share(what, text) {
     const found = await text(), done = found && await copy(found);
     setText(byId('shared'), done ? `${what === 'link' ? 'The link' : what} is copied.`
@@ -378,7 +423,8 @@ export class GameView {
   // ---- drawing
 
   render() {
-    const standing = this.standing;
+    if (this.root.hidden) return;
+    const standing = this.standing, focused = this.root.contains(document.activeElement) && document.activeElement;
     this.root.classList.toggle('empty', !standing || this.gone);
     byId('no-game').hidden = !this.gone;
     if (!standing || this.gone) return;
@@ -388,6 +434,7 @@ export class GameView {
     this.renderActions();
     this.renderOutcome();
     this.renderFacts();
+    if (focused && !focused.getClientRects().length) this.board.focus();
     this.app.titled(this.title());
   }
 
@@ -400,7 +447,8 @@ export class GameView {
 
   renderBoard() {
     const shown = this.shown(), move = this.line[shown] || {}, now = this.back === null;
-    const live = now && this.myTurn() && !this.busy && this.app.wire.state.open;
+    if (now && this.pending === this.standing.ply) return;       // the man stands where it was put, until the answer
+    const live = now && this.myTurn() && !this.busy && this.app.reachable();
     this.board.show({
       fen: this.fenShown(), last: move, check: now ? this.standing.check : /[+#]$/.test(move.san || ''),
       moves: live ? this.standing.moves : [], turned: this.isTurned(),
@@ -476,7 +524,7 @@ export class GameView {
 
   renderActions() {
     const standing = this.standing, seat = this.seat(), runs = this.running(), me = this.app.me();
-    const can = !this.busy && this.app.wire.state.open;
+    const can = this.app.reachable();
     const show = (id, shown, enabled = true) => {
       byId(id).hidden = !shown;
       byId(id).disabled = !(enabled && can);
@@ -489,11 +537,11 @@ export class GameView {
     show('decline', offered);
     show('claim', runs && seat, this.myTurn());
     show('resign', runs && seat);
+    show('copy-invitation', !this.started() && seat);
     show('join', !this.started() && !seat && me);
     show('drop', this.app.isArbiter() && (!this.started() || standing.article));
     show('again', standing.article && seat && this.tags.TimeControl);
     byId('move-form').hidden = !(runs && seat);
-    byId('move-text').disabled = !can || !this.myTurn();
     byId('actions').hidden = ![...byId('actions').children].some((one) => !one.hidden);
   }
 
@@ -536,7 +584,7 @@ export class GameView {
     byId('game-times').title = timesInFull(times);
     setText(byId('game-white'), white ? this.app.nameWords(white) : 'free seat');
     setText(byId('game-black'), black ? this.app.nameWords(black) : 'free seat');
-    setText(byId('game-start'), this.tags.FEN ? 'From a position of its own' : '');
+    setText(byId('game-start'), this.tags.FEN ? 'From a position' : '');
     byId('fen-text').value = this.fenShown();
     byId('watching').hidden = Boolean(this.seat()) || !this.started();
   }
@@ -567,13 +615,13 @@ function periodWords(times, ply, startSide, side) {
   if (!times) return '';
   const own = Math.floor((ply + (side === startSide ? 1 : 0)) / 2);
   const parts = [];
-  if (times.increment) parts.push(`+${times.increment} s a move`);
+  if (times.increment) parts.push(`+${times.increment} s`);
   if (times.moves) {
     const left = times.moves - own, more = timesWords({ initial: times.second, increment: 0, moves: 0 }).split('+')[0];
     const unit = /^\d+$/.test(more) ? ' min' : '';
     parts.push(left > 0 ? `+${more}${unit} in ${left} ${left === 1 ? 'move' : 'moves'}` : 'second period');
   }
-  return parts.join(', ');
+  return parts.join(' · ');
 }
 
 function keepInSight(list, child) {

@@ -2,11 +2,10 @@
 
 import { Picture } from './board.js';
 import { Clock } from './clock.js';
-import { placementOf, readStanding, squaresOf } from './lines.js';
-import { byId, make, setText } from './make.js';
+import { placementOf, readLine, readStanding, squaresOf } from './lines.js';
+import { byId, make, read, setText, write } from './make.js';
 import { colourWord, resultWords } from './words.js';
 
-const A_PAGE = 8;
 const STAYS = 45000;                  // how long a game that is over stays in its place
 const TURNS = 20000;
 
@@ -20,6 +19,13 @@ export class HallView {
     this.first = 0;
     byId('hall-back').addEventListener('click', () => this.page(-1));
     byId('hall-on').addEventListener('click', () => this.page(1));
+    byId('hall-many').checked = read(() => localStorage, 'hall') === 'many';
+    byId('hall-many').addEventListener('change', (event) => {
+      write(() => localStorage, 'hall', event.target.checked ? 'many' : null);
+      this.clear();
+      this.first = 0;
+      this.fill();
+    });
     byId('hall-screen').addEventListener('click', () => wholeScreen());
   }
 
@@ -44,6 +50,11 @@ export class HallView {
     for (const number of [...this.cards.keys()]) this.remove(number);
   }
 
+  /** How many boards stand beside each other. */
+  most() {
+    return byId('hall-many').checked ? 8 : 4;
+  }
+
   /** After a new connection: what is shown is asked for again. */
   again() {
     for (const number of this.cards.keys()) this.ask(number);
@@ -56,26 +67,27 @@ export class HallView {
 
   page(step) {
     const running = this.running().length;
-    if (running <= A_PAGE) return;
-    const pages = Math.ceil(running / A_PAGE);
-    this.first = A_PAGE * ((this.first / A_PAGE + step + pages) % pages);
+    const most = this.most(), pages = Math.ceil(running / most);
+    if (pages < 2) return;
+    this.first = most * ((this.first / most + step + pages) % pages);
     this.clear();
     this.fill();
   }
 
   fill() {
     if (this.root.hidden) return;
-    const now = performance.now(), running = this.running();
+    const now = performance.now(), running = this.running(), most = this.most();
     if (this.first >= running.length) this.first = 0;
     for (const [number, card] of this.cards) {
       if (card.overAt && now - card.overAt > STAYS && running.length >= this.cards.size) this.remove(number);
     }
-    for (const row of running.slice(this.first, this.first + A_PAGE)) {
-      if (this.cards.size < A_PAGE && !this.cards.has(row.number)) this.add(row.number);
+    for (const row of running.slice(this.first, this.first + most)) {
+      if (this.cards.size < most && !this.cards.has(row.number)) this.add(row.number);
     }
     byId('hall-none').hidden = this.cards.size > 0;
-    byId('hall-pages').hidden = running.length <= A_PAGE;
-    setText(byId('hall-place'), `${this.first + 1} to ${Math.min(this.first + A_PAGE, running.length)} of ${running.length}`);
+    byId('hall-pages').hidden = running.length <= most;
+    setText(byId('hall-place'), `${this.first + 1} to ${Math.min(this.first + most, running.length)} of ${running.length}`);
+    this.list.classList.toggle('many', most > 4);
     this.list.dataset.count = String(this.cards.size);
   }
 
@@ -85,11 +97,11 @@ export class HallView {
       const clock = make('span', { class: 'clock', role: 'timer' });
       card.names[side] = make('span', { class: 'name' });
       card.clocks[side] = new Clock(clock);
-      return make('div', { class: `player ${side === 'w' ? 'white' : 'black'}` },
+      return make('div', { class: `card-player ${side === 'w' ? 'white' : 'black'}` },
         make('span', { class: 'disc', 'aria-hidden': 'true' }), card.names[side], clock);
     };
     card.last = make('p', { class: 'card-last' });
-    card.root = make('a', { class: 'card', href: `#/hall/${number}` }, player('b'), board.root, player('w'), card.last);
+    card.root = make('a', { class: 'card', href: `#/hall/${number}` }, board.root, player('b'), card.last, player('w'));
     this.cards.set(number, card);
     this.list.append(card.root);
     this.ask(number);
@@ -100,13 +112,18 @@ export class HallView {
     Object.values(card.clocks).forEach((clock) => clock.stop());
     card.root.remove();
     this.cards.delete(number);
-    this.app.wire.say(`leave ${number}`, true);
+    this.app.wire.say(`leave ${number}`);
   }
 
   async ask(number) {
     const answer = await this.app.wire.say(`watch ${number}`);
     const standing = answer[0].startsWith('ok ') && readStanding(answer.slice(1));
     if (standing) this.draw(number, standing, '', '');
+    const line = await this.app.wire.say(`line ${number}`, true), card = this.cards.get(number);
+    const last = line[0].startsWith('ok ') && readLine(line.slice(1)).pop();
+    if (!last || !card || !card.standing || card.standing.fen !== last.fen) return;
+    Object.assign(card, { move: last, san: last.san });
+    this.draw(number, card.standing, '', '', card.at);
   }
 
   notice(number, sent, answer, standing) {
@@ -118,9 +135,10 @@ export class HallView {
     this.fill();
   }
 
-  draw(number, standing, sent, answer) {
+  draw(number, standing, sent, answer, at = performance.now()) {
     const card = this.cards.get(number);
     if (!card) return;
+    Object.assign(card, { standing, at });
     const runs = !standing.article, moved = /^ok (?:move \d+|claim \d+ wrong) \d+ (\S+)/.exec(answer);
     if (standing.article && !card.overAt) card.overAt = performance.now();
     if (moved) Object.assign(card, { move: squaresOf(sent.split(' ').pop()), san: moved[1] });
@@ -129,7 +147,7 @@ export class HallView {
       const name = this.app.nameWords(side === 'w' ? standing.white : standing.black);
       setText(card.names[side], name);
       card.clocks[side].label = colourWord(side);
-      card.clocks[side].set({ left: standing.left[side], at: performance.now(), running: runs && standing.side === side });
+      card.clocks[side].set({ left: standing.left[side], at, running: runs && standing.side === side });
       card.names[side].parentElement.classList.toggle('turn', runs && standing.side === side);
     }
     const words = resultWords(standing.result, standing.article);

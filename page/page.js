@@ -4,6 +4,7 @@ import { GameView } from './game.js';
 import { HallView, wholeScreen } from './hall.js';
 import { readPlayers, readRefusal, readRows, readStanding } from './lines.js';
 import { byId, make, read, say, setText, write } from './make.js';
+import { setSound, wantsSound } from './sound.js';
 import { TableView } from './table.js';
 import { Wire } from './wire.js';
 import { BAD_TOKEN, refusalWords } from './words.js';
@@ -44,6 +45,7 @@ class Page {
     byId('keep-it').addEventListener('click', () => this.keep(true));
     byId('keep-not').addEventListener('click', () => this.keep(false));
     byId('sign-out').addEventListener('click', () => this.signOut());
+    byId('projector').addEventListener('click', () => this.go(`/hall/${this.game.number}`));
     byId('big-screen').addEventListener('click', () => wholeScreen());
     byId('link-form').addEventListener('submit', (event) => {
       event.preventDefault();
@@ -54,9 +56,24 @@ class Page {
       else this.wire.renew();
     });
     addEventListener('keydown', (event) => this.key(event));
+    document.addEventListener('visibilitychange', () => {
+      if (!document.hidden && this.view === this.game) this.game.refresh();
+    });
     byId('letters').addEventListener('change', (event) => write(local, 'letters', event.target.checked ? null : 'off'));
     byId('letters').checked = read(local, 'letters') !== 'off';
-    byId('theme-words').textContent = themeWords();
+    byId('sounds').addEventListener('change', (event) => setSound(event.target.checked));
+    byId('sounds').checked = wantsSound();
+    this.renderTheme();
+    document.addEventListener('pointerdown', (event) => this.closeWho(event.target));
+    byId('who').addEventListener('keydown', (event) => event.key === 'Escape' && this.closeWho(null));
+  }
+
+  /** The menu closes where anything else is touched. */
+  closeWho(touched) {
+    const who = byId('who');
+    if (!who.open || touched && who.contains(touched)) return;
+    who.open = false;
+    if (!touched) who.querySelector('summary').focus();
   }
 
   // ---- what the views ask for
@@ -67,6 +84,11 @@ class Page {
 
   isArbiter() {
     return Boolean(this.player && this.player.role === 'arbiter');
+  }
+
+  /** Whether what is sent now comes to the game server. */
+  reachable() {
+    return this.wire.state.open && this.wire.state.server === 'here';
   }
 
   nameWords(name) {
@@ -90,7 +112,10 @@ class Page {
     else if (answer[0] === 'lost') {
       note('The connection broke before the answer came. Looking for your game …');
       this.lostOpen = { after, note };
-    } else this.go(`/game/${answer[0].split(' ')[2]}`);
+    } else {
+      this.table.opened();
+      this.go(`/game/${answer[0].split(' ')[2]}`);
+    }
   }
 
   // ---- the way to a view
@@ -118,6 +143,7 @@ class Page {
       else link.removeAttribute('aria-current');
     }
     scrollTo(0, 0);
+    byId('main').scrollTop = 0;
   }
 
   /** Who plays, and who looks at the table or the hall, is told of the table; a watcher of one game is not. */
@@ -226,12 +252,12 @@ class Page {
     const { open, server, retryAt, ever } = this.wire.state, lost = byId('lost');
     if (!open) this.isAtTable = undefined;
     lost.hidden = open || !ever && !retryAt;
-    setText(byId('lost-words'), ever ? 'The connection to the lobby is lost. It is tried again by itself; your clock runs on.'
-      : 'The lobby does not answer. It is tried again by itself.');
+    setText(byId('lost-words'), ever ? 'The connection to the lobby is lost. Clocks run on. Trying again'
+      : 'The lobby does not answer. Trying again');
     clearInterval(this.counting);
     const count = () => {
       const seconds = Math.ceil((retryAt - Date.now()) / 1000);
-      setText(byId('lost-count'), retryAt && seconds > 0 ? `in ${seconds} s` : 'now');
+      setText(byId('lost-count'), retryAt && seconds > 0 ? `in ${seconds} s.` : 'now.');
     };
     if (!open) {
       count();
@@ -299,7 +325,7 @@ class Page {
     const game = this.game, acts = {
       ArrowLeft: () => game.goTo(game.shown() - 1), ArrowRight: () => game.goTo(game.shown() + 1),
       Home: () => game.goTo(0), End: () => game.goTo(game.last()),
-      f: () => game.turn(), m: () => byId('move-text').focus(), b: () => game.board.focus(),
+      f: () => game.turn(), m: () => byId('move-text').select(), b: () => game.board.focus(),
       c: () => say(game.clocksInWords()), p: () => say(game.inWords()),
       h: () => this.go(`/${document.body.classList.contains('hall') ? 'game' : 'hall'}/${game.number}`),
       '?': () => byId('help-dialog').showModal(),
@@ -320,12 +346,17 @@ class Page {
     if (next) document.documentElement.dataset.theme = next;
     else delete document.documentElement.dataset.theme;
     write(local, 'theme', next || null);
+    this.renderTheme();
+  }
+
+  renderTheme() {
     setText(byId('theme-words'), themeWords());
+    byId('theme').title = `Colours: ${themeWords()}`;
   }
 }
 
 function themeWords() {
-  return { light: 'Light', dark: 'Dark' }[document.documentElement.dataset.theme] || 'Auto';
+  return { light: 'light', dark: 'dark' }[document.documentElement.dataset.theme] || 'as the system has them';
 }
 
 new Page();

@@ -4,7 +4,8 @@ import { readPgn, readRefusal, readStanding, readTimes, timesOfOpen } from './li
 import { byId, make, setText } from './make.js';
 import { refusalWords, resultWords, timesInFull, timesWords } from './words.js';
 
-const PRESETS = ['1+0', '2+1', '3+0', '3+2', '5+0', '5+3', '10+0', '10+5', '15+10', '30+0', '90+30', '40/90+30, 30'];
+const PRESETS = ['1+0', '2+1', '3+0', '3+2', '5+0', '5+3', '10+0', '10+5', '15+10', '30+0', '30+20',
+  '90+30', '40/90+30, 30'];
 const FIRST_SHOWN = { open: 40, running: 40, over: 15 };
 const MOST_OWN = 6;
 
@@ -40,7 +41,7 @@ export class TableView {
 
   close() {
     this.root.hidden = true;
-    for (const number of this.watched) this.app.wire.say(`leave ${number}`, true);
+    for (const number of this.watched) this.app.wire.say(`leave ${number}`);
     this.watched.clear();
   }
 
@@ -76,7 +77,7 @@ export class TableView {
   async askTimes() {
     if (this.asking) return;
     this.asking = true;
-    for (let row = this.untimed(); row && this.app.wire.state.open && !this.root.hidden; row = this.untimed()) {
+    for (let row = this.untimed(); row && this.app.reachable() && !this.root.hidden; row = this.untimed()) {
       const answer = await this.app.wire.say(`pgn ${row.number}`, true);
       if (!answer[0].startsWith('ok ')) {
         if (!answer[0].startsWith('no ')) break;
@@ -99,11 +100,11 @@ export class TableView {
 
   /** At the table one's own games are watched, so that it shows whose turn it is. */
   async watchOwn() {
-    if (this.root.hidden || !this.app.me()) return;
+    if (this.root.hidden || !this.app.me() || !this.app.reachable()) return;
     for (const row of this.groups().own.slice(0, MOST_OWN)) {
       if (this.watched.has(row.number)) continue;
       this.watched.add(row.number);
-      const answer = await this.app.wire.say(`watch ${row.number}`, true);
+      const answer = await this.app.wire.say(`watch ${row.number}`);
       const standing = answer[0].startsWith('ok ') && readStanding(answer.slice(1));
       const now = this.rows.get(row.number);
       if (standing && now) Object.assign(now, { side: standing.side, ply: standing.ply });
@@ -136,7 +137,7 @@ export class TableView {
     byId('own-games').hidden = groups.own.length === 0;
     byId('open-form').hidden = !me;
     byId('only-watching').hidden = Boolean(me);
-    byId('open-game').disabled = !this.app.wire.state.open;
+    byId('open-game').disabled = !this.app.reachable();
     for (const kind of ['own', 'open', 'running', 'over']) this.renderGroup(kind, groups[kind]);
     const yours = groups.own.filter((row) => this.mayMove(row)).length;
     this.app.titled(yours ? `Your turn in ${yours} ${yours === 1 ? 'game' : 'games'}` : 'Games');
@@ -182,7 +183,7 @@ export class TableView {
     const item = make('li', { class: this.mayMove(row) ? 'game-row yours' : 'game-row' }, link);
     if (kind === 'open' && this.app.me()) {
       item.append(make('button', { type: 'button', class: 'strong', 'data-key': `join-${row.number}`,
-        'aria-label': `Join game ${row.number}`, disabled: !this.app.wire.state.open,
+        'aria-label': `Join game ${row.number}`, disabled: !this.app.reachable(),
         onclick: () => this.join(row.number) }, 'Join'));
     }
     return item;
@@ -190,9 +191,10 @@ export class TableView {
 
   stateWords(row) {
     if (row.result !== '*') return resultWords(row.result, '').score;
-    if (!row.white || !row.black) return 'waits';
+    if (!row.white || !row.black) return '';
     if (this.mayMove(row)) return 'your turn';
-    return row.ply === 0 ? 'begins' : `move ${Math.floor(row.ply / 2) + 1}`;
+    const me = this.app.me();
+    return me && (row.white === me || row.black === me) ? 'their turn' : 'watch';
   }
 
   // ---- acting
@@ -227,6 +229,12 @@ export class TableView {
       for (const preset of form.preset) preset.checked = false;
     }
     byId('second-fields').hidden = !form.second.checked;
+  }
+
+  /** A position is for one game: the next begins from the usual one. */
+  opened() {
+    byId('open-form').elements.fen.value = '';
+    byId('open-form').querySelector('.from-position').open = false;
   }
 
   submit() {

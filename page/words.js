@@ -41,7 +41,8 @@ export function refusalWords(refusal) {
 }
 
 /** `no 14 FlagUp` and the like: told to nobody, since they only say that a clock is a little ahead. */
-export const FLAG_UP = 14, OVER = 6, BAD_TOKEN = 32, NO_GAME = 3;
+export const FLAG_UP = 14, OVER = 6;
+export const NO_GAME = 3, NOT_YOUR_MOVE = 8, BAD_TOKEN = 32;
 
 const WINS = { '1-0': 'White wins', '0-1': 'Black wins', '1/2-1/2': 'Draw' };
 
