@@ -230,6 +230,7 @@ export class GameView {
     }
     if (!this.myTurn()) {
       this.note(refusalWords({ number: NOT_YOUR_MOVE }));
+      field.select();
       return;
     }
     field.value = '';

@@ -22,6 +22,18 @@ export function setText(element, text) {
   if (element.textContent !== text) element.textContent = text;
 }
 
+/** Makes `wanted` the children of a list, and leaves those in their place that stand in it already: who presses one of
+ * them meanwhile still presses it. */
+export function arrange(list, wanted) {
+  const kept = new Set(wanted);
+  for (const child of [...list.children]) {
+    if (!kept.has(child)) child.remove();
+  }
+  wanted.forEach((child, place) => {
+    if (list.children[place] !== child) list.insertBefore(child, list.children[place] || null);
+  });
+}
+
 /** Says a text to who listens, once the texts before it were heard. */
 export function say(text) {
   const says = byId('says');

@@ -1,7 +1,7 @@
 // The table: games that wait for an opponent, that run and that are over, and the form that opens one.
 
 import { readPgn, readRefusal, readStanding, readTimes, timesOfOpen } from './lines.js';
-import { byId, make, setText } from './make.js';
+import { arrange, byId, make, setText } from './make.js';
 import { refusalWords, resultWords, timesInFull, timesWords } from './words.js';
 
 const PRESETS = ['1+0', '2+1', '3+0', '3+2', '5+0', '5+3', '10+0', '10+5', '15+10', '30+0', '30+20',
@@ -17,6 +17,7 @@ export class TableView {
     this.rows = new Map();
     this.all = new Set();
     this.watched = new Set();
+    this.items = new Map();            // what an element shows -> the element
     this.makePresets();
     byId('open-form').addEventListener('submit', (event) => {
       event.preventDefault();
@@ -138,27 +139,39 @@ export class TableView {
     byId('open-form').hidden = !me;
     byId('only-watching').hidden = Boolean(me);
     byId('open-game').disabled = !this.app.reachable();
+    this.used = new Set();
     for (const kind of ['own', 'open', 'running', 'over']) this.renderGroup(kind, groups[kind]);
+    for (const key of this.items.keys()) {
+      if (!this.used.has(key)) this.items.delete(key);
+    }
     const yours = groups.own.filter((row) => this.mayMove(row)).length;
     this.app.titled(yours ? `Your turn in ${yours} ${yours === 1 ? 'game' : 'games'}` : 'Games');
   }
 
   renderGroup(kind, rows) {
-    const list = byId(`${kind}-list`), most = this.all.has(kind) ? Infinity : FIRST_SHOWN[kind] || Infinity;
-    const focused = list.contains(document.activeElement) && document.activeElement.closest('[data-key]');
-    const shown = rows.slice(0, most).map((row) => this.item(row, kind));
+    const most = this.all.has(kind) ? Infinity : FIRST_SHOWN[kind] || Infinity;
+    const shown = rows.slice(0, most).map((row) => this.itemOf(row, kind));
     if (rows.length > most) {
-      shown.push(make('li', { class: 'more' }, make('button', { type: 'button', onclick: () => this.showAll(kind) },
-        `Show all ${rows.length}`)));
+      shown.push(this.kept(`more ${kind} ${rows.length}`, () => make('li', { class: 'more' },
+        make('button', { type: 'button', onclick: () => this.showAll(kind) }, `Show all ${rows.length}`))));
     }
-    if (shown.length === 0) shown.push(make('li', { class: 'none' }, NOTHING[kind]));
-    list.replaceChildren(...shown);
-    const count = byId(`${kind}-count`);
-    if (count) setText(count, rows.length ? String(rows.length) : '');
-    if (focused) {
-      const again = list.querySelector(`[data-key="${focused.dataset.key}"]`);
-      if (again) again.focus();
-    }
+    if (shown.length === 0) shown.push(this.kept(`none ${kind}`, () => make('li', { class: 'none' }, NOTHING[kind])));
+    arrange(byId(`${kind}-list`), shown);
+    setText(byId(`${kind}-count`), rows.length ? String(rows.length) : '');
+  }
+
+  /** The row's element, the same as long as it shows the same. */
+  itemOf(row, kind) {
+    const names = [row.white, row.black].map((name) => this.app.nameWords(name));
+    const shows = [kind, row.number, names, timesWords(row.times), row.own, this.stateWords(row), this.app.me(),
+      this.app.reachable()];
+    return this.kept(JSON.stringify(shows), () => this.item(row, kind));
+  }
+
+  kept(key, build) {
+    if (!this.items.has(key)) this.items.set(key, build());
+    this.used.add(key);
+    return this.items.get(key);
   }
 
   showAll(kind) {

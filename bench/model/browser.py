@@ -137,8 +137,13 @@ class Person:
     # ---- doing
 
     def click(self, css):
-        self.until(lambda: self.find(css) is not None and self.find(css).is_enabled(), 'there is %s to click' % css)
-        self.find(css).click()
+        def clicked():
+            found = self.find(css)
+            if found is None or not found.is_enabled():
+                return False
+            found.click()
+            return True
+        self.until(clicked, 'there is %s to click' % css)
 
     def type(self, css, text):
         field = self.find(css)
