@@ -2,15 +2,32 @@
 
 import { Board } from './board.js';
 import { Clock } from './clock.js';
-import { readLine, readPgn, readRefusal, readStanding, readTimes, sideOf, squaresOf } from './lines.js';
+import { placementOf, readLine, readPgn, readRefusal, readStanding, readTimes, sideOf, squaresOf } from './lines.js';
 import { byId, copy, make, save, say, setText } from './make.js';
+import { drawActions, drawFacts, drawMoves, drawOutcome, drawPlayers } from './sheet.js';
 import { sound } from './sound.js';
 import {
-  FLAG_UP, NOT_YOUR_MOVE, NO_GAME, OVER, clockWords, colourWord, kindWord, manWords, refusalWords, resultWords, sanWords, timesInFull, timesWords,
+  FLAG_UP, NOT_YOUR_MOVE, NO_GAME, OTHER, OVER, SIDES, WRONG_PLY, clockWords, colourWord, kindWord, manWords, refusalWords,
+  resultWords, sanWords,
 } from './words.js';
 
-const SIDES = ['w', 'b'];
-const OTHER = { w: 'b', b: 'w' };
+const WHAT = {
+  move: 'move', join: 'joining', offer: 'offer', accept: 'acceptance', decline: 'answer', resign: 'resignation',
+  flag: 'call', drop: 'order', claim: 'claim',
+};
+
+/** Whether a game that stands as `now` shows an act whose answer was lost. */
+const SHOWS = {
+  move: (now, act) => now.ply > act.ply,
+  join: (now, act, game) => game.seat() !== '',
+  offer: (now, act) => now.offer.includes(act.side),
+  accept: (now) => now.article === '5.2.3',
+  decline: (now, act) => !now.offer.includes(OTHER[act.side]),
+  resign: (now) => now.article === '5.1.2',
+  flag: (now) => now.article === '6.9',
+  drop: (now, act, game) => game.gone,
+  claim: (now, act) => now.article === '9.2' || now.article === '9.3' || now.offer.includes(act.side) || now.ply > act.ply,
+};
 
 export class GameView {
   /** app: {wire, me(), nameWords(name), go(route)}. */
@@ -105,7 +122,7 @@ export class GameView {
     if (line) this.line = readLine(line.slice(1));
     const pgn = ours(await asked[2]);
     if (pgn) this.tags = readPgn(pgn.slice(1)).tags;
-    if (this.number === number) this.settleUnsure();
+    if (ours(watched)) this.settleUnsure();
     this.render();
   }
 
@@ -213,7 +230,7 @@ export class GameView {
   }
 
   moveOnBoard(move) {
-    this.pending = this.standing.ply;
+    this.pending = this.busy ? null : this.standing.ply;
     this.move(move);
   }
 
@@ -257,7 +274,7 @@ export class GameView {
     if (refusal) {
       if (asked.word === 'flag' && (refusal.number === FLAG_UP || refusal.number === OVER)) this.note('');
       else this.note(refusalWords(refusal));
-      if (refusal.number === 7 || asked.word === 'flag') this.refresh();
+      if (refusal.number === WRONG_PLY || asked.word === 'flag') this.refresh();
     } else if (answer[0] === 'lost') {
       this.unsure = { ...asked, side: this.seat() };
       this.note('The connection broke before the answer came. Asking how the game stands …');
@@ -285,16 +302,12 @@ export class GameView {
     const unsure = this.unsure, now = this.standing;
     if (!unsure || !now) return;
     this.unsure = null;
-    const mine = unsure.side, done = {
-      move: () => now.ply > unsure.ply, join: () => this.seat() !== '', offer: () => now.offer.includes(mine),
-      accept: () => now.article === '5.2.3', decline: () => !now.offer.includes(OTHER[mine]),
-      resign: () => now.article === '5.1.2', flag: () => now.article === '6.9', drop: () => this.gone,
-      claim: () => now.article === '9.2' || now.article === '9.3' || now.offer.includes(mine) || now.ply > unsure.ply,
-    }[unsure.word]();
-    const what = { move: 'move', join: 'joining', offer: 'offer', accept: 'acceptance', decline: 'answer',
-      resign: 'resignation', flag: 'call', drop: 'order', claim: 'claim' }[unsure.word];
-    if (done) this.news(`The connection broke, but your ${what} was taken.`);
-    else if (!now.article) this.note(`The connection broke, and your ${what} has not been taken so far. Look, and do it again.`);
+    const what = WHAT[unsure.word];
+    if (SHOWS[unsure.word](now, unsure, this)) {
+      this.news(`The connection broke, but your ${what} was taken.`);
+    } else if (!now.article) {
+      this.note(`The connection broke, and your ${what} has not been taken so far. Look, and do it again.`);
+    }
   }
 
   askResign() {
@@ -303,11 +316,10 @@ export class GameView {
   }
 
   askClaim() {
-    const dialog = byId('claim-dialog'), men = this.board.men;
+    const dialog = byId('claim-dialog'), men = placementOf(this.standing.fen);
     const groups = new Map();
     for (const move of [...this.standing.moves].sort()) {
-      const letter = men.get(move.slice(0, 2));
-      const man = letter ? `${kindWord(letter.letter)} ${move.slice(0, 2)}` : move.slice(0, 2);
+      const from = move.slice(0, 2), man = `${kindWord(men.get(from) || 'p')} ${from}`;
       groups.set(man, [...groups.get(man) || [], move]);
     }
     byId('claim-move').replaceChildren(
@@ -329,13 +341,16 @@ export class GameView {
   flagFell(place) {
     const side = this.sideAt(place), seat = this.seat(), number = this.number;
     if (!seat || !this.running()) {
-      this.renderOutcome();
+      drawOutcome(this);
       return;
     }
-    setTimeout(() => {
-      if (this.number === number && this.running() && this.standing.side === side) this.act('flag');
-    }, seat === side ? 1500 : 100);
-    this.renderOutcome();
+    const call = () => {
+      if (this.number !== number || !this.running() || this.standing.side !== side) return;
+      if (this.busy) setTimeout(call, 300);
+      else this.act('flag');
+    };
+    setTimeout(call, seat === side ? 1500 : 100);
+    drawOutcome(this);
   }
 
   /** A new game of the same times, with the colours changed. */
@@ -429,12 +444,12 @@ export class GameView {
     this.root.classList.toggle('empty', !standing || this.gone);
     byId('no-game').hidden = !this.gone;
     if (!standing || this.gone) return;
-    this.renderPlayers();
+    drawPlayers(this);
     this.renderBoard();
-    this.renderMoves();
-    this.renderActions();
-    this.renderOutcome();
-    this.renderFacts();
+    drawMoves(this);
+    drawActions(this);
+    drawOutcome(this);
+    drawFacts(this);
     if (focused && !focused.getClientRects().length) this.board.focus();
     this.app.titled(this.title());
   }
@@ -456,138 +471,12 @@ export class GameView {
     });
   }
 
-  renderPlayers() {
-    const standing = this.standing, times = readTimes(this.tags.TimeControl || '');
-    for (const place of ['far', 'near']) {
-      const side = this.sideAt(place), root = this.players[place], name = side === 'w' ? standing.white : standing.black;
-      const turn = this.running() && standing.side === side;
-      root.classList.toggle('white', side === 'w');
-      root.classList.toggle('black', side === 'b');
-      root.classList.toggle('turn', turn);
-      root.classList.toggle('won', standing.result === (side === 'w' ? '1-0' : '0-1'));
-      setText(root.querySelector('.name'), name ? this.app.nameWords(name) : 'waiting …');
-      root.querySelector('.name').title = name;
-      setText(root.querySelector('.colour'), colourWord(side));
-      setText(root.querySelector('.period'), periodWords(times, standing.ply, this.startSide(), side));
-      setText(root.querySelector('.score'), scoreOf(standing.result, side));
-      const clock = this.clocks[place];
-      clock.label = `${colourWord(side)}’s clock`;
-      clock.set({ left: standing.left[side], at: standing.at, running: turn });
-    }
-  }
-
   startSide() {
     return this.line.length ? sideOf(this.line[0].fen) : 'w';
   }
 
-  renderMoves() {
-    const list = byId('moves'), shown = this.shown();
-    const start = this.line[0] ? this.line[0].fen : '', first = Number(start.split(' ')[5] || 1);
-    const shift = this.startSide() === 'b' ? 1 : 0;
-    const key = `${this.number} ${this.line.length} ${this.last() ? this.line[this.last()].fen : ''} ${start}`;
-    if (list.dataset.key !== key) {
-      list.dataset.key = key;
-      const rows = [];
-      for (let ply = 1; ply <= this.last(); ply += 1) {
-        const place = ply - 1 + shift;
-        if (place % 2 === 0 || ply === 1) {
-          const number = first + Math.floor(place / 2);
-          rows.push(make('li', {}, make('span', { class: 'number', 'aria-hidden': 'true' }, String(number)),
-            place % 2 === 1 ? make('span', { class: 'ply none' }, '…') : ''));
-        }
-        rows[rows.length - 1].append(this.moveButton(ply, first + Math.floor(place / 2), place % 2));
-      }
-      list.replaceChildren(...rows);
-    }
-    list.querySelectorAll('button').forEach((button) => {
-      if (Number(button.dataset.ply) === shown) button.setAttribute('aria-current', 'true');
-      else button.removeAttribute('aria-current');
-    });
-    const current = list.querySelector('[aria-current]');
-    if (current) keepInSight(list, current);
-    else list.scrollTop = list.scrollLeft = 0;
-    byId('first-move').disabled = byId('previous-move').disabled = shown === 0;
-    byId('last-move').disabled = byId('next-move').disabled = this.back === null;
-    byId('last-move').classList.toggle('news', this.back !== null);
-    setText(byId('last-san'), this.last() ? this.lastWords() : '');
-  }
-
-  lastWords() {
-    const { san, fen } = this.line[this.last()], full = Number(fen.split(' ')[5]);
-    return sideOf(fen) === 'b' ? `${full}. ${san}` : `${full - 1}… ${san}`;
-  }
-
-  moveButton(ply, number, black) {
-    const { san } = this.line[ply];
-    return make('button', { type: 'button', class: 'ply', 'data-ply': String(ply),
-      'aria-label': `${number}${black ? ', Black' : ''}: ${sanWords(san)}`, onclick: () => this.goTo(ply) }, san);
-  }
-
-  renderActions() {
-    const standing = this.standing, seat = this.seat(), runs = this.running(), me = this.app.me();
-    const can = this.app.reachable();
-    const show = (id, shown, enabled = true) => {
-      byId(id).hidden = !shown;
-      byId(id).disabled = !(enabled && can);
-    };
-    const offered = runs && seat && standing.offer.includes(OTHER[seat]);
-    show('offer', runs && seat && !offered, !standing.offer);
-    setText(byId('offer').querySelector('.words'), standing.offer.includes(seat) && seat ? 'Draw offered' : 'Offer draw');
-    byId('offered').hidden = !offered;
-    show('accept', offered);
-    show('decline', offered);
-    show('claim', runs && seat, this.myTurn());
-    show('resign', runs && seat);
-    show('copy-invitation', !this.started() && seat);
-    show('join', !this.started() && !seat && me);
-    show('drop', this.app.isArbiter() && (!this.started() || standing.article));
-    show('again', standing.article && seat && this.tags.TimeControl);
-    byId('move-form').hidden = !(runs && seat);
-    byId('actions').hidden = ![...byId('actions').children].some((one) => !one.hidden);
-  }
-
-  renderOutcome() {
-    const standing = this.standing, place = byId('outcome');
-    const words = standing.article ? resultWords(standing.result, standing.article) : null;
-    place.classList.toggle('over', Boolean(words));
-    let [head, more] = ['', ''];
-    if (words) {
-      [head, more] = [`${words.score}  ${words.result} ${words.reason}`, words.article];
-    } else if (!this.started()) {
-      head = this.seat() ? 'Waiting for an opponent' : 'This seat is free';
-      more = this.seat() ? 'The clocks start as soon as somebody joins.' : 'The clocks start as soon as you join.';
-      if (!this.seat() && !this.app.me()) more = 'To play, open your personal link.';
-    } else if (SIDES.some((side) => standing.side === side && this.clockOf(side).now() <= 0)) {
-      head = `${colourWord(standing.side)}’s flag has fallen`;
-      more = this.seat() ? 'Calling it …' : 'A player has to call it.';
-    } else if (this.back !== null) {
-      head = 'An earlier position';
-      more = 'The game goes on: go to the last move to play.';
-    } else if (this.seat()) {
-      head = this.myTurn() ? 'Your turn' : 'Waiting for your opponent';
-      more = standing.check ? 'Check!' : '';
-    } else {
-      head = `${colourWord(standing.side)} to move`;
-      more = standing.check ? 'Check!' : '';
-    }
-    setText(place.querySelector('.head'), head);
-    setText(place.querySelector('.more'), more);
-  }
-
   clockOf(side) {
     return this.clocks[this.sideAt('near') === side ? 'near' : 'far'];
-  }
-
-  renderFacts() {
-    const { white, black } = this.standing, times = readTimes(this.tags.TimeControl || '');
-    setText(byId('game-title'), `Game ${this.number}`);
-    setText(byId('game-times'), timesWords(times));
-    byId('game-times').title = timesInFull(times);
-    setText(byId('game-white'), white ? this.app.nameWords(white) : 'free seat');
-    setText(byId('game-black'), black ? this.app.nameWords(black) : 'free seat');
-    setText(byId('game-start'), this.tags.FEN ? 'From a position' : '');
-    byId('fen-text').value = this.fenShown();
-    byId('watching').hidden = Boolean(this.seat()) || !this.started();
   }
 
   clocksInWords() {
@@ -603,32 +492,4 @@ export class GameView {
     }
     return SIDES.map((side) => `${colourWord(side)}: ${men[side].join(', ')}.`).join(' ');
   }
-}
-
-function scoreOf(result, side) {
-  if (result === '*') return '';
-  if (result === '1/2-1/2') return '½';
-  return result === (side === 'w' ? '1-0' : '0-1') ? '1' : '0';
-}
-
-/** What a side's clock gets: the second period until it has come, and the increment. */
-function periodWords(times, ply, startSide, side) {
-  if (!times) return '';
-  const own = Math.floor((ply + (side === startSide ? 1 : 0)) / 2);
-  const parts = [];
-  if (times.increment) parts.push(`+${times.increment} s`);
-  if (times.moves) {
-    const left = times.moves - own, more = timesWords({ initial: times.second, increment: 0, moves: 0 }).split('+')[0];
-    const unit = /^\d+$/.test(more) ? ' min' : '';
-    parts.push(left > 0 ? `+${more}${unit} in ${left} ${left === 1 ? 'move' : 'moves'}` : 'second period');
-  }
-  return parts.join(' · ');
-}
-
-function keepInSight(list, child) {
-  const box = list.getBoundingClientRect(), at = child.getBoundingClientRect();
-  if (at.top < box.top) list.scrollTop += at.top - box.top - 4;
-  if (at.bottom > box.bottom) list.scrollTop += at.bottom - box.bottom + 4;
-  if (at.left < box.left) list.scrollLeft += at.left - box.left - 24;
-  if (at.right > box.right) list.scrollLeft += at.right - box.right + 24;
 }

@@ -41,7 +41,7 @@ export function refusalWords(refusal) {
 }
 
 /** `no 14 FlagUp` and the like: told to nobody, since they only say that a clock is a little ahead. */
-export const FLAG_UP = 14, OVER = 6;
+export const FLAG_UP = 14, OVER = 6, WRONG_PLY = 7;
 export const NO_GAME = 3, NOT_YOUR_MOVE = 8, BAD_TOKEN = 32;
 
 const WINS = { '1-0': 'White wins', '0-1': 'Black wins', '1/2-1/2': 'Draw' };
@@ -94,6 +94,9 @@ export function sanWords(san) {
   if (found[5]) words.push('becomes a ' + kindWord(found[5]));
   return words.filter(Boolean).join(' ') + end;
 }
+
+export const SIDES = ['w', 'b'];
+export const OTHER = { w: 'b', b: 'w' };
 
 export function colourWord(side) {
   return side === 'w' ? 'White' : 'Black';
