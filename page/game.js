@@ -7,8 +7,8 @@ import { byId, copy, make, save, say, setText } from './make.js';
 import { drawActions, drawFacts, drawMoves, drawOutcome, drawPlayers } from './sheet.js';
 import { sound } from './sound.js';
 import {
-  FLAG_UP, NOT_YOUR_MOVE, NO_GAME, OTHER, OVER, SIDES, WRONG_PLY, clockWords, colourWord, kindWord, manWords, refusalWords,
-  resultWords, sanWords,
+  FLAG_UP, NOT_YOUR_MOVE, NO_GAME, OTHER, OVER, SIDES, WRONG_PLY, clockWords, colourWord, kindWord, manWords,
+  refusalWords, resultWords, sanWords,
 } from './words.js';
 
 const WHAT = {
@@ -26,7 +26,7 @@ const SHOWS = {
   resign: (now) => now.article === '5.1.2',
   flag: (now) => now.article === '6.9',
   drop: (now, act, game) => game.gone,
-  claim: (now, act) => now.article === '9.2' || now.article === '9.3' || now.offer.includes(act.side) || now.ply > act.ply,
+  claim: (now, act) => ['9.2', '9.3'].includes(now.article) || now.offer.includes(act.side) || now.ply > act.ply,
 };
 
 export class GameView {
@@ -75,8 +75,11 @@ export class GameView {
       this.typed();
     });
     addEventListener('resize', () => this.render());
-    byId('resign-dialog').addEventListener('close', (event) => event.target.returnValue === 'yes' && this.act('resign'));
-    byId('claim-dialog').addEventListener('close', (event) => event.target.returnValue === 'yes' && this.claim());
+    const agreed = (id, act) => byId(id).addEventListener('close', (event) => {
+      if (event.target.returnValue === 'yes') act();
+    });
+    agreed('resign-dialog', () => this.act('resign'));
+    agreed('claim-dialog', () => this.claim());
   }
 
   // ---- coming and going
@@ -84,8 +87,8 @@ export class GameView {
   open(number) {
     if (number !== this.number) {
       this.close();
-      Object.assign(this, { number, standing: null, line: [], tags: {}, back: null, turned: null, unsure: null, gone: false,
-        pending: null });
+      Object.assign(this, { number, standing: null, line: [], tags: {}, gone: false });
+      Object.assign(this, { back: null, turned: null, unsure: null, pending: null });
       this.note('');
       this.suggest(null);
       byId('move-text').value = '';
@@ -480,8 +483,8 @@ export class GameView {
   }
 
   clocksInWords() {
-    return this.standing ? SIDES.map((side) => `${colourWord(side)} has ${clockWords(this.clockOf(side).now())}`).join(', ')
-      : '';
+    if (!this.standing) return '';
+    return SIDES.map((side) => `${colourWord(side)} has ${clockWords(this.clockOf(side).now())}`).join(', ');
   }
 
   /** The position in words, for who asks for it. */

@@ -86,7 +86,8 @@ export class HallView {
     }
     byId('hall-none').hidden = this.cards.size > 0;
     byId('hall-pages').hidden = running.length <= most;
-    setText(byId('hall-place'), `${this.first + 1} to ${Math.min(this.first + most, running.length)} of ${running.length}`);
+    const last = Math.min(this.first + most, running.length);
+    setText(byId('hall-place'), `${this.first + 1} to ${last} of ${running.length}`);
     this.list.classList.toggle('many', most > 4);
     this.list.dataset.count = String(this.cards.size);
   }

@@ -253,7 +253,8 @@ export class TableView {
   submit() {
     const form = byId('open-form').elements, seconds = (field) => Math.round(60 * Number(field.value));
     const initial = seconds(form.minutes);
-    const times = form.second.checked ? `${Number(form.moves.value)}/${initial}:${seconds(form.more)}` : String(initial);
+    const second = form.second.checked, period = `${Number(form.moves.value)}/${initial}:${seconds(form.more)}`;
+    const times = second ? period : String(initial);
     const colour = form.colour.value || (crypto.getRandomValues(new Uint8Array(1))[0] % 2 ? 'white' : 'black');
     const fen = form.fen.value.trim();
     if (/[^\x20-\x7e]/.test(fen)) {

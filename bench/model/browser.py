@@ -12,8 +12,11 @@ from selenium.webdriver.common.by import By
 from selenium.webdriver.common.keys import Keys
 
 PATIENCE = 12
-# What the page sends is written down before the socket takes it.
-SPY = '''window.sentLines = []; window.spied = WebSocket.prototype.send;
+# What the page sends is written down before the socket takes it, and what stands behind # when the body begins.
+SPY = '''new MutationObserver((_, watch) => {
+  if (document.body) { window.hashAtBody = location.hash; watch.disconnect(); } }).observe(document, {childList: true,
+  subtree: true});
+window.sentLines = []; window.spied = WebSocket.prototype.send;
 WebSocket.prototype.send = function (line) { window.lastSocket = this; window.sentLines.push(line);
   return window.spied.call(this, line); };'''
 
@@ -42,7 +45,8 @@ class Person:
         return self.driver.execute_cdp_cmd(word, given)
 
     def screen(self, width, height, scale=1, phone=False):
-        self.cdp('Emulation.setDeviceMetricsOverride', width=width, height=height, deviceScaleFactor=scale, mobile=phone)
+        self.cdp('Emulation.setDeviceMetricsOverride', width=width, height=height,
+                 deviceScaleFactor=scale, mobile=phone)
         self.cdp('Emulation.setTouchEmulationEnabled', enabled=phone)
 
     def media(self, dark=False, still=False):
