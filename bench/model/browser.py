@@ -16,8 +16,11 @@ PATIENCE = 12
 SPY = '''new MutationObserver((_, watch) => {
   if (document.body) { window.hashAtBody = location.hash; watch.disconnect(); } }).observe(document, {childList: true,
   subtree: true});
-window.sentLines = []; window.spied = WebSocket.prototype.send;
-WebSocket.prototype.send = function (line) { window.lastSocket = this; window.sentLines.push(line);
+window.sentLines = []; window.breaches = []; window.spied = WebSocket.prototype.send;
+WebSocket.prototype.send = function (line) {
+  if (window.lastSocket !== this) this.addEventListener('message', (event) => {
+    if (/^no (1|2|34|37) /.test(event.data)) window.breaches.push(event.data.trim()); });
+  window.lastSocket = this; window.sentLines.push(line);
   return window.spied.call(this, line); };'''
 
 
@@ -123,6 +126,10 @@ class Person:
     def sent(self):
         return self.run('return window.sentLines')
 
+    def breaches(self):
+        """Refusals that a page never has to bring about: no line of the protocol, too fast, too many watched."""
+        return self.run('return window.breaches || []')
+
     def forget_sent(self):
         self.run('window.sentLines.length = 0')
 
@@ -183,7 +190,7 @@ class Person:
         self.keys(*[Keys.ARROW_RIGHT if right > 0 else Keys.ARROW_LEFT] * abs(right),
                   *[Keys.ARROW_UP if up > 0 else Keys.ARROW_DOWN] * abs(up))
 
-    def picture(self, path, colours=128):
+    def picture(self, path, colours=64):
         """A screenshot, with few colours where Pillow is there, so that it is small."""
         self.driver.save_screenshot(path)
         try:
