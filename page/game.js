@@ -99,10 +99,14 @@ export class GameView {
   }
 
   close() {
-    if (this.number) this.app.wire.say(`leave ${this.number}`);
     this.number = 0;
     this.root.hidden = true;
     Object.values(this.clocks).forEach((clock) => clock.stop());
+  }
+
+  /** The games that this view has to be told of. */
+  needs() {
+    return [this.number];
   }
 
   /** Asks for the whole truth: how the game stands, its moves, its tags. */
@@ -110,7 +114,7 @@ export class GameView {
     const number = this.number;
     if (!number || !this.app.reachable()) return;
     const ours = (answer) => (this.number === number && answer[0].startsWith('ok ') ? answer : null);
-    const asked = [`watch ${number}`, `line ${number}`, `pgn ${number}`].map((line) => this.app.wire.say(line));
+    const wire = this.app.wire, asked = [this.app.watch(number), wire.say(`line ${number}`), wire.say(`pgn ${number}`)];
     const watched = await asked[0];
     const refusal = readRefusal(watched[0]);
     if (this.number !== number) return;

@@ -113,13 +113,20 @@ export class HallView {
     Object.values(card.clocks).forEach((clock) => clock.stop());
     card.root.remove();
     this.cards.delete(number);
-    this.app.wire.say(`leave ${number}`);
+    this.app.wire.takeBack(`line ${number}`);
+    this.app.leaveLater();
+  }
+
+  /** The games that this view has to be told of. */
+  needs() {
+    return [...this.cards.keys()];
   }
 
   async ask(number) {
-    const answer = await this.app.wire.say(`watch ${number}`);
+    const answer = await this.app.watch(number);
     const standing = answer[0].startsWith('ok ') && readStanding(answer.slice(1));
-    if (standing) this.draw(number, standing, '', '');
+    if (!standing) return;
+    this.draw(number, standing, '', '');
     const line = await this.app.wire.say(`line ${number}`, true), card = this.cards.get(number);
     const last = line[0].startsWith('ok ') && readLine(line.slice(1)).pop();
     if (!last || !card || !card.standing || card.standing.fen !== last.fen) return;

@@ -10,12 +10,15 @@ import { Wire } from './wire.js';
 import { BAD_TOKEN, refusalWords } from './words.js';
 
 const TOKEN = /^[A-Za-z0-9_-]{16,128}$/;
+const MOST_WATCHED = 14, LEAVE_AFTER = 3000;      // the lobby lets a connection watch 16 games
 const session = () => sessionStorage, local = () => localStorage;
 
 class Page {
   constructor() {
     this.player = null;
     this.players = new Map();
+    this.watched = new Set();          // games that the lobby was asked, or is to be asked, to tell of
+    this.held = new Set();             // of these, those of which it has said that it does
     this.token = read(session, 'token') || read(local, 'token') || '';
     this.fromLink = false;
     this.takeLink(window.personalLink);
@@ -104,6 +107,31 @@ class Page {
     document.title = `${text} · Chess club`;
   }
 
+  /** Watches a game; the answer. What the view needs no more is left a little later, so that who goes to and fro asks
+   * for nothing twice. */
+  async watch(number) {
+    if (this.watched.size >= MOST_WATCHED) this.leaveOthers();
+    this.watched.add(number);
+    const answer = await this.wire.say(`watch ${number}`);
+    if (answer[0].startsWith('ok ') && this.watched.has(number)) this.held.add(number);
+    return answer;
+  }
+
+  leaveLater() {
+    clearTimeout(this.leaving);
+    this.leaving = setTimeout(() => this.leaveOthers(), LEAVE_AFTER);
+  }
+
+  leaveOthers() {
+    const needed = new Set(this.view.needs());
+    for (const number of this.watched) {
+      if (needed.has(number)) continue;
+      this.watched.delete(number);
+      const going = this.wire.takeBack(`watch ${number}`);
+      if (this.held.delete(number) || going) this.wire.say(`leave ${number}`);
+    }
+  }
+
   /** Opens a game, and goes to it. Where the answer is lost, the table is asked. */
   async openGame(line, note) {
     const after = this.table.greatest(), answer = await this.wire.say(line), refusal = readRefusal(answer[0]);
@@ -136,6 +164,7 @@ class Page {
     }
     this.view = view;
     view.open(number);
+    this.leaveLater();
     this.atTable();
     byId('invited').hidden = true;
     for (const link of document.querySelectorAll('.top nav a')) {
@@ -250,7 +279,11 @@ class Page {
   changed() {
     if (!this.wire) return;
     const { open, server, retryAt, ever } = this.wire.state, lost = byId('lost');
-    if (!open) this.isAtTable = undefined;
+    if (!open) {
+      this.isAtTable = undefined;
+      this.watched.clear();
+      this.held.clear();
+    }
     lost.hidden = open || !ever && !retryAt;
     setText(byId('lost-words'), ever ? 'The connection to the lobby is lost. Clocks run on. Trying again'
       : 'The lobby does not answer. Trying again');

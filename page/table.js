@@ -7,7 +7,7 @@ import { refusalWords, resultWords, timesInFull, timesWords } from './words.js';
 const PRESETS = ['1+0', '2+1', '3+0', '3+2', '5+0', '5+3', '10+0', '10+5', '15+10', '30+0', '30+20',
   '90+30', '40/90+30, 30'];
 const FIRST_SHOWN = { open: 40, running: 40, over: 15 };
-const MOST_OWN = 6;
+const MOST_OWN = 10;
 
 export class TableView {
   /** app: {wire, me(), nameWords(name), openGame(line, note)}. */
@@ -16,7 +16,6 @@ export class TableView {
     this.root = byId('table-view');
     this.rows = new Map();
     this.all = new Set();
-    this.watched = new Set();
     this.items = new Map();            // what an element shows -> the element
     this.makePresets();
     byId('open-form').addEventListener('submit', (event) => {
@@ -42,15 +41,17 @@ export class TableView {
 
   close() {
     this.root.hidden = true;
-    for (const number of this.watched) this.app.wire.say(`leave ${number}`);
-    this.watched.clear();
+  }
+
+  /** The games that this view has to be told of. */
+  needs() {
+    return this.groups().own.slice(0, MOST_OWN).map((row) => row.number);
   }
 
   /** The whole table, as it was told. */
   load(rows) {
     const before = this.rows;
-    this.rows = new Map(rows.map((row) => [row.number, { times: (before.get(row.number) || {}).times, ...row }]));
-    this.watched.clear();
+    this.rows = new Map(rows.map((row) => [row.number, { ...before.get(row.number), ...row }]));
     if (!this.root.hidden) this.watchOwn();
     this.render();
     this.askTimes();
@@ -103,9 +104,8 @@ export class TableView {
   async watchOwn() {
     if (this.root.hidden || !this.app.me() || !this.app.reachable()) return;
     for (const row of this.groups().own.slice(0, MOST_OWN)) {
-      if (this.watched.has(row.number)) continue;
-      this.watched.add(row.number);
-      const answer = await this.app.wire.say(`watch ${row.number}`);
+      if (this.app.watched.has(row.number)) continue;
+      const answer = await this.app.watch(row.number);
       const standing = answer[0].startsWith('ok ') && readStanding(answer.slice(1));
       const now = this.rows.get(row.number);
       if (standing && now) Object.assign(now, { side: standing.side, ply: standing.ply });
@@ -207,7 +207,8 @@ export class TableView {
     if (!row.white || !row.black) return '';
     if (this.mayMove(row)) return 'your turn';
     const me = this.app.me();
-    return me && (row.white === me || row.black === me) ? 'their turn' : 'watch';
+    if (row.white !== me && row.black !== me) return 'watch';
+    return row.side ? 'their turn' : '';
   }
 
   // ---- acting

@@ -41,6 +41,14 @@ export class Wire {
     });
   }
 
+  /** Takes a line back where it has not gone out; whether it has, and its answer is still to come. */
+  takeBack(line) {
+    const unsent = this.queue.filter((one) => one.line === line);
+    this.queue = this.queue.filter((one) => one.line !== line);
+    unsent.forEach((one) => one.answered(UNSENT));
+    return this.waiting.some((one) => one.line === line);
+  }
+
   /** Tries again now, where it was waiting to. */
   retry() {
     if (this.socket || !this.timer) return;
