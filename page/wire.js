@@ -9,6 +9,7 @@ const MOST_QUIETLY = 6;              // of these for what nobody waits for
 const MOST_WAITING = 24;             // the lobby holds 64
 const ANSWER_WITHIN = 12000;
 const SILENCE = 25000;
+const STOOD = 5000;                  // a connection that stood so long begins the pauses anew
 
 /** What `say` answers where no answer came: `lost` where the line had gone out, `unsent` where it had not. */
 export const LOST = Object.freeze(['lost']);
@@ -90,7 +91,7 @@ export class Wire {
 
   serverTold(server) {
     const first = !this.state.open;
-    this.tries = 0;
+    if (first) this.openedAt = performance.now();
     this.change({ open: true, server, ever: true });
     if (first || server === 'here') this.told.opened(server);
   }
@@ -104,6 +105,7 @@ export class Wire {
     this.waiting = [];
     this.queue = [];
     this.sentAt = [];
+    if (this.state.open && performance.now() - this.openedAt > STOOD) this.tries = 0;
     const pause = PAUSES[Math.min(this.tries, PAUSES.length - 1)] * (0.75 + Math.random() / 2);
     this.tries += 1;
     this.timer = setTimeout(() => this.connect(), pause);
