@@ -16,7 +16,9 @@ PATIENCE = 12
 SPY = '''new MutationObserver((_, watch) => {
   if (document.body) { window.hashAtBody = location.hash; watch.disconnect(); } }).observe(document, {childList: true,
   subtree: true});
-window.sentLines = []; window.breaches = []; window.spied = WebSocket.prototype.send;
+window.sentLines = []; window.breaches = []; window.tries = [];
+window.WebSocket = class extends WebSocket { constructor(...words) { super(...words); tries.push(performance.now()); } };
+ window.spied = WebSocket.prototype.send;
 WebSocket.prototype.send = function (line) {
   if (window.lastSocket !== this) this.addEventListener('message', (event) => {
     if (/^no (1|2|34|37) /.test(event.data)) window.breaches.push(event.data.trim()); });
