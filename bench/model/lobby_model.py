@@ -1,0 +1,332 @@
+#!/usr/bin/env python3
+"""A plain lobby: it speaks the protocol of docs/LOBBY.md to browsers, over a WebSocket on loopback, and serves the
+files of page/ with the policy header. The game server behind it is the model of bench/model/model.py.
+
+    lobby_model.py --players FILE [--journal FILE] [--port P] [--page FOLDER] [--control]
+
+FILE of the players has lines `NAME ROLE TOKEN FULL NAME`. The journal keeps `MOMENT WHO LINE` of each entry, so that a
+lobby that was killed comes back with its games. It prints its address once it listens. With --control it reads words
+from its standard input, so that a test can bring about what goes wrong:
+
+    gone     the connection to the server breaks: browsers are told, lines are refused by 36
+    here     it stands again
+    lose     the next line for the server is taken, but the connection breaks before the answer: `lost`
+    drop     the next line for the server is not taken, and the connection breaks: `lost` too
+    silent   nothing is answered any more, and the connections stay open
+    slow MS  each answer comes MS milliseconds late
+
+Wants Debian's python3-websockets."""
+
+import argparse
+import asyncio
+import collections
+import http
+import os
+import re
+import sys
+import time
+
+import websockets
+
+import model
+
+TOP = os.path.dirname(os.path.dirname(os.path.dirname(os.path.realpath(__file__))))
+READS = ('show', 'fen', 'pgn', 'list')
+ACTS = ('open', 'join', 'move', 'offer', 'accept', 'decline', 'resign', 'claim', 'flag', 'drop')
+OWN = ('login', 'players', 'lobby', 'watch', 'leave', 'line')
+REFUSED = {1: 'BadLine', 31: 'NoToken', 32: 'BadToken', 33: 'NotArbiter', 34: 'TooFast', 35: 'TooManyOpen',
+           36: 'NoServer', 37: 'TooManyWatched'}
+POLICY = ("default-src 'none'; script-src 'self'; style-src 'self'; img-src 'self'; connect-src 'self'; "
+          "base-uri 'none'; form-action 'none'; frame-ancestors 'none'")
+TYPES = {'html': 'text/html; charset=utf-8', 'css': 'text/css; charset=utf-8',
+         'js': 'text/javascript; charset=utf-8', 'svg': 'image/svg+xml'}
+MOST_WATCHED, MOST_OPEN, A_SECOND, GAMES, PLIES = 16, 8, 20, 4096, 600
+G = '(0|[1-9][0-9]{0,9})'
+
+
+class Refused(Exception):
+    """A refusal of the lobby."""
+
+
+def refuse(number):
+    raise Refused('no %d %s' % (number, REFUSED[number]))
+
+
+class Server:
+    """The game server: the model's table, and a journal that outlives it."""
+
+    def __init__(self, path):
+        self.table = model.Table(GAMES, PLIES)
+        self.path = path
+        if path and os.path.exists(path):
+            with open(path) as journal:
+                for entry in journal.read().split('\n')[:-1]:
+                    self.table.command(*model.split_input(entry))
+
+    def ask(self, who, line):
+        now, before = time.time_ns() // 1000000, self.table.entries
+        answer = self.table.command(now, who, line)
+        if self.path and self.table.entries > before:
+            with open(self.path, 'a') as journal:
+                journal.write('%d %s %s\n' % (now, who or '-', line))
+        return answer
+
+    def fields(self, number):
+        return self.table.games[number].fields()
+
+
+class Connection:
+    def __init__(self, socket):
+        self.socket = socket
+        self.player = None
+        self.watched = set()
+        self.at_table = False
+        self.heard = collections.deque()
+
+    def tell(self, lines):
+        self.socket.outgoing.put_nowait(''.join(line + '\n' for line in lines))
+
+
+class Lobby:
+    def __init__(self, server, players):
+        self.server = server
+        self.players = players          # token -> (name, role, full name)
+        self.connections = set()
+        self.here = True
+        self.fault = None
+        self.silent = False
+        self.delay = 0
+        self.opened = collections.defaultdict(set)
+
+    # ---- one message
+
+    def message(self, c, text):
+        """The answer's lines and the notice that follows it, or None."""
+        now = time.monotonic()
+        while c.heard and now - c.heard[0] >= 1:
+            c.heard.popleft()
+        c.heard.append(now)
+        try:
+            if len(c.heard) > A_SECOND:
+                refuse(34)
+            return self.judged(c, text)
+        except Refused as refused:
+            return [str(refused)], None
+
+    def judged(self, c, text):
+        if not re.fullmatch('[\x20-\x7e]{1,255}', text):
+            refuse(1)
+        word = text.split(' ')[0]
+        if word in OWN:
+            return self.own(c, word, text), None
+        if word not in READS + ACTS:
+            refuse(1)
+        if word in ACTS and c.player is None:
+            refuse(31)
+        if word == 'drop' and c.player[1] != 'arbiter':
+            refuse(33)
+        if not self.here:
+            refuse(36)
+        name = c.player[0] if c.player else None
+        if word == 'open' and len(self.waiting_of(name)) >= MOST_OPEN:
+            refuse(35)
+        return self.asked(c, word, name, text)
+
+    def asked(self, c, word, name, text):
+        fault, self.fault = self.fault, None
+        if fault == 'drop':
+            self.server_is(False)
+            return ['lost'], None
+        answer = self.server.ask(name, text)
+        if fault == 'lose':
+            self.server_is(False)
+            return ['lost'], None
+        if word in READS or answer[0].startswith('no '):
+            return answer, None
+        number = int(answer[0].split(' ')[1 if answer[0].startswith('fallen') else 2])
+        if word == 'open':
+            self.opened[name].add(number)
+        return answer, (number, word, name, text, answer[0])
+
+    def waiting_of(self, name):
+        games = self.server.table.games
+        return [n for n in self.opened[name] if n in games and self.server.fields(n).joined is None]
+
+    def own(self, c, word, text):
+        if word == 'login':
+            token = text[6:]
+            if token not in self.players:
+                refuse(32)
+            c.player = self.players[token]
+            return ['ok login %s %s %s' % c.player]
+        if text == 'players':
+            rows = list(self.players.values())
+            return ['ok players %d' % len(rows)] + ['%s %s %s' % row for row in rows]
+        if text == 'leave lobby':
+            c.at_table = False
+            return ['ok leave lobby']
+        if text == 'lobby':
+            if not self.here:
+                refuse(36)
+            c.at_table = True
+            return ['ok lobby'] + self.server.ask(None, 'list')
+        found = re.fullmatch('(watch|leave|line) ' + G, text)
+        if not found or int(found[2]) > model.TOP:
+            refuse(1)
+        return self.of_a_game(c, word, int(found[2]))
+
+    def of_a_game(self, c, word, number):
+        if word == 'leave':
+            c.watched.discard(number)
+            return ['ok leave %d' % number]
+        if not self.here:
+            refuse(36)
+        if number not in self.server.table.games:
+            return ['no 3 NoGame']
+        if word == 'line':
+            return self.line(number)
+        if number not in c.watched and len(c.watched) >= MOST_WATCHED:
+            refuse(37)
+        c.watched.add(number)
+        return ['ok watch %d' % number] + self.standing(number)
+
+    def standing(self, number):
+        show = self.server.ask(None, 'show %d' % number)
+        fen = self.server.ask(None, 'fen %d' % number)
+        if fen[0].startswith('no '):
+            return show + fen
+        p = self.server.fields(number).present
+        return show + fen + [' '.join(['moves', '+' if model.in_check(p) else '-',
+                                       *map(model.coordinate, model.legal_moves(p))])]
+
+    def line(self, number):
+        f = self.server.fields(number)
+        lines = ['0 - - ' + model.fen_write(f.start)]
+        for n, (_, _, _, m) in enumerate(f.moves):
+            lines.append('%d %s %s %s' % (n + 1, model.san(f.line[n], m), model.coordinate(m),
+                                          model.fen_write(f.line[n + 1])))
+        return ['ok line %d %d' % (number, f.ply)] + lines
+
+    # ---- notices
+
+    def tell_act(self, number, word, name, text, answer):
+        standing = self.standing(number)
+        over = len(standing) == 3 and standing[0].split(' ')[-1] != '-'
+        for c in list(self.connections):
+            if number in c.watched or c.at_table and (word in ('open', 'join', 'drop') or over):
+                c.tell(['told %d' % number, 'by %s %s' % (name, text), answer] + standing)
+
+    def server_is(self, here):
+        if self.here != here:
+            self.here = here
+            for c in list(self.connections):
+                c.tell(['server here' if here else 'server gone'])
+
+    def control(self, word):
+        if word in ('gone', 'here'):
+            self.server_is(word == 'here')
+        elif word in ('lose', 'drop'):
+            self.fault = word
+        elif word == 'silent':
+            self.silent = True
+        elif word.startswith('slow '):
+            self.delay = int(word[5:]) / 1000
+
+    # ---- a connection
+
+    async def serve(self, socket, path=None):
+        c = Connection(socket)
+        socket.outgoing = asyncio.Queue()
+        writer = asyncio.ensure_future(self.write(socket))
+        self.connections.add(c)
+        c.tell(['server here' if self.here else 'server gone'])
+        try:
+            async for text in socket:
+                if not isinstance(text, str):
+                    break
+                if self.silent:
+                    continue
+                await asyncio.sleep(self.delay)
+                answer, act = self.message(c, text)
+                c.tell(answer)
+                if act:
+                    self.tell_act(*act)
+        except websockets.ConnectionClosed:
+            pass
+        finally:
+            self.connections.discard(c)
+            writer.cancel()
+
+    async def write(self, socket):
+        try:
+            while True:
+                await socket.send(await socket.outgoing.get())
+        except websockets.ConnectionClosed:
+            pass
+
+
+def web(folder, port):
+    """The files of the page, and who may open a socket."""
+    def request(path, headers):
+        host = headers.get('Host', '')
+        if host not in ('127.0.0.1:%d' % port, 'localhost:%d' % port):
+            return http.HTTPStatus.FORBIDDEN, [], b'another host\n'
+        if path == '/ws':
+            if headers.get('Origin') != 'http://' + host:
+                return http.HTTPStatus.FORBIDDEN, [], b'another origin\n'
+            return None
+        name = 'index.html' if path == '/' else path[1:]
+        file = os.path.join(folder, name)
+        if not re.fullmatch('[a-z0-9-]+[.](html|css|js|svg)', name) or not os.path.isfile(file):
+            return http.HTTPStatus.NOT_FOUND, [], b'not here\n'
+        with open(file, 'rb') as found:
+            body = found.read()
+        return http.HTTPStatus.OK, [('Content-Type', TYPES[name.rpartition('.')[2]]), ('Cache-Control', 'no-cache'),
+                                    ('Content-Security-Policy', POLICY), ('X-Content-Type-Options', 'nosniff'),
+                                    ('Referrer-Policy', 'no-referrer')], body
+    return request
+
+
+def read_players(path):
+    players = {}
+    with open(path) as file:
+        for row in file.read().splitlines():
+            name, role, token, full = row.split(' ', 3)
+            players[token] = (name, role, full)
+    return players
+
+
+async def listen(given):
+    lobby = Lobby(Server(given.journal), read_players(given.players))
+
+    async def request(path, headers):
+        return answer(path, headers)
+    async with websockets.serve(lobby.serve, '127.0.0.1', given.port, process_request=request,
+                                max_size=65536) as listening:
+        port = listening.sockets[0].getsockname()[1]
+        answer = web(given.page, port)
+        print('http://127.0.0.1:%d/' % port, flush=True)
+        if given.control:
+            words = asyncio.StreamReader()
+            await asyncio.get_running_loop().connect_read_pipe(lambda: asyncio.StreamReaderProtocol(words), sys.stdin)
+            while line := await words.readline():
+                lobby.control(line.decode().strip())
+        else:
+            await asyncio.Future()
+
+
+def main():
+    words = argparse.ArgumentParser(description='A plain lobby over the model of the game server.')
+    words.add_argument('--players', required=True)
+    words.add_argument('--journal')
+    words.add_argument('--port', type=int, default=0)
+    words.add_argument('--page', default=os.path.join(TOP, 'page'))
+    words.add_argument('--control', action='store_true')
+    try:
+        asyncio.run(listen(words.parse_args()))
+    except KeyboardInterrupt:
+        pass
+
+
+if __name__ == '__main__':
+    main()

@@ -1,0 +1,53 @@
+// A clock that runs on by itself from the milliseconds that were told.
+
+import { setText } from './make.js';
+import { clockText, clockWords } from './words.js';
+
+const LOW = 20000;
+
+export class Clock {
+  /** `fallen()` is called, once for each time that is set, when the time is over. */
+  constructor(root, fallen = () => {}) {
+    this.root = root;
+    this.fallen = fallen;
+    this.label = '';
+    this.set({ left: 0, at: 0, running: false });
+  }
+
+  /** The time left at the moment `at` of performance.now(), and whether it runs. */
+  set(told) {
+    clearTimeout(this.timer);
+    Object.assign(this, told, { called: false });
+    this.tick();
+  }
+
+  now() {
+    return this.running ? Math.max(0, this.left - (performance.now() - this.at)) : this.left;
+  }
+
+  tick() {
+    const left = this.now();
+    setText(this.root, clockText(left));
+    this.root.classList.toggle('running', this.running);
+    this.root.classList.toggle('low', this.running && left < LOW);
+    this.root.classList.toggle('over', this.running && left <= 0);
+    const words = `${this.label}: ${clockWords(left)}`;
+    if (!this.running || left % 5000 < 1000) this.root.setAttribute('aria-label', words);
+    if (!this.running) return;
+    if (left <= 0) {
+      if (!this.called) {
+        this.called = true;
+        this.fallen();
+      }
+      return;
+    }
+    // the next moment at which another text is due, and a little more
+    const step = left < 10100 ? 100 : 1000;
+    this.timer = setTimeout(() => this.tick(), Math.min(left, left % step) + 4);
+  }
+
+  stop() {
+    clearTimeout(this.timer);
+    this.running = false;
+  }
+}

@@ -1,0 +1,502 @@
+// One game: what the lobby told of it, how it is shown, and what is done in it.
+
+import { Board } from './board.js';
+import { Clock } from './clock.js';
+import { placementOf, readLine, readPgn, readRefusal, readStanding, readTimes, sideOf, squaresOf } from './lines.js';
+import { byId, copy, make, save, say, setText } from './make.js';
+import { drawActions, drawFacts, drawMoves, drawOutcome, drawPlayers } from './sheet.js';
+import { sound } from './sound.js';
+import {
+  FLAG_UP, NOT_YOUR_MOVE, NO_GAME, OTHER, OVER, SIDES, WRONG_PLY, clockWords, colourWord, kindWord, manWords,
+  refusalWords, resultWords, sanWords,
+} from './words.js';
+
+const WHAT = {
+  move: 'move', join: 'joining', offer: 'offer', accept: 'acceptance', decline: 'answer', resign: 'resignation',
+  flag: 'call', drop: 'order', claim: 'claim',
+};
+
+/** Whether a game that stands as `now` shows an act whose answer was lost. */
+const SHOWS = {
+  move: (now, act) => now.ply > act.ply,
+  join: (now, act, game) => game.seat() !== '',
+  offer: (now, act) => now.offer.includes(act.side),
+  accept: (now) => now.article === '5.2.3',
+  decline: (now, act) => !now.offer.includes(OTHER[act.side]),
+  resign: (now) => now.article === '5.1.2',
+  flag: (now) => now.article === '6.9',
+  drop: (now, act, game) => game.gone,
+  claim: (now, act) => ['9.2', '9.3'].includes(now.article) || now.offer.includes(act.side) || now.ply > act.ply,
+};
+
+export class GameView {
+  /** app: {wire, me(), nameWords(name), go(route)}. */
+  constructor(app) {
+    this.app = app;
+    this.root = byId('game-view');
+    this.number = 0;
+    this.pending = null;               // the ply of a move that was made on the board and is not answered
+    this.board = new Board((move) => this.moveOnBoard(move), say);
+    byId('board').append(this.board.root);
+    this.players = { far: byId('far'), near: byId('near') };
+    this.clocks = {};
+    for (const place of ['far', 'near']) {
+      this.clocks[place] = new Clock(this.players[place].querySelector('.clock'), () => this.flagFell(place));
+    }
+    this.listen();
+  }
+
+  listen() {
+    const on = (id, act) => byId(id).addEventListener('click', act);
+    on('first-move', () => this.goTo(0));
+    on('previous-move', () => this.goTo(this.shown() - 1));
+    on('next-move', () => this.goTo(this.shown() + 1));
+    on('last-move', () => this.goTo(this.last()));
+    on('turn-board', () => this.turn());
+    on('offer', () => this.act('offer'));
+    on('accept', () => this.act('accept'));
+    on('decline', () => this.act('decline'));
+    on('resign', () => this.askResign());
+    on('claim', () => this.askClaim());
+    on('join', () => this.act('join'));
+    on('drop', () => this.act('drop'));
+    on('again', () => this.again());
+    on('copy-invitation', () => this.invitationCopied());
+    on('copy-fen', () => this.share('FEN', async () => this.fenShown()));
+    on('copy-pgn', () => this.share('PGN', () => this.pgnText()));
+    on('save-fen', async () => save(`game-${this.number}.fen`, 'text/plain', this.fenShown() + '\n'));
+    on('save-pgn', async () => {
+      const text = await this.pgnText();
+      if (text) save(`game-${this.number}.pgn`, 'application/x-chess-pgn', text);
+    });
+    on('copy-link', () => this.share('link', async () => this.link()));
+    byId('move-form').addEventListener('submit', (event) => {
+      event.preventDefault();
+      this.typed();
+    });
+    addEventListener('resize', () => this.render());
+    const agreed = (id, act) => byId(id).addEventListener('close', (event) => {
+      if (event.target.returnValue === 'yes') act();
+    });
+    agreed('resign-dialog', () => this.act('resign'));
+    agreed('claim-dialog', () => this.claim());
+  }
+
+  // ---- coming and going
+
+  open(number) {
+    if (number !== this.number) {
+      this.close();
+      Object.assign(this, { number, standing: null, line: [], tags: {}, gone: false });
+      Object.assign(this, { back: null, turned: null, unsure: null, pending: null });
+      this.note('');
+      this.suggest(null);
+      byId('move-text').value = '';
+    }
+    this.root.hidden = false;
+    this.refresh();
+    this.render();
+  }
+
+  close() {
+    this.number = 0;
+    this.root.hidden = true;
+    Object.values(this.clocks).forEach((clock) => clock.stop());
+  }
+
+  /** The games that this view has to be told of. */
+  needs() {
+    return [this.number];
+  }
+
+  /** Asks for the whole truth: how the game stands, its moves, its tags. */
+  async refresh() {
+    const number = this.number;
+    if (!number || !this.app.reachable()) return;
+    const ours = (answer) => (this.number === number && answer[0].startsWith('ok ') ? answer : null);
+    const wire = this.app.wire, asked = [this.app.watch(number), wire.say(`line ${number}`), wire.say(`pgn ${number}`)];
+    const watched = await asked[0];
+    const refusal = readRefusal(watched[0]);
+    if (this.number !== number) return;
+    if (refusal) {
+      this.gone = refusal.number === NO_GAME;
+      this.note(refusalWords(refusal));
+      this.render();
+      return;
+    }
+    if (ours(watched)) this.stand(readStanding(watched.slice(1)));
+    const line = ours(await asked[1]);
+    if (line) this.line = readLine(line.slice(1));
+    const pgn = ours(await asked[2]);
+    if (pgn) this.tags = readPgn(pgn.slice(1)).tags;
+    if (ours(watched)) this.settleUnsure();
+    this.render();
+  }
+
+  async askLine() {
+    const number = this.number, answer = await this.app.wire.say(`line ${number}`);
+    if (this.number !== number || !answer[0].startsWith('ok line')) return;
+    this.line = readLine(answer.slice(1));
+    this.render();
+  }
+
+  stand(standing) {
+    const before = this.standing;
+    if (!standing || standing.ply !== this.pending) this.pending = null;
+    this.standing = standing && { ...standing, at: performance.now() };
+    this.gone = !standing;
+    if (standing && before && before.article !== standing.article) this.over();
+  }
+
+  /** A notice of this game: an act was accepted. */
+  notice(by, sent, answer, standing) {
+    this.stand(standing);
+    if (!standing) {
+      this.note('The game was taken off the table.');
+      this.render();
+      return;
+    }
+    this.follow(sent, answer);
+    this.tell(by, sent, answer);
+    this.render();
+  }
+
+  /** Adds the move of a notice to the line; asks for the line where that does not do. */
+  follow(sent, answer) {
+    const found = /^ok (?:move \d+|claim \d+ wrong) (\d+) (\S+)/.exec(answer);
+    const { from, to } = squaresOf(sent.split(' ').pop());
+    const { ply, fen } = this.standing;
+    if (found && Number(found[1]) === ply && this.line.length === ply && from) {
+      this.line.push({ san: found[2], from, to, fen });
+    } else if (this.line.length !== ply + 1) {
+      this.askLine();
+    }
+    if (found && this.back === null) this.suggest(null);
+  }
+
+  // ---- what is said
+
+  tell(by, sent, answer) {
+    const word = sent.split(' ')[0], name = this.app.nameWords(by), own = by === this.app.me();
+    const moved = /^ok (?:move \d+|claim \d+ wrong) \d+ (\S+)/.exec(answer);
+    const side = this.standing.white === by ? 'w' : 'b';
+    if (moved) {
+      say(`${colourWord(side)}: ${sanWords(moved[1])}`);
+      sound(moved[1].includes('x') ? 'take' : 'move');
+    }
+    if (answer.startsWith('fallen')) say('The flag has fallen.');
+    else if (word === 'join') this.news(`${name} has joined. The game has begun.`);
+    else if (word === 'offer' && !own && this.seat()) say(`${name} offers a draw.`);
+    else if (word === 'offer') this.news(own ? 'You have offered a draw.' : `${name} offers a draw.`);
+    else if (word === 'decline') this.news(own ? 'You have declined the draw.' : `${name} declines the draw.`);
+    else if (/^ok claim \d+ wrong/.test(answer)) {
+      this.news(own ? 'Your claim was wrong: your opponent has two minutes more, and your offer of a draw stands.'
+        : `${name} has claimed a draw wrongly: it stands as an offer, and the opponent has two minutes more.`);
+    } else if (moved && this.noteKind === 'news') this.note('');
+  }
+
+  over() {
+    const words = resultWords(this.standing.result, this.standing.article);
+    if (words.result) say(`${words.result} ${words.reason}.`);
+    sound('end');
+    this.note('');
+  }
+
+  note(text, kind = 'refused') {
+    this.noteKind = kind;
+    const note = byId('note');
+    note.className = text ? `note ${kind}` : 'note';
+    setText(note, text);
+    clearTimeout(this.fading);
+    if (text && kind === 'news') this.fading = setTimeout(() => this.note(''), 15000);
+  }
+
+  /** What is shown and, once, said. */
+  news(text) {
+    this.note(text, 'news');
+  }
+
+  // ---- acting
+
+  seat() {
+    const me = this.app.me(), standing = this.standing;
+    if (!me || !standing) return '';
+    return standing.white === me ? 'w' : standing.black === me ? 'b' : '';
+  }
+
+  started() {
+    return Boolean(this.standing && this.standing.white && this.standing.black);
+  }
+
+  running() {
+    return this.started() && !this.standing.article;
+  }
+
+  myTurn() {
+    return this.running() && this.seat() === this.standing.side;
+  }
+
+  moveOnBoard(move) {
+    this.pending = this.busy ? null : this.standing.ply;
+    this.move(move);
+  }
+
+  move(move) {
+    this.send(`move ${this.number} ${this.standing.ply} ${move}`, { word: 'move', ply: this.standing.ply });
+  }
+
+  typed() {
+    const field = byId('move-text'), text = field.value.trim().replace(/^0-0-0/, 'O-O-O').replace(/^0-0/, 'O-O');
+    if (!text || !this.standing) return;
+    if (!/^[\x21-\x7e]{1,16}$/.test(text)) {
+      this.note('A move is one word, such as e4, Nf3, exd5, O-O or e2e4.');
+      return;
+    }
+    if (!this.myTurn()) {
+      this.note(refusalWords({ number: NOT_YOUR_MOVE }));
+      field.select();
+      return;
+    }
+    field.value = '';
+    this.goTo(this.last());
+    this.move(text);
+  }
+
+  act(word) {
+    this.send(`${word} ${this.number}`, { word });
+  }
+
+  /** Sends an act, one at a time. What is refused is told in words; what was lost is asked for. */
+  async send(line, asked) {
+    if (this.busy) return;
+    const number = this.number;
+    this.note('');
+    this.busy = true;
+    this.render();
+    const answer = await this.app.wire.say(line);
+    this.busy = false;
+    if (this.number !== number) return;
+    const refusal = readRefusal(answer[0]);
+    this.answered(answer[0].startsWith('ok '));
+    if (refusal) {
+      if (asked.word === 'flag' && (refusal.number === FLAG_UP || refusal.number === OVER)) this.note('');
+      else this.note(refusalWords(refusal));
+      if (refusal.number === WRONG_PLY || asked.word === 'flag') this.refresh();
+    } else if (answer[0] === 'lost') {
+      this.unsure = { ...asked, side: this.seat() };
+      this.note('The connection broke before the answer came. Asking how the game stands …');
+      this.refresh();
+    } else if (answer[0] === 'unsent') {
+      this.note('There is no connection. Nothing was sent.');
+    }
+    this.render();
+  }
+
+  /** A move on the board is answered: the notice behind the answer brings the position, else it is asked for. */
+  answered(accepted) {
+    if (!accepted) this.pending = null;
+    const pending = this.pending;
+    if (pending === null) return;
+    setTimeout(() => {
+      if (this.pending !== pending) return;
+      this.pending = null;
+      this.refresh();
+    }, 2000);
+  }
+
+  /** After an answer that was lost: what the game shows of that act. */
+  settleUnsure() {
+    const unsure = this.unsure, now = this.standing;
+    if (!unsure || !now) return;
+    this.unsure = null;
+    const what = WHAT[unsure.word];
+    if (SHOWS[unsure.word](now, unsure, this)) {
+      this.news(`The connection broke, but your ${what} was taken.`);
+    } else if (!now.article) {
+      this.note(`The connection broke, and your ${what} has not been taken so far. Look, and do it again.`);
+    }
+  }
+
+  askResign() {
+    byId('resign-dialog').returnValue = '';
+    byId('resign-dialog').showModal();
+  }
+
+  askClaim() {
+    const dialog = byId('claim-dialog'), men = placementOf(this.standing.fen);
+    const groups = new Map();
+    for (const move of [...this.standing.moves].sort()) {
+      const from = move.slice(0, 2), man = `${kindWord(men.get(from) || 'p')} ${from}`;
+      groups.set(man, [...groups.get(man) || [], move]);
+    }
+    byId('claim-move').replaceChildren(
+      make('option', { value: '' }, 'none: for the position on the board'),
+      ...[...groups].map(([man, moves]) => make('optgroup', { label: man }, ...moves.map((move) => make('option',
+        { value: move }, `${man} – ${move.slice(2, 4)}${move[4] ? ', becomes a ' + kindWord(move[4]) : ''}`)))));
+    setText(byId('claim-clock'), this.standing.fen.split(' ')[4]);
+    dialog.returnValue = '';
+    dialog.showModal();
+  }
+
+  claim() {
+    const form = byId('claim-form').elements, move = form.move.value;
+    const { ply } = this.standing;
+    this.send(`claim ${this.number} ${ply} ${form.kind.value}${move ? ' ' + move : ''}`, { word: 'claim', ply });
+  }
+
+  /** The flag of a side fell on this page's clock: who plays calls it, and the server decides. */
+  flagFell(place) {
+    const side = this.sideAt(place), seat = this.seat(), number = this.number;
+    if (!seat || !this.running()) {
+      drawOutcome(this);
+      return;
+    }
+    const call = () => {
+      if (this.number !== number || !this.running() || this.standing.side !== side) return;
+      if (this.busy) setTimeout(call, 300);
+      else this.act('flag');
+    };
+    setTimeout(call, seat === side ? 1500 : 100);
+    drawOutcome(this);
+  }
+
+  /** A new game of the same times, with the colours changed. */
+  async again() {
+    const times = readTimes(this.tags.TimeControl || '');
+    if (!times) return;
+    const period = times.moves ? `${times.moves}/${times.initial}:${times.second}` : times.initial;
+    const start = this.tags.FEN ? ` ${this.tags.FEN}` : '';
+    this.app.openGame(`open ${this.seat() === 'w' ? 'black' : 'white'} ${period} ${times.increment}${start}`,
+      (text) => this.note(text));
+  }
+
+  /** Offers a way to another game: the opponent has opened one. */
+  suggest(invitation) {
+    const place = byId('invitation');
+    place.hidden = !invitation;
+    place.replaceChildren();
+    if (!invitation) return;
+    place.append(`${this.app.nameWords(invitation.by)} opens another game. `,
+      make('a', { class: 'button', href: `#/game/${invitation.number}` }, `Look at game ${invitation.number}`));
+  }
+
+  isOpponent(name) {
+    const standing = this.standing;
+    return Boolean(standing && standing.article && this.seat() && name !== this.app.me()
+      && (standing.white === name || standing.black === name));
+  }
+
+  // ---- going through the moves
+
+  last() {
+    return Math.max(0, this.line.length - 1);
+  }
+
+  shown() {
+    return this.back === null ? this.last() : Math.min(this.back, this.last());
+  }
+
+  goTo(ply) {
+    const place = Math.max(0, Math.min(ply, this.last()));
+    this.back = place === this.last() ? null : place;
+    this.render();
+    const { san } = this.line[place] || {};
+    setText(byId('where'), `Move ${place} of ${this.last()}${san ? ': ' + sanWords(san) : ', the start'}`);
+  }
+
+  turn() {
+    this.turned = !this.isTurned();
+    this.render();
+  }
+
+  isTurned() {
+    return this.turned === null ? this.seat() === 'b' : this.turned;
+  }
+
+  sideAt(place) {
+    return (place === 'near') === this.isTurned() ? 'b' : 'w';
+  }
+
+  fenShown() {
+    const shown = this.line[this.shown()];
+    if (this.back === null && this.standing) return this.standing.fen;
+    return shown ? shown.fen : '';
+  }
+
+  async pgnText() {
+    const answer = await this.app.wire.say(`pgn ${this.number}`);
+    return answer[0].startsWith('ok pgn') ? readPgn(answer.slice(1)).text : '';
+  }
+
+  link() {
+    return `${location.href.split('#')[0]}#/game/${this.number}`;
+  }
+
+  async invitationCopied() {
+    const done = await copy(this.link());
+    this.note(done ? 'The link is copied.' : `The game’s address is ${this.link()}`, 'news');
+  }
+
+  async share(what, text) {
+    const found = await text(), done = found && await copy(found);
+    setText(byId('shared'), done ? `${what === 'link' ? 'The link' : what} is copied.`
+      : `The ${what} could not be copied. Save it instead.`);
+  }
+
+  // ---- drawing
+
+  render() {
+    if (this.root.hidden) return;
+    const standing = this.standing, focused = this.root.contains(document.activeElement) && document.activeElement;
+    this.root.classList.toggle('empty', !standing || this.gone);
+    byId('no-game').hidden = !this.gone;
+    if (!standing || this.gone) return;
+    drawPlayers(this);
+    this.renderBoard();
+    drawMoves(this);
+    drawActions(this);
+    drawOutcome(this);
+    drawFacts(this);
+    if (focused && !focused.getClientRects().length) this.board.focus();
+    this.app.titled(this.title());
+  }
+
+  title() {
+    const { white, black } = this.standing;
+    const names = `${white || '…'} – ${black || '…'}`;
+    if (this.myTurn()) return `Your turn: ${names}`;
+    return this.running() ? names : `${names}, ${this.standing.article ? this.standing.result : 'waiting'}`;
+  }
+
+  renderBoard() {
+    const shown = this.shown(), move = this.line[shown] || {}, now = this.back === null;
+    if (now && this.pending === this.standing.ply) return;       // the man stands where it was put, until the answer
+    const live = now && this.myTurn() && !this.busy && this.app.reachable();
+    this.board.show({
+      fen: this.fenShown(), last: move, check: now ? this.standing.check : /[+#]$/.test(move.san || ''),
+      moves: live ? this.standing.moves : [], turned: this.isTurned(),
+    });
+  }
+
+  startSide() {
+    return this.line.length ? sideOf(this.line[0].fen) : 'w';
+  }
+
+  clockOf(side) {
+    return this.clocks[this.sideAt('near') === side ? 'near' : 'far'];
+  }
+
+  clocksInWords() {
+    if (!this.standing) return '';
+    return SIDES.map((side) => `${colourWord(side)} has ${clockWords(this.clockOf(side).now())}`).join(', ');
+  }
+
+  /** The position in words, for who asks for it. */
+  inWords() {
+    const men = { w: [], b: [] };
+    for (const [name, man] of this.board.men) {
+      men[man.letter === man.letter.toUpperCase() ? 'w' : 'b'].push(`${manWords(man.letter).split(' ')[1]} ${name}`);
+    }
+    return SIDES.map((side) => `${colourWord(side)}: ${men[side].join(', ')}.`).join(' ');
+  }
+}

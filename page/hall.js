@@ -1,0 +1,172 @@
+// The hall: several running games at once, large, to be looked at from afar.
+
+import { Picture } from './board.js';
+import { Clock } from './clock.js';
+import { placementOf, readLine, readStanding, squaresOf } from './lines.js';
+import { byId, make, read, setText, write } from './make.js';
+import { colourWord, resultWords } from './words.js';
+
+const STAYS = 45000;                  // how long a game that is over stays in its place
+const TURNS = 20000;
+
+export class HallView {
+  constructor(app, rows) {
+    this.app = app;
+    this.rows = rows;
+    this.root = byId('hall-view');
+    this.list = byId('hall-boards');
+    this.cards = new Map();
+    this.first = 0;
+    byId('hall-back').addEventListener('click', () => this.page(-1));
+    byId('hall-on').addEventListener('click', () => this.page(1));
+    byId('hall-many').checked = read(() => localStorage, 'hall') === 'many';
+    byId('hall-many').addEventListener('change', (event) => {
+      write(() => localStorage, 'hall', event.target.checked ? 'many' : null);
+      this.clear();
+      this.first = 0;
+      this.fill();
+    });
+    byId('hall-screen').addEventListener('click', () => wholeScreen());
+  }
+
+  open() {
+    this.root.hidden = false;
+    clearInterval(this.timer);
+    clearInterval(this.turning);
+    this.timer = setInterval(() => this.fill(), 5000);
+    this.turning = setInterval(() => byId('hall-turns').checked && this.page(1), TURNS);
+    this.fill();
+    this.app.titled('Hall');
+  }
+
+  close() {
+    this.root.hidden = true;
+    clearInterval(this.timer);
+    clearInterval(this.turning);
+    this.clear();
+  }
+
+  clear() {
+    for (const number of [...this.cards.keys()]) this.remove(number);
+  }
+
+  /** How many boards stand beside each other. */
+  most() {
+    return byId('hall-many').checked ? 8 : 4;
+  }
+
+  /** After a new connection: what is shown is asked for again. */
+  again() {
+    for (const number of this.cards.keys()) this.ask(number);
+    this.fill();
+  }
+
+  running() {
+    return [...this.rows().values()].filter((row) => row.white && row.black && row.result === '*');
+  }
+
+  page(step) {
+    const running = this.running().length;
+    const most = this.most(), pages = Math.ceil(running / most);
+    if (pages < 2) return;
+    this.first = most * ((this.first / most + step + pages) % pages);
+    this.clear();
+    this.fill();
+  }
+
+  fill() {
+    if (this.root.hidden) return;
+    const now = performance.now(), running = this.running(), most = this.most();
+    if (this.first >= running.length) this.first = 0;
+    for (const [number, card] of this.cards) {
+      if (card.overAt && now - card.overAt > STAYS && running.length >= this.cards.size) this.remove(number);
+    }
+    for (const row of running.slice(this.first, this.first + most)) {
+      if (this.cards.size < most && !this.cards.has(row.number)) this.add(row.number);
+    }
+    byId('hall-none').hidden = this.cards.size > 0;
+    byId('hall-pages').hidden = running.length <= most;
+    const last = Math.min(this.first + most, running.length);
+    setText(byId('hall-place'), `${this.first + 1} to ${last} of ${running.length}`);
+    this.list.classList.toggle('many', most > 4);
+    this.list.dataset.count = String(this.cards.size);
+  }
+
+  add(number) {
+    const board = new Picture(`Game ${number}`), card = { board, clocks: {}, names: {} };
+    const player = (side) => {
+      const clock = make('span', { class: 'clock', role: 'timer' });
+      card.names[side] = make('span', { class: 'name' });
+      card.clocks[side] = new Clock(clock);
+      return make('div', { class: `card-player ${side === 'w' ? 'white' : 'black'}` },
+        make('span', { class: 'disc', 'aria-hidden': 'true' }), card.names[side], clock);
+    };
+    card.last = make('p', { class: 'card-last' });
+    card.root = make('a', { class: 'card', href: `#/hall/${number}` }, board.root, player('b'), card.last, player('w'));
+    this.cards.set(number, card);
+    this.list.append(card.root);
+    this.ask(number);
+  }
+
+  remove(number) {
+    const card = this.cards.get(number);
+    Object.values(card.clocks).forEach((clock) => clock.stop());
+    card.root.remove();
+    this.cards.delete(number);
+    this.app.wire.takeBack(`line ${number}`);
+    this.app.leaveLater();
+  }
+
+  /** The games that this view has to be told of. */
+  needs() {
+    return [...this.cards.keys()];
+  }
+
+  async ask(number) {
+    const answer = await this.app.watch(number);
+    const standing = answer[0].startsWith('ok ') && readStanding(answer.slice(1));
+    if (!standing) return;
+    this.draw(number, standing, '', '');
+    const line = await this.app.wire.say(`line ${number}`, true), card = this.cards.get(number);
+    const last = line[0].startsWith('ok ') && readLine(line.slice(1)).pop();
+    if (!last || !card || !card.standing || card.standing.fen !== last.fen) return;
+    Object.assign(card, { move: last, san: last.san });
+    this.draw(number, card.standing, '', '', card.at);
+  }
+
+  notice(number, sent, answer, standing) {
+    if (this.root.hidden) return;
+    if (this.cards.has(number)) {
+      if (standing) this.draw(number, standing, sent, answer);
+      else this.remove(number);
+    }
+    this.fill();
+  }
+
+  draw(number, standing, sent, answer, at = performance.now()) {
+    const card = this.cards.get(number);
+    if (!card) return;
+    Object.assign(card, { standing, at });
+    const runs = !standing.article, moved = /^ok (?:move \d+|claim \d+ wrong) \d+ (\S+)/.exec(answer);
+    if (standing.article && !card.overAt) card.overAt = performance.now();
+    if (moved) Object.assign(card, { move: squaresOf(sent.split(' ').pop()), san: moved[1] });
+    card.board.show({ fen: standing.fen, last: card.move, check: standing.check });
+    for (const side of ['w', 'b']) {
+      const name = this.app.nameWords(side === 'w' ? standing.white : standing.black);
+      setText(card.names[side], name);
+      card.clocks[side].label = colourWord(side);
+      card.clocks[side].set({ left: standing.left[side], at, running: runs && standing.side === side });
+      card.names[side].parentElement.classList.toggle('turn', runs && standing.side === side);
+    }
+    const words = resultWords(standing.result, standing.article);
+    card.root.classList.toggle('done', !runs);
+    setText(card.last, runs ? card.san || '' : `${words.score} ${words.reason}`);
+    card.board.root.setAttribute('aria-label', `Game ${number}, ${placementOf(standing.fen).size} men on the board`);
+  }
+}
+
+/** The whole screen, and back. */
+export function wholeScreen() {
+  if (document.fullscreenElement) document.exitFullscreen();
+  else if (document.documentElement.requestFullscreen) document.documentElement.requestFullscreen().catch(() => {});
+}

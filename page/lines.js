@@ -1,0 +1,117 @@
+// Reads the lines of docs/LOBBY.md and docs/PROTOCOL.md. Nothing here knows a rule of chess.
+
+export function linesOf(message) {
+  const lines = message.split('\n');
+  if (lines[lines.length - 1] === '') lines.pop();
+  return lines;
+}
+
+/** `no NUMBER NAME ..` as {number, name}, or null for any other line. */
+export function readRefusal(line) {
+  const found = /^no (\d+) (\S+)/.exec(line);
+  return found ? { number: Number(found[1]), name: found[2] } : null;
+}
+
+/** `ok show ..`, or null. */
+export function readShow(line) {
+  const f = line.split(' ');
+  if (f[0] !== 'ok' || f[1] !== 'show' || f.length !== 12) return null;
+  return {
+    number: Number(f[2]), white: seat(f[3]), black: seat(f[4]), ply: Number(f[5]), side: f[6],
+    left: { w: Number(f[7]), b: Number(f[8]) }, offer: f[9] === '-' ? '' : f[9],
+    result: f[10], article: f[11] === '-' ? '' : f[11],
+  };
+}
+
+/** How a game stands: the three lines behind `ok watch G` or in a notice; null where the game is not there. */
+export function readStanding(lines) {
+  const show = readShow(lines[0] || '');
+  const fen = /^ok fen \d+ (.+)$/.exec(lines[1] || '');
+  if (!show || !fen) return null;
+  const words = (lines[2] || 'moves -').split(' ');
+  return { ...show, fen: fen[1], check: words[1] === '+', moves: words.slice(2).filter((move) => move !== '') };
+}
+
+/** The rows behind `ok list K`. */
+export function readRows(lines) {
+  return lines.map((line) => line.split(' ')).filter((f) => f.length === 5)
+    .map((f) => ({ number: Number(f[0]), white: seat(f[1]), black: seat(f[2]), ply: Number(f[3]), result: f[4] }));
+}
+
+/** The lines behind `ok line G K`: [{san, from, to, fen}], the start first. */
+export function readLine(lines) {
+  return lines.map((line) => {
+    const found = /^\d+ (\S+) (\S+) (.+)$/.exec(line);
+    return found && { san: found[1] === '-' ? '' : found[1], ...squaresOf(found[2]), fen: found[3] };
+  }).filter(Boolean);
+}
+
+/** The lines behind `ok pgn G K`: the tags and the whole text. */
+export function readPgn(lines) {
+  const tags = {};
+  for (const line of lines) {
+    const found = /^\[(\w+) "(.*)"\]$/.exec(line);
+    if (found) tags[found[1]] = found[2];
+  }
+  return { tags, text: lines.join('\n') + '\n' };
+}
+
+/** The rows behind `ok players K`, by name. */
+export function readPlayers(lines) {
+  const players = new Map();
+  for (const line of lines) {
+    const found = /^(\S+) (\S+) ?(.*)$/.exec(line);
+    if (found) players.set(found[1], { role: found[2], full: found[3] || found[1] });
+  }
+  return players;
+}
+
+/** `e2e4` as {from, to}; empty texts for `-` or anything else. */
+export function squaresOf(move) {
+  const found = /^([a-h][1-8])([a-h][1-8])[qrbn]?$/.exec(move);
+  return found ? { from: found[1], to: found[2] } : { from: '', to: '' };
+}
+
+/** The first field of a FEN as a map from square names to letters. */
+export function placementOf(fen) {
+  const men = new Map();
+  fen.split(' ')[0].split('/').forEach((rank, down) => {
+    let file = 0;
+    for (const letter of rank) {
+      if (/\d/.test(letter)) {
+        file += Number(letter);
+      } else {
+        men.set('abcdefgh'[file] + (8 - down), letter);
+        file += 1;
+      }
+    }
+  });
+  return men;
+}
+
+export function sideOf(fen) {
+  return fen.split(' ')[1] === 'b' ? 'b' : 'w';
+}
+
+/** A PGN's TimeControl, or the times of an `open` line: {initial, increment, moves, second} in seconds. */
+export function readTimes(text) {
+  let found = /^(\d+)\/(\d+)(?:\+(\d+))?:(\d+)(?:\+\d+)?$/.exec(text);
+  if (found) {
+    return { moves: Number(found[1]), initial: Number(found[2]), increment: Number(found[3] || 0),
+      second: Number(found[4]) };
+  }
+  found = /^(\d+)(?:\+(\d+))?$/.exec(text);
+  return found ? { initial: Number(found[1]), increment: Number(found[2] || 0), moves: 0, second: 0 } : null;
+}
+
+/** `open COLOUR INITIAL INCREMENT ..` as a TimeControl. */
+export function timesOfOpen(line) {
+  const f = line.split(' ');
+  const plus = f[3] === '0' ? '' : '+' + f[3];
+  const found = /^(\d+\/\d+):(\d+)$/.exec(f[2] || '');
+  return found ? `${found[1]}${plus}:${found[2]}${plus}` : `${f[2]}${plus}`;
+}
+
+function seat(name) {
+  return name === '-' ? '' : name;
+}

@@ -1,0 +1,395 @@
+// The page: who is here, which view is open, and the connection that all of it shares.
+
+import { GameView } from './game.js';
+import { HallView, wholeScreen } from './hall.js';
+import { readPlayers, readRefusal, readRows, readStanding } from './lines.js';
+import { byId, make, read, say, setText, write } from './make.js';
+import { setSound, wantsSound } from './sound.js';
+import { TableView } from './table.js';
+import { Wire } from './wire.js';
+import { BAD_TOKEN, refusalWords } from './words.js';
+
+const TOKEN = /^[A-Za-z0-9_-]{16,128}$/;
+const MOST_WATCHED = 14, LEAVE_AFTER = 3000;      // the lobby lets a connection watch 16 games
+const session = () => sessionStorage, local = () => localStorage;
+
+class Page {
+  constructor() {
+    this.player = null;
+    this.players = new Map();
+    this.watched = new Set();          // games that the lobby was asked, or is to be asked, to tell of
+    this.held = new Set();             // of these, those of which it has said that it does
+    this.token = read(session, 'token') || read(local, 'token') || '';
+    this.fromLink = false;
+    this.takeLink(window.personalLink);
+    delete window.personalLink;
+    const address = new URL('ws', location.href.split('#')[0]);
+    address.protocol = address.protocol === 'https:' ? 'wss:' : 'ws:';
+    address.search = '';
+    this.view = null;
+    this.wire = new Wire(address.href, {
+      opened: (server) => this.opened(server), notice: (lines) => this.notice(lines), changed: () => this.changed(),
+    });
+    this.table = new TableView(this);
+    this.game = new GameView(this);
+    this.hall = new HallView(this, () => this.table.rows);
+    this.listen();
+    this.route();
+    this.changed();
+  }
+
+  listen() {
+    addEventListener('hashchange', () => this.route());
+    byId('try-now').addEventListener('click', () => this.wire.retry());
+    byId('theme').addEventListener('click', () => this.nextTheme());
+    byId('help').addEventListener('click', () => byId('help-dialog').showModal());
+    byId('to-content').addEventListener('click', () => this.toContent());
+    byId('keep').addEventListener('change', (event) => this.keep(event.target.checked));
+    byId('keep-it').addEventListener('click', () => this.keep(true));
+    byId('keep-not').addEventListener('click', () => this.keep(false));
+    byId('sign-out').addEventListener('click', () => this.signOut());
+    byId('projector').addEventListener('click', () => this.go(`/hall/${this.game.number}`));
+    byId('big-screen').addEventListener('click', () => wholeScreen());
+    byId('link-form').addEventListener('submit', (event) => {
+      event.preventDefault();
+      const field = byId('link-text'), text = field.value.trim().split('#').pop();
+      field.value = '';
+      byId('who').open = false;
+      if (!this.takeLink(text)) this.tell('That is no personal link.');
+      else this.wire.renew();
+    });
+    addEventListener('keydown', (event) => this.key(event));
+    document.addEventListener('visibilitychange', () => {
+      if (!document.hidden && this.view === this.game) this.game.refresh();
+    });
+    byId('letters').addEventListener('change', (event) => write(local, 'letters', event.target.checked ? null : 'off'));
+    byId('letters').checked = read(local, 'letters') !== 'off';
+    byId('sounds').addEventListener('change', (event) => setSound(event.target.checked));
+    byId('sounds').checked = wantsSound();
+    this.renderTheme();
+    document.addEventListener('pointerdown', (event) => this.closeWho(event.target));
+    byId('who').addEventListener('keydown', (event) => event.key === 'Escape' && this.closeWho(null));
+  }
+
+  /** The menu closes where anything else is touched. */
+  closeWho(touched) {
+    const who = byId('who');
+    if (!who.open || touched && who.contains(touched)) return;
+    who.open = false;
+    if (!touched) who.querySelector('summary').focus();
+  }
+
+  // ---- what the views ask for
+
+  me() {
+    return this.player ? this.player.name : '';
+  }
+
+  isArbiter() {
+    return Boolean(this.player && this.player.role === 'arbiter');
+  }
+
+  /** Whether what is sent now comes to the game server. */
+  reachable() {
+    return this.wire.state.open && this.wire.state.server === 'here';
+  }
+
+  nameWords(name) {
+    const known = this.players.get(name);
+    return known ? known.full : name;
+  }
+
+  go(route) {
+    location.hash = '#' + route;
+  }
+
+  titled(text) {
+    document.title = `${text} · Chess club`;
+  }
+
+  /** Watches a game; the answer. What the view needs no more is left a little later, so that who goes to and fro asks
+   * for nothing twice. */
+  async watch(number) {
+    if (this.watched.size >= MOST_WATCHED) this.leaveOthers();
+    this.watched.add(number);
+    const answer = await this.wire.say(`watch ${number}`);
+    if (answer[0].startsWith('ok ') && this.watched.has(number)) this.held.add(number);
+    return answer;
+  }
+
+  leaveLater() {
+    clearTimeout(this.leaving);
+    this.leaving = setTimeout(() => this.leaveOthers(), LEAVE_AFTER);
+  }
+
+  leaveOthers() {
+    const needed = new Set(this.view.needs());
+    for (const number of this.watched) {
+      if (needed.has(number)) continue;
+      this.watched.delete(number);
+      const going = this.wire.takeBack(`watch ${number}`);
+      if (this.held.delete(number) || going) this.wire.say(`leave ${number}`);
+    }
+  }
+
+  /** Opens a game, and goes to it. Where the answer is lost, the table is asked. */
+  async openGame(line, note) {
+    const after = this.table.greatest(), answer = await this.wire.say(line), refusal = readRefusal(answer[0]);
+    if (refusal) note(refusalWords(refusal));
+    else if (answer[0] === 'unsent') note('There is no connection. Nothing was sent.');
+    else if (answer[0] === 'lost') {
+      note('The connection broke before the answer came. Looking for your game …');
+      this.lostOpen = { after, note };
+    } else {
+      this.table.opened();
+      this.go(`/game/${answer[0].split(' ')[2]}`);
+    }
+  }
+
+  // ---- the way to a view
+
+  route() {
+    const fragment = location.hash.slice(1);
+    if (fragment && !fragment.startsWith('/')) {
+      history.replaceState(null, '', location.pathname + location.search + '#/');
+      if (this.takeLink(fragment)) this.wire.renew();
+    }
+    const found = /^\/(game|hall)\/(\d{1,10})$/.exec(fragment);
+    const number = found ? Number(found[2]) : 0;
+    const view = number ? this.game : fragment === '/hall' ? this.hall : this.table;
+    document.body.classList.toggle('hall', Boolean(found && found[1] === 'hall' || view === this.hall));
+    document.body.classList.toggle('one-game', Boolean(number));
+    for (const other of [this.table, this.game, this.hall]) {
+      if (other !== view && !other.root.hidden) other.close();
+    }
+    this.view = view;
+    view.open(number);
+    this.leaveLater();
+    this.atTable();
+    byId('invited').hidden = true;
+    for (const link of document.querySelectorAll('.top nav a')) {
+      if (link.hash === (view === this.hall ? '#/hall' : number ? '' : '#/')) link.setAttribute('aria-current', 'page');
+      else link.removeAttribute('aria-current');
+    }
+    scrollTo(0, 0);
+    byId('main').scrollTop = 0;
+  }
+
+  /** Who plays, and who looks at the table or the hall, is told of the table; a watcher of one game is not. */
+  async atTable() {
+    const wanted = Boolean(this.player) || this.view !== this.game;
+    if (!this.wire.state.open || wanted === this.isAtTable) return;
+    this.isAtTable = wanted;
+    if (!wanted) this.wire.say('leave lobby', true);
+    else await this.loadTable();
+  }
+
+  async loadTable() {
+    const answer = await this.wire.say('lobby');
+    if (answer[0] !== 'ok lobby') {
+      this.isAtTable = false;
+      return;
+    }
+    this.table.load(readRows(answer.slice(2)));
+    if (this.view === this.hall) this.hall.again();
+    if (this.lostOpen) this.findOpened();
+  }
+
+  findOpened() {
+    const { after, note } = this.lostOpen, me = this.me();
+    this.lostOpen = null;
+    const row = [...this.table.rows.values()].reverse()
+      .find((one) => one.number > after && (one.white === me || one.black === me));
+    if (row) this.go(`/game/${row.number}`);
+    else note('The connection broke, and your game has not been opened so far. Look, and open it again.');
+  }
+
+  // ---- the connection
+
+  /** The lobby has answered: who we are, who is who, and what is shown, all once more. */
+  async opened(server) {
+    this.isAtTable = undefined;
+    if (this.token) await this.login();
+    if (server !== 'here') return;
+    const answer = await this.wire.say('players');
+    if (answer[0].startsWith('ok players')) this.players = readPlayers(answer.slice(1));
+    await this.atTable();
+    if (this.view === this.game) this.game.refresh();
+    this.renderWho();
+  }
+
+  async login() {
+    const token = this.token, answer = await this.wire.say(`login ${token}`);
+    const found = /^ok login (\S+) (\S+) ?(.*)$/.exec(answer[0]), refusal = readRefusal(answer[0]);
+    if (token !== this.token) return;
+    if (found) {
+      this.player = { name: found[1], role: found[2], full: found[3] || found[1] };
+      if (read(local, 'token') !== token) write(local, 'token', null);
+      byId('linked').hidden = !this.fromLink || Boolean(read(local, 'token'));
+      this.fromLink = false;
+      this.tell('');
+    } else if (refusal && refusal.number === BAD_TOKEN) {
+      this.tell(refusalWords(refusal));
+      this.refused(token);
+      return;
+    }
+    this.renderWho();
+    if (this.view) this.view.render && this.view.render();
+  }
+
+  /** A token that is not known goes; one that was kept before it is tried instead. */
+  refused(token) {
+    const kept = read(local, 'token');
+    this.forget();
+    if (kept && kept !== token) {
+      this.token = kept;
+      write(local, 'token', kept);
+      this.login();
+    }
+    this.renderWho();
+  }
+
+  notice(lines) {
+    const number = Number(lines[0].split(' ')[1]), found = /^by (\S+) (.*)$/.exec(lines[1] || '');
+    if (!found) return;
+    const [, by, sent] = found, answer = lines[2], standing = readStanding(lines.slice(3));
+    this.table.notice(number, sent, standing);
+    if (this.view === this.game && this.game.number === number) this.game.notice(by, sent, answer, standing);
+    if (this.view === this.hall) this.hall.notice(number, sent, answer, standing);
+    if (standing) this.invite(number, by, sent.split(' ')[0], standing);
+  }
+
+  /** Somebody has joined one's own game, or the opponent of a game that is over has opened another. */
+  invite(number, by, word, standing) {
+    const me = this.me(), here = this.view === this.game && this.game.number === number;
+    if (!me || by === me || here) return;
+    if (word === 'open' && this.view === this.game && this.game.isOpponent(by)) this.game.suggest({ by, number });
+    if (word !== 'join' || standing.white !== me && standing.black !== me) return;
+    if (this.view === this.table) {
+      this.go(`/game/${number}`);
+    } else {
+      byId('invited').hidden = false;
+      byId('invited').replaceChildren(`${this.nameWords(by)} has joined your game ${number}: the clocks run. `,
+        make('a', { class: 'button strong', href: `#/game/${number}` }, 'Go there'));
+    }
+    say(`${this.nameWords(by)} has joined your game ${number}.`);
+  }
+
+  /** The state of the connection is another. */
+  changed() {
+    if (!this.wire) return;
+    const { open, server, retryAt, ever } = this.wire.state, lost = byId('lost');
+    if (!open) {
+      this.isAtTable = undefined;
+      this.watched.clear();
+      this.held.clear();
+    }
+    lost.hidden = open || !ever && !retryAt;
+    setText(byId('lost-words'), ever ? 'The connection to the lobby is lost. Clocks run on. Trying again'
+      : 'The lobby does not answer. Trying again');
+    clearInterval(this.counting);
+    const count = () => {
+      const seconds = Math.ceil((retryAt - Date.now()) / 1000);
+      setText(byId('lost-count'), retryAt && seconds > 0 ? `in ${seconds} s.` : 'now.');
+    };
+    if (!open) {
+      count();
+      this.counting = setInterval(count, 500);
+    }
+    byId('no-server').hidden = !(open && server === 'gone');
+    document.body.classList.toggle('offline', !open || server === 'gone');
+    if (this.view && this.view.render) this.view.render();
+    this.renderWho();
+  }
+
+  // ---- who is here
+
+  /** Takes the token of a personal link, and keeps it in this tab. */
+  takeLink(text) {
+    if (!text || !TOKEN.test(text)) return false;
+    this.token = text;
+    this.player = null;
+    this.fromLink = true;
+    write(session, 'token', text);
+    return true;
+  }
+
+  keep(lasting) {
+    byId('linked').hidden = true;
+    write(lasting ? local : session, 'token', this.token);
+    write(lasting ? session : local, 'token', null);
+    this.renderWho();
+  }
+
+  forget() {
+    this.token = '';
+    this.player = null;
+    write(session, 'token', null);
+    write(local, 'token', null);
+    byId('linked').hidden = true;
+  }
+
+  signOut() {
+    this.forget();
+    byId('who').open = false;
+    this.wire.renew();
+    this.renderWho();
+  }
+
+  renderWho() {
+    const player = this.player;
+    setText(byId('who-name'), player ? player.full : 'Watching');
+    byId('signed-in').hidden = !player;
+    byId('signed-out').hidden = Boolean(player);
+    byId('keep').checked = Boolean(read(local, 'token'));
+    if (player) setText(byId('who-words'), `${player.full} (${player.name}), ${player.role}`);
+  }
+
+  tell(text) {
+    byId('told').hidden = !text;
+    setText(byId('told'), text);
+  }
+
+  // ---- keys and light
+
+  key(event) {
+    if (event.altKey || event.ctrlKey || event.metaKey || document.querySelector('dialog[open]')) return;
+    if (event.target.closest('input, select, textarea') || this.view !== this.game) return;
+    const game = this.game, acts = {
+      ArrowLeft: () => game.goTo(game.shown() - 1), ArrowRight: () => game.goTo(game.shown() + 1),
+      Home: () => game.goTo(0), End: () => game.goTo(game.last()),
+      f: () => game.turn(), m: () => byId('move-text').select(), b: () => game.board.focus(),
+      c: () => say(game.clocksInWords()), p: () => say(game.inWords()),
+      h: () => this.go(`/${document.body.classList.contains('hall') ? 'game' : 'hall'}/${game.number}`),
+      '?': () => byId('help-dialog').showModal(),
+    };
+    const act = acts[event.key];
+    if (!act || event.key.length === 1 && !byId('letters').checked) return;
+    event.preventDefault();
+    act();
+  }
+
+  toContent() {
+    if (this.view === this.game) this.game.board.focus();
+    else byId('main').focus();
+  }
+
+  nextTheme() {
+    const now = document.documentElement.dataset.theme || '', next = { '': 'light', light: 'dark', dark: '' }[now];
+    if (next) document.documentElement.dataset.theme = next;
+    else delete document.documentElement.dataset.theme;
+    write(local, 'theme', next || null);
+    this.renderTheme();
+  }
+
+  renderTheme() {
+    setText(byId('theme-words'), themeWords());
+    byId('theme').title = `Colours: ${themeWords()}`;
+  }
+}
+
+function themeWords() {
+  return { light: 'light', dark: 'dark' }[document.documentElement.dataset.theme] || 'as the system has them';
+}
+
+new Page();

@@ -1,0 +1,159 @@
+// How a game is drawn around its board: names and clocks, the moves, what can be done, how it stands.
+
+import { readTimes, sideOf } from './lines.js';
+import { byId, make, setText } from './make.js';
+import { OTHER, SIDES, colourWord, resultWords, sanWords, timesInFull, timesWords } from './words.js';
+
+export function drawPlayers(game) {
+  const standing = game.standing, times = readTimes(game.tags.TimeControl || '');
+  for (const place of ['far', 'near']) {
+    const side = game.sideAt(place), root = game.players[place], name = side === 'w' ? standing.white : standing.black;
+    const turn = game.running() && standing.side === side;
+    root.classList.toggle('white', side === 'w');
+    root.classList.toggle('black', side === 'b');
+    root.classList.toggle('turn', turn);
+    root.classList.toggle('won', standing.result === (side === 'w' ? '1-0' : '0-1'));
+    setText(root.querySelector('.name'), name ? game.app.nameWords(name) : 'waiting …');
+    root.querySelector('.name').title = name;
+    setText(root.querySelector('.colour'), colourWord(side));
+    setText(root.querySelector('.period'), periodWords(times, standing.ply, game.startSide(), side));
+    setText(root.querySelector('.score'), scoreOf(standing.result, side));
+    const clock = game.clocks[place];
+    clock.label = `${colourWord(side)}’s clock`;
+    clock.set({ left: standing.left[side], at: standing.at, running: turn });
+  }
+}
+
+export function drawMoves(game) {
+  const list = byId('moves'), shown = game.shown();
+  const start = game.line[0] ? game.line[0].fen : '', first = Number(start.split(' ')[5] || 1);
+  const shift = game.startSide() === 'b' ? 1 : 0;
+  const key = `${game.number} ${game.line.length} ${game.last() ? game.line[game.last()].fen : ''} ${start}`;
+  if (list.dataset.key !== key) {
+    list.dataset.key = key;
+    const rows = [];
+    for (let ply = 1; ply <= game.last(); ply += 1) {
+      const place = ply - 1 + shift;
+      if (place % 2 === 0 || ply === 1) {
+        const number = first + Math.floor(place / 2);
+        rows.push(make('li', {}, make('span', { class: 'number', 'aria-hidden': 'true' }, String(number)),
+          place % 2 === 1 ? make('span', { class: 'ply none' }, '…') : ''));
+      }
+      rows[rows.length - 1].append(moveButton(game, ply, first + Math.floor(place / 2), place % 2));
+    }
+    list.replaceChildren(...rows);
+  }
+  list.querySelectorAll('button').forEach((button) => {
+    if (Number(button.dataset.ply) === shown) button.setAttribute('aria-current', 'true');
+    else button.removeAttribute('aria-current');
+  });
+  const current = list.querySelector('[aria-current]');
+  if (current) keepInSight(list, current);
+  else list.scrollTop = list.scrollLeft = 0;
+  byId('first-move').disabled = byId('previous-move').disabled = shown === 0;
+  byId('last-move').disabled = byId('next-move').disabled = game.back === null;
+  byId('last-move').classList.toggle('news', game.back !== null);
+  setText(byId('last-san'), game.last() ? lastWords(game) : '');
+}
+
+function lastWords(game) {
+  const { san, fen } = game.line[game.last()], full = Number(fen.split(' ')[5]);
+  return sideOf(fen) === 'b' ? `${full}. ${san}` : `${full - 1}… ${san}`;
+}
+
+function moveButton(game, ply, number, black) {
+  const { san } = game.line[ply];
+  return make('button', { type: 'button', class: 'ply', 'data-ply': String(ply),
+    'aria-label': `${number}${black ? ', Black' : ''}: ${sanWords(san)}`, onclick: () => game.goTo(ply) }, san);
+}
+
+export function drawActions(game) {
+  const standing = game.standing, seat = game.seat(), runs = game.running(), me = game.app.me();
+  const can = game.app.reachable();
+  const show = (id, shown, enabled = true) => {
+    byId(id).hidden = !shown;
+    byId(id).disabled = !(enabled && can);
+  };
+  const offered = runs && seat && standing.offer.includes(OTHER[seat]);
+  show('offer', runs && seat && !offered, !standing.offer);
+  setText(byId('offer').querySelector('.words'), standing.offer.includes(seat) && seat ? 'Draw offered' : 'Offer draw');
+  byId('offered').hidden = !offered;
+  show('accept', offered);
+  show('decline', offered);
+  show('claim', runs && seat, game.myTurn());
+  show('resign', runs && seat);
+  show('copy-invitation', !game.started() && seat);
+  show('join', !game.started() && !seat && me);
+  show('drop', game.app.isArbiter() && (!game.started() || standing.article));
+  show('again', standing.article && seat && game.tags.TimeControl);
+  byId('move-form').hidden = !(runs && seat);
+  byId('actions').hidden = ![...byId('actions').children].some((one) => !one.hidden);
+}
+
+export function drawOutcome(game) {
+  const standing = game.standing, place = byId('outcome');
+  const words = standing.article ? resultWords(standing.result, standing.article) : null;
+  place.classList.toggle('over', Boolean(words));
+  let [head, more] = ['', ''];
+  if (words) {
+    [head, more] = [`${words.score}  ${words.result} ${words.reason}`, words.article];
+  } else if (!game.started()) {
+    head = game.seat() ? 'Waiting for an opponent' : 'This seat is free';
+    more = game.seat() ? 'The clocks start as soon as somebody joins.' : 'The clocks start as soon as you join.';
+    if (!game.seat() && !game.app.me()) more = 'To play, open your personal link.';
+  } else if (SIDES.some((side) => standing.side === side && game.clockOf(side).now() <= 0)) {
+    head = `${colourWord(standing.side)}’s flag has fallen`;
+    more = game.seat() ? 'Calling it …' : 'A player has to call it.';
+  } else if (game.back !== null) {
+    head = 'An earlier position';
+    more = 'The game goes on: go to the last move to play.';
+  } else if (game.seat()) {
+    head = game.myTurn() ? 'Your turn' : 'Waiting for your opponent';
+    more = standing.check ? 'Check!' : '';
+  } else {
+    head = `${colourWord(standing.side)} to move`;
+    more = standing.check ? 'Check!' : '';
+  }
+  setText(place.querySelector('.head'), head);
+  setText(place.querySelector('.more'), more);
+}
+
+export function drawFacts(game) {
+  const { white, black } = game.standing, times = readTimes(game.tags.TimeControl || '');
+  setText(byId('game-title'), `Game ${game.number}`);
+  setText(byId('game-times'), timesWords(times));
+  byId('game-times').title = timesInFull(times);
+  setText(byId('game-white'), white ? game.app.nameWords(white) : 'free seat');
+  setText(byId('game-black'), black ? game.app.nameWords(black) : 'free seat');
+  setText(byId('game-start'), game.tags.FEN ? 'From a position' : '');
+  byId('fen-text').value = game.fenShown();
+  byId('watching').hidden = Boolean(game.seat()) || !game.started();
+}
+
+function scoreOf(result, side) {
+  if (result === '*') return '';
+  if (result === '1/2-1/2') return '½';
+  return result === (side === 'w' ? '1-0' : '0-1') ? '1' : '0';
+}
+
+/** What a side's clock gets: the second period until it has come, and the increment. */
+function periodWords(times, ply, startSide, side) {
+  if (!times) return '';
+  const own = Math.floor((ply + (side === startSide ? 1 : 0)) / 2);
+  const parts = [];
+  if (times.increment) parts.push(`+${times.increment} s`);
+  if (times.moves) {
+    const left = times.moves - own, more = timesWords({ initial: times.second, increment: 0, moves: 0 }).split('+')[0];
+    const unit = /^\d+$/.test(more) ? ' min' : '';
+    parts.push(left > 0 ? `+${more}${unit} in ${left} ${left === 1 ? 'move' : 'moves'}` : 'second period');
+  }
+  return parts.join(' · ');
+}
+
+function keepInSight(list, child) {
+  const box = list.getBoundingClientRect(), at = child.getBoundingClientRect();
+  if (at.top < box.top) list.scrollTop += at.top - box.top - 4;
+  if (at.bottom > box.bottom) list.scrollTop += at.bottom - box.bottom + 4;
+  if (at.left < box.left) list.scrollLeft += at.left - box.left - 24;
+  if (at.right > box.right) list.scrollLeft += at.right - box.right + 24;
+}

@@ -1,0 +1,273 @@
+// The table: games that wait for an opponent, that run and that are over, and the form that opens one.
+
+import { readPgn, readRefusal, readStanding, readTimes, timesOfOpen } from './lines.js';
+import { arrange, byId, make, setText } from './make.js';
+import { refusalWords, resultWords, timesInFull, timesWords } from './words.js';
+
+const PRESETS = ['1+0', '2+1', '3+0', '3+2', '5+0', '5+3', '10+0', '10+5', '15+10', '30+0', '30+20',
+  '90+30', '40/90+30, 30'];
+const FIRST_SHOWN = { open: 40, running: 40, over: 15 };
+const MOST_OWN = 10;
+
+export class TableView {
+  /** app: {wire, me(), nameWords(name), openGame(line, note)}. */
+  constructor(app) {
+    this.app = app;
+    this.root = byId('table-view');
+    this.rows = new Map();
+    this.all = new Set();
+    this.items = new Map();            // what an element shows -> the element
+    this.makePresets();
+    byId('open-form').addEventListener('submit', (event) => {
+      event.preventDefault();
+      this.submit();
+    });
+    byId('open-form').addEventListener('input', (event) => this.changed(event.target));
+    byId('find').addEventListener('input', () => this.render());
+  }
+
+  makePresets() {
+    byId('presets').append(...PRESETS.map((words) => make('label', { class: 'preset' },
+      make('input', { type: 'radio', name: 'preset', value: words, class: 'unseen', checked: words === '5+3' }),
+      make('span', {}, words))));
+    this.preset('5+3');
+  }
+
+  open() {
+    this.root.hidden = false;
+    this.watchOwn();
+    this.render();
+  }
+
+  close() {
+    this.root.hidden = true;
+  }
+
+  /** The games that this view has to be told of. */
+  needs() {
+    return this.groups().own.slice(0, MOST_OWN).map((row) => row.number);
+  }
+
+  /** The whole table, as it was told. */
+  load(rows) {
+    const before = this.rows;
+    this.rows = new Map(rows.map((row) => [row.number, { ...before.get(row.number), ...row }]));
+    if (!this.root.hidden) this.watchOwn();
+    this.render();
+    this.askTimes();
+  }
+
+  greatest() {
+    return Math.max(0, ...this.rows.keys());
+  }
+
+  notice(number, sent, standing) {
+    if (!standing) {
+      this.rows.delete(number);
+    } else {
+      const { white, black, ply, result, side } = standing, before = this.rows.get(number) || {};
+      const times = sent.startsWith('open ') ? readTimes(timesOfOpen(sent)) : before.times;
+      const own = sent.startsWith('open ') && sent.split(' ').length > 4;
+      this.rows.set(number, { ...before, number, white, black, ply, result, side, times, own: own || before.own });
+      if (!times) this.askTimes();
+    }
+    this.watchOwn();
+    this.render();
+  }
+
+  /** A row has no times: they stand in the game's PGN, and never change. */
+  async askTimes() {
+    if (this.asking) return;
+    this.asking = true;
+    for (let row = this.untimed(); row && this.app.reachable() && !this.root.hidden; row = this.untimed()) {
+      const answer = await this.app.wire.say(`pgn ${row.number}`, true);
+      if (!answer[0].startsWith('ok ')) {
+        if (!answer[0].startsWith('no ')) break;
+        row.times = null;
+        continue;
+      }
+      const { tags } = readPgn(answer.slice(1));
+      row.times = readTimes(tags.TimeControl || '');
+      row.own = Boolean(tags.FEN);
+      this.renderSoon();
+    }
+    this.asking = false;
+  }
+
+  untimed() {
+    const groups = this.groups();
+    return [...groups.own, ...groups.open, ...groups.running.slice(0, 40), ...groups.over.slice(0, 15)]
+      .find((row) => row.times === undefined);
+  }
+
+  /** At the table one's own games are watched, so that it shows whose turn it is. */
+  async watchOwn() {
+    if (this.root.hidden || !this.app.me() || !this.app.reachable()) return;
+    for (const row of this.groups().own.slice(0, MOST_OWN)) {
+      if (this.app.watched.has(row.number)) continue;
+      const answer = await this.app.watch(row.number);
+      const standing = answer[0].startsWith('ok ') && readStanding(answer.slice(1));
+      const now = this.rows.get(row.number);
+      if (standing && now) Object.assign(now, { side: standing.side, ply: standing.ply });
+      this.renderSoon();
+    }
+  }
+
+  renderSoon() {
+    clearTimeout(this.soon);
+    this.soon = setTimeout(() => this.render(), 60);
+  }
+
+  groups() {
+    const me = this.app.me(), text = byId('find').value.trim().toLowerCase();
+    const has = (name) => name && `${name} ${this.app.nameWords(name)}`.toLowerCase().includes(text);
+    const groups = { own: [], open: [], running: [], over: [] };
+    for (const row of this.rows.values()) {
+      const mine = me && (row.white === me || row.black === me), waits = !row.white || !row.black;
+      if (mine && row.result === '*') groups.own.push(row);
+      else if (text && !has(row.white) && !has(row.black)) continue;
+      else if (row.result !== '*') groups.over.unshift(row);
+      else (waits ? groups.open : groups.running).push(row);
+    }
+    return groups;
+  }
+
+  render() {
+    if (this.root.hidden) return;
+    const groups = this.groups(), me = this.app.me();
+    byId('own-games').hidden = groups.own.length === 0;
+    byId('open-form').hidden = !me;
+    byId('only-watching').hidden = Boolean(me);
+    byId('open-game').disabled = !this.app.reachable();
+    this.used = new Set();
+    for (const kind of ['own', 'open', 'running', 'over']) this.renderGroup(kind, groups[kind]);
+    for (const key of this.items.keys()) {
+      if (!this.used.has(key)) this.items.delete(key);
+    }
+    const yours = groups.own.filter((row) => this.mayMove(row)).length;
+    this.app.titled(yours ? `Your turn in ${yours} ${yours === 1 ? 'game' : 'games'}` : 'Games');
+  }
+
+  renderGroup(kind, rows) {
+    const most = this.all.has(kind) ? Infinity : FIRST_SHOWN[kind] || Infinity;
+    const shown = rows.slice(0, most).map((row) => this.itemOf(row, kind));
+    if (rows.length > most) {
+      shown.push(this.kept(`more ${kind} ${rows.length}`, () => make('li', { class: 'more' },
+        make('button', { type: 'button', onclick: () => this.showAll(kind) }, `Show all ${rows.length}`))));
+    }
+    if (shown.length === 0) shown.push(this.kept(`none ${kind}`, () => make('li', { class: 'none' }, NOTHING[kind])));
+    arrange(byId(`${kind}-list`), shown);
+    setText(byId(`${kind}-count`), rows.length ? String(rows.length) : '');
+  }
+
+  /** The row's element, the same as long as it shows the same. */
+  itemOf(row, kind) {
+    const names = [row.white, row.black].map((name) => this.app.nameWords(name));
+    const shows = [kind, row.number, names, timesWords(row.times), row.own, this.stateWords(row), this.app.me(),
+      this.app.reachable()];
+    return this.kept(JSON.stringify(shows), () => this.item(row, kind));
+  }
+
+  kept(key, build) {
+    if (!this.items.has(key)) this.items.set(key, build());
+    this.used.add(key);
+    return this.items.get(key);
+  }
+
+  showAll(kind) {
+    this.all.add(kind);
+    this.render();
+  }
+
+  mayMove(row) {
+    const me = this.app.me();
+    return Boolean(row.white && row.black && row.side && (row.side === 'w' ? row.white : row.black) === me);
+  }
+
+  item(row, kind) {
+    const seat = (name, side) => make('span', { class: `seat ${side}` }, make('span', { class: 'unseen' }, `${side}: `),
+      name ? make('span', { class: 'name' }, this.app.nameWords(name)) : make('span', { class: 'free' }, 'free'));
+    const link = make('a', { href: `#/game/${row.number}`, class: 'pairing', 'data-key': `look-${row.number}` },
+      make('span', { class: 'number' }, make('span', { class: 'unseen' }, 'Game '), String(row.number)),
+      make('span', { class: 'pair' }, seat(row.white, 'white'), seat(row.black, 'black')),
+      make('span', { class: 'times', title: timesInFull(row.times) }, timesWords(row.times),
+        row.own ? make('span', { class: 'own-start' }, 'from a position') : ''),
+      make('span', { class: 'state' }, this.stateWords(row)));
+    const item = make('li', { class: this.mayMove(row) ? 'game-row yours' : 'game-row' }, link);
+    if (kind === 'open' && this.app.me()) {
+      item.append(make('button', { type: 'button', class: 'strong', 'data-key': `join-${row.number}`,
+        'aria-label': `Join game ${row.number}`, disabled: !this.app.reachable(),
+        onclick: () => this.join(row.number) }, 'Join'));
+    }
+    return item;
+  }
+
+  stateWords(row) {
+    if (row.result !== '*') return resultWords(row.result, '').score;
+    if (!row.white || !row.black) return '';
+    if (this.mayMove(row)) return 'your turn';
+    const me = this.app.me();
+    if (row.white !== me && row.black !== me) return 'watch';
+    return row.side ? 'their turn' : '';
+  }
+
+  // ---- acting
+
+  note(text) {
+    setText(byId('table-note'), text);
+    byId('table-note').classList.toggle('refused', Boolean(text));
+  }
+
+  async join(number) {
+    this.note('');
+    const answer = await this.app.wire.say(`join ${number}`), refusal = readRefusal(answer[0]);
+    if (refusal) this.note(refusalWords(refusal));
+    else if (answer[0] === 'unsent') this.note('There is no connection. Nothing was sent.');
+    else this.app.go(`/game/${number}`);      // also where the answer was lost: the game shows who sits there
+  }
+
+  preset(words) {
+    const form = byId('open-form').elements;
+    const found = /^(?:(\d+)\/)?([\d.]+)\+(\d+)(?:, ([\d.]+))?$/.exec(words);
+    form.minutes.value = found[2];
+    form.increment.value = found[3];
+    form.second.checked = Boolean(found[1]);
+    if (found[1]) [form.moves.value, form.more.value] = [found[1], found[4]];
+    byId('second-fields').hidden = !form.second.checked;
+  }
+
+  changed(field) {
+    const form = byId('open-form').elements;
+    if (field.name === 'preset') this.preset(field.value);
+    else if (['minutes', 'increment', 'second', 'moves', 'more'].includes(field.name)) {
+      for (const preset of form.preset) preset.checked = false;
+    }
+    byId('second-fields').hidden = !form.second.checked;
+  }
+
+  /** A position is for one game: the next begins from the usual one. */
+  opened() {
+    byId('open-form').elements.fen.value = '';
+    byId('open-form').querySelector('.from-position').open = false;
+  }
+
+  submit() {
+    const form = byId('open-form').elements, seconds = (field) => Math.round(60 * Number(field.value));
+    const initial = seconds(form.minutes);
+    const second = form.second.checked, period = `${Number(form.moves.value)}/${initial}:${seconds(form.more)}`;
+    const times = second ? period : String(initial);
+    const colour = form.colour.value || (crypto.getRandomValues(new Uint8Array(1))[0] % 2 ? 'white' : 'black');
+    const fen = form.fen.value.trim();
+    if (/[^\x20-\x7e]/.test(fen)) {
+      this.note('A FEN has letters, digits and the signs / and - alone.');
+      return;
+    }
+    this.note('');
+    this.app.openGame(`open ${colour} ${times} ${Number(form.increment.value)}${fen ? ' ' + fen : ''}`,
+      (text) => this.note(text));
+  }
+}
+
+const NOTHING = {
+  own: '', open: 'Nobody waits for an opponent.', running: 'No game is being played.', over: 'No game is over yet.',
+};

@@ -1,0 +1,154 @@
+// The connection to the lobby: one WebSocket, answers in the order of what was sent, and notices between them.
+// Where it breaks it comes back by itself, with growing pauses.
+
+import { linesOf } from './lines.js';
+
+const PAUSES = [400, 1000, 2000, 4000, 8000, 15000];
+const MOST_A_SECOND = 15;            // the lobby takes 20
+const MOST_QUIETLY = 6;              // of these for what nobody waits for
+const MOST_WAITING = 24;             // the lobby holds 64
+const ANSWER_WITHIN = 12000;
+const SILENCE = 25000;
+const STOOD = 5000;                  // a connection that stood so long begins the pauses anew
+
+/** What `say` answers where no answer came: `lost` where the line had gone out, `unsent` where it had not. */
+export const LOST = Object.freeze(['lost']);
+export const UNSENT = Object.freeze(['unsent']);
+
+export class Wire {
+  /** told: {opened, notice(lines), changed}; changed() is called whenever `state` is another. */
+  constructor(address, told) {
+    this.address = address;
+    this.told = told;
+    this.state = { open: false, server: '', retryAt: 0, ever: false };
+    this.tries = 0;
+    this.waiting = [];
+    this.queue = [];
+    this.sentAt = [];
+    this.heardAt = 0;
+    this.pump = this.pump.bind(this);
+    setInterval(() => this.watchdog(), 2000);
+    addEventListener('online', () => this.retry());
+    document.addEventListener('visibilitychange', () => document.hidden || this.retry());
+    this.connect();
+  }
+
+  /** Sends a line and gives its answer's lines. A quiet line gives way to the others. */
+  say(line, quietly = false) {
+    if (!this.state.open) return Promise.resolve(UNSENT);
+    return new Promise((answered) => {
+      this.queue.push({ line, quietly, answered });
+      this.pump();
+    });
+  }
+
+  /** Takes a line back where it has not gone out; whether it has, and its answer is still to come. */
+  takeBack(line) {
+    const unsent = this.queue.filter((one) => one.line === line);
+    this.queue = this.queue.filter((one) => one.line !== line);
+    unsent.forEach((one) => one.answered(UNSENT));
+    return this.waiting.some((one) => one.line === line);
+  }
+
+  /** Tries again now, where it was waiting to. */
+  retry() {
+    if (this.socket || !this.timer) return;
+    this.connect();
+  }
+
+  /** Leaves the connection and makes a new one: nothing of the old one's name is left. */
+  renew() {
+    this.tries = 0;
+    if (this.socket) this.ended();
+    this.retry();
+  }
+
+  connect() {
+    clearTimeout(this.timer);
+    this.timer = 0;
+    const socket = new WebSocket(this.address);
+    this.socket = socket;
+    this.heardAt = performance.now();
+    const ours = (act) => (event) => this.socket === socket && act(event);
+    socket.onmessage = ours((event) => this.heard(linesOf(String(event.data))));
+    socket.onclose = ours(() => this.ended());
+    this.change({ retryAt: 0 });
+  }
+
+  heard(lines) {
+    this.heardAt = performance.now();
+    const word = (lines[0] || '').split(' ', 1)[0];
+    if (word === 'server') {
+      this.serverTold(lines[0].split(' ')[1]);
+    } else if (word === 'told') {
+      this.told.notice(lines);
+    } else {
+      const waited = this.waiting.shift();
+      if (waited) waited.answered(lines);
+      this.pump();
+    }
+  }
+
+  serverTold(server) {
+    const first = !this.state.open;
+    if (first) this.openedAt = performance.now();
+    this.change({ open: true, server, ever: true });
+    if (first || server === 'here') this.told.opened(server);
+  }
+
+  ended() {
+    const socket = this.socket;
+    this.socket = null;
+    socket.onmessage = socket.onclose = null;
+    socket.close();
+    const waiting = this.waiting, queue = this.queue;
+    this.waiting = [];
+    this.queue = [];
+    this.sentAt = [];
+    if (this.state.open && performance.now() - this.openedAt > STOOD) this.tries = 0;
+    const pause = PAUSES[Math.min(this.tries, PAUSES.length - 1)] * (0.75 + Math.random() / 2);
+    this.tries += 1;
+    this.timer = setTimeout(() => this.connect(), pause);
+    this.change({ open: false, server: '', retryAt: Date.now() + pause });
+    waiting.forEach((one) => one.answered(LOST));
+    queue.forEach((one) => one.answered(UNSENT));
+  }
+
+  pump() {
+    const now = performance.now();
+    this.sentAt = this.sentAt.filter((one) => now - one.at < 1050);
+    while (this.queue.length && this.waiting.length < MOST_WAITING) {
+      const place = this.queue.findIndex((one) => !one.quietly);
+      const quietly = place < 0;
+      const full = this.sentAt.length >= MOST_A_SECOND
+        || quietly && this.sentAt.filter((one) => one.quietly).length >= MOST_QUIETLY;
+      if (full) {
+        clearTimeout(this.pumping);
+        this.pumping = setTimeout(this.pump, 150);
+        return;
+      }
+      const [one] = this.queue.splice(quietly ? 0 : place, 1);
+      one.at = now;
+      this.sentAt.push(one);
+      this.waiting.push(one);
+      this.socket.send(one.line);
+    }
+  }
+
+  watchdog() {
+    if (!this.socket) return;
+    const now = performance.now();
+    const late = this.waiting.length > 0 && now - this.waiting[0].at > ANSWER_WITHIN;
+    const unopened = !this.state.open && now - this.heardAt > ANSWER_WITHIN;
+    if (late || unopened) {
+      this.ended();
+    } else if (this.state.open && !document.hidden && this.waiting.length === 0 && now - this.heardAt > SILENCE) {
+      this.say('leave 0', true);       // answered by the lobby alone; shows that the line still stands
+    }
+  }
+
+  change(what) {
+    Object.assign(this.state, what);
+    this.told.changed();
+  }
+}
