@@ -1,4 +1,4 @@
-#!/usr/bin/env python3
+#!/usr/bin/python3
 """A plain lobby: it speaks the protocol of docs/LOBBY.md to browsers, over a WebSocket on loopback, and serves the
 files of page/ with the policy header. The game server behind it is the model of bench/model/model.py.
 
