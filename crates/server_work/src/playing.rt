@@ -5,7 +5,7 @@ ghost use Rattle.server_work.specs.Faults.{IsRunFault, IsServeFault};
 use crate::ends::{Fault, fault_of_run};
 use crate::journals::open_journal;
 use chess_hub::Hub;
-use chess_run::{Moments, run};
+use chess_run::{Moments, ReaderSource, run};
 use chess_sockets::{Server, Turned};
 use chess_store::Store;
 use sector_dev::Device;
@@ -54,7 +54,8 @@ where
     ensures { IfErr result IsRunFault }
 {
     let store = open_journal(rt, alloc, journal)?;
-    match run(alloc, input, output, store, Clocked { clock: rt }) {
+    let mut source = ReaderSource::new(input);
+    match run(alloc, &mut source, output, store, Clocked { clock: rt }) {
         Ok(()) => Ok(()),
         Err(fault) => Err(fault_of_run(fault)),
     }
