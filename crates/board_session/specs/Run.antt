@@ -1,10 +1,12 @@
 -- What an input calls for.
-use Rattle.std.specs.Prelude.{ℕ, ◌<◌, List, ◌++◌, Option, length}
+use Rattle.std.specs.Prelude.{ℕ, ◌≡◌, ◌<◌, Bool, true, List, ◌++◌, Option, Result, Ok, Err, length}
 use Rattle.std.specs.Io.KnownBytes.{Appends, Consumes}
 use Rattle.chess_board.specs.Position.{Position}
 use Rattle.chess_board.specs.Initial.{initial}
 use Rattle.line_loop.specs.Texts.{IsText}
 use Rattle.board_session.specs.Answer.{IsAnswer}
+use Rattle.board_session.specs.declared.board_loop.BoardFault.{BoardFault}
+use Rattle.board_session.specs.declared.board_loop.BoardFault.TheVariants.{Read, Write}
 
 -- what the input calls for: the answers to its lines, each at the position that the line before left, from the initial
 -- position on, and then the farewell to a line that is too long
@@ -29,3 +31,9 @@ AnswersTaken before after old new = (taken : List ℕ) × Consumes before after 
 abbrev pub AnswersInPart : Option (List ℕ) → Option (List ℕ) → Option (List ℕ) → Option (List ℕ) → Type 0
 AnswersInPart before after old new = (taken : List ℕ) × (front : List ℕ) × (rest : List ℕ)
     × Consumes before after taken × IsBoardText taken (front ++ rest) × (0 < length rest) × Appends old new front
+
+-- `Read` comes exactly where the source failed; `before` and `after` say whether it has.
+abbrev pub BoardIsOfSource : Result (Unit {0}) BoardFault → Bool → Bool → Type 0
+BoardIsOfSource (Ok done) before after = after ≡ before
+BoardIsOfSource (Err Read) before after = after ≡ true
+BoardIsOfSource (Err Write) before after = after ≡ before

@@ -1,16 +1,16 @@
-//! Answers the lines of a reader on a writer, over one board.
+//! Answers the lines of a source on a writer, over one board.
 ghost use Rattle.std.specs.Prelude.{◌≡◌, ℕ, List, IfSome, OnOk, OnErr, IsErrOf};
 ghost use Rattle.chess_board.specs.Position.{IsValid};
 ghost use Rattle.chess_board.specs.Initial.{initial};
-ghost use Rattle.board_session.specs.Run.{IsBoardText, AppendsText, AppendsFront, AnswersTaken, AnswersInPart};
+ghost use Rattle.board_session.specs.Run.{IsBoardText, AppendsText, AppendsFront, AnswersTaken, AnswersInPart, BoardIsOfSource};
 
 use crate::answer::answer;
 use chess_board::Board;
 use chess_text::ShownBoard;
-use line_loop::{Answer, Answerer, LoopFault, answer_lines};
+use line_loop::{Answer, Answerer, LineSource, LoopFault, answer_lines};
 use session_lines::without_return;
 use std::convert::Infallible;
-use std::io::{Read, Write};
+use std::io::Write;
 use std::marker::Model;
 use thiserror::Error;
 
@@ -70,30 +70,33 @@ fn start() -> Session
     }
 }
 
-/// Answers the lines of the reader, from the initial position on, until the reader ends or a line is too long.
-pub fn board<R: Read, W: Write>(reader: &mut R, writer: &mut W) -> Result<(), BoardFault>
+/// Answers the lines of the source, from the initial position on, until the source ends or a line is too long.
+pub fn board<S: LineSource, W: Write>(source: &mut S, writer: &mut W) -> Result<(), BoardFault>
     // What is written is the text that the input calls for, and nothing else.
-    ensures whole { OnOk result (IfSome (R.remaining reader.old)
+    ensures whole { OnOk result (IfSome (S.remaining source.old)
         (AppendsText (W.contents writer.old) (W.contents writer.new))) }
 
     // At a fault it is a front of that text.
-    ensures front { OnErr result (IfSome (R.remaining reader.old)
+    ensures front { OnErr result (IfSome (S.remaining source.old)
         (AppendsFront (W.contents writer.old) (W.contents writer.new))) }
 
-    // Also of a reader that does not tell its bytes: all lines that were read are answered, but where a write failed,
+    // Also of a source that does not tell its bytes: all lines that were read are answered, but where a write failed,
     // and then something that they call for is not written.
-    ensures answered { OnOk result (AnswersTaken (R.remaining reader.old) (R.remaining reader.new)
+    ensures answered { OnOk result (AnswersTaken (S.remaining source.old) (S.remaining source.new)
         (W.contents writer.old) (W.contents writer.new)) }
-    ensures read { IsErrOf result BoardFault.Read → AnswersTaken (R.remaining reader.old) (R.remaining reader.new)
+    ensures read { IsErrOf result BoardFault.Read → AnswersTaken (S.remaining source.old) (S.remaining source.new)
         (W.contents writer.old) (W.contents writer.new) }
-    ensures write { IsErrOf result BoardFault.Write → AnswersInPart (R.remaining reader.old) (R.remaining reader.new)
+    ensures write { IsErrOf result BoardFault.Write → AnswersInPart (S.remaining source.old) (S.remaining source.new)
         (W.contents writer.old) (W.contents writer.new) }
+
+    // `Read` comes exactly where the source failed.
+    ensures cause { BoardIsOfSource result (S.has_failed source.old) (S.has_failed source.new) }
 
     // An input calls for one text.
     ensures one { (input text other : List ℕ) → IsBoardText input text → IsBoardText input other → text ≡ other }
 {
     let session = start();
-    let (_, ended) = answer_lines(session, reader, writer);
+    let (_, ended) = answer_lines(session, source, writer);
     match ended {
         Ok(()) => Ok(()),
         Err(LoopFault::LineTooLong) => Ok(()),

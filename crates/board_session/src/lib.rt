@@ -8,3 +8,4 @@ mod line;
 mod tests;
 
 pub use board_loop::{BoardFault, board};
+pub use line_loop::{LineSource, ReaderSource};

@@ -1,5 +1,6 @@
 //! The loop over readers and writers that give and take little, or fail.
 use crate::board_loop::{BoardFault, board};
+use line_loop::ReaderSource;
 use std::alloc::Global;
 use std::io;
 use std::io::{ErrorKind, Read, Write};
@@ -82,12 +83,12 @@ fn write_bytewise(alloc: Global) -> Narrow {
 
 /// The input is answered so, whether it comes and goes whole or byte by byte.
 fn expect_text(rt: &impl Abort, alloc: Global, input: &[u8], text: &str) {
-    let mut rest = input;
     let mut written = Vec::new(alloc);
-    assert_eq!(rt; board(&mut rest, &mut written), Ok(()));
+    assert_eq!(rt; board(&mut ReaderSource::new(input), &mut written), Ok(()));
     assert_eq!(rt; written.as_slice(), text.as_bytes(), "of {input:?}");
     let mut writer = write_bytewise(alloc);
-    assert_eq!(rt; board(&mut read_bytewise(input), &mut writer), Ok(()));
+    let mut trickle = ReaderSource::new(read_bytewise(input));
+    assert_eq!(rt; board(&mut trickle, &mut writer), Ok(()));
     assert_eq!(rt;
         writer.taken.as_slice(),
         text.as_bytes(),
@@ -182,7 +183,7 @@ fn writes_once_what_is_at_hand(rt: HostRuntime) -> Result<(), Fail> {
         (8192, 106_496, 2),
     ] {
         let input = vec![in alloc; b'\n'; lines]?;
-        let mut rest = input.as_slice();
+        let mut rest = ReaderSource::new(input.as_slice());
         let mut writer = Counted {
             taken: Vec::new(alloc),
             writes: 0,
@@ -210,7 +211,8 @@ fn answers_after_many_reads(rt: HostRuntime) {
     let input = repeated(&rt, alloc, b"hello!\n", 10_000);
     let text = repeated(&rt, alloc, b"no 1 BadLine\n", 10_000);
     let mut written = Vec::new(alloc);
-    let ended = board(&mut read_bytewise(input.as_slice()), &mut written);
+    let mut source = ReaderSource::new(read_bytewise(input.as_slice()));
+    let ended = board(&mut source, &mut written);
     assert_eq!(rt; ended, Ok(()));
     assert!(rt; written.as_slice() == text.as_slice());
 }
@@ -230,8 +232,10 @@ fn breaks_off_where_a_read_fails(rt: HostRuntime) {
         reader.fails_at = Some(4);
         reader.kind = kind;
         let mut written = Vec::new(alloc);
-        let ended = board(&mut reader, &mut written);
+        let mut source = ReaderSource::new(reader);
+        let ended = board(&mut source, &mut written);
         assert_eq!(rt; ended, result);
+        assert_eq!(rt; source.has_failed(), result.is_err());
         assert_eq!(rt; written.as_slice(), text.as_bytes(), "at {kind:?}");
     }
 }
@@ -255,7 +259,7 @@ fn breaks_off_where_a_write_fails(rt: HostRuntime) {
         let mut writer = write_bytewise(alloc);
         writer.fails_at = Some(17);
         writer.kind = kind;
-        let mut input = b"hello\nmove x\n\n".as_slice();
+        let mut input = ReaderSource::new(b"hello\nmove x\n\n".as_slice());
         let ended = board(&mut input, &mut writer);
         assert_eq!(rt; ended, result);
         assert_eq!(rt; writer.taken.as_slice(), text.as_bytes(), "at {kind:?}");

@@ -1,6 +1,6 @@
 -- A run over a hub with one session.
 use Rattle.std.proofs.Common.{◌≡◌, ℕ, suc, ◌≤◌, List, [], ◌∷◌, ◌++◌, sym, refl, ap, ◌∙◌, subst, arith, Option, None, Some, IfSome, Result, Ok, Err, inl, inr}
-use Rattle.std.specs.Prelude.{◌⊎◌, option_map, is_some, count_by, IsErrOf, OnOk, slice_index_or}
+use Rattle.std.specs.Prelude.{◌⊎◌, Bool, option_map, is_some, count_by, IsErrOf, OnOk, slice_index_or}
 use Rattle.std.specs.Io.KnownBytes.{Appends}
 use Rattle.slab.specs.Slab.{get}
 use Rattle.sector_dev.specs.Device.{State}
@@ -9,13 +9,13 @@ use Rattle.chess_sessions.specs.declared.sessions.Sessions.{Sessions}
 use Rattle.chess_sessions.specs.Session.{shown, session_at, session_count}
 use Rattle.line_loop.specs.declared.answerer.LoopFault.{LoopFault}
 use Rattle.line_loop.specs.declared.answerer.LoopFault.TheVariants as loop
-use Rattle.line_loop.specs.Texts.{IsRun, IsText, FindsNone, Ended}
+use Rattle.line_loop.specs.Texts.{IsRun, IsText, FindsNone, IsOfSource, Ended}
 use Rattle.chess_hub.specs.declared.fault.HubFault.{HubFault}
 use Rattle.chess_hub.specs.declared.fault.HubFault.TheVariants.{Busy, NoMemory, LineTooLong, Store as OfStore}
 use Rattle.chess_run.specs.declared.running.RunFault.{RunFault}
 use Rattle.chess_run.specs.declared.running.RunFault.TheVariants as faults
 use Rattle.chess_hub.specs.Faults.{IsConnectFault}
-use Rattle.chess_run.specs.Running.{Kept, Standing, stands, AnswersLine, RefusesLine, of_loop, IsRunText, RunsOn, RunEnds}
+use Rattle.chess_run.specs.Running.{Kept, Standing, stands, AnswersLine, RefusesLine, of_loop, IsRunText, RunsOn, RunEnds, RunIsOfSource}
 
 -- ---- the same, seen through a map of states
 
@@ -195,6 +195,24 @@ module _ {D M : Type 0} (state : D → State) (sector_count failures : D → ℕ
       (run-fault fault before after old new (runs-on (Err fault) before after old new
       (subst (λ (r : Result (Unit {0}) (LoopFault HubFault)). Ended Answers Breaks r before after old new talk end)
       was h)))
+
+-- ---- where `Read` comes from
+
+source-fault : (fault : LoopFault HubFault) (before after : Bool) → IsOfSource (Err fault) before after →
+    RunIsOfSource (Err (of_loop fault)) before after
+source-fault loop.Read before after h = h
+source-fault loop.Write before after h = h
+source-fault loop.LineTooLong before after h = h
+source-fault (loop.Unanswered fault) before after h = h
+
+pub of_source : (given : Result (Unit {0}) (LoopFault HubFault)) (fault : LoopFault HubFault)
+    (made : Result (Unit {0}) RunFault) (y : RunFault) (before after : Bool) → given ≡ Err fault → made ≡ Err y →
+    y ≡ of_loop fault → IsOfSource given before after → RunIsOfSource made before after
+of_source given fault made y before after was is same h =
+    subst (λ (r : Result (Unit {0}) RunFault). RunIsOfSource r before after)
+    (sym (is ∙ ap (λ (f : RunFault). Err f) same))
+    (source-fault fault before after
+    (subst (λ (r : Result (Unit {0}) (LoopFault HubFault)). IsOfSource r before after) was h))
 
 -- ---- faults
 

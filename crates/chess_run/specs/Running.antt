@@ -1,5 +1,5 @@
 -- What a run is told: one session, each line in a turn of its own.
-use Rattle.std.specs.Prelude.{ℕ, ◌≡◌, ◌≢◌, ◌⊎◌, false, Bool, List, [], ◌∷◌, ◌++◌, Option, Some, None, Result, Ok, Err}
+use Rattle.std.specs.Prelude.{ℕ, ◌≡◌, ◌≢◌, ◌⊎◌, true, false, Bool, List, [], ◌∷◌, ◌++◌, Option, Some, None, Result, Ok, Err}
 use Rattle.std.specs.Io.KnownBytes.{Appends}
 use Rattle.session_lines.specs.Lines.{IsUnfinished}
 use Rattle.session_lines.specs.Heard.{heard}
@@ -117,6 +117,14 @@ pub record IsRunText {D M : Type 0} (state : D → State) (sector_count failures
   pub end : Standing D M
   pub is : IsText (AnswersLine state sector_count failures gives) (stands store None moments) input text end
   pub appended : Appends old new text
+
+-- `Read` comes exactly where the source failed; `before` and `after` say whether it has.
+abbrev pub RunIsOfSource : Result (Unit {0}) RunFault → Bool → Bool → Type 0
+RunIsOfSource (Ok done) before after = after ≡ before
+RunIsOfSource (Err faults.Read) before after = after ≡ true
+RunIsOfSource (Err faults.Write) before after = after ≡ before
+RunIsOfSource (Err faults.LineTooLong) before after = after ≡ before
+RunIsOfSource (Err (faults.Hub fault)) before after = after ≡ before
 
 -- No session began, for want of memory: nothing was read or written.
 pub record BeginsNot (before after old new : Option (List ℕ)) : Type 0 where

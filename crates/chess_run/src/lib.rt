@@ -7,5 +7,6 @@ mod running;
 mod talk;
 
 pub use laws::law_of_run;
+pub use line_loop::{LineSource, ReaderSource};
 pub use moments::{ListMoments, Moments};
 pub use running::{RunFault, run};

@@ -1,21 +1,21 @@
-//! One session from a reader to a writer.
+//! One session from a source of lines to a writer.
 ghost use Rattle.std.specs.Prelude.{ℕ, ◌≡◌, List, IfSome, OnOk, IsErrOf};
 ghost use Rattle.std.specs.Io.KnownBytes.{Appends, IsAtEnd};
-ghost use Rattle.chess_run.specs.Running.{IsRunText, RunEnds, kept};
+ghost use Rattle.chess_run.specs.Running.{IsRunText, RunEnds, RunIsOfSource, kept};
 
 use crate::moments::Moments;
 use crate::talk::begin;
 use chess_hub::HubFault;
 use chess_store::Store;
-use line_loop::{LoopFault, answer_lines};
+use line_loop::{LineSource, LoopFault, answer_lines};
 use sector_dev::Device;
 use std::alloc::Global;
-use std::io::{Read, Write};
+use std::io::Write;
 
 /// Why a run ends before its input does.
 #[derive(Clone, Copy, Debug, PartialEq, Eq)]
 pub enum RunFault {
-    /// A read failed, or reads did not come to an end.
+    /// The source failed.
     Read,
     /// A write failed.
     Write,
@@ -41,40 +41,40 @@ impl From<LoopFault<HubFault>> for RunFault {
     }
 }
 
-/// Answers the lines of a reader on a writer, as one session over a store, which it keeps: each whole line has a turn
-/// of its own at the next of the moments, and each command is a batch of its own. The answers to the lines of one read,
+/// Answers the lines of a source on a writer, as one session over a store, which it keeps: each whole line has a turn
+/// of its own at the next of the moments, and each command is a batch of its own. The answers to the lines of one piece,
 /// of at most 4,096 bytes, are gathered and written once all are answered, before that only as often as they outgrow
-/// 65,536 bytes. It ends where the reader does; a rest without a line feed is no line.
+/// 65,536 bytes. It ends where the source does; a rest without a line feed is no line.
 ///
-/// `LineTooLong`: a line was, and `bye LineTooLong` was written. `Read` and `Write`: a read or a write failed, or reads
-/// did not end within 4,294,967,295. `Hub`: a line was refused memory, or the store refused it; the answers before it
+/// `LineTooLong`: a line was, and `bye LineTooLong` was written. `Read`: the source failed. `Write`: a write did. `Hub`: a line was refused memory, or the store refused it; the answers before it
 /// were written.
-pub fn run<R: Read, W: Write, D: Device + Drop, M: Moments + Drop>(
+pub fn run<S: LineSource, W: Write, D: Device + Drop, M: Moments + Drop>(
     alloc: Global,
-    reader: &mut R,
+    source: &mut S,
     writer: &mut W,
     store: Store<D>,
     moments: M,
 ) -> Result<(), RunFault>
     // What is written is the text of what was read, and nothing else.
-    ensures whole { OnOk result (IfSome (R.remaining reader.old) (IsRunText D.state D.sector_count D.failures M.gives
+    ensures whole { OnOk result (IfSome (S.remaining source.old) (IsRunText D.state D.sector_count D.failures M.gives
         (kept store.journal.device store.journal.header store.journal.compaction store.table store.failed) moments (W.contents writer.old) (W.contents writer.new))) }
-    ensures long { IsErrOf result RunFault.LineTooLong → IfSome (R.remaining reader.old) (IsRunText D.state
+    ensures long { IsErrOf result RunFault.LineTooLong → IfSome (S.remaining source.old) (IsRunText D.state
         D.sector_count D.failures M.gives
         (kept store.journal.device store.journal.header store.journal.compaction store.table store.failed) moments (W.contents writer.old) (W.contents writer.new)) }
 
-    // Also of a reader that does not tell its bytes: all lines that were read are answered. Where a write failed
+    // Also of a source that does not tell its bytes: all lines that were read are answered. Where a write failed
     // something that they call for is not written; where the hub refused a line the answers to those before it are.
-    ensures ended { RunEnds D.state D.sector_count D.failures M.gives result (R.remaining reader.old)
-        (R.remaining reader.new) (W.contents writer.old) (W.contents writer.new)
+    ensures ended { RunEnds D.state D.sector_count D.failures M.gives result (S.remaining source.old)
+        (S.remaining source.new) (W.contents writer.old) (W.contents writer.new)
         (kept store.journal.device store.journal.header store.journal.compaction store.table store.failed) moments }
-    ensures end { OnOk result (IsAtEnd (R.remaining reader.new)) }
+    ensures end { OnOk result (IsAtEnd (S.remaining source.new)) }
+    ensures cause { RunIsOfSource result (S.has_failed source.old) (S.has_failed source.new) }
 {
     let talk = match begin(alloc, store, moments) {
         Ok(talk) => talk,
         Err(fault) => return Err(RunFault::Hub(fault)),
     };
-    let (_, ended) = answer_lines(talk, reader, writer);
+    let (_, ended) = answer_lines(talk, source, writer);
     ended?;
     Ok(())
 }

@@ -1,7 +1,7 @@
 //! A chess game server: its words.
 #![tactic(auto)]
 
-use board_session::board;
+use board_session::{ReaderSource, board};
 use clap::Error;
 use server_words::{Word, read_words, words_given};
 use server_work::{
@@ -34,7 +34,7 @@ fn end_with(rt: &HostRuntime, error: &Error) -> End {
 // Does what a word asks for.
 fn do_work(rt: &HostRuntime, word: Word<'_>) -> Result<(), Fault> {
     match word {
-        Word::Board => match board(&mut rt.stdin(), &mut rt.stdout()) {
+        Word::Board => match board(&mut ReaderSource::new(rt.stdin()), &mut rt.stdout()) {
             Ok(()) => Ok(()),
             Err(fault) => Err(fault_of_board(fault)),
         },

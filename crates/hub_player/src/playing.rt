@@ -4,7 +4,7 @@ use crate::lines::{Ground, InputLine, Manner};
 use crate::streams::{Sink, Source};
 use chess_answer::Reply;
 use chess_hub::Hub;
-use chess_run::{ListMoments, run};
+use chess_run::{ListMoments, ReaderSource, run};
 use chess_store::Store;
 use rec_codec::{Limits, Version};
 use sector_dev::{CrashDevice, MemoryDevice};
@@ -132,7 +132,7 @@ impl Player {
         let store = store_on(self.alloc, &self.ground)?;
         let bytes = bytes_of(self.alloc, text)?;
         let moments = moments_of(self.alloc, moments)?;
-        let mut source = Source::new(&bytes, *reader);
+        let mut source = ReaderSource::new(Source::new(&bytes, *reader));
         let mut sink = Sink::new(self.alloc, *writer);
         let ended = run(
             self.alloc,

@@ -64,16 +64,6 @@ stands-kept Asked Answers before left later old new start s held ready h k = rec
   unfinished = h.unfinished;
 }
 
-pub stands-moved : {S : Type 0} (Asked : S → Type 0) (Answers : S → List ℕ → List ℕ → S → Type 0)
-    (before later old new also : Option (List ℕ)) (start s t : S) (held kept ready then : List ℕ) →
-    Stands Asked Answers before later old new start s held ready → new ≡ also → s ≡ t → held ≡ kept → ready ≡ then →
-    Stands Asked Answers before later old also start t kept then
-stands-moved {S = S} Asked Answers before later old new also start s t held kept ready then h e f k l =
-    subst (λ (x : List ℕ). Stands Asked Answers before later old also start t kept x) l
-    (subst (λ (x : List ℕ). Stands Asked Answers before later old also start t x ready) k
-    (subst (λ (x : S). Stands Asked Answers before later old also start x held ready) f
-    (subst (λ (x : Option (List ℕ)). Stands Asked Answers before later old x start s held ready) e h)))
-
 -- the reader gave nothing more
 pub stands-read : {S : Type 0} (Asked : S → Type 0) (Answers : S → List ℕ → List ℕ → S → Type 0)
     (before left later old new : Option (List ℕ)) (start s : S) (held ready : List ℕ) →

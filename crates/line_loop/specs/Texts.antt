@@ -102,6 +102,14 @@ pub record AnswersInPart {S F : Type 0} (Answers : S → List ℕ → List ℕ �
   pub some : 0 < length lost
   pub appended : Appends old new front
 
+-- `Read` comes exactly where the source failed; `before` and `after` say whether it has.
+abbrev pub IsOfSource : {F : Type 0} → Result (Unit {0}) (LoopFault F) → Bool → Bool → Type 0
+IsOfSource (Ok _) before after = after ≡ before
+IsOfSource (Err faults.Read) before after = after ≡ true
+IsOfSource (Err faults.Write) before after = after ≡ before
+IsOfSource (Err faults.LineTooLong) before after = after ≡ before
+IsOfSource (Err (faults.Unanswered fault)) before after = after ≡ before
+
 -- At `Ok` the reader has come to its end, and no line was too long.
 abbrev pub Ended : {S F : Type 0} → (S → List ℕ → List ℕ → S → Type 0) → (S → List ℕ → F → S → Type 0)
     → Result (Unit {0}) (LoopFault F) → Option (List ℕ) → Option (List ℕ) → Option (List ℕ) → Option (List ℕ) → S → S

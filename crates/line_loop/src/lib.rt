@@ -4,6 +4,8 @@
 mod answerer;
 mod loops;
 mod outlet;
+mod source;
 
 pub use answerer::{Answer, Answerer, LoopFault};
 pub use loops::answer_lines;
+pub use source::{LineSource, ReaderSource, SourceFault};

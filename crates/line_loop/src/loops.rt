@@ -1,15 +1,16 @@
-//! The loop over the lines of a reader.
+//! The loop over the lines of a source.
 ghost use Rattle.std.specs.Prelude.{ℕ, ◌≡◌, List, [], ◌∷◌, ◌++◌, IfSome, OnOk, IsErrOf};
 ghost use Rattle.std.specs.Io.KnownBytes.{Appends, IsAtEnd};
 ghost use Rattle.session_lines.specs.Lines.{HasNoFeed, IsUnfinished};
-ghost use Rattle.line_loop.specs.Texts.{IsText, Ended};
+ghost use Rattle.line_loop.specs.Texts.{IsText, IsOfSource, Ended};
 ghost use Rattle.line_loop.specs.Turns.{Takes};
 
 use crate::answerer::{Answer, Answerer, LoopFault};
 use crate::outlet::{Ready, WriteFault, hand_out, say, say_answer};
+use crate::source::{LineSource, SourceFault};
 use arrayvec::{ArrayString, ArrayVec};
 use session_lines::{LINE_ROOM, first_feed};
-use std::io::{ErrorKind, Read, Write};
+use std::io::Write;
 
 /// Whether more lines are answered.
 #[derive(Clone, Copy, Debug, PartialEq, Eq)]
@@ -164,21 +165,22 @@ fn answer_piece<A: Answerer, W: Write>(
 }
 
 // Takes all that comes, until a line is too long or finds no answer.
-fn answer_all<A: Answerer, R: Read, W: Write>(
+fn answer_all<A: Answerer, S: LineSource, W: Write>(
     session: &mut Session<A>,
-    reader: &mut R,
+    source: &mut S,
     writer: &mut W,
 ) -> Result<(), LoopFault<A::Fault>>
     requires asked { A.is_ready session.old.answerer }
     requires empty { session.old.line.items ≡ [] }
     requires nothing { session.old.ready.bytes ≡ [] }
-    ensures ended { Ended A.answers A.breaks result (R.remaining reader.old) (R.remaining reader.new)
+    ensures ended { Ended A.answers A.breaks result (S.remaining source.old) (S.remaining source.new)
         (W.contents writer.old) (W.contents writer.new) session.old.answerer session.new.answerer }
-    ensures end { OnOk result (IsAtEnd (R.remaining reader.new)) }
+    ensures end { OnOk result (IsAtEnd (S.remaining source.new)) }
+    ensures cause { IsOfSource result (S.has_failed source.old) (S.has_failed source.new) }
 {
     let mut piece = [0u8; PIECE_ROOM];
-    for _ in 0..u32::MAX {
-        match reader.read(&mut piece) {
+    loop {
+        match source.next_piece(&mut piece) {
             Ok(0) => return Ok(()),
             Ok(count) => match answer_piece(session, &piece[..count], writer) {
                 Ok(Flow::Open) => {}
@@ -186,43 +188,39 @@ fn answer_all<A: Answerer, R: Read, W: Write>(
                 Ok(Flow::Broken(fault)) => return Err(LoopFault::Unanswered(fault)),
                 Err(WriteFault) => return Err(LoopFault::Write),
             },
-            Err(error) => {
-                if error.kind() != ErrorKind::Interrupted {
-                    return Err(LoopFault::Read);
-                }
-            }
+            Err(SourceFault) => return Err(LoopFault::Read),
         }
     }
-    Err(LoopFault::Read)
 }
 
-/// Answers the lines of the reader on the writer until the reader ends, a line is too long or one finds no answer, and
-/// hands who answers back. A read takes a piece of at most 4,096 bytes; the answers to its lines are gathered and
-/// written once all are answered, before that only as often as they outgrow 65,536 bytes. Between the bytes of a line any
-/// number of reads may come; a rest without a line feed is no line. After a line that is too long the farewell is
-/// written. `Read` also after 4,294,967,295 reads.
-pub fn answer_lines<A: Answerer + Drop, R: Read, W: Write>(
+/// Answers the lines of the source on the writer until the source ends, a line is too long or one finds no answer, and
+/// hands who answers back. A piece has at most 4,096 bytes; the answers to its lines are gathered and written once all
+/// are answered, before that only as often as they outgrow 65,536 bytes. Between the bytes of a line any number of pieces
+/// may come; a rest without a line feed is no line. After a line that is too long the farewell is written. `Read` exactly
+/// where the source failed.
+pub fn answer_lines<A: Answerer + Drop, S: LineSource, W: Write>(
     answerer: A,
-    reader: &mut R,
+    source: &mut S,
     writer: &mut W,
 ) -> (A, Result<(), LoopFault<A::Fault>>)
     requires asked { A.is_ready answerer }
-    // Of a reader that tells its bytes: what is written is the text of the whole input.
-    ensures whole { OnOk result.1 (IfSome (R.remaining reader.old) (λ input. (text : List ℕ)
+    // Of a source that tells its bytes: what is written is the text of the whole input.
+    ensures whole { OnOk result.1 (IfSome (S.remaining source.old) (λ input. (text : List ℕ)
         × IsText A.answers answerer input text result.0 × Appends (W.contents writer.old) (W.contents writer.new) text)) }
-    ensures long { IsErrOf result.1 LoopFault.LineTooLong → IfSome (R.remaining reader.old) (λ input. (text : List ℕ)
+    ensures long { IsErrOf result.1 LoopFault.LineTooLong → IfSome (S.remaining source.old) (λ input. (text : List ℕ)
         × IsText A.answers answerer input text result.0 × Appends (W.contents writer.old) (W.contents writer.new) text) }
 
-    // Also of a reader that does not.
-    ensures ended { Ended A.answers A.breaks result.1 (R.remaining reader.old) (R.remaining reader.new)
+    // Also of a source that does not.
+    ensures ended { Ended A.answers A.breaks result.1 (S.remaining source.old) (S.remaining source.new)
         (W.contents writer.old) (W.contents writer.new) answerer result.0 }
-    ensures end { OnOk result.1 (IsAtEnd (R.remaining reader.new)) }
+    ensures end { OnOk result.1 (IsAtEnd (S.remaining source.new)) }
+    ensures cause { IsOfSource result.1 (S.has_failed source.old) (S.has_failed source.new) }
 {
     let mut session = Session {
         answerer,
         line: ArrayVec::new(),
         ready: Ready::new(),
     };
-    let ended = answer_all(&mut session, reader, writer);
+    let ended = answer_all(&mut session, source, writer);
     (session.answerer, ended)
 }

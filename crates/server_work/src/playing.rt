@@ -7,7 +7,7 @@ use crate::ends::{Fault, fault_of_run};
 use crate::journals::{open_journal, open_on};
 use crate::telling::{Found, Teller, Told};
 use chess_hub::Hub;
-use chess_run::{Moments, run};
+use chess_run::{Moments, ReaderSource, run};
 use chess_sockets::{Server, Turned};
 use chess_store::Store;
 use sector_dev::{Device, FileDevice};
@@ -33,7 +33,8 @@ where
     ensures { IfErr result IsRunFault }
 {
     let store = open_journal(rt, alloc, journal)?;
-    match run(alloc, input, output, store, SteadyClock::new(rt)) {
+    let mut source = ReaderSource::new(input);
+    match run(alloc, &mut source, output, store, SteadyClock::new(rt)) {
         Ok(()) => Ok(()),
         Err(fault) => Err(fault_of_run(fault)),
     }

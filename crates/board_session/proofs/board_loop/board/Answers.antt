@@ -5,13 +5,13 @@ use Rattle.board_session.proofs.board_loop.board.Goals as goal
 
 pub returns-in-Ok-clause-whole : goal.returns-in-Ok-clause-whole
 returns-in-Ok-clause-whole g c =
-    text-from (g.R.Read.remaining c.args.reader.now) (g.W.Write.contents c.args.writer.now)
+    text-from (g.S.LineSource.remaining c.args.source.now) (g.W.Write.contents c.args.writer.now)
     (g.W.Write.contents c.answer_lines-ended.new.writer) c.start-session.result c.answer_lines-ended.result.0
     c.start-session.ensures.initial (rw c.in-Ok.is at c.answer_lines-ended.ensures.whole)
 
 pub returns-in-Err-LineTooLong-clause-whole : goal.returns-in-Err-LineTooLong-clause-whole
 returns-in-Err-LineTooLong-clause-whole g c =
-    text-from (g.R.Read.remaining c.args.reader.now) (g.W.Write.contents c.args.writer.now)
+    text-from (g.S.LineSource.remaining c.args.source.now) (g.W.Write.contents c.args.writer.now)
     (g.W.Write.contents c.answer_lines-ended.new.writer) c.start-session.result c.answer_lines-ended.result.0
     c.start-session.ensures.initial
     (c.answer_lines-ended.ensures.long (c.in-Err-LineTooLong.is
@@ -19,44 +19,44 @@ returns-in-Err-LineTooLong-clause-whole g c =
 
 pub returns-in-Err-Read-clause-front : goal.returns-in-Err-Read-clause-front
 returns-in-Err-Read-clause-front g c =
-    front-all (g.R.Read.remaining c.args.reader.now) (g.R.Read.remaining c.answer_lines-ended.new.reader)
+    front-all (g.S.LineSource.remaining c.args.source.now) (g.S.LineSource.remaining c.answer_lines-ended.new.source)
     (g.W.Write.contents c.args.writer.now) (g.W.Write.contents c.answer_lines-ended.new.writer)
     c.answer_lines-ended.result.0
     (at-fault _ c.answer_lines-ended.result.1 c.in-Err-Read.field-0 loop.Read
-    (g.R.Read.remaining c.args.reader.now) (g.R.Read.remaining c.answer_lines-ended.new.reader)
+    (g.S.LineSource.remaining c.args.source.now) (g.S.LineSource.remaining c.answer_lines-ended.new.source)
     (g.W.Write.contents c.args.writer.now) (g.W.Write.contents c.answer_lines-ended.new.writer) c.start-session.result
     c.answer_lines-ended.result.0 c.in-Err-Read.is (rw c.in-Err-Read.is at c.in-Err-Read.field-0-is) c.start-session.ensures.initial
     c.answer_lines-ended.ensures.ended)
 
 pub returns-in-Err-Write-clause-front : goal.returns-in-Err-Write-clause-front
 returns-in-Err-Write-clause-front g c =
-    front-part (g.R.Read.remaining c.args.reader.now) (g.R.Read.remaining c.answer_lines-ended.new.reader)
+    front-part (g.S.LineSource.remaining c.args.source.now) (g.S.LineSource.remaining c.answer_lines-ended.new.source)
     (g.W.Write.contents c.args.writer.now) (g.W.Write.contents c.answer_lines-ended.new.writer)
     c.answer_lines-ended.result.0 _
     (at-fault _ c.answer_lines-ended.result.1 c.in-Err-Write.field-0 loop.Write
-    (g.R.Read.remaining c.args.reader.now) (g.R.Read.remaining c.answer_lines-ended.new.reader)
+    (g.S.LineSource.remaining c.args.source.now) (g.S.LineSource.remaining c.answer_lines-ended.new.source)
     (g.W.Write.contents c.args.writer.now) (g.W.Write.contents c.answer_lines-ended.new.writer) c.start-session.result
     c.answer_lines-ended.result.0 c.in-Err-Write.is (rw c.in-Err-Write.is at c.in-Err-Write.field-0-is) c.start-session.ensures.initial
     c.answer_lines-ended.ensures.ended)
 
 pub returns-in-Err-Write-clause-write : goal.returns-in-Err-Write-clause-write
 returns-in-Err-Write-clause-write g c =
-    λ _. taken-part (g.R.Read.remaining c.args.reader.now) (g.R.Read.remaining c.answer_lines-ended.new.reader)
+    λ _. taken-part (g.S.LineSource.remaining c.args.source.now) (g.S.LineSource.remaining c.answer_lines-ended.new.source)
     (g.W.Write.contents c.args.writer.now) (g.W.Write.contents c.answer_lines-ended.new.writer)
     c.answer_lines-ended.result.0 _
     (at-fault _ c.answer_lines-ended.result.1 c.in-Err-Write.field-0 loop.Write
-    (g.R.Read.remaining c.args.reader.now) (g.R.Read.remaining c.answer_lines-ended.new.reader)
+    (g.S.LineSource.remaining c.args.source.now) (g.S.LineSource.remaining c.answer_lines-ended.new.source)
     (g.W.Write.contents c.args.writer.now) (g.W.Write.contents c.answer_lines-ended.new.writer) c.start-session.result
     c.answer_lines-ended.result.0 c.in-Err-Write.is (rw c.in-Err-Write.is at c.in-Err-Write.field-0-is) c.start-session.ensures.initial
     c.answer_lines-ended.ensures.ended)
 
 pub returns-in-Err-LineTooLong-clause-answered : goal.returns-in-Err-LineTooLong-clause-answered
 returns-in-Err-LineTooLong-clause-answered g c =
-    taken-long (g.R.Read.remaining c.args.reader.now) (g.R.Read.remaining c.answer_lines-ended.new.reader)
+    taken-long (g.S.LineSource.remaining c.args.source.now) (g.S.LineSource.remaining c.answer_lines-ended.new.source)
     (g.W.Write.contents c.args.writer.now) (g.W.Write.contents c.answer_lines-ended.new.writer)
     c.answer_lines-ended.result.0
     (at-fault _ c.answer_lines-ended.result.1 c.in-Err-LineTooLong.field-0 loop.LineTooLong
-    (g.R.Read.remaining c.args.reader.now) (g.R.Read.remaining c.answer_lines-ended.new.reader)
+    (g.S.LineSource.remaining c.args.source.now) (g.S.LineSource.remaining c.answer_lines-ended.new.source)
     (g.W.Write.contents c.args.writer.now) (g.W.Write.contents c.answer_lines-ended.new.writer) c.start-session.result
     c.answer_lines-ended.result.0 c.in-Err-LineTooLong.is (rw c.in-Err-LineTooLong.is at c.in-Err-LineTooLong.field-0-is) c.start-session.ensures.initial
     c.answer_lines-ended.ensures.ended)

@@ -3,7 +3,7 @@ use Rattle.std.proofs.Common.{refl, inr}
 use Rattle.std.proofs.lemmas.Result.{err_from_is_err_and}
 use Rattle.chess_sessions.specs.Answers.{name_at}
 use Rattle.chess_run.specs.Running.{kept, stands}
-use Rattle.chess_run.proofs.RunLemmas.{whole-run, long-run, ended-ok, ended-err}
+use Rattle.chess_run.proofs.RunLemmas.{whole-run, long-run, ended-ok, ended-err, of_source}
 use Rattle.chess_run.proofs.running.run.Goals as goal
 
 pub returns-in-Err-clause-ended : goal.returns-in-Err-clause-ended
@@ -18,7 +18,7 @@ returns-in_err-ended-clause-long g c =
     (λ t. stands (kept t.hub.store.journal.device t.hub.store.journal.header t.hub.store.journal.compaction t.hub.store.table t.hub.store.failed) (name_at t.hub.sessions t.sid) t.moments)
     (kept first.journal.device first.journal.header first.journal.compaction first.table first.failed) c.args.moments
     c.in-Ok.ensures.begins c.answer_lines-ended.result.1 c.in_err-ended.field-0.0 c.from_residual.result e.0 (g.W.Write.contents c.args.writer.now)
-    (g.W.Write.contents c.answer_lines-ended.new.writer) (g.R.Read.remaining c.args.reader.now)
+    (g.W.Write.contents c.answer_lines-ended.new.writer) (g.S.LineSource.remaining c.args.source.now)
     c.in_err-ended.was e.1 e.2 c.answer_lines-ended.ensures.long
 
 pub returns-in_err-ended-clause-ended : goal.returns-in_err-ended-clause-ended
@@ -29,8 +29,8 @@ returns-in_err-ended-clause-ended g c =
     c.answer_lines-ended.result.0 c.in-Ok.talk
     (λ t. stands (kept t.hub.store.journal.device t.hub.store.journal.header t.hub.store.journal.compaction t.hub.store.table t.hub.store.failed) (name_at t.hub.sessions t.sid) t.moments)
     (kept first.journal.device first.journal.header first.journal.compaction first.table first.failed) c.args.moments
-    c.in-Ok.ensures.begins c.answer_lines-ended.result.1 c.in_err-ended.field-0.0 c.from_residual.result e.0 (g.R.Read.remaining c.args.reader.now)
-    (g.R.Read.remaining c.answer_lines-ended.new.reader) (g.W.Write.contents c.args.writer.now)
+    c.in-Ok.ensures.begins c.answer_lines-ended.result.1 c.in_err-ended.field-0.0 c.from_residual.result e.0 (g.S.LineSource.remaining c.args.source.now)
+    (g.S.LineSource.remaining c.answer_lines-ended.new.source) (g.W.Write.contents c.args.writer.now)
     (g.W.Write.contents c.answer_lines-ended.new.writer) c.in_err-ended.was e.1 e.2 c.answer_lines-ended.ensures.ended
 
 pub returns-clause-whole : goal.returns-clause-whole
@@ -41,7 +41,7 @@ returns-clause-whole g c =
     (λ t. stands (kept t.hub.store.journal.device t.hub.store.journal.header t.hub.store.journal.compaction t.hub.store.table t.hub.store.failed) (name_at t.hub.sessions t.sid) t.moments)
     (kept first.journal.device first.journal.header first.journal.compaction first.table first.failed) c.args.moments
     c.in-Ok.ensures.begins c.answer_lines-ended.result.1 tt (g.W.Write.contents c.args.writer.now) (g.W.Write.contents c.answer_lines-ended.new.writer)
-    (g.R.Read.remaining c.args.reader.now) c.in_ok-ended.was c.answer_lines-ended.ensures.whole
+    (g.S.LineSource.remaining c.args.source.now) c.in_ok-ended.was c.answer_lines-ended.ensures.whole
 
 pub returns-clause-ended : goal.returns-clause-ended
 returns-clause-ended g c =
@@ -50,5 +50,12 @@ returns-clause-ended g c =
     c.answer_lines-ended.result.0 c.in-Ok.talk
     (λ t. stands (kept t.hub.store.journal.device t.hub.store.journal.header t.hub.store.journal.compaction t.hub.store.table t.hub.store.failed) (name_at t.hub.sessions t.sid) t.moments)
     (kept first.journal.device first.journal.header first.journal.compaction first.table first.failed) c.args.moments
-    c.in-Ok.ensures.begins c.answer_lines-ended.result.1 tt (g.R.Read.remaining c.args.reader.now) (g.R.Read.remaining c.answer_lines-ended.new.reader)
+    c.in-Ok.ensures.begins c.answer_lines-ended.result.1 tt (g.S.LineSource.remaining c.args.source.now) (g.S.LineSource.remaining c.answer_lines-ended.new.source)
     (g.W.Write.contents c.args.writer.now) (g.W.Write.contents c.answer_lines-ended.new.writer) c.in_ok-ended.was c.answer_lines-ended.ensures.ended
+
+pub returns-in_err-ended-clause-cause : goal.returns-in_err-ended-clause-cause
+returns-in_err-ended-clause-cause g c =
+    let e = err_from_is_err_and c.from_residual.result c.from_residual.ensures.1 in
+    of_source c.answer_lines-ended.result.1 c.in_err-ended.field-0.0 c.from_residual.result e.0
+    (g.S.LineSource.has_failed c.args.source.now) (g.S.LineSource.has_failed c.answer_lines-ended.new.source)
+    c.in_err-ended.was e.1 e.2 c.answer_lines-ended.ensures.cause

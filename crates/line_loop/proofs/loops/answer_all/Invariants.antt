@@ -1,9 +1,15 @@
--- What was read so far, and what it wrote.
+-- What was read so far, and what it wrote; and how many pieces may still come.
+use Rattle.std.proofs.Common.{◌≡◌}
 use Rattle.line_loop.proofs.EndLemmas.{Stands}
 use Rattle.line_loop.proofs.loops.answer_all.Given as goal
 
-abbrev pub invariant-loop : goal.invariant-loop
-invariant-loop g l =
-    Stands g.A.Answerer.is_ready g.A.Answerer.answers (g.R.Read.remaining l.fn.reader) (g.R.Read.remaining l.reader)
-    (g.W.Write.contents l.fn.writer) (g.W.Write.contents l.writer) l.fn.session.answerer l.session.answerer
-    l.session.line.items l.session.ready.bytes
+abbrev pub invariant-loop-count : goal.invariant-loop-count
+invariant-loop-count g l = record {
+  stands : Stands g.A.Answerer.is_ready g.A.Answerer.answers (g.S.LineSource.remaining l.fn.source)
+      (g.S.LineSource.remaining l.source) (g.W.Write.contents l.fn.writer) (g.W.Write.contents l.writer)
+      l.fn.session.answerer l.session.answerer l.session.line.items l.session.ready.bytes;
+  works : g.S.LineSource.has_failed l.source ≡ g.S.LineSource.has_failed l.fn.source;
+}
+
+abbrev pub decreases-loop-count : goal.decreases-loop-count
+decreases-loop-count g l = g.S.LineSource.pieces_left l.source
