@@ -46,8 +46,8 @@ impl From<LoopFault<HubFault>> for RunFault {
 /// of at most 4,096 bytes, are gathered and written once all are answered, before that only as often as they outgrow
 /// 65,536 bytes. It ends where the source does; a rest without a line feed is no line.
 ///
-/// `LineTooLong`: a line was, and `bye LineTooLong` was written. `Read`: the source failed. `Write`: a write did. `Hub`: a line was refused memory, or the store refused it; the answers before it
-/// were written.
+/// `LineTooLong`: a line was, and `bye LineTooLong` was written. `Read`: the source failed. `Write`: a write did. `Hub`: a
+/// line was refused memory, or the store refused it; the answers before it were written.
 pub fn run<S: LineSource, W: Write, D: Device + Drop, M: Moments + Drop>(
     alloc: Global,
     source: &mut S,
@@ -57,10 +57,12 @@ pub fn run<S: LineSource, W: Write, D: Device + Drop, M: Moments + Drop>(
 ) -> Result<(), RunFault>
     // What is written is the text of what was read, and nothing else.
     ensures whole { OnOk result (IfSome (S.remaining source.old) (IsRunText D.state D.sector_count D.failures M.gives
-        (kept store.journal.device store.journal.header store.journal.compaction store.table store.failed) moments (W.contents writer.old) (W.contents writer.new))) }
+        (kept store.journal.device store.journal.header store.journal.compaction store.table store.failed) moments
+        (W.contents writer.old) (W.contents writer.new))) }
     ensures long { IsErrOf result RunFault.LineTooLong → IfSome (S.remaining source.old) (IsRunText D.state
         D.sector_count D.failures M.gives
-        (kept store.journal.device store.journal.header store.journal.compaction store.table store.failed) moments (W.contents writer.old) (W.contents writer.new)) }
+        (kept store.journal.device store.journal.header store.journal.compaction store.table store.failed) moments
+        (W.contents writer.old) (W.contents writer.new)) }
 
     // Also of a source that does not tell its bytes: all lines that were read are answered. Where a write failed
     // something that they call for is not written; where the hub refused a line the answers to those before it are.
