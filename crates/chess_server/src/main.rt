@@ -5,8 +5,8 @@ use board_session::board;
 use clap::Error;
 use server_words::{Word, read_words, words_given};
 use server_work::{
-    End, Fault, end_of_words, end_of_work, fault_of_board, format, name, run_journal, serve,
-    status, tell_drill, widen,
+    End, Fault, copy_journal, end_of_words, end_of_work, fault_of_board, format, name, run_journal,
+    serve, show_games, status, tell_drill, widen,
 };
 use std::process::ExitCode;
 
@@ -38,7 +38,7 @@ fn do_work(rt: &HostRuntime, word: Word<'_>) -> Result<(), Fault> {
             Ok(()) => Ok(()),
             Err(fault) => Err(fault_of_board(fault)),
         },
-        Word::Format(tables) => format(rt, rt.alloc(), &tables),
+        Word::Format(formatting) => format(rt, rt.alloc(), &formatting),
         Word::Run(journal) => {
             let (mut input, mut output) = (rt.stdin(), rt.stdout());
             run_journal(rt, rt.alloc(), journal, &mut input, &mut output)
@@ -46,5 +46,7 @@ fn do_work(rt: &HostRuntime, word: Word<'_>) -> Result<(), Fault> {
         Word::Serve(serving) => serve(rt, rt.alloc(), &serving),
         Word::Drill => tell_drill(rt, rt.alloc()),
         Word::Widen(tables) => widen(rt, rt.alloc(), &tables),
+        Word::Copy(copying) => copy_journal(rt, rt.alloc(), &copying),
+        Word::Show(journal) => show_games(rt, rt.alloc(), journal, &mut rt.stdout()),
     }
 }

@@ -1,6 +1,7 @@
 //! The command line: each word with its values and its help.
+use crate::version::VERSION;
 use clap::builder::ValueParser;
-use clap::{Arg, Command};
+use clap::{Arg, ArgAction, Command};
 use std::alloc::{AllocError, Global};
 
 const HELP_OF_BOARD: &str = "\
@@ -31,15 +32,18 @@ prints
 const HELP_OF_FORMAT: &str = "\
 It makes the file where it isn't there, lengthens it with zero bytes where it is
 shorter than the limits need, and prints ok format S, S being the sectors of 512
-bytes that they need. A longer file is not cut. A file in which a journal may
-stand already is left as it is: fault Exists.
+bytes that they need. A longer file is not cut.
+
+A file in which a journal may stand already is left as it is: fault Exists. So is
+one with a byte that is not zero among its first 1024, since it may be something
+else that is wanted; with --force it is made a journal all the same.
 
 Limits: 1 to 4096 games on the table at once, 1 to 20000 moves a game. They can be
 raised later by widen, never lowered.
 
 Exit status: 0; 1 with fault NAME on standard error: File (the file cannot be
-opened, made or lengthened, or another program has it open), Exists, Device (a
-read, a write or a sync failed), Write (the answer could not be printed); 2 for
+opened, read, made or lengthened, or another program has it open), Exists, Device
+(a read, a write or a sync failed), Write (the answer could not be printed); 2 for
 words that the program does not know.
 
 Example:
@@ -86,11 +90,15 @@ output, as docs/PROTOCOL.md tells. What is answered by ok or fallen lasts, but f
 name, which is the session's: it stands in the file before the answer is written.
 
   name NAME     who sends the lines that follow: 1 to 16 of A-Z a-z 0-9 _
-  open white INITIAL INCREMENT [FEN], join G, move G PLY TEXT, offer G, accept G,
-  decline G, resign G, claim G PLY three [TEXT], flag G, drop G, show G, fen G,
-  pgn G, list
+  open COLOUR TIME INCREMENT [FEN]
+                COLOUR is white or black; TIME is INITIAL, seconds for all moves,
+                or MOVES/INITIAL:SECOND, so many seconds more after so many moves
+  join G, move G PLY TEXT, offer G, accept G, decline G, resign G, flag G
+  claim G PLY three [TEXT], claim G PLY fifty [TEXT]
+  drop G, show G, fen G, pgn G, list
 
-Moments are those of the system's clock.
+TEXT names a move, as Nf3, Qh4#, g1f3 or e7e8q. Moments are those of the system's
+clock as it was at the start, and go on evenly from there.
 
 Limits: a line has at most 255 bytes before its line feed, a carriage return among
 them. A longer one is answered by bye LineTooLong, which ends the run. What follows
@@ -112,16 +120,24 @@ It listens on 127.0.0.1, prints port P with the port that it listens on, and ser
 each connection as a session over the journal, with the lines and answers of run: 64
 at a time. A further connection is closed at once.
 
-A turn accepts a connection, reads from each session, answers up to 64 lines and
-writes what can be written. After N turns serve ends; a turn that finds nothing to do
-takes 10 ms, so that 4294967295 of them are more than a year. What was answered by ok
-or fallen lasts, but for names, also where serve is killed.
+It goes on until it is ended: kill it, by any signal. What was answered by ok or
+fallen lasts, but for names. With --turns it ends after so many turns: a turn accepts
+a connection, reads from each session, answers up to 64 lines and writes what can be
+written, and one that finds nothing to do takes 10 ms.
+
+On standard error it tells what an operator wants to know, a line for each: how many
+games and entries the journal has and how long the opening took; by how much the clock
+is behind the last entry, where it is; and what the system said of a fault. With
+--quiet it tells none of these, but fault NAME.
 
 A line has at most 255 bytes before its line feed, a carriage return among them. A
 longer one is answered by bye LineTooLong, which closes the connection. Where a client
 sends no more its whole lines are still answered. Up to 16 lines of a client are taken
 at a time: the next once these are answered and it has taken the answers. With --idle
 a client is closed from which nothing came for S seconds and for which nothing waits.
+
+Moments are those of the system's clock as it was at the start, and go on evenly from
+there: a clock that is set while it runs changes nothing.
 
 Limits: P 0 to 65535, where 0 leaves the choice to the system; N and S 1 to 4294967295.
 
@@ -132,7 +148,7 @@ sync of the file failed), Worn, NoMemory, Write; 2 for words that the program do
 know.
 
 Example:
-  chess_server serve --journal club.journal --port 5001 --turns 4294967295
+  chess_server serve --journal club.journal --port 5001
 prints
   port 5001
 and then
@@ -141,12 +157,50 @@ prints
   ok name ann
   ok list 0";
 
-/// An argument of a word: `--NAME VALUE`.
-struct Argument {
+const HELP_OF_COPY: &str = "\
+It makes G a journal of the table that stands in F, also while a server plays in F: of
+that table at some moment between its start and its end. F is opened for reading only,
+and not locked. It prints ok copy S, S being the sectors of 512 bytes of G.
+
+G is made as format makes a file, and so is what may not be made of one: fault Exists.
+Where F is changed so fast that no copy comes about, it is fault Changing, and G is no
+journal.
+
+Exit status: 0; 1 with fault NAME on standard error: File (F isn't there, or G cannot
+be made), NotOurs (no journal stands in F), Damaged, TooSmall, Exists, Changing,
+Device (a read of F, or a write or a sync of G failed), Write; 2 for words that the
+program does not know.
+
+Example:
+  chess_server copy --journal club.journal --to copy.journal
+prints
+  ok copy 212";
+
+const HELP_OF_SHOW: &str = "\
+It writes the PGN of every game of the table, by rising number, each with an empty line
+behind it, as files of many games have it. It needs no server, and one may be at work:
+it shows the table at some moment between its start and its end. F is opened for
+reading only, and not locked, and no byte of it is changed.
+
+Exit status: 0; 1 with fault NAME on standard error: File (F isn't there), NotOurs (no
+journal stands in it), Damaged, TooSmall, Changing (it is changed so fast that it cannot
+be read), Device (a read of it failed), NoMemory, Write; 2 for words that the program
+does not know.
+
+Example:
+  chess_server show --journal club.journal >night.pgn";
+
+/// What an argument reads behind its name.
+struct Value {
     name: &'static str,
-    value_name: &'static str,
     is_required: bool,
     parser: ValueParser<'static>,
+}
+
+/// An argument of a word: `--NAME VALUE`, or `--NAME` alone where it has no value.
+struct Argument {
+    name: &'static str,
+    value: Option<Value>,
     help: &'static str,
 }
 
@@ -160,50 +214,84 @@ struct Entry {
 
 const JOURNAL: Argument = Argument {
     name: "journal",
-    value_name: "F",
-    is_required: true,
-    parser: ValueParser::String,
+    value: Some(Value {
+        name: "F",
+        is_required: true,
+        parser: ValueParser::String,
+    }),
     help: "The journal's file",
+};
+
+const TO: Argument = Argument {
+    name: "to",
+    value: Some(Value {
+        name: "G",
+        is_required: true,
+        parser: ValueParser::String,
+    }),
+    help: "The file that is to be the copy",
 };
 
 const GAMES: Argument = Argument {
     name: "games",
-    value_name: "G",
-    is_required: true,
-    parser: ValueParser::Unsigned(1, 4_096),
+    value: Some(Value {
+        name: "G",
+        is_required: true,
+        parser: ValueParser::Unsigned(1, 4_096),
+    }),
     help: "How many games the table holds, 1 to 4096",
 };
 
 const PLIES: Argument = Argument {
     name: "plies",
-    value_name: "P",
-    is_required: true,
-    parser: ValueParser::Unsigned(1, 20_000),
+    value: Some(Value {
+        name: "P",
+        is_required: true,
+        parser: ValueParser::Unsigned(1, 20_000),
+    }),
     help: "How many moves a game may have, 1 to 20000",
 };
 
 const PORT: Argument = Argument {
     name: "port",
-    value_name: "P",
-    is_required: true,
-    parser: ValueParser::Unsigned(0, 65_535),
+    value: Some(Value {
+        name: "P",
+        is_required: true,
+        parser: ValueParser::Unsigned(0, 65_535),
+    }),
     help: "The port on 127.0.0.1, 0 to 65535; 0 leaves the choice to the system",
 };
 
 const TURNS: Argument = Argument {
     name: "turns",
-    value_name: "N",
-    is_required: true,
-    parser: ValueParser::Unsigned(1, 4_294_967_295),
-    help: "After how many turns it ends, 1 to 4294967295",
+    value: Some(Value {
+        name: "N",
+        is_required: false,
+        parser: ValueParser::Unsigned(1, 4_294_967_295),
+    }),
+    help: "After how many turns it ends, 1 to 4294967295; without it, it goes on",
 };
 
 const IDLE: Argument = Argument {
     name: "idle",
-    value_name: "S",
-    is_required: false,
-    parser: ValueParser::Unsigned(1, 4_294_967_295),
+    value: Some(Value {
+        name: "S",
+        is_required: false,
+        parser: ValueParser::Unsigned(1, 4_294_967_295),
+    }),
     help: "After how many seconds of silence a client is closed, 1 to 4294967295",
+};
+
+const FORCE: Argument = Argument {
+    name: "force",
+    value: None,
+    help: "Also a file that has other bytes than zeros at its front, and is no journal",
+};
+
+const QUIET: Argument = Argument {
+    name: "quiet",
+    value: None,
+    help: "Tells nothing on standard error but fault NAME",
 };
 
 /// The words, in the order in which help lists them.
@@ -218,7 +306,7 @@ const WORDS: &[Entry] = &[
         name: "format",
         about: "Makes a file a journal without games",
         help: HELP_OF_FORMAT,
-        arguments: &[JOURNAL, GAMES, PLIES],
+        arguments: &[JOURNAL, GAMES, PLIES, FORCE],
     },
     Entry {
         name: "run",
@@ -230,7 +318,7 @@ const WORDS: &[Entry] = &[
         name: "serve",
         about: "Serves players on a port, over the games of a journal",
         help: HELP_OF_SERVE,
-        arguments: &[JOURNAL, PORT, TURNS, IDLE],
+        arguments: &[JOURNAL, PORT, TURNS, IDLE, QUIET],
     },
     Entry {
         name: "drill",
@@ -244,15 +332,31 @@ const WORDS: &[Entry] = &[
         help: HELP_OF_WIDEN,
         arguments: &[JOURNAL, GAMES, PLIES],
     },
+    Entry {
+        name: "copy",
+        about: "Copies a journal, also one in which a server plays",
+        help: HELP_OF_COPY,
+        arguments: &[JOURNAL, TO],
+    },
+    Entry {
+        name: "show",
+        about: "Writes the PGN of every game of a journal",
+        help: HELP_OF_SHOW,
+        arguments: &[JOURNAL],
+    },
 ];
 
 fn arg_of<'a>(alloc: Global, argument: &Argument) -> Arg<'a> {
-    Arg::new(alloc, argument.name)
+    let arg = Arg::new(alloc, argument.name)
         .long(argument.name)
-        .value_name(argument.value_name)
-        .required(argument.is_required)
-        .value_parser(argument.parser)
-        .help(argument.help)
+        .help(argument.help);
+    match &argument.value {
+        Some(value) => arg
+            .value_name(value.name)
+            .required(value.is_required)
+            .value_parser(value.parser),
+        None => arg.action(ArgAction::SetTrue),
+    }
 }
 
 fn args_of<'a>(alloc: Global, arguments: &[Argument]) -> Result<Vec<Arg<'a>>, AllocError> {
@@ -285,6 +389,7 @@ pub fn command_line<'a>(alloc: Global) -> Result<Command<'a>, AllocError> {
     let commands = commands(alloc)?;
     Command::new(alloc, "chess_server")
         .about("A chess game server whose games last. Each word has its own --help.")
+        .version(VERSION)
         .subcommand_required(true)
         .subcommands(commands)
 }

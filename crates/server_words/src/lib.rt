@@ -4,6 +4,8 @@
 mod command_line;
 #[cfg(test)]
 mod tests;
+mod version;
 mod words;
 
-pub use words::{Serving, Tables, Word, read_words, words_given};
+pub use version::VERSION;
+pub use words::{Copying, Formatting, Serving, Tables, Word, read_words, words_given};

@@ -16,7 +16,7 @@ pub enum Word<'a> {
     /// To answer the lines of standard input on standard output, over one board in memory.
     Board,
     /// To make a file a journal of the empty table.
-    Format(Tables<'a>),
+    Format(Formatting<'a>),
     /// To answer the lines of standard input on standard output, over the games of a journal's file.
     Run(&'a str),
     /// To serve players on a port.
@@ -25,6 +25,10 @@ pub enum Word<'a> {
     Drill,
     /// To raise the limits of a journal's table.
     Widen(Tables<'a>),
+    /// To copy a journal.
+    Copy(Copying<'a>),
+    /// To write the games of a journal's file.
+    Show(&'a str),
 }
 
 /// A journal's file, and the limits that its table is to have.
@@ -35,15 +39,31 @@ pub struct Tables<'a> {
     ghost in_range: { IsInRange Two limits },
 }
 
-/// A journal's file, the port on which its games are played, after how many turns the serving ends, and how long a client
-/// may be silent.
+/// The file that is to be a journal, with its limits, and whether one that holds something else may be made one.
+#[derive(Clone, Copy)]
+pub struct Formatting<'a> {
+    pub tables: Tables<'a>,
+    pub is_forced: bool,
+}
+
+/// A journal's file, and that of its copy.
+#[derive(Clone, Copy)]
+pub struct Copying<'a> {
+    pub journal: &'a str,
+    pub copy: &'a str,
+}
+
+/// A journal's file, the port on which its games are played, and how.
 #[derive(Clone, Copy)]
 pub struct Serving<'a> {
     pub journal: &'a str,
     pub port: u16,
-    pub turns: u32,
+    /// After how many turns the serving ends, if it is to end.
+    pub turns: Option<u32>,
     /// For how many milliseconds a client may be silent.
     pub silence: Option<u64>,
+    /// Whether the operator is told nothing but a fault's name.
+    pub is_quiet: bool,
 }
 
 /// Reads the words, the program's own name first. An `Err` is a usage fault, or a request for help.
@@ -64,11 +84,13 @@ fn word_given<'a>(command: &mut Command<'a>, words: &'a [String]) -> Result<Word
 fn word_of<'a>((word, values): (&'a str, &ArgMatches<'a>)) -> Option<Word<'a>> {
     match word {
         "board" => Some(Word::Board),
-        "format" => Some(Word::Format(tables_of(values)?)),
+        "format" => Some(Word::Format(formatting_of(values)?)),
         "run" => Some(Word::Run(values.get_str("journal")?)),
         "serve" => Some(Word::Serve(serving_of(values)?)),
         "drill" => Some(Word::Drill),
         "widen" => Some(Word::Widen(tables_of(values)?)),
+        "copy" => Some(Word::Copy(copying_of(values)?)),
+        "show" => Some(Word::Show(values.get_str("journal")?)),
         _ => None,
     }
 }
@@ -86,12 +108,27 @@ fn tables_of<'a>(values: &ArgMatches<'a>) -> Option<Tables<'a>> {
     }
 }
 
+fn formatting_of<'a>(values: &ArgMatches<'a>) -> Option<Formatting<'a>> {
+    Some(Formatting {
+        tables: tables_of(values)?,
+        is_forced: values.get_flag("force"),
+    })
+}
+
+fn copying_of<'a>(values: &ArgMatches<'a>) -> Option<Copying<'a>> {
+    Some(Copying {
+        journal: values.get_str("journal")?,
+        copy: values.get_str("to")?,
+    })
+}
+
 fn serving_of<'a>(values: &ArgMatches<'a>) -> Option<Serving<'a>> {
     Some(Serving {
         journal: values.get_str("journal")?,
         port: values.get_one("port")?,
-        turns: values.get_one("turns")?,
+        turns: values.get_one("turns"),
         silence: silence_of(values),
+        is_quiet: values.get_flag("quiet"),
     })
 }
 

@@ -8,10 +8,12 @@ use Rattle.chess_run.specs.declared.running.RunFault.{RunFault}
 use Rattle.chess_run.specs.declared.running.RunFault.TheVariants as run
 use Rattle.board_session.specs.declared.board_loop.BoardFault.{BoardFault}
 use Rattle.board_session.specs.declared.board_loop.BoardFault.TheVariants as board
+use Rattle.journal_copy.specs.declared.fault.CopyFault.{CopyFault}
+use Rattle.journal_copy.specs.declared.fault.CopyFault.TheVariants as copy
 use Rattle.server_work.specs.declared.ends.End.{End}
 use Rattle.server_work.specs.declared.ends.End.TheVariants as ends
 use Rattle.server_work.specs.declared.ends.Fault.{Fault}
-use Rattle.server_work.specs.declared.ends.Fault.TheVariants.{File, Read, Write, Limits, Socket, LineTooLong, Store, Hub}
+use Rattle.server_work.specs.declared.ends.Fault.TheVariants.{File, Read, Write, Limits, Socket, LineTooLong, Changing, Store, Hub}
 use Rattle.server_work.specs.declared.ends.Fault.TheVariants as faults
 
 -- the exit status: 1 after a fault, 2 for words that the program does not know
@@ -46,6 +48,7 @@ name_of Write = codes "Write"
 name_of Limits = codes "Limits"
 name_of Socket = codes "Socket"
 name_of LineTooLong = codes "LineTooLong"
+name_of Changing = codes "Changing"
 name_of faults.NoMemory = codes "NoMemory"
 name_of (Store fault) = name_of_store fault
 name_of (Hub fault) = name_of_hub fault
@@ -61,6 +64,13 @@ of_run run.Read = Read
 of_run run.Write = Write
 of_run run.LineTooLong = LineTooLong
 of_run (run.Hub fault) = Hub fault
+
+-- what a fault of reading a journal is to the program
+abbrev pub of_copy : CopyFault → Fault
+of_copy copy.NotOurs = Store NotOurs
+of_copy copy.Damaged = Store Damaged
+of_copy copy.TooSmall = Store TooSmall
+of_copy copy.Device = Store (Device 0)
 
 -- the end that the result of a word's work is
 abbrev pub end_of : Result (Unit {0}) Fault → End

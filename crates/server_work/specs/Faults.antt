@@ -20,6 +20,29 @@ IsFormatFault faults.Write = ⊤
 IsFormatFault (faults.Store fault) = store.IsCreateFault fault
 IsFormatFault _ = ⊥
 
+-- of reading a journal without its lock
+abbrev pub IsReadingFault : Fault → Type 0
+IsReadingFault faults.Changing = ⊤
+IsReadingFault (faults.Store fault) = store.IsOpenFault fault
+IsReadingFault _ = ⊥
+
+-- of `copy`: it reads the one journal, and makes the other
+abbrev pub IsCopyFault : Fault → Type 0
+IsCopyFault faults.File = ⊤
+IsCopyFault faults.Write = ⊤
+IsCopyFault faults.Changing = ⊤
+IsCopyFault (faults.Store fault) = store.IsOpenFault fault ⊎ store.IsCreateFault fault
+IsCopyFault _ = ⊥
+
+-- of `show`
+abbrev pub IsShowFault : Fault → Type 0
+IsShowFault faults.File = ⊤
+IsShowFault faults.Write = ⊤
+IsShowFault faults.Changing = ⊤
+IsShowFault faults.NoMemory = ⊤
+IsShowFault (faults.Store fault) = store.IsOpenFault fault
+IsShowFault _ = ⊥
+
 -- of `widen`: it opens the journal, and then widens its table
 abbrev pub IsWidenFault : Fault → Type 0
 IsWidenFault faults.File = ⊤

@@ -1,7 +1,7 @@
 //! How a run of the program ends: its exit status, and what is told of a fault.
 ghost use Rattle.std.specs.Prelude.{◌≡◌, ◌≢◌};
 ghost use Rattle.clap.specs.Values.{kind_of};
-ghost use Rattle.server_work.specs.End.{end_of, name_of, name_of_hub, name_of_store, of_board, of_run, status_of};
+ghost use Rattle.server_work.specs.End.{end_of, name_of, name_of_hub, name_of_store, of_board, of_copy, of_run, status_of};
 
 use board_session::BoardFault;
 use chess_hub::HubFault;
@@ -9,6 +9,7 @@ use chess_run::RunFault;
 use chess_store::StoreFault;
 use clap::Error;
 use clap::error::ErrorKind;
+use journal_copy::CopyFault;
 
 /// What can break a run off.
 #[derive(Clone, Copy, Debug, PartialEq, Eq)]
@@ -25,7 +26,9 @@ pub enum Fault {
     Socket,
     /// A line of the input was too long, and its farewell is written.
     LineTooLong,
-    /// Memory was refused while the words of the command line were read.
+    /// The journal that is read without a lock changed too fast.
+    Changing,
+    /// Memory was refused while the words of the command line were read, or for a text.
     NoMemory,
     /// The store refused.
     Store(StoreFault),
@@ -92,6 +95,7 @@ pub fn name(fault: Fault) -> &'static str
         Fault::Limits => "Limits",
         Fault::Socket => "Socket",
         Fault::LineTooLong => "LineTooLong",
+        Fault::Changing => "Changing",
         Fault::NoMemory => "NoMemory",
         Fault::Store(fault) => store_name(fault),
         Fault::Hub(fault) => hub_name(fault),
@@ -120,6 +124,18 @@ pub fn fault_of_run(fault: RunFault) -> Fault
     }
 }
 
+/// What a fault of reading a journal without its lock is to the program.
+pub fn fault_of_copy(fault: CopyFault) -> Fault
+    ensures { result ≡ of_copy fault }
+{
+    Fault::Store(match fault {
+        CopyFault::NotOurs => StoreFault::NotOurs,
+        CopyFault::Damaged => StoreFault::Damaged,
+        CopyFault::TooSmall => StoreFault::TooSmall,
+        CopyFault::Device => StoreFault::Device { pending: 0 },
+    })
+}
+
 /// The end of a word's work.
 pub fn end_of_work(ended: Result<(), Fault>) -> End
     ensures { result ≡ end_of ended }
@@ -130,10 +146,11 @@ pub fn end_of_work(ended: Result<(), Fault>) -> End
     }
 }
 
-/// The end of a run that only prints a text of the command line: help that was asked for is no fault, want of memory is
-/// one, and anything else is usage.
+/// The end of a run that only prints a text of the command line: help or the version that was asked for is no fault, want
+/// of memory is one, and anything else is usage.
 pub fn end_of_words(error: &Error) -> End
     ensures help { kind_of error.now ≡ ErrorKind.DisplayHelp → result ≡ End.Done }
+    ensures version { kind_of error.now ≡ ErrorKind.DisplayVersion → result ≡ End.Done }
     ensures memory { kind_of error.now ≡ ErrorKind.OutOfMemory → result ≡ End.Fault Fault.NoMemory }
     ensures usage { kind_of error.now ≢ ErrorKind.DisplayHelp → kind_of error.now ≢ ErrorKind.DisplayVersion →
         kind_of error.now ≢ ErrorKind.OutOfMemory → result ≡ End.Usage }

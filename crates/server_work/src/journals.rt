@@ -1,5 +1,5 @@
 //! The words that make a journal and widen it.
-ghost use Rattle.std.specs.Prelude.{◌≡◌, ◌≤◌, ◌↔◌, IsTrue, IfErr, IsErrOf};
+ghost use Rattle.std.specs.Prelude.{◌≡◌, ◌≤◌, ◌↔◌, All, take, IsTrue, IfSome, IfOk, IfErr, IsErrOf};
 ghost use Rattle.rec_codec.specs.declared.limits.Version.TheVariants.{Two};
 ghost use Rattle.rec_codec.specs.Limits.{IsInRange};
 ghost use Rattle.server_work.specs.Faults.{IsFormatFault, IsOpenFault, IsWidenFault, MayWiden};
@@ -8,13 +8,16 @@ use crate::ends::Fault;
 use chess_store::{Store, StoreFault};
 use rec_codec::{Limits, need};
 use sector_dev::{Device, FileDevice};
-use server_words::Tables;
+use server_words::{Formatting, Tables};
 use std::alloc::Global;
-use std::fs::File;
+use std::fs::{File, FileType};
+use std::io::Read;
+use std::os::unix::fs::FileTypeExt;
 use std::rt::Files;
+use std::{fs, io};
 
-// Prints what a word did, and how many sectors the limits need.
-fn tell(rt: &impl Print, word: &str, sectors: u32) -> Result<(), Fault>
+/// Prints what a word did, and how many sectors the limits need.
+pub(crate) fn tell(rt: &impl Print, word: &str, sectors: u32) -> Result<(), Fault>
     ensures { IfErr result (λ fault. fault ≡ Fault.Write) }
 {
     match println!(rt; "ok {word} {sectors}") {
@@ -98,14 +101,62 @@ fn may_lengthen<R: Files<File = File>>(
     }
 }
 
-/// Makes a file a journal of the empty table within the limits, and prints `ok format S`, S being their need.
-pub fn format<R: Files<File = File> + Print>(
+// So many bytes has the front of a file that is not to be made a journal unasked: those of the two header slots.
+const FRONT: u64 = 1_024;
+
+// Whether what a reader gives begins with zeros alone.
+fn is_blank<R: Read + Drop>(alloc: Global, reader: R) -> io::Result<bool>
+    ensures { IfSome (R.remaining reader) (λ bytes.
+        IfOk result (λ blank. IsTrue blank ↔ All (λ b. b ≡ 0) (take 1024 bytes))) }
+{
+    let mut front = Vec::new(alloc);
+    reader.take(FRONT).read_to_end(&mut front)?;
+    Ok(front.iter().all(|byte| *byte == 0))
+}
+
+// Whether a file may hold bytes at all, so that a read of it comes to an end.
+fn holds_bytes(file_type: FileType) -> bool {
+    file_type.is_file() || file_type.is_block_device()
+}
+
+/// Whether a file may be made a journal unasked: not where it has a byte that is not zero at its front. Nothing of it
+/// changes.
+pub(crate) fn may_overwrite<R: Files<File = File>>(
     rt: &R,
     alloc: Global,
-    tables: &Tables<'_>,
+    path: &str,
 ) -> Result<(), Fault>
     ensures { IfErr result IsFormatFault }
 {
+    // What is not there, or cannot be looked at, is the system's to tell of, at the next call.
+    match fs::metadata(rt, path) {
+        Ok(found) if holds_bytes(found.file_type()) => {}
+        _ => return Ok(()),
+    }
+    let Ok(file) = File::open(rt, path) else {
+        return Ok(());
+    };
+    match is_blank(alloc, file) {
+        Ok(true) => Ok(()),
+        Ok(false) => Err(Fault::Store(StoreFault::Exists)),
+        Err(_) => Err(Fault::File),
+    }
+}
+
+/// Makes a file a journal of the empty table within the limits, and prints `ok format S`, S being their need. `Exists`
+/// where a journal may stand in it, or, unless that is to be overwritten, anything else but zeros: nothing of it has
+/// changed.
+pub fn format<R: Files<File = File> + Print>(
+    rt: &R,
+    alloc: Global,
+    formatting: &Formatting<'_>,
+) -> Result<(), Fault>
+    ensures { IfErr result IsFormatFault }
+{
+    let tables = &formatting.tables;
+    if !formatting.is_forced {
+        may_overwrite(rt, alloc, tables.journal)?;
+    }
     may_lengthen(rt, alloc, tables)?;
     create_on(alloc, make_device(rt, tables)?, tables.limits)?;
     tell(rt, "format", need(tables.limits))

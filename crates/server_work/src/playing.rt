@@ -1,47 +1,26 @@
 //! The words that play in a journal.
 ghost use Rattle.std.specs.Prelude.{◌≡◌, IfErr};
-ghost use Rattle.server_work.specs.Faults.{IsRunFault, IsServeFault};
+ghost use Rattle.server_work.specs.Faults.{IsOpenFault, IsRunFault, IsServeFault};
 
+use crate::clock::{SteadyClock, milliseconds_since};
 use crate::ends::{Fault, fault_of_run};
 use crate::journals::open_journal;
+use crate::telling::{Found, Teller};
 use chess_hub::Hub;
 use chess_run::{Moments, run};
 use chess_sockets::{Server, Turned};
 use chess_store::Store;
-use sector_dev::Device;
+use sector_dev::{Device, FileDevice};
 use server_words::Serving;
 use std::alloc::Global;
 use std::fs::File;
 use std::io::{Read, Write};
 use std::net::{Net, TcpListener, TcpStream};
 use std::rt::{Clock, Files};
+use std::time::Instant;
 
-// The moment by the system's clock, in milliseconds since 1970; 0 before, and where it cannot be read.
-fn moment(clock: &impl Clock) -> u64 {
-    match clock.since_1970() {
-        Ok(time) => u64::try_from(time.as_millis()).unwrap_or(u64::MAX),
-        Err(_) => 0,
-    }
-}
-
-/// The moments of the system's clock.
-#[derive(Drop)]
-struct Clocked<'a, R> {
-    clock: &'a R,
-}
-
-impl<R: Clock> Moments for Clocked<'_, R> {
-    ghost use Rattle.std.specs.Prelude.{⊤};
-
-    // The clock promises nothing.
-    ghost gives = { λ _ _ _. ⊤ };
-
-    fn next(&mut self) -> u64 {
-        moment(self.clock)
-    }
-}
-
-/// Answers the lines of a reader on a writer, over the games of a journal's file, at the moments of the system's clock.
+/// Answers the lines of a reader on a writer, over the games of a journal's file, at the moments of the system's clock as
+/// it was at the start, which goes on evenly.
 pub fn run_journal<R, I: Read, O: Write>(
     rt: &R,
     alloc: Global,
@@ -54,7 +33,7 @@ where
     ensures { IfErr result IsRunFault }
 {
     let store = open_journal(rt, alloc, journal)?;
-    match run(alloc, input, output, store, Clocked { clock: rt }) {
+    match run(alloc, input, output, store, SteadyClock::new(rt)) {
         Ok(()) => Ok(()),
         Err(fault) => Err(fault_of_run(fault)),
     }
@@ -70,17 +49,16 @@ fn tell_port(rt: &impl Print, port: u16) -> Result<(), Fault>
     }
 }
 
-// Prints the port of a server, and takes its turns.
-fn take_turns<R: Clock + Print, D: Device>(
-    rt: &R,
+// Takes the turns of a server: so many, or as many as 64 bits count.
+fn take_turns<R: Clock, D: Device>(
+    clock: &mut SteadyClock<'_, R>,
     server: &mut Server<D>,
-    turns: u32,
+    turns: Option<u32>,
 ) -> Result<(), Fault>
     ensures { IfErr result IsServeFault }
 {
-    tell_port(rt, server.port())?;
-    for _ in 0..turns {
-        match server.turn(moment(rt)) {
+    for _ in 0..turns.map_or(u64::MAX, u64::from) {
+        match server.turn(clock.next()) {
             Ok(Turned::Worked) => {}
             Ok(Turned::Idle) => server.rest(),
             Err(fault) => return Err(Fault::Hub(fault)),
@@ -89,31 +67,79 @@ fn take_turns<R: Clock + Print, D: Device>(
     Ok(())
 }
 
+// The store in a file that is there. What the system said where there is none is told.
+fn open_told<R: Files<File = File> + Eprint>(
+    rt: &R,
+    alloc: Global,
+    teller: &Teller<'_, R>,
+    journal: &str,
+) -> Result<Store<FileDevice>, Fault>
+    ensures { IfErr result IsOpenFault }
+{
+    let device = match FileDevice::open(rt, journal) {
+        Ok(device) => device,
+        Err(error) => {
+            teller.file_failed(journal, &error);
+            return Err(Fault::File);
+        }
+    };
+    match Store::open(alloc, device) {
+        Ok(store) => Ok(store),
+        Err(refused) => {
+            teller.device_failed(journal, refused.device.last_error());
+            Err(Fault::Store(refused.fault))
+        }
+    }
+}
+
+// What a store had when it was opened.
+fn found_in<D: Device>(store: &Store<D>, took: u64) -> Option<Found> {
+    let table = store.table().ok()?;
+    Some(Found::of(table, took))
+}
+
 // Serves players on a port, over the games of a store.
 fn serve_store<R, D: Device + Drop>(
     rt: &R,
     alloc: Global,
+    teller: &Teller<'_, R>,
     serving: &Serving<'_>,
     store: Store<D>,
+    took: u64,
 ) -> Result<(), Fault>
 where
-    R: Clock + Print + Net<Listener = TcpListener, Stream = TcpStream>,
+    R: Clock + Print + Eprint + Net<Listener = TcpListener, Stream = TcpStream>,
     ensures { IfErr result IsServeFault }
 {
+    let found = found_in(&store, took);
     let hub = Hub::new(alloc, store);
-    match Server::bind(rt, alloc, serving.port, serving.silence, hub) {
-        Ok(mut server) => take_turns(rt, &mut server, serving.turns),
-        Err(_) => Err(Fault::Socket),
+    let mut server = match Server::bind(rt, alloc, serving.port, serving.silence, hub) {
+        Ok(server) => server,
+        Err(_) => return Err(Fault::Socket),
+    };
+    tell_port(rt, server.port())?;
+    let mut clock = SteadyClock::new(rt);
+    if let Some(found) = found {
+        teller.serves(server.port(), found, clock.next());
     }
+    take_turns(&mut clock, &mut server, serving.turns)
 }
 
 /// Serves players on a port, over the games of a journal's file, and first prints `port P`, P being the port that it
-/// listens on. Where a turn found nothing to do it waits until a socket is ready or 10 ms have passed.
+/// listens on. Where a turn found nothing to do it waits until a socket is ready or 10 ms have passed. Its moments are
+/// those of the system's clock as it was at the start, which goes on evenly.
 pub fn serve<R>(rt: &R, alloc: Global, serving: &Serving<'_>) -> Result<(), Fault>
 where
-    R: Files<File = File> + Clock + Print + Net<Listener = TcpListener, Stream = TcpStream>,
+    R: Files<File = File>
+        + Clock
+        + Print
+        + Eprint
+        + Net<Listener = TcpListener, Stream = TcpStream>,
     ensures { IfErr result IsServeFault }
 {
-    let store = open_journal(rt, alloc, serving.journal)?;
-    serve_store(rt, alloc, serving, store)
+    let teller = Teller::new(rt, serving.is_quiet);
+    let begun = Instant::now(rt).ok();
+    let store = open_told(rt, alloc, &teller, serving.journal)?;
+    let took = milliseconds_since(rt, begun);
+    serve_store(rt, alloc, &teller, serving, store, took)
 }

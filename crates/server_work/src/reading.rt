@@ -1,0 +1,193 @@
+//! The words that read a journal in which somebody may play: they take no lock and write nothing to it.
+ghost use Rattle.std.specs.Prelude.{◌≡◌, length, string_bytes, IfOk, IfErr, OnOk};
+ghost use Rattle.server_work.specs.Faults.{IsCopyFault, IsReadingFault, IsShowFault};
+ghost use Rattle.server_work.specs.Games.{IsGameInFile, WritesGame, WritesGames};
+
+use crate::ends::{Fault, fault_of_copy};
+use crate::journals::{may_overwrite, tell};
+use crate::telling::Teller;
+use chess_answer::{Reply, pgn_reply};
+use chess_game::Game;
+use chess_store::Store;
+use chess_table::Table;
+use journal_copy::{Copied, FileSource, copy, header_in_force};
+use rec_codec::Header;
+use sector_dev::{CrashDevice, Device, FileDevice, MemoryDevice};
+use server_words::Copying;
+use std::alloc::{AllocError, Global};
+use std::fs::File;
+use std::io::Write;
+use std::rt::Files;
+
+/// How often a copy is begun.
+const TRIES: u32 = 100;
+
+// The file of a journal that is read.
+fn open_source<R: Files<File = File> + Eprint>(
+    rt: &R,
+    teller: &Teller<'_, R>,
+    journal: &str,
+) -> Result<FileSource, Fault>
+    ensures { IfErr result (λ fault. fault ≡ Fault.File) }
+{
+    match FileSource::open(rt, journal) {
+        Ok(source) => Ok(source),
+        Err(error) => {
+            teller.file_failed(journal, &error);
+            Err(Fault::File)
+        }
+    }
+}
+
+// The header that is in force in a file.
+fn header_of(source: &mut FileSource) -> Result<Header, Fault>
+    ensures { IfErr result IsReadingFault }
+{
+    match header_in_force(source) {
+        Ok(header) => Ok(header),
+        Err(fault) => Err(fault_of_copy(fault)),
+    }
+}
+
+// Copies what a file holds onto a device that holds no journal.
+fn copy_onto<D: Device>(source: &mut FileSource, target: &mut D) -> Result<(), Fault>
+    ensures { IfErr result IsReadingFault }
+{
+    match copy(source, target, TRIES) {
+        Ok(Copied::Whole) => Ok(()),
+        Ok(Copied::Changed) => Err(Fault::Changing),
+        Err(fault) => Err(fault_of_copy(fault)),
+    }
+}
+
+// The file that is to be the copy, of so many sectors.
+fn make_target<R: Files<File = File> + Eprint>(
+    rt: &R,
+    teller: &Teller<'_, R>,
+    path: &str,
+    sectors: u32,
+) -> Result<FileDevice, Fault>
+    ensures { IfErr result (λ fault. fault ≡ Fault.File) }
+{
+    match FileDevice::create(rt, path, sectors) {
+        Ok(device) => Ok(device),
+        Err(error) => {
+            teller.file_failed(path, &error);
+            Err(Fault::File)
+        }
+    }
+}
+
+// Whether a device holds a table.
+fn holds_table<D: Device + Drop>(alloc: Global, device: D) -> Result<(), Fault>
+    ensures { IfErr result IsReadingFault }
+{
+    match Store::open(alloc, device) {
+        Ok(_) => Ok(()),
+        Err(refused) => Err(Fault::Store(refused.fault)),
+    }
+}
+
+/// Makes a file a copy of a journal, also of one in which somebody plays, and prints `ok copy S`, S being its sectors. It
+/// has been opened then, and means a table. `Exists` where the file may not be made a journal: nothing of it has changed.
+pub fn copy_journal<R: Files<File = File> + Print + Eprint>(
+    rt: &R,
+    alloc: Global,
+    copying: &Copying<'_>,
+) -> Result<(), Fault>
+    ensures { IfErr result IsCopyFault }
+{
+    let teller = Teller::new(rt, false);
+    let mut source = open_source(rt, &teller, copying.journal)?;
+    let sectors = header_of(&mut source)?.sectors;
+    may_overwrite(rt, alloc, copying.copy)?;
+    let mut target = make_target(rt, &teller, copying.copy, sectors)?;
+    let copied = copy_onto(&mut source, &mut target);
+    teller.device_failed(copying.journal, source.last_error());
+    teller.device_failed(copying.copy, target.last_error());
+    copied?;
+    holds_table(alloc, target)?;
+    tell(rt, "copy", sectors)
+}
+
+// A copy of a journal in memory.
+fn copy_in_memory(alloc: Global, source: &mut FileSource) -> Result<MemoryDevice, Fault>
+    ensures { IfErr result IsShowFault }
+{
+    let sectors = header_of(source)?.sectors;
+    let Ok(mut memory) = MemoryDevice::new(alloc, sectors) else {
+        return Err(Fault::NoMemory);
+    };
+    match copy_onto(source, &mut memory) {
+        Ok(()) => Ok(memory),
+        // The device in memory fails only for want of it.
+        Err(_) if memory.failure_count() > 0 => Err(Fault::NoMemory),
+        Err(fault) => Err(fault),
+    }
+}
+
+// The PGN of a game, and an empty line behind it.
+fn game_in_file(alloc: Global, game: &Game) -> Result<String, AllocError>
+    ensures { IfOk result (λ text. IsGameInFile game.now (string_bytes text)) }
+{
+    let Reply { line: _, mut body } = pgn_reply(alloc, game)?;
+    body.push('\n')?;
+    Ok(body)
+}
+
+// Writes a game.
+fn write_game<W: Write>(alloc: Global, game: &Game, output: &mut W) -> Result<(), Fault>
+    ensures written { OnOk result (WritesGame (W.contents output.old) (W.contents output.new) game.now) }
+    ensures fault { IfErr result IsShowFault }
+{
+    let Ok(text) = game_in_file(alloc, game) else {
+        return Err(Fault::NoMemory);
+    };
+    match output.write_all(text.as_bytes()) {
+        Ok(()) => Ok(()),
+        Err(_) => Err(Fault::Write),
+    }
+}
+
+// Writes the games of a table.
+fn write_games<W: Write>(alloc: Global, table: &Table, output: &mut W) -> Result<(), Fault>
+    ensures written { OnOk result (WritesGames (W.contents output.old) (W.contents output.new) table.now.games
+        (length table.now.games)) }
+    ensures fault { IfErr result IsShowFault }
+{
+    for place in 0..table.games() {
+        match table.game_at(place) {
+            Some(game) => write_game(alloc, game, output)?,
+            None => unreachable!(),
+        }
+    }
+    Ok(())
+}
+
+// The table that a device holds.
+fn table_on<D: Device + Drop>(alloc: Global, device: D) -> Result<Table, Fault>
+    ensures { IfErr result IsShowFault }
+{
+    match Store::open(alloc, device) {
+        Ok(store) => Ok(store.into_parts().table),
+        Err(refused) => Err(Fault::Store(refused.fault)),
+    }
+}
+
+/// Writes the PGN of each game of a journal, by rising number and an empty line behind each, also of a journal in which
+/// somebody plays.
+pub fn show_games<R: Files<File = File> + Eprint, W: Write>(
+    rt: &R,
+    alloc: Global,
+    journal: &str,
+    output: &mut W,
+) -> Result<(), Fault>
+    ensures { IfErr result IsShowFault }
+{
+    let teller = Teller::new(rt, false);
+    let mut source = open_source(rt, &teller, journal)?;
+    let copied = copy_in_memory(alloc, &mut source);
+    teller.device_failed(journal, source.last_error());
+    let table = table_on(alloc, copied?)?;
+    write_games(alloc, &table, output)
+}

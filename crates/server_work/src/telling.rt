@@ -1,0 +1,91 @@
+//! What an operator is told on standard error, a line for each: as the system's journal and a human read it, and without
+//! a time, which the journal puts before it.
+ghost use Rattle.std.specs.Prelude.{◌≡◌, length};
+
+use crate::clock::behind;
+use chess_entry::Limits;
+use chess_table::Table;
+use std::io;
+
+/// What a journal had when it was opened.
+#[derive(Clone, Copy, Debug)]
+pub(crate) struct Found {
+    games: usize,
+    most: u32,
+    entries: u64,
+    /// The greatest moment of an entry.
+    pub(crate) moment: u64,
+    /// How many milliseconds the opening took.
+    took: u64,
+}
+
+impl Found {
+    /// What a table has, whose opening took so long.
+    pub(crate) fn of(table: &Table, took: u64) -> Found
+        ensures games { result.games ≡ length table.now.games }
+        ensures most { result.most ≡ table.now.limits.games }
+        ensures entries { result.entries ≡ table.now.entries }
+        ensures moment { result.moment ≡ table.now.moment }
+        ensures took { result.took ≡ took }
+    {
+        Found {
+            games: table.games(),
+            most: table.limits().games,
+            entries: table.entries(),
+            moment: table.moment(),
+            took,
+        }
+    }
+}
+
+/// Tells an operator, or is quiet. What cannot be written is not told.
+#[derive(Drop)]
+pub(crate) struct Teller<'a, R> {
+    rt: &'a R,
+    is_quiet: bool,
+}
+
+impl<'a, R: Eprint> Teller<'a, R> {
+    /// One that tells, or one that is quiet.
+    pub(crate) fn new(rt: &'a R, is_quiet: bool) -> Self {
+        Teller { rt, is_quiet }
+    }
+
+    /// What the system said of a file.
+    pub(crate) fn file_failed(&self, path: &str, error: &io::Error) {
+        if !self.is_quiet {
+            let _ = eprintln!(self.rt; "{path}: {error}");
+        }
+    }
+
+    /// The same, where the system said something.
+    pub(crate) fn device_failed(&self, path: &str, error: Option<&io::Error>) {
+        if let Some(error) = error {
+            self.file_failed(path, error);
+        }
+    }
+
+    /// What is served, and, where the clock is behind the last entry, by how much.
+    pub(crate) fn serves(&self, port: u16, found: Found, now: u64) {
+        if self.is_quiet {
+            return;
+        }
+        let Found {
+            games,
+            most,
+            entries,
+            moment,
+            took,
+        } = found;
+        let _ = eprintln!(self.rt;
+            "serving on port {port}: {games} of at most {most} games, {entries} entries, opened in {took} ms"
+        );
+        let late = behind(now, moment);
+        if late > 0 {
+            let (seconds, rest) = (late / 1_000, late % 1_000);
+            let _ = eprintln!(self.rt;
+                "the clock is {seconds}.{rest:03} s behind the last entry: until then the games' clocks stand still"
+            );
+        }
+    }
+}
