@@ -43,8 +43,8 @@ raised later by widen, never lowered.
 
 Exit status: 0; 1 with fault NAME on standard error: File (the file cannot be
 opened, read, made or lengthened, or another program has it open), Exists, Device
-(a read, a write or a sync failed), Write (the answer could not be printed); 2 for
-words that the program does not know.
+(a read, a write or a sync failed), NoMemory, Write (the answer could not be
+printed); 2 for words that the program does not know.
 
 Example:
   chess_server format --journal club.journal --games 4 --plies 60
@@ -168,8 +168,8 @@ journal.
 
 Exit status: 0; 1 with fault NAME on standard error: File (F isn't there, or G cannot
 be made), NotOurs (no journal stands in F), Damaged, TooSmall, Exists, Changing,
-Device (a read of F, or a write or a sync of G failed), Write; 2 for words that the
-program does not know.
+Device (a read of F, or a write or a sync of G failed), NoMemory, Write; 2 for words
+that the program does not know.
 
 Example:
   chess_server copy --journal club.journal --to copy.journal

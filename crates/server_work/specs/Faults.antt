@@ -17,6 +17,7 @@ IsOpenFault _ = ⊥
 abbrev pub IsFormatFault : Fault → Type 0
 IsFormatFault faults.File = ⊤
 IsFormatFault faults.Write = ⊤
+IsFormatFault faults.NoMemory = ⊤
 IsFormatFault (faults.Store fault) = store.IsCreateFault fault
 IsFormatFault _ = ⊥
 
@@ -31,6 +32,7 @@ abbrev pub IsCopyFault : Fault → Type 0
 IsCopyFault faults.File = ⊤
 IsCopyFault faults.Write = ⊤
 IsCopyFault faults.Changing = ⊤
+IsCopyFault faults.NoMemory = ⊤
 IsCopyFault (faults.Store fault) = store.IsOpenFault fault ⊎ store.IsCreateFault fault
 IsCopyFault _ = ⊥
 

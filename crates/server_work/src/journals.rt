@@ -11,7 +11,7 @@ use sector_dev::{Device, FileDevice};
 use server_words::{Formatting, Tables};
 use std::alloc::Global;
 use std::fs::{File, FileType};
-use std::io::Read;
+use std::io::{ErrorKind, Read};
 use std::os::unix::fs::FileTypeExt;
 use std::rt::Files;
 use std::{fs, io};
@@ -26,8 +26,8 @@ pub(crate) fn tell(rt: &impl Print, word: &str, sectors: u32) -> Result<(), Faul
     }
 }
 
-// The store that a device holds.
-fn open_on<D: Device + Drop>(alloc: Global, device: D) -> Result<Store<D>, Fault>
+/// The store that a device holds.
+pub(crate) fn open_on<D: Device + Drop>(alloc: Global, device: D) -> Result<Store<D>, Fault>
     ensures { IfErr result IsOpenFault }
 {
     match Store::open(alloc, device) {
@@ -104,8 +104,8 @@ fn may_lengthen<R: Files<File = File>>(
 // So many bytes has the front of a file that is not to be made a journal unasked: those of the two header slots.
 const FRONT: u64 = 1_024;
 
-// Whether what a reader gives begins with zeros alone.
-fn is_blank<R: Read + Drop>(alloc: Global, reader: R) -> io::Result<bool>
+/// Whether what a reader gives begins with zeros alone.
+pub(crate) fn is_blank<R: Read + Drop>(alloc: Global, reader: R) -> io::Result<bool>
     ensures { IfSome (R.remaining reader) (λ bytes.
         IfOk result (λ blank. IsTrue blank ↔ All (λ b. b ≡ 0) (take 1024 bytes))) }
 {
@@ -139,6 +139,7 @@ pub(crate) fn may_overwrite<R: Files<File = File>>(
     match is_blank(alloc, file) {
         Ok(true) => Ok(()),
         Ok(false) => Err(Fault::Store(StoreFault::Exists)),
+        Err(error) if error.kind() == ErrorKind::OutOfMemory => Err(Fault::NoMemory),
         Err(_) => Err(Fault::File),
     }
 }

@@ -4,8 +4,8 @@ ghost use Rattle.server_work.specs.Faults.{IsOpenFault, IsRunFault, IsServeFault
 
 use crate::clock::{SteadyClock, milliseconds_since};
 use crate::ends::{Fault, fault_of_run};
-use crate::journals::open_journal;
-use crate::telling::{Found, Teller};
+use crate::journals::{open_journal, open_on};
+use crate::telling::{Found, Teller, Told};
 use chess_hub::Hub;
 use chess_run::{Moments, run};
 use chess_sockets::{Server, Turned};
@@ -15,7 +15,7 @@ use server_words::Serving;
 use std::alloc::Global;
 use std::fs::File;
 use std::io::{Read, Write};
-use std::net::{Net, TcpListener, TcpStream};
+use std::net::{Ipv4Addr, Net, TcpListener, TcpStream};
 use std::rt::{Clock, Files};
 use std::time::Instant;
 
@@ -67,27 +67,20 @@ fn take_turns<R: Clock, D: Device>(
     Ok(())
 }
 
-// The store in a file that is there. What the system said where there is none is told.
-fn open_told<R: Files<File = File> + Eprint>(
+// The store in a file that is there. What the system says of a failure is told.
+fn open_told<'a, R: Files<File = File> + Eprint>(
     rt: &R,
     alloc: Global,
-    teller: &Teller<'_, R>,
-    journal: &str,
-) -> Result<Store<FileDevice>, Fault>
+    teller: &'a Teller<'a, R>,
+    journal: &'a str,
+) -> Result<Store<Told<'a, R, FileDevice>>, Fault>
     ensures { IfErr result IsOpenFault }
 {
-    let device = match FileDevice::open(rt, journal) {
-        Ok(device) => device,
+    match FileDevice::open(rt, journal) {
+        Ok(device) => open_on(alloc, Told::new(device, journal, teller)),
         Err(error) => {
             teller.file_failed(journal, &error);
-            return Err(Fault::File);
-        }
-    };
-    match Store::open(alloc, device) {
-        Ok(store) => Ok(store),
-        Err(refused) => {
-            teller.device_failed(journal, refused.device.last_error());
-            Err(Fault::Store(refused.fault))
+            Err(Fault::File)
         }
     }
 }
@@ -96,6 +89,20 @@ fn open_told<R: Files<File = File> + Eprint>(
 fn found_in<D: Device>(store: &Store<D>, took: u64) -> Option<Found> {
     let table = store.table().ok()?;
     Some(Found::of(table, took))
+}
+
+// The fault of a port that cannot be bound, which is told: once more it is tried, for what the system says.
+fn refused_port<R: Eprint + Net<Listener = TcpListener, Stream = TcpStream>>(
+    rt: &R,
+    teller: &Teller<'_, R>,
+    port: u16,
+) -> Fault
+    ensures { result ≡ Fault.Socket }
+{
+    if let Err(error) = TcpListener::bind(rt, (Ipv4Addr::LOCALHOST, port)) {
+        teller.port_failed(port, &error);
+    }
+    Fault::Socket
 }
 
 // Serves players on a port, over the games of a store.
@@ -113,9 +120,8 @@ where
 {
     let found = found_in(&store, took);
     let hub = Hub::new(alloc, store);
-    let mut server = match Server::bind(rt, alloc, serving.port, serving.silence, hub) {
-        Ok(server) => server,
-        Err(_) => return Err(Fault::Socket),
+    let Ok(mut server) = Server::bind(rt, alloc, serving.port, serving.silence, hub) else {
+        return Err(refused_port(rt, teller, serving.port));
     };
     tell_port(rt, server.port())?;
     let mut clock = SteadyClock::new(rt);

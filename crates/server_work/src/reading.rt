@@ -4,11 +4,10 @@ ghost use Rattle.server_work.specs.Faults.{IsCopyFault, IsReadingFault, IsShowFa
 ghost use Rattle.server_work.specs.Games.{IsGameInFile, WritesGame, WritesGames};
 
 use crate::ends::{Fault, fault_of_copy};
-use crate::journals::{may_overwrite, tell};
+use crate::journals::{may_overwrite, open_on, tell};
 use crate::telling::Teller;
 use chess_answer::{Reply, pgn_reply};
 use chess_game::Game;
-use chess_store::Store;
 use chess_table::Table;
 use journal_copy::{Copied, FileSource, copy, header_in_force};
 use rec_codec::Header;
@@ -78,16 +77,6 @@ fn make_target<R: Files<File = File> + Eprint>(
     }
 }
 
-// Whether a device holds a table.
-fn holds_table<D: Device + Drop>(alloc: Global, device: D) -> Result<(), Fault>
-    ensures { IfErr result IsReadingFault }
-{
-    match Store::open(alloc, device) {
-        Ok(_) => Ok(()),
-        Err(refused) => Err(Fault::Store(refused.fault)),
-    }
-}
-
 /// Makes a file a copy of a journal, also of one in which somebody plays, and prints `ok copy S`, S being its sectors. It
 /// has been opened then, and means a table. `Exists` where the file may not be made a journal: nothing of it has changed.
 pub fn copy_journal<R: Files<File = File> + Print + Eprint>(
@@ -106,7 +95,7 @@ pub fn copy_journal<R: Files<File = File> + Print + Eprint>(
     teller.device_failed(copying.journal, source.last_error());
     teller.device_failed(copying.copy, target.last_error());
     copied?;
-    holds_table(alloc, target)?;
+    open_on(alloc, target)?;
     tell(rt, "copy", sectors)
 }
 
@@ -149,8 +138,12 @@ fn write_game<W: Write>(alloc: Global, game: &Game, output: &mut W) -> Result<()
     }
 }
 
-// Writes the games of a table.
-fn write_games<W: Write>(alloc: Global, table: &Table, output: &mut W) -> Result<(), Fault>
+/// Writes the games of a table.
+pub(crate) fn write_games<W: Write>(
+    alloc: Global,
+    table: &Table,
+    output: &mut W,
+) -> Result<(), Fault>
     ensures written { OnOk result (WritesGames (W.contents output.old) (W.contents output.new) table.now.games
         (length table.now.games)) }
     ensures fault { IfErr result IsShowFault }
@@ -162,16 +155,6 @@ fn write_games<W: Write>(alloc: Global, table: &Table, output: &mut W) -> Result
         }
     }
     Ok(())
-}
-
-// The table that a device holds.
-fn table_on<D: Device + Drop>(alloc: Global, device: D) -> Result<Table, Fault>
-    ensures { IfErr result IsShowFault }
-{
-    match Store::open(alloc, device) {
-        Ok(store) => Ok(store.into_parts().table),
-        Err(refused) => Err(Fault::Store(refused.fault)),
-    }
 }
 
 /// Writes the PGN of each game of a journal, by rising number and an empty line behind each, also of a journal in which
@@ -188,6 +171,6 @@ pub fn show_games<R: Files<File = File> + Eprint, W: Write>(
     let mut source = open_source(rt, &teller, journal)?;
     let copied = copy_in_memory(alloc, &mut source);
     teller.device_failed(journal, source.last_error());
-    let table = table_on(alloc, copied?)?;
-    write_games(alloc, &table, output)
+    let parts = open_on(alloc, copied?)?.into_parts();
+    write_games(alloc, &parts.table, output)
 }
