@@ -104,14 +104,21 @@ fn may_lengthen<R: Files<File = File>>(
 // So many bytes has the front of a file that is not to be made a journal unasked: those of the two header slots.
 const FRONT: u64 = 1_024;
 
+// Whether all of these are zeros.
+fn are_zeros(bytes: &[u8]) -> bool
+    ensures { IsTrue result ↔ All (λ b. b ≡ 0) bytes.now }
+{
+    bytes.iter().all(|byte| *byte == 0)
+}
+
 /// Whether what a reader gives begins with zeros alone.
 pub(crate) fn is_blank<R: Read + Drop>(alloc: Global, reader: R) -> io::Result<bool>
-    ensures { IfSome (R.remaining reader) (λ bytes.
-        IfOk result (λ blank. IsTrue blank ↔ All (λ b. b ≡ 0) (take 1024 bytes))) }
+    ensures { IfOk result (λ blank. IfSome (R.remaining reader) (λ bytes.
+        IsTrue blank ↔ All (λ b. b ≡ 0) (take 1024 bytes))) }
 {
     let mut front = Vec::new(alloc);
     reader.take(FRONT).read_to_end(&mut front)?;
-    Ok(front.iter().all(|byte| *byte == 0))
+    Ok(are_zeros(&front))
 }
 
 // Whether a file may hold bytes at all, so that a read of it comes to an end.

@@ -1,0 +1,2 @@
+pub mod GameLemmas
+pub mod BlankLemmas
