@@ -178,7 +178,7 @@ prints
 
 const HELP_OF_SHOW: &str = "\
 It writes the PGN of every game of the table, by rising number, each with an empty line
-behind it, as files of many games have it. It needs no server, and one may be at work:
+at its end, as files of many games have it. It needs no server, and one may be at work:
 it shows the table at some moment between its start and its end. F is opened for
 reading only, and not locked, and no byte of it is changed.
 

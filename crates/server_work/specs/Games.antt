@@ -1,14 +1,8 @@
 -- What `show` writes.
-use Rattle.std.specs.Prelude.{ℕ, zero, suc, ◌≡◌, List, [], ◌∷◌, ◌++◌, Option, Some, slice_get}
+use Rattle.std.specs.Prelude.{ℕ, zero, suc, ◌≡◌, List, [], ◌++◌, Option, Some, slice_get}
 use Rattle.std.specs.Io.KnownBytes.{Appends}
 use Rattle.chess_entry.specs.State.{GameState}
 use Rattle.chess_answer.specs.Reads.{IsPgnOfGame}
-
--- a game's PGN, and an empty line
-pub record IsGameInFile (game : GameState) (text : List ℕ) : Type 0 where
-  pub pgn : List ℕ
-  pub is_pgn : IsPgnOfGame game pgn
-  pub told : text ≡ pgn ++ 10 ∷ []
 
 -- these games, and then one more
 pub record AreOneMore (First : List ℕ → Type 0) (games : List GameState) (n : ℕ) (text : List ℕ) : Type 0 where
@@ -17,10 +11,10 @@ pub record AreOneMore (First : List ℕ → Type 0) (games : List GameState) (n 
   pub game : GameState
   pub place : slice_get games n ≡ Some game
   pub last : List ℕ
-  pub next : IsGameInFile game last
+  pub next : IsPgnOfGame game last
   pub whole : text ≡ front ++ last
 
--- the text of the first n games, one after the other
+-- the PGNs of the first n games, one after the other, each of which ends with an empty line
 abbrev pub AreGamesInFile : List GameState → ℕ → List ℕ → Type 0
 AreGamesInFile games zero text = text ≡ []
 AreGamesInFile games (suc n) text = AreOneMore (AreGamesInFile games n) games n text
@@ -28,7 +22,7 @@ AreGamesInFile games (suc n) text = AreOneMore (AreGamesInFile games n) games n 
 -- what is known of an output grows by a game
 pub record WritesGame (old new : Option (List ℕ)) (game : GameState) : Type 0 where
   pub text : List ℕ
-  pub is_game : IsGameInFile game text
+  pub is_game : IsPgnOfGame game text
   pub written : Appends old new text
 
 -- and by the first n games

@@ -4,8 +4,8 @@ ghost use Rattle.server_work.specs.Faults.{IsOpenFault, IsRunFault, IsServeFault
 
 use crate::clock::{SteadyClock, milliseconds_since};
 use crate::ends::{Fault, fault_of_run};
-use crate::journals::{open_journal, open_on};
-use crate::telling::{Found, Teller, Told};
+use crate::journals::open_journal;
+use crate::telling::{Found, Teller, TurnedAway};
 use chess_hub::Hub;
 use chess_run::{Moments, ReaderSource, run};
 use chess_sockets::{Server, Turned};
@@ -15,7 +15,7 @@ use server_words::Serving;
 use std::alloc::Global;
 use std::fs::File;
 use std::io::{Read, Write};
-use std::net::{Ipv4Addr, Net, TcpListener, TcpStream};
+use std::net::{Net, TcpListener, TcpStream};
 use std::rt::{Clock, Files};
 use std::time::Instant;
 
@@ -51,37 +51,50 @@ fn tell_port(rt: &impl Print, port: u16) -> Result<(), Fault>
 }
 
 // Takes the turns of a server: so many, or as many as 64 bits count.
-fn take_turns<R: Clock, D: Device>(
+fn take_turns<R: Clock + Eprint, D: Device>(
     clock: &mut SteadyClock<'_, R>,
+    teller: &Teller<'_, R>,
     server: &mut Server<D>,
     turns: Option<u32>,
 ) -> Result<(), Fault>
     ensures { IfErr result IsServeFault }
 {
+    let mut away = TurnedAway::new();
     for _ in 0..turns.map_or(u64::MAX, u64::from) {
-        match server.turn(clock.next()) {
+        let at = clock.next();
+        match server.turn(at) {
             Ok(Turned::Worked) => {}
             Ok(Turned::Idle) => server.rest(),
             Err(fault) => return Err(Fault::Hub(fault)),
+        }
+        if let Some(more) = away.news(server.turned_away(), at) {
+            teller.turned_away(more);
         }
     }
     Ok(())
 }
 
-// The store in a file that is there. What the system says of a failure is told.
-fn open_told<'a, R: Files<File = File> + Eprint>(
+// The store in a file that is there. What the system said of a failure is told.
+fn open_told<R: Files<File = File> + Eprint>(
     rt: &R,
     alloc: Global,
-    teller: &'a Teller<'a, R>,
-    journal: &'a str,
-) -> Result<Store<Told<'a, R, FileDevice>>, Fault>
+    teller: &Teller<'_, R>,
+    journal: &str,
+) -> Result<Store<FileDevice>, Fault>
     ensures { IfErr result IsOpenFault }
 {
-    match FileDevice::open(rt, journal) {
-        Ok(device) => open_on(alloc, Told::new(device, journal, teller)),
+    let device = match FileDevice::open(rt, journal) {
+        Ok(device) => device,
         Err(error) => {
             teller.file_failed(journal, &error);
-            Err(Fault::File)
+            return Err(Fault::File);
+        }
+    };
+    match Store::open(alloc, device) {
+        Ok(store) => Ok(store),
+        Err(refused) => {
+            teller.device_failed(journal, refused.device.last_error());
+            Err(Fault::Store(refused.fault))
         }
     }
 }
@@ -92,27 +105,13 @@ fn found_in<D: Device>(store: &Store<D>, took: u64) -> Option<Found> {
     Some(Found::of(table, took))
 }
 
-// The fault of a port that cannot be bound, which is told: once more it is tried, for what the system says.
-fn refused_port<R: Eprint + Net<Listener = TcpListener, Stream = TcpStream>>(
-    rt: &R,
-    teller: &Teller<'_, R>,
-    port: u16,
-) -> Fault
-    ensures { result ≡ Fault.Socket }
-{
-    if let Err(error) = TcpListener::bind(rt, (Ipv4Addr::LOCALHOST, port)) {
-        teller.port_failed(port, &error);
-    }
-    Fault::Socket
-}
-
 // Serves players on a port, over the games of a store.
-fn serve_store<R, D: Device + Drop>(
+fn serve_store<R>(
     rt: &R,
     alloc: Global,
     teller: &Teller<'_, R>,
     serving: &Serving<'_>,
-    store: Store<D>,
+    store: Store<FileDevice>,
     took: u64,
 ) -> Result<(), Fault>
 where
@@ -121,15 +120,22 @@ where
 {
     let found = found_in(&store, took);
     let hub = Hub::new(alloc, store);
-    let Ok(mut server) = Server::bind(rt, alloc, serving.port, serving.silence, hub) else {
-        return Err(refused_port(rt, teller, serving.port));
+    let mut server = match Server::bind(rt, alloc, serving.port, serving.silence, hub) {
+        Ok(server) => server,
+        Err(error) => {
+            teller.port_failed(serving.port, &error);
+            return Err(Fault::Socket);
+        }
     };
     tell_port(rt, server.port())?;
     let mut clock = SteadyClock::new(rt);
     if let Some(found) = found {
         teller.serves(server.port(), found, clock.next());
     }
-    take_turns(&mut clock, &mut server, serving.turns)
+    let served = take_turns(&mut clock, teller, &mut server, serving.turns);
+    let device = server.into_hub().into_store().into_device();
+    teller.device_failed(serving.journal, device.last_error());
+    served
 }
 
 /// Serves players on a port, over the games of a journal's file, and first prints `port P`, P being the port that it

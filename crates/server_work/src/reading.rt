@@ -1,19 +1,19 @@
 //! The words that read a journal in which somebody may play: they take no lock and write nothing to it.
-ghost use Rattle.std.specs.Prelude.{◌≡◌, length, string_bytes, IfOk, IfErr, OnOk};
+ghost use Rattle.std.specs.Prelude.{◌≡◌, length, IfErr, OnOk};
 ghost use Rattle.server_work.specs.Faults.{IsCopyFault, IsReadingFault, IsShowFault};
-ghost use Rattle.server_work.specs.Games.{IsGameInFile, WritesGame, WritesGames};
+ghost use Rattle.server_work.specs.Games.{WritesGame, WritesGames};
 
 use crate::ends::{Fault, fault_of_copy};
 use crate::journals::{may_overwrite, open_on, tell};
 use crate::telling::Teller;
-use chess_answer::{Reply, pgn_reply};
+use chess_answer::pgn_reply;
 use chess_game::Game;
 use chess_table::Table;
 use journal_copy::{Copied, FileSource, copy, header_in_force};
 use rec_codec::Header;
 use sector_dev::{CrashDevice, Device, FileDevice, MemoryDevice};
 use server_words::Copying;
-use std::alloc::{AllocError, Global};
+use std::alloc::Global;
 use std::fs::File;
 use std::io::Write;
 use std::rt::Files;
@@ -115,24 +115,15 @@ fn copy_in_memory(alloc: Global, source: &mut FileSource) -> Result<MemoryDevice
     }
 }
 
-// The PGN of a game, and an empty line behind it.
-fn game_in_file(alloc: Global, game: &Game) -> Result<String, AllocError>
-    ensures { IfOk result (λ text. IsGameInFile game.now (string_bytes text)) }
-{
-    let Reply { line: _, mut body } = pgn_reply(alloc, game)?;
-    body.push('\n')?;
-    Ok(body)
-}
-
-// Writes a game.
+// Writes the PGN of a game, which ends with an empty line.
 fn write_game<W: Write>(alloc: Global, game: &Game, output: &mut W) -> Result<(), Fault>
     ensures written { OnOk result (WritesGame (W.contents output.old) (W.contents output.new) game.now) }
     ensures fault { IfErr result IsShowFault }
 {
-    let Ok(text) = game_in_file(alloc, game) else {
+    let Ok(reply) = pgn_reply(alloc, game) else {
         return Err(Fault::NoMemory);
     };
-    match output.write_all(text.as_bytes()) {
+    match output.write_all(reply.body.as_bytes()) {
         Ok(()) => Ok(()),
         Err(_) => Err(Fault::Write),
     }
@@ -157,8 +148,7 @@ pub(crate) fn write_games<W: Write>(
     Ok(())
 }
 
-/// Writes the PGN of each game of a journal, by rising number and an empty line behind each, also of a journal in which
-/// somebody plays.
+/// Writes the PGN of each game of a journal, by rising number, also of a journal in which somebody plays.
 pub fn show_games<R: Files<File = File> + Eprint, W: Write>(
     rt: &R,
     alloc: Global,

@@ -1,11 +1,10 @@
 //! What an operator is told on standard error, a line for each: as the system's journal and a human read it, and without
 //! a time, which the journal puts before it.
-ghost use Rattle.std.specs.Prelude.{◌≡◌, length};
+ghost use Rattle.std.specs.Prelude.{ℕ, ◌≡◌, ◌<◌, ◌+◌, None, Some, IsSome, IfSome, IfNone, length};
 
 use crate::clock::behind;
 use chess_entry::Limits;
 use chess_table::Table;
-use sector_dev::{Device, DeviceFault, FileDevice, Got};
 use std::io;
 
 /// What a journal had when it was opened.
@@ -36,6 +35,48 @@ impl Found {
             moment: table.moment(),
             took,
         }
+    }
+}
+
+/// After so many milliseconds connections that were turned away are told of again.
+const MINUTE: u64 = 60_000;
+
+/// How many connections were turned away that were told of, and when the last were.
+#[derive(Clone, Copy, Debug)]
+pub(crate) struct TurnedAway {
+    told: u64,
+    at: Option<u64>,
+}
+
+impl TurnedAway {
+    /// None yet.
+    pub(crate) fn new() -> TurnedAway
+        ensures told { result.told ≡ 0 }
+        ensures at { result.at ≡ None }
+    {
+        TurnedAway { told: 0, at: None }
+    }
+
+    /// How many more there are than were told of, where there are some and a minute has passed since the last were: these
+    /// are told of now.
+    pub(crate) fn news(&mut self, count: u64, at: u64) -> Option<u64>
+        ensures news { IfSome result (λ more. (0 < more) × (more + self.old.told ≡ count) × (self.new.told ≡ count)
+            × (self.new.at ≡ Some at)) }
+        ensures none { IfNone result (self.new ≡ self.old) }
+        ensures rare { (last : ℕ) → self.old.at ≡ Some last → at < last + 60_000 → result ≡ None }
+        ensures first { self.old.at ≡ None → self.old.told < count → IsSome result }
+    {
+        let is_early = match self.at {
+            Some(last) => at.saturating_sub(last) < MINUTE,
+            None => false,
+        };
+        if is_early || count <= self.told {
+            return None;
+        }
+        let more = count - self.told;
+        self.told = count;
+        self.at = Some(at);
+        Some(more)
     }
 }
 
@@ -73,6 +114,15 @@ impl<'a, R: Eprint> Teller<'a, R> {
         }
     }
 
+    /// How many connections were turned away.
+    pub(crate) fn turned_away(&self, more: u64) {
+        if !self.is_quiet {
+            let _ = eprintln!(self.rt;
+                "{more} connections were turned away: all 64 places are taken, or memory was refused"
+            );
+        }
+    }
+
     /// What is served, and, where the clock is behind the last entry, by how much.
     pub(crate) fn serves(&self, port: u16, found: Found, now: u64) {
         if self.is_quiet {
@@ -95,80 +145,5 @@ impl<'a, R: Eprint> Teller<'a, R> {
                 "the clock is {seconds}.{rest:03} s behind the last entry: until then the games' clocks stand still"
             );
         }
-    }
-}
-
-/// A device that keeps what the system said of its last call that failed.
-pub(crate) trait Failing: Device {
-    /// What the system said, if a call has failed.
-    fn last_error(&self) -> Option<&io::Error>;
-}
-
-impl Failing for FileDevice {
-    fn last_error(&self) -> Option<&io::Error> {
-        FileDevice::last_error(self)
-    }
-}
-
-/// A device of whose failures an operator is told. In all else it is the device below.
-#[derive(Drop)]
-pub(crate) struct Told<'a, R, D> {
-    device: D,
-    path: &'a str,
-    teller: &'a Teller<'a, R>,
-}
-
-impl<'a, R: Eprint, D: Failing> Told<'a, R, D> {
-    /// The device that stands on this path.
-    pub(crate) fn new(device: D, path: &'a str, teller: &'a Teller<'a, R>) -> Told<'a, R, D>
-        ensures { result.device ≡ device }
-    {
-        Told {
-            device,
-            path,
-            teller,
-        }
-    }
-
-    // Tells what the system said of a call, where it failed.
-    fn tell<T>(&self, done: &Result<T, DeviceFault>) {
-        if done.is_err() {
-            self.teller
-                .device_failed(self.path, self.device.last_error());
-        }
-    }
-}
-
-impl<R: Eprint, D: Failing> Device for Told<'_, R, D> {
-    ghost state = { λ told. D.state told.device };
-
-    ghost sector_count = { λ told. D.sector_count told.device };
-
-    ghost failures = { λ told. D.failures told.device };
-
-    ghost calls_left = { λ told. D.calls_left told.device };
-
-    ghost coherent = { λ told. D.coherent told.device };
-
-    fn sectors(&self) -> u32 {
-        self.device.sectors()
-    }
-
-    fn read(&mut self, at: u32, into: &mut [u8; 512]) -> Result<Got, DeviceFault> {
-        let done = self.device.read(at, into);
-        self.tell(&done);
-        done
-    }
-
-    fn write(&mut self, at: u32, from: &[u8; 512]) -> Result<(), DeviceFault> {
-        let done = self.device.write(at, from);
-        self.tell(&done);
-        done
-    }
-
-    fn sync(&mut self) -> Result<(), DeviceFault> {
-        let done = self.device.sync();
-        self.tell(&done);
-        done
     }
 }
