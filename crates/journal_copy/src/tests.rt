@@ -102,11 +102,21 @@ fn sector_of(rt: &impl Abort, device: &mut MemoryDevice, at: u32) -> [u8; 512] {
 }
 
 // Whether a device has this header, nothing in the other slot, and the sectors that the header names.
-fn is_copy(rt: &impl Abort, device: &mut MemoryDevice, header: &Header, from: u32, to: u32) -> bool {
+fn is_copy(
+    rt: &impl Abort,
+    device: &mut MemoryDevice,
+    header: &Header,
+    from: u32,
+    to: u32,
+) -> bool {
     let slots = slots_of(header);
     let mut same = sector_of(rt, device, 0) == slots.zero && sector_of(rt, device, 1) == slots.one;
     for at in 2..212 {
-        let wanted = if from <= at && at < to { (at % 256) as u8 } else { 0 };
+        let wanted = if from <= at && at < to {
+            (at % 256) as u8
+        } else {
+            0
+        };
         same &= sector_of(rt, device, at) == [wanted; 512];
     }
     same
@@ -173,7 +183,10 @@ fn tells_why_there_is_no_copy(rt: HostRuntime) -> Result<(), Fail> {
     for slots in worthless.slots.iter_mut() {
         slots.zero[12] = 0;
     }
-    assert_eq!(rt; copy(&mut worthless, &mut target, 1), Err(CopyFault::Damaged));
+    assert_eq!(rt;
+        copy(&mut worthless, &mut target, 1),
+        Err(CopyFault::Damaged)
+    );
     Ok(())
 }
 
