@@ -33,7 +33,7 @@ impl Source for Scripted {
     }
 
     fn read_slots(&mut self) -> Result<Slots, DeviceFault> {
-        if self.next + 1 < self.slots.len() {
+        if self.next < self.slots.len().saturating_sub(1) {
             self.next += 1;
         }
         self.slots.get(self.next).copied().ok_or(DeviceFault)

@@ -7,6 +7,7 @@ use std::rt::Clock;
 use std::time::Duration;
 
 /// The system's clock and the monotonic one, in milliseconds; none can be read at `u64::MAX`.
+#[derive(Drop)]
 struct Hands {
     system: Cell<u64>,
     monotonic: Cell<u64>,
