@@ -1,4 +1,1 @@
-mod clock;
 mod ends;
-mod journals;
-mod reading;
