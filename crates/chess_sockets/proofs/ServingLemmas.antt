@@ -160,6 +160,14 @@ not_closed (Some s) P is_open e = absurd (let bad : Some s ≡ None = e in cc)
 pub stays_by : {H : Type 0} (old new : H) (to : H → HubState) → new ≡ old → Stays (to old) (to new)
 stays_by old new to same = subst (λ h. Stays (to old) (to h)) (sym same) (stays-refl (to old))
 
+pub on_true : {P : Type 0} (b : Bool) → (b ≡ true → P) → OnTrue b P
+on_true true p = p refl
+on_true false p = tt
+
+pub on_false : {P Q : Type 0} (b : Bool) → (P → Q) → OnFalse b P → OnFalse b Q
+on_false true q p = tt
+on_false false q p = q p
+
 pub silent_written : {S : Type 0} (silence : Option ℕ) (client : Client S) (sessions : Sessions) (at : ℕ) →
     IsSomeAnd silence (IsSilent client sessions at) → waiting client.outgoing ≡ []
 silent_written None client sessions at silent = absurd silent
