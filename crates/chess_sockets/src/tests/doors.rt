@@ -1,6 +1,4 @@
 //! Listeners whose tries fail.
-ghost use Rattle.std.specs.Prelude.{◌≡◌};
-
 use crate::door::{Found, Listens, found_of, next_connection};
 use std::io::Error;
 use std::process::Abort;
