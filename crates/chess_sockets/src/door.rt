@@ -47,7 +47,7 @@ pub fn may_wait(found: Found) -> bool
 
 /// Where connections are accepted.
 pub trait Listens {
-    type Stream;
+    type Stream: Drop;
 
     /// What the last try found.
     ghost last_found: { Self → Found };
