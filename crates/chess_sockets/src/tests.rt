@@ -163,7 +163,7 @@ struct Turns {
 }
 
 // So many turns, one a millisecond.
-fn turns(count: u64, silence: Option<u64>) -> Turns {
+fn each_millisecond(count: u64, silence: Option<u64>) -> Turns {
     Turns {
         count,
         step: 1,
@@ -217,7 +217,7 @@ fn play(
     count: u64,
     silence: Option<u64>,
 ) -> Option<Outcome> {
-    play_at(alloc, peer, line, turns(count, silence))
+    play_at(alloc, peer, line, each_millisecond(count, silence))
 }
 
 fn play_at(alloc: Global, peer: Peer, line: &str, turns: Turns) -> Option<Outcome> {
@@ -321,7 +321,7 @@ fn five(alloc: Global, takes: Takes, count: u64) -> Option<(bool, [Option<usize>
             made(alloc, STAYS, Takes::All),
         );
     }
-    if !plays || !take_turns(&mut clients, &mut hub, turns(count, None)) {
+    if !plays || !take_turns(&mut clients, &mut hub, each_millisecond(count, None)) {
         return None;
     }
     let mut answers = [None; 5];
@@ -457,7 +457,7 @@ fn flood(alloc: Global, count: u64) -> Option<(usize, usize)> {
             return None;
         }
     }
-    if !take_turns(&mut clients, &mut hub, turns(count, None)) {
+    if !take_turns(&mut clients, &mut hub, each_millisecond(count, None)) {
         return None;
     }
     let (mut least, mut most) = (usize::MAX, 0);

@@ -71,7 +71,7 @@ fn told_of(written: &[u8]) -> Option<usize> {
 }
 
 // What is seen once all is served. `None` where a client that is open has not all its answers.
-fn seen(clients: &[Client<Peer>], hub: &Hub<MemoryDevice>) -> Option<Seen> {
+fn look(clients: &[Client<Peer>], hub: &Hub<MemoryDevice>) -> Option<Seen> {
     let (mut told, mut closed) = (0usize, 0usize);
     for client in clients {
         if hub.is_open(client.sid()) {
@@ -121,7 +121,7 @@ fn refused_memory(rt: HostRuntime) {
     };
     match serve(&mut clients, &mut hub, 20) {
         Ok(()) => {
-            let found = seen(clients.as_slice(), &hub);
+            let found = look(clients.as_slice(), &hub);
             assert!(rt;
                 found == Some(nothing)
                     || found
