@@ -47,6 +47,9 @@ pub fn may_wait(found: Found) -> bool
 
 /// Where connections are accepted.
 pub trait Listens {
+    ghost use Rattle.std.specs.Prelude.{◌≡◌, ◌↔◌, IsSome};
+    ghost use Rattle.chess_sockets.specs.declared.door.Found.{Found};
+
     type Stream: Drop;
 
     /// What the last try found.
