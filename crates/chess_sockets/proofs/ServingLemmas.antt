@@ -23,7 +23,7 @@ use Rattle.chess_sockets.specs.Sending.{waiting}
 use Rattle.chess_sockets.specs.Portions.{IsDearLine}
 use Rattle.chess_sockets.proofs.PortionLemmas.{none-dear}
 use Rattle.chess_sockets.proofs.TakingLemmas.{takes-kept, takes-in, gives-nothing, gives-closed}
-use Rattle.chess_sockets.specs.Serving.{state_of, Intake, Holds, LeadsOn, AreEach, PassesClosed, IsSent, IsRead, Welcomes, IsGivenTo, AreGiven, IsWritten}
+use Rattle.chess_sockets.specs.Serving.{state_of, Intake, intake, Holds, LeadsOn, AreEach, PassesClosed, IsSent, IsRead, Welcomes, IsGivenTo, AreGiven, IsWritten}
 
 -- ---- calls
 

@@ -145,7 +145,7 @@ pub counts_refused : {S T : Type 0} (given : Result S HubFault) (made : Result T
     after ≡ refusals_after made before
 counts_refused {S = S} {T = T} given made y fault before after was is same counts =
     subst (λ (r : Result T HubFault). after ≡ refusals_after r before) (sym is)
-    (subst (λ (f : HubFault). after ≡ refusals_after {T} (Err f) before) (sym same)
+    (subst (λ (f : HubFault). after ≡ refusals_after {T = T} (Err f) before) (sym same)
     (subst (λ (r : Result S HubFault). after ≡ refusals_after r before) was counts))
 
 -- It was answered.

@@ -1,5 +1,5 @@
 -- The store is asked by the hub's turn alone.
-use Rattle.std.proofs.Common.{◌≡◌, ◌∙◌, Err, ap, refl, sym}
+use Rattle.std.proofs.Common.{◌≡◌, ◌∙◌, Bool, Err, ap, refl, sym}
 use Rattle.chess_hub.specs.Faults.{CountsFault}
 use Rattle.chess_hub.specs.Turning.{AsksFor, AreRefused, IsTurnFault}
 use Rattle.chess_sockets.specs.Serving.{state_of}
@@ -67,7 +67,7 @@ pub returns-in-Err-clause-counts : goal.returns-in-Err-clause-counts
 returns-in-Err-clause-counts g c =
     let hub = c.take_in_all-has_read.new.hub in
     rw (sym c.take_in_all-has_read.ensures.refusals)
-    (counts_refused c.turn.result (Err c.in-Err.fault) c.in-Err.fault c.in-Err.fault hub.refusals
+    (counts_refused {T = Bool} c.turn.result (Err c.in-Err.fault) c.in-Err.fault c.in-Err.fault hub.refusals
     c.turn.new.self.refusals c.in-Err.is refl refl c.turn.ensures.counts)
 
 pub returns-clause-counts : goal.returns-clause-counts
