@@ -1,8 +1,8 @@
 """Runs the program under test at a moment that is chosen: for bench/hostile-lines and bench/hostile-images.
 
-`run` takes its moments from the system's clock. A shim before the C library's `clock_gettime` gives the clock of the
-date another value, which stays for a whole run; the program itself is the one that is served. So each answer, the
-times of `show` and fallen flags among them, can be told to the last byte.
+`run` takes its moments from the system's clocks: that of the date at its start, and the steady one from there on. A shim
+before the C library's `clock_gettime` gives the first another value, and stops both for a whole run; the program itself is
+the one that is served. So each answer, the times of `show` and fallen flags among them, can be told to the last byte.
 """
 
 import multiprocessing
@@ -24,8 +24,9 @@ SHIM = r'''
 #include <unistd.h>
 int clock_gettime(clockid_t clock, struct timespec *now) {
   const char *moment = getenv("MOMENT");
-  if (clock != CLOCK_REALTIME || !moment) return syscall(SYS_clock_gettime, clock, now);
-  long long milliseconds = atoll(moment);
+  if (!moment || (clock != CLOCK_REALTIME && clock != CLOCK_MONOTONIC))
+    return syscall(SYS_clock_gettime, clock, now);
+  long long milliseconds = clock == CLOCK_REALTIME ? atoll(moment) : 1000;
   now->tv_sec = milliseconds / 1000;
   now->tv_nsec = milliseconds % 1000 * 1000000;
   return 0;

@@ -21,13 +21,15 @@ class Client:
         self.sent = ''          # what the server has not read yet
         self.over = False       # it sends no more
         self.sid = None         # its session
+        self.heard_at = 0       # the moment at which it came, or last sent something
         self.is_accepted = self.is_closed = False
         self.heard = []         # lines that were not told yet
 
 
 class Server:
-    def __init__(self):
+    def __init__(self, silence=0):
         self.hub = Hub(Store(GAMES, PLIES, None))
+        self.moment, self.silence = MOMENT, silence
         self.clients = []       # in the order in which they connected
         self.gone = []          # those that dropped the connection
 
@@ -55,6 +57,7 @@ class Server:
         for client in self.gone + self.clients:
             if not client.is_accepted:
                 client.is_accepted = True
+                client.heard_at = self.moment
                 client.sid = self.hub.connect()
                 if client.sid is None:
                     self.close(client)
@@ -65,16 +68,27 @@ class Server:
         client.is_closed = True
         client.heard.append('end')
 
+    def is_silent(self, client):
+        """Nothing came of it for so long, and nothing waits for it."""
+        return (self.silence and not client.over and not client.sent and not self.hub.sessions[client.sid].heard
+                and self.moment - client.heard_at >= self.silence)
+
     def turn(self):
         """Whether there was anything to do."""
         worked = self.accept()
         served = [c for c in self.gone + self.clients if c.sid is not None]
+        for client in [c for c in served if self.is_silent(c)]:
+            served.remove(client)
+            self.hub.close(client.sid)
+            client.sid, worked = None, True
+            self.close(client)
         for client in served:
-            worked |= bool(client.sent)
+            if client.sent:
+                client.heard_at, worked = self.moment, True
             self.hub.sessions[client.sid].feed(client.sent)
             client.sent = ''
         worked |= any(self.hub.sessions[c.sid].heard for c in served)
-        self.hub.turn(MOMENT, LINES)
+        self.hub.turn(self.moment, LINES)
         for client in served:
             session = self.hub.sessions[client.sid]
             for answer in session.due():
@@ -105,6 +119,10 @@ def play(path):
             if letters == 'turns':
                 for _ in range(int(act)):
                     server.turn()
+            elif letters == 'moment':
+                server.moment = int(act)
+            elif letters == 'silence':
+                server = Server(int(act))
             elif act == '?':
                 for _ in range(TURNS):
                     if all(server.client(letter).heard for letter in letters):

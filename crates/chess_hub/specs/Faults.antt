@@ -1,10 +1,11 @@
 -- Why a hub refuses a call.
-use Rattle.std.specs.Prelude.{ℕ, ◌≡◌}
+use Rattle.std.specs.Prelude.{ℕ, ◌≡◌, ◌+◌, ◌-◌, ◌^◌, min, Bool, true, false, if◌then◌else◌, Result, Ok, Err}
 use Rattle.session_lines.specs.declared.heard.FeedFault.{FeedFault}
 use Rattle.session_lines.specs.declared.heard.FeedFault.TheVariants as feed
 use Rattle.chess_sessions.specs.declared.sessions.ConnectFault.{ConnectFault}
 use Rattle.chess_sessions.specs.declared.sessions.ConnectFault.TheVariants as connect
 use Rattle.chess_store.specs.Faults as store
+use Rattle.chess_store.specs.declared.fault.StoreFault.TheVariants as why
 use Rattle.chess_hub.specs.declared.fault.HubFault.{HubFault}
 use Rattle.chess_hub.specs.declared.fault.HubFault.TheVariants.{Busy, NoMemory, LineTooLong, Store}
 
@@ -42,3 +43,14 @@ UnlessDevice fault P = P
 abbrev pub CountsFault : HubFault → ℕ → ℕ → Type 0
 CountsFault (Store fault) old new = store.CountsFault fault old new
 CountsFault fault old new = new ≡ old
+
+-- whether memory was refused, to the sessions or to the store
+abbrev pub is_for_memory : HubFault → Bool
+is_for_memory NoMemory = true
+is_for_memory (Store why.NoMemory) = true
+is_for_memory fault = false
+
+-- a count of the turns that memory was refused to, after one more turn
+abbrev pub refusals_after : {T : Type 0} → Result T HubFault → ℕ → ℕ
+refusals_after (Ok done) count = count
+refusals_after (Err fault) count = if is_for_memory fault then min (count + 1) (2 ^ 64 - 1) else count

@@ -16,6 +16,25 @@ pub enum HubFault {
     Store(StoreFault),
 }
 
+impl HubFault {
+    ghost use Rattle.std.specs.Prelude.{◌≡◌};
+    ghost use Rattle.chess_hub.specs.Faults.{is_for_memory};
+
+    /// Whether memory was refused, to the sessions or to the store.
+    pub fn is_for_memory(self) -> bool
+        ensures { result ≡ is_for_memory self }
+    {
+        match self {
+            HubFault::NoMemory | HubFault::Store(StoreFault::NoMemory) => true,
+            HubFault::Busy | HubFault::LineTooLong => false,
+            HubFault::Store(StoreFault::Exists) | HubFault::Store(StoreFault::TooSmall) => false,
+            HubFault::Store(StoreFault::NotOurs) | HubFault::Store(StoreFault::Damaged) => false,
+            HubFault::Store(StoreFault::Device { .. }) | HubFault::Store(StoreFault::Worn) => false,
+            HubFault::Store(StoreFault::Failed) => false,
+        }
+    }
+}
+
 impl From<AllocError> for HubFault {
     ghost use Rattle.std.specs.Prelude.{◌≡◌};
     ghost use Rattle.chess_hub.specs.declared.fault.HubFault.TheVariants.{NoMemory};

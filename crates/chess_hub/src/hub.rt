@@ -4,7 +4,7 @@ ghost use Rattle.session_lines.specs.Heard.{heard_more};
 ghost use Rattle.chess_sessions.specs.Session.{said, fresh, session_at, session_count, Changes, IsUnchanged, due, first_due, given_one};
 ghost use Rattle.chess_store.specs.Batch.{AreAnswered};
 ghost use Rattle.chess_store.specs.Means.{IsKept};
-ghost use Rattle.chess_hub.specs.Faults.{IsConnectFault, IsFeedFault};
+ghost use Rattle.chess_hub.specs.Faults.{IsConnectFault, IsFeedFault, refusals_after};
 ghost use Rattle.chess_hub.specs.Turning.{HasTurned, AsksFor, MayBeAsked, AreRefused, IsTurnFault, Lasts, IsTried};
 
 use crate::fault::HubFault;
@@ -21,6 +21,19 @@ pub struct Hub<D: Device> {
     alloc: Global,
     sessions: Sessions,
     store: Store<D>,
+    /// To how many turns memory was refused.
+    refusals: u64,
+}
+
+// A count of refusals, after a turn.
+fn counted(refusals: u64, turned: &Result<(), HubFault>) -> u64
+    ensures { result ≡ refusals_after turned.now refusals }
+{
+    match turned {
+        Err(fault) if fault.is_for_memory() => refusals.saturating_add(1),
+        Err(_) => refusals,
+        Ok(()) => refusals,
+    }
 }
 
 // Submits commands, at most 64; without one the store is not called.
@@ -58,11 +71,13 @@ impl<D: Device> Hub<D> {
     pub fn new(alloc: Global, store: Store<D>) -> Self
         ensures none { (sid : ℕ) → session_at result.sessions sid ≡ None }
         ensures store { result.store ≡ store }
+        ensures refusals { result.refusals ≡ 0 }
     {
         Hub {
             alloc,
             sessions: Sessions::new(alloc),
             store,
+            refusals: 0,
         }
     }
 
@@ -71,6 +86,13 @@ impl<D: Device> Hub<D> {
         ensures { result ≡ self.store }
     {
         self.store
+    }
+
+    /// To how many turns memory was refused, so that they answered `NoMemory` or `Store(NoMemory)`; at most 2^64 - 1.
+    pub fn refusals(&self) -> u64
+        ensures { result ≡ self.now.refusals }
+    {
+        self.refusals
     }
 
     /// Begins a session, under a number that no open one has. `Busy` exactly where 64 are open, or more; `NoMemory`
@@ -82,6 +104,7 @@ impl<D: Device> Hub<D> {
         ensures refused { OnErr result (IsUnchanged self.old.sessions self.new.sessions) }
         ensures fault { IfErr result IsConnectFault }
         ensures store { self.new.store ≡ self.old.store }
+        ensures refusals { self.new.refusals ≡ self.old.refusals }
     {
         Ok(self.sessions.connect()?)
     }
@@ -105,8 +128,42 @@ impl<D: Device> Hub<D> {
             IsErrOf result HubFault.LineTooLong ↔ (s.heard.is_long ≡ true)) }
         ensures fault { IfErr result IsFeedFault }
         ensures store { self.new.store ≡ self.old.store }
+        ensures refusals { self.new.refusals ≡ self.old.refusals }
     {
         Ok(self.sessions.feed(sid, piece)?)
+    }
+
+    // The turn of `turn`, that is not counted yet.
+    fn take_turn(&mut self, at: u64, most: usize) -> Result<(), HubFault>
+        requires some { 1 ≤ most }
+        requires few { most ≤ 64 }
+        ensures turned { OnOk result (HasTurned at most self.old.sessions self.new.sessions
+            self.old.store.table self.new.store.table) }
+        ensures quiet { OnOk result (AsksFor at most self.old.sessions
+            (λ commands. commands ≡ [] → self.new.store ≡ self.old.store)) }
+        ensures works { OnOk result (AsksFor at most self.old.sessions (MayBeAsked self.old.store.failed
+            self.old.store.journal.header.seq self.old.store.table.entries)) }
+        ensures unchanged { OnErr result (IsUnchanged self.old.sessions self.new.sessions) }
+        ensures fault { IfErr result (λ fault. IsTurnFault fault (self.new.store ≡ self.old.store)
+            (λ refused. AsksFor at most self.old.sessions (AreRefused refused self.old.store.journal.header.seq
+            self.old.store.failed self.old.store.table self.new.store.table))) }
+        ensures lasts { IsKept (D.state self.old.store.journal.device) self.old.store.journal.header
+            self.old.store.journal.compaction self.old.store.table
+            → Lasts result (D.state self.old.store.journal.device) (D.state self.new.store.journal.device)
+            self.new.store.journal.header self.new.store.journal.compaction self.old.store.table self.new.store.table }
+        ensures refusals { self.new.refusals ≡ self.old.refusals }
+        ensures tried { IsTried D.state D.sector_count D.failures self.old.store.journal.device
+            self.new.store.journal.device result self.old.store.table self.new.store.table self.old.store.failed
+            self.new.store.failed }
+    {
+        // With it, the table's bounds are known.
+        let _limits = self.store.limits();
+        let taken = self.sessions.next_lines(most)?;
+        let commands = self.sessions.commands(at, &taken)?;
+        self.sessions.reserve(&taken)?;
+        let replies = ask(self.alloc, &mut self.store, &commands)?;
+        self.sessions.deliver(at, &taken, replies);
+        Ok(())
     }
 
     /// Takes lines that wait, at most `most` of 1 to 64: round the sessions by rising number, one line of each, then
@@ -115,7 +172,8 @@ impl<D: Device> Hub<D> {
     /// session without a name asks by none. Without a command the store is not called.
     ///
     /// After a fault every session is as it was, and no answer has left: `NoMemory`, where memory was refused to the
-    /// sessions, and the store is as it was; or `Store`, the store's own, with what it leaves as `submit` says.
+    /// sessions, and the store is as it was; or `Store`, the store's own, with what it leaves as `submit` says. `refusals`
+    /// counts the turns that end by either's `NoMemory`, and no others.
     ///
     /// Where the store was kept, a crash at any moment of the turn leaves what means the table from before or that with
     /// the whole batch; at `Ok` every image means the latter.
@@ -136,18 +194,14 @@ impl<D: Device> Hub<D> {
             self.old.store.journal.compaction self.old.store.table
             → Lasts result (D.state self.old.store.journal.device) (D.state self.new.store.journal.device)
             self.new.store.journal.header self.new.store.journal.compaction self.old.store.table self.new.store.table }
+        ensures counts { self.new.refusals ≡ refusals_after result self.old.refusals }
         ensures tried { IsTried D.state D.sector_count D.failures self.old.store.journal.device
             self.new.store.journal.device result self.old.store.table self.new.store.table self.old.store.failed
             self.new.store.failed }
     {
-        // With it, the table's bounds are known.
-        let _limits = self.store.limits();
-        let taken = self.sessions.next_lines(most)?;
-        let commands = self.sessions.commands(at, &taken)?;
-        self.sessions.reserve(&taken)?;
-        let replies = ask(self.alloc, &mut self.store, &commands)?;
-        self.sessions.deliver(at, &taken, replies);
-        Ok(())
+        let turned = self.take_turn(at, most);
+        self.refusals = counted(self.refusals, &turned);
+        turned
     }
 
     /// The oldest answer that an open session was not given, if there is one; behind all its answers, where a line was
@@ -158,6 +212,7 @@ impl<D: Device> Hub<D> {
         ensures after { IfSome (session_at self.old.sessions sid) (λ s.
             Changes self.old.sessions self.new.sessions sid (Some (given_one s))) }
         ensures store { self.new.store ≡ self.old.store }
+        ensures refusals { self.new.refusals ≡ self.old.refusals }
     {
         self.sessions.output(sid)
     }
@@ -184,6 +239,7 @@ impl<D: Device> Hub<D> {
         requires { IsSome (session_at self.old.sessions sid) }
         ensures closed { Changes self.old.sessions self.new.sessions sid None }
         ensures store { self.new.store ≡ self.old.store }
+        ensures refusals { self.new.refusals ≡ self.old.refusals }
     {
         self.sessions.close(sid);
     }

@@ -1,7 +1,8 @@
 -- Calls one after the other, and clients one after the other.
 use Rattle.std.proofs.Common.{◌≡◌, ◌≢◌, ◌≤◌, ◌<◌, ◌+◌, ℕ, Bool, true, false, List, [], ◌∷◌, ◌++◌, Option, Some, None, IfSome, length, get_or, set, take, refl, ap, sym, ◌∙◌, subst, inl, inr, arith, append-nil}
 use Rattle.std.specs.Prelude.{IsSome, IsSomeAnd, ◌==◌, ◌&&◌, ◌||◌, not, if◌then◌else◌, option_map}
-use Rattle.std.specs.Io.KnownBytes.{Consumes}
+use Rattle.std.specs.Io.KnownBytes.{Consumes, Keeps}
+use Rattle.std.specs.Bool.{OnTrue, OnFalse}
 use Rattle.std.proofs.KnownBytes.{Consumes-nil, Appends-nil}
 use Rattle.std.proofs.lemmas.Bool.{cases_Bool, false≢true}
 use Rattle.std.proofs.lemmas.Bool.Decides.{Decides-eqb}
@@ -21,7 +22,8 @@ use Rattle.chess_sockets.specs.Incoming.{held}
 use Rattle.chess_sockets.specs.Sending.{waiting}
 use Rattle.chess_sockets.specs.Portions.{IsDearLine}
 use Rattle.chess_sockets.proofs.PortionLemmas.{none-dear}
-use Rattle.chess_sockets.specs.Serving.{state_of, Intake, Holds, LeadsOn, AreEach, PassesClosed, IsSent, IsRead, Welcomes, IsGivenTo, AreGiven, IsWritten}
+use Rattle.chess_sockets.proofs.TakingLemmas.{takes-kept, takes-in, gives-nothing, gives-closed}
+use Rattle.chess_sockets.specs.Serving.{state_of, Intake, intake, Holds, LeadsOn, AreEach, PassesClosed, IsSent, IsRead, Welcomes, IsGivenTo, AreGiven, IsWritten}
 
 -- ---- calls
 
@@ -158,6 +160,14 @@ not_closed (Some s) P is_open e = absurd (let bad : Some s ≡ None = e in cc)
 pub stays_by : {H : Type 0} (old new : H) (to : H → HubState) → new ≡ old → Stays (to old) (to new)
 stays_by old new to same = subst (λ h. Stays (to old) (to h)) (sym same) (stays-refl (to old))
 
+pub on_true : {P : Type 0} (b : Bool) → (b ≡ true → P) → OnTrue b P
+on_true true p = p refl
+on_true false p = tt
+
+pub on_false : {P Q : Type 0} (b : Bool) → (P → Q) → OnFalse b P → OnFalse b Q
+on_false true q p = tt
+on_false false q p = q p
+
 pub silent_written : {S : Type 0} (silence : Option ℕ) (client : Client S) (sessions : Sessions) (at : ℕ) →
     IsSomeAnd silence (IsSilent client sessions at) → waiting client.outgoing ≡ []
 silent_written None client sessions at silent = absurd silent
@@ -207,6 +217,35 @@ module _ {S : Type 0} (remaining : S → Option (List ℕ)) where
     unread = unread;
     closed = closed;
   }
+
+  -- Nothing came of a client. Its session is closed, or all stays.
+  pub read_nothing : (client after : Client S) (room : ℕ) (old new : Sessions) (t u : TableState) (done : Bool) →
+      after.sid ≡ client.sid → waiting after.outgoing ≡ waiting client.outgoing →
+      Keeps (remaining client.stream) (remaining after.stream) → held after.incoming ≡ held client.incoming →
+      IsSome (session_at old client.sid) → OnTrue done (waiting client.outgoing ≡ []) →
+      (waiting client.outgoing ≢ [] → after.stream ≡ client.stream) → OnTrue done (Changes old new client.sid None) →
+      OnFalse done (Stays (state_of old t) (state_of new u)) → u ≡ t →
+      IsRead remaining client after (intake (state_of old t) room) (intake (state_of new u) room)
+  read_nothing client after room old new t u true sid outgoing kept same is_open silent stream closed stays table =
+      is_read client after (intake (state_of old t) room) (intake (state_of new u) room) sid outgoing
+      (λ waits. absurd (waits silent)) (not_closed (session_at old client.sid) _ is_open)
+      (sends room room (remaining client.stream) (remaining after.stream) (held client.incoming) (held after.incoming)
+      client.sid old new t u (session_at old client.sid) (session_at new client.sid) refl refl is_open
+      (takes-in room room (session_at old client.sid) (session_at new client.sid) (remaining client.stream)
+      (remaining after.stream) (held client.incoming) (held after.incoming) (held after.incoming)
+      (takes-kept (remaining client.stream) (remaining after.stream) (held client.incoming) (held after.incoming) kept same)
+      (gives-closed room room (session_at old client.sid) (session_at new client.sid) (held after.incoming) (omega arith)
+      closed.changed)) closed.others table)
+  read_nothing client after room old new t u false sid outgoing kept same is_open silent stream closed stays table =
+      is_read client after (intake (state_of old t) room) (intake (state_of new u) room) sid outgoing
+      (λ waits. (stream waits, same, stays)) (not_closed (session_at old client.sid) _ is_open)
+      (sends room room (remaining client.stream) (remaining after.stream) (held client.incoming) (held after.incoming)
+      client.sid old new t u (session_at old client.sid) (session_at new client.sid) refl refl is_open
+      (takes-in room room (session_at old client.sid) (session_at new client.sid) (remaining client.stream)
+      (remaining after.stream) (held client.incoming) (held after.incoming) (held after.incoming)
+      (takes-kept (remaining client.stream) (remaining after.stream) (held client.incoming) (held after.incoming) kept same)
+      (gives-nothing room room (session_at old client.sid) (session_at new client.sid) (held after.incoming) (omega arith)
+      (stays.sessions client.sid))) (λ other differs. stays.sessions other) table)
 
   pub read_after : (client after : Client S) (a b c : Intake) → Holds a b → IsRead remaining client after b c →
       IsRead remaining client after a c

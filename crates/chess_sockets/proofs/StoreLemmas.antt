@@ -13,7 +13,7 @@ use Rattle.chess_store.specs.Faults.{IsSubmitFault}
 use Rattle.chess_store.specs.Means.{IsKept}
 use Rattle.chess_hub.specs.declared.fault.HubFault.{HubFault}
 use Rattle.chess_hub.specs.declared.fault.HubFault.TheVariants as hub
-use Rattle.chess_hub.specs.Faults.{UnlessDevice}
+use Rattle.chess_hub.specs.Faults.{UnlessDevice, refusals_after}
 use Rattle.chess_hub.specs.Turning.{AsksFor, IsBatchFault, AreRefused, IsTurnFault, Lasts}
 use Rattle.chess_hub.specs.Law.{HubState}
 use Rattle.chess_sockets.specs.declared.client.Client.{Client}
@@ -136,3 +136,20 @@ module _ (Same : Type 0) (at : ℕ) (sessions : Sessions) (seq : ℕ) (failed : 
     hears,
     subst (λ (t : TableState). AsksFor at 64 sessions (AreRefused fault seq failed t after)) same why,
   )
+
+-- ---- how many turns were refused memory
+
+-- The fault of a call inside is handed on.
+pub counts_refused : {S T : Type 0} (given : Result S HubFault) (made : Result T HubFault) (y fault : HubFault)
+    (before after : ℕ) → given ≡ Err fault → made ≡ Err y → y ≡ fault → after ≡ refusals_after given before →
+    after ≡ refusals_after made before
+counts_refused {S = S} {T = T} given made y fault before after was is same counts =
+    subst (λ (r : Result T HubFault). after ≡ refusals_after r before) (sym is)
+    (subst (λ (f : HubFault). after ≡ refusals_after {T = T} (Err f) before) (sym same)
+    (subst (λ (r : Result S HubFault). after ≡ refusals_after r before) was counts))
+
+-- It was answered.
+pub counts_done : {S : Type 0} (given : Result S HubFault) (x : S) (before after : ℕ) → given ≡ Ok x →
+    after ≡ refusals_after given before → after ≡ before
+counts_done {S = S} given x before after was counts =
+    subst (λ (r : Result S HubFault). after ≡ refusals_after r before) was counts

@@ -1,7 +1,8 @@
 -- What comes from a peer is held back, and goes to its session.
 use Rattle.std.proofs.Common.{◌≡◌, ◌∙◌, ◌≤◌, ◌+◌, ℕ, List, [], ◌++◌, Option, None, Some, IfSome, length, drop, refl, sym, subst, ap, inl, inr, append-nil}
 use Rattle.std.specs.Prelude.{IsSomeAnd}
-use Rattle.std.proofs.KnownBytes.{Consumes-nil}
+use Rattle.std.specs.Io.KnownBytes.{Keeps}
+use Rattle.std.proofs.KnownBytes.{Consumes-nil, Consumes-kept}
 use Rattle.std.proofs.Math.Seq.{drop-append_seam}
 use Rattle.chess_sessions.specs.Session.{SessionState}
 use Rattle.chess_sockets.specs.Clients.{HasHeard, GivesOn, TakesIn}
@@ -16,6 +17,16 @@ takes-nothing now holds = record {
   consumed = Consumes-nil now;
   unfinished = λ some. absurd (some refl);
   order = sym (append-nil holds);
+}
+
+-- a read found nothing
+pub takes-kept : (before after : Option (List ℕ)) (holds keeps : List ℕ) → Keeps before after → keeps ≡ holds →
+    Takes before after holds keeps
+takes-kept before after holds keeps kept same = record {
+  taken = [];
+  consumed = Consumes-kept before before after [] (Consumes-nil before) kept;
+  unfinished = λ some. absurd (some refl);
+  order = same ∙ sym (append-nil holds);
 }
 
 -- the session is given nothing

@@ -1,6 +1,7 @@
 //! A connection and its session.
 ghost use Rattle.std.specs.Prelude.{◌≡◌, ◌≢◌, ◌≤◌, ◌++◌, ◌+◌, ◌-◌, ◌↔◌, ◌⊎◌, true, false, [], None, length, IsTrue, IsSome, IfSome, IsSomeAnd, OnOk, OnErr};
 ghost use Rattle.std.specs.Bool.{OnTrue, OnFalse};
+ghost use Rattle.std.specs.Io.KnownBytes.{Keeps};
 ghost use Rattle.chess_sessions.specs.Session.{said, session_at};
 ghost use Rattle.chess_sockets.specs.Clients.{IsOpen, OthersStay, IsSilent, HasHeard, GivesOn, TakesIn, HandsOut, bytes_of, to_go};
 ghost use Rattle.chess_sockets.specs.Portions.{IsPortion};
@@ -116,6 +117,7 @@ fn feed<D: Device>(hub: &mut Hub<D>, sid: Sid, portion: &[u8]) -> bool
     ensures closed { OnFalse result (session_at hub.new.sessions sid ≡ None) }
     ensures others { OthersStay hub.old.sessions hub.new.sessions sid }
     ensures store { hub.new.store ≡ hub.old.store }
+    ensures refusals { hub.new.refusals ≡ hub.old.refusals }
 {
     match hub.feed(sid, portion) {
         Ok(()) | Err(HubFault::LineTooLong) => true,
@@ -150,6 +152,7 @@ fn gather<D: Device>(
         (state_of hub.new.sessions hub.new.store.table) }
     ensures others { OthersStay hub.old.sessions hub.new.sessions sid }
     ensures store { hub.new.store ≡ hub.old.store }
+    ensures refusals { hub.new.refusals ≡ hub.old.refusals }
 {
     let mut any = false;
     for _ in 0..u32::MAX {
@@ -177,7 +180,9 @@ impl<S: Read + Write> Client<S> {
         requires { IsUnfinished (held self.old.incoming) }
         ensures takes { Takes (S.remaining self.old.stream) (S.remaining self.new.stream) (held self.old.incoming)
             (held self.new.incoming) }
-        ensures quiet { self.new.is_quiet ≡ true → result ≡ Came.Nothing }
+        ensures quiet { self.new.is_quiet ≡ true → (result ≡ Came.Nothing)
+            × Keeps (S.remaining self.old.stream) (S.remaining self.new.stream)
+            × (held self.new.incoming ≡ held self.old.incoming) }
         ensures peer { (self.new.sid ≡ self.old.sid) × (waiting self.new.outgoing ≡ waiting self.old.outgoing) }
     {
         self.is_quiet = false;
@@ -205,6 +210,7 @@ impl<S: Read + Write> Client<S> {
         ensures stream { self.new.stream ≡ self.old.stream }
         ensures others { OthersStay hub.old.sessions hub.new.sessions self.old.sid }
         ensures store { hub.new.store ≡ hub.old.store }
+        ensures refusals { hub.new.refusals ≡ hub.old.refusals }
     {
         if hub.waiting(self.sid) > 0 {
             return;
@@ -238,12 +244,16 @@ impl<S: Read + Write> Client<S> {
             (held self.new.incoming) s (session_at hub.new.sessions self.old.sid)) }
         ensures peer { (self.new.sid ≡ self.old.sid) × (waiting self.new.outgoing ≡ waiting self.old.outgoing) }
         // Who has sent something is asked for more.
-        ensures quiet { self.new.is_quiet ≡ true → result ≡ false }
+        ensures quiet { self.new.is_quiet ≡ true → (result ≡ false)
+            × Keeps (S.remaining self.old.stream) (S.remaining self.new.stream)
+            × (held self.new.incoming ≡ held self.old.incoming) × (hub.new ≡ hub.old)
+            × (room.new.lines ≡ room.old.lines) }
         // Of who doesn't take its answers nothing is read, and nothing that it sent goes on.
         ensures unread { waiting self.old.outgoing ≢ [] → (self.new.stream ≡ self.old.stream)
             × (held self.new.incoming ≡ held self.old.incoming) × (hub.new ≡ hub.old) }
         ensures others { OthersStay hub.old.sessions hub.new.sessions self.old.sid }
         ensures store { hub.new.store ≡ hub.old.store }
+        ensures refusals { hub.new.refusals ≡ hub.old.refusals }
     {
         self.is_quiet = false;
         if !self.outgoing.is_empty() {
@@ -278,6 +288,7 @@ impl<S: Read + Write> Client<S> {
             × (self.new.is_quiet ≡ self.old.is_quiet) × (held self.new.incoming ≡ held self.old.incoming) }
         ensures others { OthersStay hub.old.sessions hub.new.sessions self.old.sid }
         ensures store { hub.new.store ≡ hub.old.store }
+        ensures refusals { hub.new.refusals ≡ hub.old.refusals }
     {
         let sent = self.outgoing.write_to(&mut self.stream);
         if sent != Sent::All {
@@ -332,6 +343,7 @@ impl<S: Read + Write> Client<S> {
             × (self.new.is_quiet ≡ self.old.is_quiet) × (held self.new.incoming ≡ held self.old.incoming) }
         ensures others { OthersStay hub.old.sessions hub.new.sessions self.old.sid }
         ensures store { hub.new.store ≡ hub.old.store }
+        ensures refusals { hub.new.refusals ≡ hub.old.refusals }
     {
         let was_stuck = !self.outgoing.is_empty();
         let Ok(wrote) = self.write_out(hub) else {

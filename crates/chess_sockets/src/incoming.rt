@@ -2,6 +2,7 @@
 ghost use Rattle.std.specs.Prelude.{ℕ, ◌≡◌, ◌≤◌, ◌↔◌, ◌⊎◌, [], IsTrue, length, take, drop};
 ghost use Rattle.session_lines.specs.Lines.{HasNoFeed, IsUnfinished};
 ghost use Rattle.chess_sockets.specs.Portions.{is_dear, AreLines, AreFewLines, BeginDear, IsPortionOf};
+ghost use Rattle.std.specs.Io.KnownBytes.{Keeps};
 ghost use Rattle.chess_sockets.specs.Pieces.{Takes};
 
 use crate::pieces::{Came, PIECE_ROOM, read_piece};
@@ -87,7 +88,9 @@ impl Incoming {
     /// Reads once, without waiting where the reader doesn't wait, and holds back what came.
     pub fn read_from<R: Read>(&mut self, reader: &mut R, piece: &mut [u8; PIECE_ROOM]) -> Came
         requires { IsUnfinished (held self.old) }
-        ensures { Takes (R.remaining reader.old) (R.remaining reader.new) (held self.old) (held self.new) }
+        ensures takes { Takes (R.remaining reader.old) (R.remaining reader.new) (held self.old) (held self.new) }
+        ensures nothing { result ≡ Came.Nothing → Keeps (R.remaining reader.old) (R.remaining reader.new)
+            × (held self.new ≡ held self.old) }
     {
         let room = PIECE_ROOM - self.bytes.len();
         let came = read_piece(reader, &mut piece[..room]);

@@ -2,6 +2,7 @@
 #![tactic(auto)]
 
 mod client;
+mod door;
 mod incoming;
 mod outgoing;
 mod pieces;

@@ -2,7 +2,8 @@
 ghost use Rattle.std.specs.Prelude.{◌≡◌, ◌+◌, ◌↔◌, true, false, [], Some, None, Ok, IsTrue, IsSomeAnd, IfOk, IfErr, OnOk, length};
 ghost use Rattle.std.specs.Bool.{OnTrue, OnFalse};
 ghost use Rattle.chess_store.specs.Means.{IsKept};
-ghost use Rattle.chess_hub.specs.Faults.{CountsFault};
+ghost use Rattle.chess_hub.specs.Faults.{CountsFault, refusals_after};
+ghost use Rattle.chess_sessions.specs.Session.{Changes};
 ghost use Rattle.chess_hub.specs.Turning.{MayBeAsked, Lasts, IsTried};
 ghost use Rattle.chess_hub.specs.Law.{Stays};
 ghost use Rattle.chess_sockets.specs.Clients.{IsOpen, IsSilent};
@@ -10,6 +11,7 @@ ghost use Rattle.chess_sockets.specs.Serving.{state_of, unknown, intake, AreEach
 ghost use Rattle.chess_sockets.specs.Turns.{EndsServing, IsCounted, IsRefusal, IsTurnRefusal};
 
 use crate::client::Client;
+use crate::door::{Door, Found, Listens, may_wait, next_connection};
 use crate::pieces::PIECE_ROOM;
 use crate::room::Room;
 use crate::watch::Watch;
@@ -17,8 +19,8 @@ use chess_hub::{Hub, HubFault};
 use sector_dev::Device;
 use std::alloc::Global;
 use std::io;
-use std::io::{ErrorKind, Read, Write};
-use std::net::{Ipv4Addr, Net, TcpListener, TcpStream};
+use std::io::{Read, Write};
+use std::net::{Net, TcpListener, TcpStream};
 use std::os::fd::AsRawFd;
 
 /// Whether a turn found something to do.
@@ -43,7 +45,7 @@ enum Rested {
 #[derive(Drop)]
 pub struct Server<D: Device> {
     alloc: Global,
-    listener: TcpListener,
+    door: Door,
     port: u16,
     hub: Hub<D>,
     clients: Vec<Client<TcpStream>>,
@@ -51,8 +53,6 @@ pub struct Server<D: Device> {
     rested: Rested,
     /// For how many milliseconds a client may be silent.
     silence: Option<u64>,
-    /// Whether a connection may wait that could not be accepted.
-    has_missed: bool,
     /// How many connections were dropped for want of a place or of memory.
     turned_away: u64,
 }
@@ -60,23 +60,12 @@ pub struct Server<D: Device> {
 /// The most lines that a turn takes: one at least of each session that has one.
 const LINES: usize = 64;
 
-// Listens on a port of 127.0.0.1, where 0 leaves the choice to the system.
-fn listen<R: Net<Listener = TcpListener, Stream = TcpStream>>(
-    net: &R,
-    port: u16,
-) -> io::Result<TcpListener> {
-    let listener = TcpListener::bind(net, (Ipv4Addr::LOCALHOST, port))?;
-    listener.set_nonblocking(true)?;
-    Ok(listener)
-}
-
-// The next connection, if one waits.
-fn accept(listener: &TcpListener) -> io::Result<TcpStream> {
-    let (stream, _) = listener.accept()?;
-    stream.set_nonblocking(true)?;
-    // Answers are short, and a client waits for them.
-    stream.set_nodelay(true)?;
-    Ok(stream)
+// Whether a turn asks for a connection: always, but after calm rests only where the last try has not found that none waits.
+// So a failure leaves no connection waiting.
+fn asks_for_one(rested: Rested, found: Found) -> bool
+    ensures { result ≡ false ↔ ((rested ≡ Rested.Calm) × (found ≡ Found.Nobody)) }
+{
+    rested != Rested::Calm || may_wait(found)
 }
 
 /// When clients are read for.
@@ -101,8 +90,33 @@ fn is_over_silent<S, D: Device>(client: &Client<S>, hub: &Hub<D>, reading: Readi
     }
 }
 
-// Reads for a session that is open, but after calm rests not for a quiet client, and closes that of a client that has been
-// silent for too long. It tells whether there may be more to do.
+// Closes the session of a client that has been silent for longer than it may, behind a read that found nothing, and tells
+// whether it did.
+fn close_silent<S, D: Device>(client: &Client<S>, hub: &mut Hub<D>, reading: Reading) -> bool
+    requires open { IsOpen hub.old.sessions client.now.sid }
+    requires quiet { client.now.is_quiet ≡ true }
+    ensures silent { IsTrue result ↔ IsSomeAnd reading.silence (IsSilent client.now hub.old.sessions reading.at) }
+    ensures closed { OnTrue result (Changes hub.old.sessions hub.new.sessions client.now.sid None) }
+    ensures stays { OnFalse result (hub.new ≡ hub.old) }
+    ensures store { hub.new.store ≡ hub.old.store }
+    ensures refusals { hub.new.refusals ≡ hub.old.refusals }
+{
+    if !is_over_silent(client, hub, reading) {
+        return false;
+    }
+    hub.close(client.sid());
+    true
+}
+
+// Whether a client is passed over: after calm rests one that was read to its end, unless it has been silent for too long.
+fn is_passed_over<S, D: Device>(client: &Client<S>, hub: &Hub<D>, reading: Reading) -> bool
+    requires { IsOpen hub.now.sessions client.now.sid }
+{
+    reading.is_calm && client.is_quiet() && !is_over_silent(client, hub, reading)
+}
+
+// Reads for a session that is open, but after calm rests not for a quiet client; and where the read finds nothing, closes
+// that of a client that has been silent for too long. It tells whether there may be more to do.
 fn read_for<S: Read + Write, D: Device>(
     client: &mut Client<S>,
     hub: &mut Hub<D>,
@@ -114,18 +128,19 @@ fn read_for<S: Read + Write, D: Device>(
         (intake (state_of hub.old.sessions hub.old.store.table) room.old.lines)
         (intake (state_of hub.new.sessions hub.new.store.table) room.new.lines) }
     ensures store { hub.new.store ≡ hub.old.store }
+    ensures refusals { hub.new.refusals ≡ hub.old.refusals }
 {
     if !hub.is_open(client.sid()) {
         return false;
     }
-    if is_over_silent(client, hub, reading) {
-        hub.close(client.sid());
-        return true;
-    }
-    if reading.is_calm && client.is_quiet() {
+    if is_passed_over(client, hub, reading) {
         return false;
     }
-    client.take_in(hub, reading.at, piece, room)
+    let any = client.take_in(hub, reading.at, piece, room);
+    if client.is_quiet() {
+        return close_silent(client, hub, reading);
+    }
+    any
 }
 
 // For how many turns a client of an open session has waited that has waited longest with a line that asks for much.
@@ -148,6 +163,7 @@ fn take_in_all<S: Read + Write, D: Device>(
     ensures read { AreRead S.remaining clients.old.items clients.new.items
         (state_of hub.old.sessions hub.old.store.table) (state_of hub.new.sessions hub.new.store.table) }
     ensures store { hub.new.store ≡ hub.old.store }
+    ensures refusals { hub.new.refusals ≡ hub.old.refusals }
 {
     let mut piece = [0u8; PIECE_ROOM];
     let mut room = Room::new(longest_wait(clients, hub));
@@ -163,6 +179,7 @@ fn write_for<S: Read + Write, D: Device>(client: &mut Client<S>, hub: &mut Hub<D
     ensures written { IsWritten S.contents client.old client.new (state_of hub.old.sessions hub.old.store.table)
         (state_of hub.new.sessions hub.new.store.table) }
     ensures store { hub.new.store ≡ hub.old.store }
+    ensures refusals { hub.new.refusals ≡ hub.old.refusals }
 {
     if !hub.is_open(client.sid()) {
         return false;
@@ -175,6 +192,7 @@ fn hand_out_all<S: Read + Write, D: Device>(clients: &mut Vec<Client<S>>, hub: &
     ensures written { AreEach Stays (IsWritten S.contents) clients.old.items clients.new.items
         (state_of hub.old.sessions hub.old.store.table) (state_of hub.new.sessions hub.new.store.table) }
     ensures store { hub.new.store ≡ hub.old.store }
+    ensures refusals { hub.new.refusals ≡ hub.old.refusals }
 {
     let mut any = false;
     for client in clients.iter_mut() {
@@ -191,6 +209,8 @@ pub(crate) fn serve_clients<S: Read + Write, D: Device>(
     reading: Reading,
 ) -> Result<bool, HubFault>
     ensures fault { IfErr result EndsServing }
+    // Want of memory ends serving only where a turn of the hub was refused it.
+    ensures counts { hub.new.refusals ≡ refusals_after result hub.old.refusals }
     ensures refused { IfErr result (λ fault. IsRefusal S.remaining fault reading.at hub.old.store.journal.header.seq
         hub.old.store.failed clients.old.items (state_of hub.old.sessions hub.old.store.table) hub.new.store.table) }
     // Each session hears what its client's stream gave, and nothing else, but for what comes behind a line that is too
@@ -231,21 +251,21 @@ impl<D: Device> Server<D> {
         D: Drop,
         ensures hub { IfOk result (λ server. server.hub ≡ hub) }
         ensures nobody { IfOk result (λ server. server.clients.items ≡ []) }
+        ensures silence { IfOk result (λ server. server.silence ≡ silence) }
     {
-        let listener = listen(net, port)?;
+        let door = Door::listen(net, port)?;
         let mut watch = Watch::new(net, alloc)?;
-        let address = listener.local_addr()?;
-        watch.add(listener.as_raw_fd());
+        let port = door.port()?;
+        watch.add(door.socket());
         Ok(Server {
             alloc,
-            listener,
-            port: address.port(),
+            door,
+            port,
             hub,
             clients: Vec::new(alloc),
             watch,
             rested: Rested::Not,
             silence,
-            has_missed: false,
             turned_away: 0,
         })
     }
@@ -278,7 +298,9 @@ impl<D: Device> Server<D> {
             (state_of self.old.hub.sessions self.old.hub.store.table)
             (state_of self.new.hub.sessions self.new.hub.store.table) }
         ensures store { self.new.hub.store ≡ self.old.hub.store }
+        ensures refusals { self.new.hub.refusals ≡ self.old.hub.refusals }
         ensures port { self.new.port ≡ self.old.port }
+        ensures silence { self.new.silence ≡ self.old.silence }
         ensures waits { self.new.watch.calm_waits ≡ self.old.watch.calm_waits }
         ensures turned_away { self.new.turned_away ≡ self.old.turned_away }
         ensures came { OnTrue result (length self.new.clients.items ≡ length self.old.clients.items + 1) }
@@ -298,34 +320,32 @@ impl<D: Device> Server<D> {
         true
     }
 
-    // Accepts at most one connection, and tells whether one came; after calm rests none, unless one may wait that could not
-    // be accepted. One that came and is no client is counted.
+    // Accepts at most one connection, and tells whether one came; after calm rests none, unless one may wait. One that came
+    // and is no client is counted. What fails at it ends nothing, and is no turn's work, so that a rest comes before the next.
     fn welcome(&mut self, at: u64) -> bool
         ensures welcomes { Welcomes self.old.clients.items self.new.clients.items
             (state_of self.old.hub.sessions self.old.hub.store.table)
             (state_of self.new.hub.sessions self.new.hub.store.table) }
         ensures store { self.new.hub.store ≡ self.old.hub.store }
+        ensures refusals { self.new.hub.refusals ≡ self.old.hub.refusals }
         ensures port { self.new.port ≡ self.old.port }
+        ensures silence { self.new.silence ≡ self.old.silence }
         ensures waits { self.new.watch.calm_waits ≡ self.old.watch.calm_waits }
         ensures counted { OnTrue result (IsCounted (length self.old.clients.items) (length self.new.clients.items)
             self.old.turned_away self.new.turned_away) }
         ensures none { OnFalse result (self.new.turned_away ≡ self.old.turned_away) }
     {
-        if self.rested == Rested::Calm && !self.has_missed {
+        if !asks_for_one(self.rested, self.door.found()) {
             return false;
         }
-        match accept(&self.listener) {
-            Ok(stream) => {
-                self.has_missed = false;
+        match next_connection(&mut self.door) {
+            Some(stream) => {
                 if !self.admit(stream, at) {
                     self.turned_away = self.turned_away.saturating_add(1);
                 }
                 true
             }
-            Err(error) => {
-                self.has_missed = error.kind() != ErrorKind::WouldBlock;
-                false
-            }
+            None => false,
         }
     }
 
@@ -335,6 +355,7 @@ impl<D: Device> Server<D> {
         ensures hub { self.new.hub ≡ self.old.hub }
         ensures rested { self.new.rested ≡ self.old.rested }
         ensures port { self.new.port ≡ self.old.port }
+        ensures silence { self.new.silence ≡ self.old.silence }
         ensures waits { self.new.watch.calm_waits ≡ self.old.watch.calm_waits }
     {
         let hub = &self.hub;
@@ -354,6 +375,7 @@ impl<D: Device> Server<D> {
     /// the whole batch; at `Ok` every image means the latter.
     pub fn turn(&mut self, at: u64) -> Result<Turned, HubFault>
         ensures fault { IfErr result EndsServing }
+        ensures counts { self.new.hub.refusals ≡ refusals_after result self.old.hub.refusals }
         // The store's own fault tells why it refused what lines ask for.
         ensures refused { IfErr result (λ fault. IsTurnRefusal unknown fault at
             self.old.hub.store.journal.header.seq self.old.hub.store.failed self.old.clients.items
@@ -372,6 +394,7 @@ impl<D: Device> Server<D> {
             self.new.clients.items (state_of self.old.hub.sessions self.old.hub.store.table)
             (state_of self.new.hub.sessions self.new.hub.store.table)) }
         ensures port { self.new.port ≡ self.old.port }
+        ensures silence { self.new.silence ≡ self.old.silence }
         ensures waits { self.new.watch.calm_waits ≡ self.old.watch.calm_waits }
         ensures lasts { IsKept (D.state self.old.hub.store.journal.device) self.old.hub.store.journal.header
             self.old.hub.store.journal.compaction self.old.hub.store.table
@@ -407,6 +430,7 @@ impl<D: Device> Server<D> {
             → self.new.watch.calm_waits ≡ self.old.watch.calm_waits + 1 }
         ensures woken { self.old.rested ≡ Rested.Woken → self.new.rested ≡ Rested.Woken }
         ensures port { self.new.port ≡ self.old.port }
+        ensures silence { self.new.silence ≡ self.old.silence }
     {
         let is_calm = self.watch.rest();
         self.rested = if is_calm && self.rested != Rested::Woken {

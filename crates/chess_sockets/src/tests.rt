@@ -1,4 +1,7 @@
 //! Clients over connections that give and take little, or fail.
+mod doors;
+mod memory;
+
 use crate::client::Client;
 use crate::server::{Reading, serve_clients};
 use chess_hub::Hub;
@@ -26,9 +29,14 @@ enum Takes {
     /// It takes so many bytes, and nothing at the next write.
     Some(usize),
     Nothing,
+    /// It takes all until it has so many bytes, and then 7, and nothing at the next write.
+    SlowsAt(usize),
     /// It fails once it has taken so many bytes.
     Fails(usize),
 }
+
+/// What a slow connection takes at a write.
+const SLOW: usize = 7;
 
 /// A connection that gives these, one at a read, and the last one again and again.
 #[derive(Drop)]
@@ -61,8 +69,10 @@ impl Write for Peer {
     fn write(&mut self, buf: &[u8]) -> io::Result<usize> {
         let most = match self.takes {
             Takes::All => buf.len(),
+            Takes::SlowsAt(most) if self.written.len() < most => most - self.written.len(),
             Takes::Some(most) if !self.is_full => most,
-            Takes::Some(_) | Takes::Nothing => {
+            Takes::SlowsAt(_) if !self.is_full => SLOW,
+            Takes::Some(_) | Takes::SlowsAt(_) | Takes::Nothing => {
                 self.is_full = false;
                 return Err(Error::from(ErrorKind::WouldBlock));
             }
@@ -141,22 +151,39 @@ fn hub(alloc: Global) -> Option<Hub<MemoryDevice>> {
     Some(Hub::new(alloc, store))
 }
 
-// So many turns, one a millisecond from 1,000 on.
-fn take_turns(
-    clients: &mut Vec<Client<Peer>>,
-    hub: &mut Hub<MemoryDevice>,
-    turns: u64,
+/// The turns that are taken.
+#[derive(Clone, Copy)]
+struct Turns {
+    count: u64,
+    /// From one to the next so many milliseconds go by, the first being at 1,000.
+    step: u64,
+    /// Whether a calm rest comes before each.
+    are_calm: bool,
     silence: Option<u64>,
-) -> bool {
-    for turn in 0..turns {
+}
+
+// So many turns, one a millisecond.
+fn each_millisecond(count: u64, silence: Option<u64>) -> Turns {
+    Turns {
+        count,
+        step: 1,
+        are_calm: false,
+        silence,
+    }
+}
+
+fn take_turns(clients: &mut Vec<Client<Peer>>, hub: &mut Hub<MemoryDevice>, turns: Turns) -> bool {
+    let mut at = 1_000u64;
+    for _ in 0..turns.count {
         let reading = Reading {
-            at: 1_000u64.saturating_add(turn),
-            is_calm: false,
-            silence,
+            at,
+            is_calm: turns.are_calm,
+            silence: turns.silence,
         };
         if serve_clients(clients, hub, reading).is_err() {
             return false;
         }
+        at = at.saturating_add(turns.step);
     }
     true
 }
@@ -187,15 +214,19 @@ fn play(
     alloc: Global,
     peer: Peer,
     line: &str,
-    turns: u64,
+    count: u64,
     silence: Option<u64>,
 ) -> Option<Outcome> {
+    play_at(alloc, peer, line, each_millisecond(count, silence))
+}
+
+fn play_at(alloc: Global, peer: Peer, line: &str, turns: Turns) -> Option<Outcome> {
     let mut hub = hub(alloc)?;
     let mut clients = Vec::new(alloc);
     let other = made(alloc, &[Gives::Text("name a\n")], Takes::All);
     let plays = connect(&mut clients, &mut hub, alloc, peer)
         && connect(&mut clients, &mut hub, alloc, other)
-        && take_turns(&mut clients, &mut hub, turns, silence);
+        && take_turns(&mut clients, &mut hub, turns);
     if plays {
         outcome_of(clients.as_slice(), &hub, line)
     } else {
@@ -269,6 +300,58 @@ fn all_lines_before_an_end_are_answered(rt: HostRuntime) {
     assert_eq!(rt; play(alloc, made(alloc, ENDS, slow), NAMED, 200, None), all);
 }
 
+const SIXTEEN: &str = "\
+name a\nname a\nname a\nname a\nname a\nname a\nname a\nname a\n\
+name a\nname a\nname a\nname a\nname a\nname a\nname a\nname a\n";
+
+const STAYS: &[Gives] = &[Gives::Text(SIXTEEN), Gives::Nothing];
+
+// Whether the first of five connections is open, of which each sends 16 lines at once, more than a turn answers, and the
+// first then ends; and how many whole answers each was written.
+fn five(alloc: Global, takes: Takes, count: u64) -> Option<(bool, [Option<usize>; 5])> {
+    let mut hub = hub(alloc)?;
+    let mut clients = Vec::new(alloc);
+    let ends = &[Gives::Text(SIXTEEN), Gives::End];
+    let mut plays = connect(&mut clients, &mut hub, alloc, made(alloc, ends, takes));
+    for _ in 1..5 {
+        plays &= connect(
+            &mut clients,
+            &mut hub,
+            alloc,
+            made(alloc, STAYS, Takes::All),
+        );
+    }
+    if !plays || !take_turns(&mut clients, &mut hub, each_millisecond(count, None)) {
+        return None;
+    }
+    let mut answers = [None; 5];
+    for (told, client) in answers.iter_mut().zip(clients.iter()) {
+        *told = count_lines(client.stream().written.as_slice(), NAMED);
+    }
+    Some((hub.is_open(clients.first()?.sid()), answers))
+}
+
+#[test]
+fn lines_that_wait_at_an_end_are_answered(rt: HostRuntime) {
+    let alloc = rt.alloc();
+    let all = [Some(16); 5];
+    let most = [Some(13), Some(13), Some(13), Some(13), Some(12)];
+    assert_eq!(rt; five(alloc, Takes::All, 1), Some((true, most)));
+    assert_eq!(rt; five(alloc, Takes::All, 2), Some((true, all)));
+    assert_eq!(rt; five(alloc, Takes::All, 3), Some((false, all)));
+}
+
+#[test]
+fn who_has_ended_and_reads_slowly_is_given_all(rt: HostRuntime) {
+    let alloc = rt.alloc();
+    let all = [Some(16); 5];
+    let part = [None, Some(16), Some(16), Some(16), Some(16)];
+    // The end is heard in the second turn, when three answers are to come.
+    let slow = Takes::SlowsAt(130);
+    assert_eq!(rt; five(alloc, slow, 4), Some((true, part)));
+    assert_eq!(rt; five(alloc, slow, 20), Some((false, all)));
+}
+
 #[test]
 fn who_takes_nothing_is_read_no_further(rt: HostRuntime) {
     let alloc = rt.alloc();
@@ -298,7 +381,7 @@ fn the_silent_are_closed(rt: HostRuntime) {
     );
     assert_eq!(rt;
         play(alloc, made(alloc, ONE, whole), NAMED, 101, most),
-        left(false, Some(1), 100, 101)
+        left(false, Some(1), 101, 101)
     );
     // Who has answers to take is not, nor is anybody where no limit is set.
     let stuck = made(alloc, ONE, Takes::Nothing);
@@ -309,6 +392,44 @@ fn the_silent_are_closed(rt: HostRuntime) {
     assert_eq!(rt;
         play(alloc, made(alloc, ONE, whole), NAMED, 200, None),
         left(true, Some(1), 200, 200)
+    );
+}
+
+#[test]
+fn who_has_sent_is_not_silent(rt: HostRuntime) {
+    let alloc = rt.alloc();
+    // What has come is read before a client counts as silent, also where it is passed over for as long as all is calm.
+    let calm = Turns {
+        count: 4,
+        step: 100,
+        are_calm: true,
+        silence: Some(150),
+    };
+    let again = &[
+        Gives::Text("name a\n"),
+        Gives::Nothing,
+        Gives::Text("name a\n"),
+        Gives::Nothing,
+    ];
+    assert_eq!(rt;
+        play_at(alloc, made(alloc, again, Takes::All), NAMED, calm),
+        left(true, Some(2), 4, 4)
+    );
+    let longer = Turns { count: 6, ..calm };
+    assert_eq!(rt;
+        play_at(alloc, made(alloc, again, Takes::All), NAMED, longer),
+        left(false, Some(2), 5, 6)
+    );
+    // A server that was held up for long reads first.
+    let late = Turns {
+        step: 1_000_000,
+        are_calm: false,
+        ..calm
+    };
+    let speaks = &[Gives::Text("name a\n")];
+    assert_eq!(rt;
+        play_at(alloc, made(alloc, speaks, Takes::All), NAMED, late),
+        left(true, Some(4), 4, 4)
     );
 }
 
@@ -327,7 +448,7 @@ fn lists_are_answered_one_a_turn(rt: HostRuntime) {
 }
 
 // The fewest and the most answers of nine clients who ask for the list again and again.
-fn flood(alloc: Global, turns: u64) -> Option<(usize, usize)> {
+fn flood(alloc: Global, count: u64) -> Option<(usize, usize)> {
     let mut hub = hub(alloc)?;
     let mut clients = Vec::new(alloc);
     for _ in 0..9 {
@@ -336,7 +457,7 @@ fn flood(alloc: Global, turns: u64) -> Option<(usize, usize)> {
             return None;
         }
     }
-    if !take_turns(&mut clients, &mut hub, turns, None) {
+    if !take_turns(&mut clients, &mut hub, each_millisecond(count, None)) {
         return None;
     }
     let (mut least, mut most) = (usize::MAX, 0);

@@ -6,7 +6,10 @@
 //!   each line, the clients in the order in which they connected;
 //! - `turns COUNT`: the server takes so many turns, and no rest;
 //! - clients' letters and ` ?`: the server takes turns until each of these clients has a line or its end, and what came to
-//!   each client is written, as above. After 1,000 turns the run ends.
+//!   each client is written, as above. After 1,000 turns the run ends;
+//! - `moment MOMENT`: that of the turns from now on, in milliseconds, 1,000 at first;
+//! - `silence COUNT`: a new server, without clients and over a new store, closes who is silent for so many milliseconds;
+//!   with 0 nobody.
 #![tactic(auto)]
 
 mod clients;
@@ -17,7 +20,6 @@ use chess_store::Store;
 use clients::Clients;
 use rec_codec::Limits;
 use sector_dev::MemoryDevice;
-use std::alloc::Global;
 use std::io::{BufRead, BufReader};
 use std::process::ExitCode;
 
@@ -30,7 +32,7 @@ const LIMITS: Limits = Limits {
 /// The sectors that they need.
 const SECTORS: u32 = 212;
 
-/// Each turn's moment.
+/// The first turns' moment.
 const MOMENT: u64 = 1_000;
 
 /// More turns than any `turns` calls for.
@@ -50,80 +52,117 @@ fn main(rt: HostRuntime) -> ExitCode {
 }
 
 // A server over a new store in memory.
-fn start(rt: &HostRuntime, alloc: Global) -> Option<Server<MemoryDevice>> {
+fn start(rt: &HostRuntime, silence: Option<u64>) -> Option<Server<MemoryDevice>> {
+    let alloc = rt.alloc();
     let device = MemoryDevice::new(alloc, SECTORS).ok()?;
     match Store::create(alloc, device, LIMITS) {
-        Ok(store) => Server::bind(rt, alloc, 0, None, Hub::new(alloc, store)).ok(),
+        Ok(store) => Server::bind(rt, alloc, 0, silence, Hub::new(alloc, store)).ok(),
         Err(_) => None,
     }
 }
 
-// Takes a turn, and a rest where it found nothing to do.
-fn take_turn(server: &mut Server<MemoryDevice>) -> Option<Turned> {
-    let turned = server.turn(MOMENT).ok()?;
-    if turned == Turned::Idle {
-        server.rest();
-    }
-    Some(turned)
+/// A server, its clients, and the moment of its turns.
+#[derive(Drop)]
+struct Game {
+    server: Server<MemoryDevice>,
+    clients: Clients,
+    at: u64,
 }
 
-// Takes turns until nothing more comes.
-fn take_turns(server: &mut Server<MemoryDevice>) -> Option<()> {
-    // What the clients sent comes before the first turn.
-    server.rest();
-    server.rest();
-    let mut left = IDLE_TURNS;
-    for _ in 0..TURNS {
-        left = match take_turn(server)? {
-            Turned::Worked => IDLE_TURNS,
-            Turned::Idle => left.saturating_sub(1),
-        };
-        if left == 0 {
-            return Some(());
-        }
+impl Game {
+    fn begin(rt: &HostRuntime, silence: Option<u64>) -> Option<Game> {
+        let server = start(rt, silence)?;
+        let clients = Clients::new(rt.alloc(), server.port());
+        Some(Game {
+            server,
+            clients,
+            at: MOMENT,
+        })
     }
-    None
+
+    // Takes a turn, and a rest where it found nothing to do.
+    fn take_turn(&mut self) -> Option<Turned> {
+        let turned = self.server.turn(self.at).ok()?;
+        if turned == Turned::Idle {
+            self.server.rest();
+        }
+        Some(turned)
+    }
+
+    // Takes turns until nothing more comes.
+    fn take_turns(&mut self) -> Option<()> {
+        // What the clients sent comes before the first turn.
+        self.server.rest();
+        self.server.rest();
+        let mut left = IDLE_TURNS;
+        for _ in 0..TURNS {
+            left = match self.take_turn()? {
+                Turned::Worked => IDLE_TURNS,
+                Turned::Idle => left.saturating_sub(1),
+            };
+            if left == 0 {
+                return Some(());
+            }
+        }
+        None
+    }
+
+    // Takes so many turns.
+    fn take_turns_alone(&mut self, count: u32) -> Option<()> {
+        for _ in 0..count {
+            self.server.turn(self.at).ok()?;
+        }
+        Some(())
+    }
+
+    // Takes turns until each of these letters' clients has a line or its end; `None` where they are too many.
+    fn take_turns_for(&mut self, letters: &str) -> Option<()> {
+        for _ in 0..ANSWER_TURNS {
+            self.take_turn()?;
+            if self.clients.have_heard(letters).ok()? {
+                return Some(());
+            }
+        }
+        None
+    }
+
+    // Does what a line says.
+    fn act(&mut self, rt: &HostRuntime, line: &str) -> Option<()> {
+        if line == "turns" {
+            self.take_turns()?;
+            return self.clients.tell(rt).ok();
+        }
+        let (word, rest) = line.split_once(" ")?;
+        match (word, rest) {
+            ("turns", count) => self.take_turns_alone(count.parse().ok()?)?,
+            ("moment", moment) => self.at = moment.parse().ok()?,
+            (letters, "?") => {
+                let answered = self.take_turns_for(letters);
+                self.clients.tell(rt).ok()?;
+                answered?;
+            }
+            (letters, text) => self.clients.act(rt, letters, text).ok()?,
+        }
+        Some(())
+    }
 }
 
-// Takes turns until each of these letters' clients has a line or its end; `None` where they are too many.
-fn take_turns_for(
-    server: &mut Server<MemoryDevice>,
-    clients: &mut Clients,
-    letters: &str,
-) -> Option<()> {
-    for _ in 0..ANSWER_TURNS {
-        take_turn(server)?;
-        if clients.have_heard(letters).ok()? {
-            return Some(());
-        }
-    }
-    None
+// For how many milliseconds a client of a new server may be silent, if a line asks for one: 0 is for ever.
+fn silence_of(line: &str) -> Option<u64> {
+    line.strip_prefix("silence ")?.parse().ok()
 }
 
 fn play(rt: &HostRuntime) -> Option<()> {
-    let mut server = start(rt, rt.alloc())?;
-    let mut clients = Clients::new(rt.alloc(), server.port());
-    for text in BufReader::new(rt.alloc(), rt.reader())
+    let mut game = Game::begin(rt, None)?;
+    for line in BufReader::new(rt.alloc(), rt.reader())
         .ok()?
         .lines(rt.alloc())
     {
-        let text = text.ok()?;
-        if text.as_str() == "turns" {
-            take_turns(&mut server)?;
-            clients.tell(rt).ok()?;
-        } else {
-            let (letters, act) = text.as_str().split_once(" ")?;
-            if letters == "turns" {
-                for _ in 0..act.parse::<u32>().ok()? {
-                    server.turn(MOMENT).ok()?;
-                }
-            } else if act == "?" {
-                let answered = take_turns_for(&mut server, &mut clients, letters);
-                clients.tell(rt).ok()?;
-                answered?;
-            } else {
-                clients.act(rt, letters, act).ok()?;
-            }
+        let line = line.ok()?;
+        match silence_of(line.as_str()) {
+            Some(0) => game = Game::begin(rt, None)?,
+            Some(silence) => game = Game::begin(rt, Some(silence))?,
+            None => game.act(rt, line.as_str())?,
         }
     }
     Some(())

@@ -10,7 +10,7 @@ use Rattle.chess_sockets.proofs.client.gather.Goals as goal
 
 pub returns-in_err-push-clause-open : goal.returns-in_err-push-clause-open
 returns-in_err-push-clause-open g c =
-    let (is_open, same, others, store, given) = c.loop.invariant in
+    let (is_open, same, others, store, given, refusals) = c.loop.invariant in
     let w = waiting c.loop.outgoing in
     let step = gives (session_at c.loop.hub.sessions c.args.sid) c.loop.hub.sessions c.output.new.self.sessions c.args.sid
     c.output.result c.in-Some.reply w (w ++ bytes_of (said c.in-Some.reply)) c.in-Some.is is_open
@@ -19,7 +19,7 @@ returns-in_err-push-clause-open g c =
 
 pub returns-in_err-push-clause-others : goal.returns-in_err-push-clause-others
 returns-in_err-push-clause-others g c =
-    let (is_open, same, others, store, given) = c.loop.invariant in
+    let (is_open, same, others, store, given, refusals) = c.loop.invariant in
     let w = waiting c.loop.outgoing in
     let step = gives (session_at c.loop.hub.sessions c.args.sid) c.loop.hub.sessions c.output.new.self.sessions c.args.sid
     c.output.result c.in-Some.reply w (w ++ bytes_of (said c.in-Some.reply)) c.in-Some.is is_open
@@ -28,7 +28,7 @@ returns-in_err-push-clause-others g c =
 
 pub loop-preserved : goal.loop-preserved
 loop-preserved g c =
-    let (is_open, same, others, store, given) = c.loop.invariant in
+    let (is_open, same, others, store, given, refusals) = c.loop.invariant in
     let step = gives (session_at c.loop.hub.sessions c.args.sid) c.loop.hub.sessions c.output.new.self.sessions c.args.sid
     c.output.result c.in-Some.reply (waiting c.loop.outgoing) (waiting c.push.new.outgoing) c.in-Some.is is_open
     c.output.ensures.given c.output.ensures.after c.in_ok-push.ensures in (
@@ -42,11 +42,12 @@ loop-preserved g c =
           (output_gives (session_at c.loop.hub.sessions c.args.sid) c.loop.hub.sessions c.output.new.self.sessions
           c.args.sid c.output.result c.loop.hub.store.table c.output.new.self.store.table refl is_open
           c.output.ensures.given c.output.ensures.after (ap (λ s. s.table) c.output.ensures.store)),
+      c.output.ensures.refusals ∙ refusals,
     )
 
 pub returns-in_default-clause-open : goal.returns-in_default-clause-open
 returns-in_default-clause-open g c =
-    let (is_open, same, others, store, given) = c.loop.invariant in
+    let (is_open, same, others, store, given, refusals) = c.loop.invariant in
     let step = gives-none (session_at c.loop.hub.sessions c.args.sid) c.loop.hub.sessions c.output.new.self.sessions
     c.args.sid c.output.result (waiting c.loop.outgoing) c.in_default.is is_open c.output.ensures.given
     c.output.ensures.after in
@@ -54,7 +55,7 @@ returns-in_default-clause-open g c =
 
 pub returns-in_default-clause-same : goal.returns-in_default-clause-same
 returns-in_default-clause-same g c =
-    let (is_open, same, others, store, given) = c.loop.invariant in
+    let (is_open, same, others, store, given, refusals) = c.loop.invariant in
     let step = gives-none (session_at c.loop.hub.sessions c.args.sid) c.loop.hub.sessions c.output.new.self.sessions
     c.args.sid c.output.result (waiting c.loop.outgoing) c.in_default.is is_open c.output.ensures.given
     c.output.ensures.after in
@@ -62,7 +63,7 @@ returns-in_default-clause-same g c =
 
 pub returns-in_default-clause-others : goal.returns-in_default-clause-others
 returns-in_default-clause-others g c =
-    let (is_open, same, others, store, given) = c.loop.invariant in
+    let (is_open, same, others, store, given, refusals) = c.loop.invariant in
     let step = gives-none (session_at c.loop.hub.sessions c.args.sid) c.loop.hub.sessions c.output.new.self.sessions
     c.args.sid c.output.result (waiting c.loop.outgoing) c.in_default.is is_open c.output.ensures.given
     c.output.ensures.after in
@@ -70,7 +71,7 @@ returns-in_default-clause-others g c =
 
 pub returns-in_default-clause-given : goal.returns-in_default-clause-given
 returns-in_default-clause-given g c =
-    let (is_open, same, others, store, given) = c.loop.invariant in
+    let (is_open, same, others, store, given, refusals) = c.loop.invariant in
     given_more c.args.sid (state_of c.args.hub.now.sessions c.args.hub.now.store.table)
     (state_of c.loop.hub.sessions c.loop.hub.store.table)
     (state_of c.output.new.self.sessions c.output.new.self.store.table) given
@@ -80,7 +81,7 @@ returns-in_default-clause-given g c =
 
 pub returns-in_err-push-clause-given : goal.returns-in_err-push-clause-given
 returns-in_err-push-clause-given g c =
-    let (is_open, same, others, store, given) = c.loop.invariant in
+    let (is_open, same, others, store, given, refusals) = c.loop.invariant in
     given_more c.args.sid (state_of c.args.hub.now.sessions c.args.hub.now.store.table)
     (state_of c.loop.hub.sessions c.loop.hub.store.table)
     (state_of c.output.new.self.sessions c.output.new.self.store.table) given

@@ -12,3 +12,4 @@ invariant-loop g l = IsOpen l.hub.sessions l.sid
     ≡ to_go (session_at l.fn.hub.sessions l.sid) (waiting l.fn.outgoing))
     × OthersStay l.fn.hub.sessions l.hub.sessions l.sid × (l.hub.store ≡ l.fn.hub.store)
     × AreGiven l.sid (state_of l.fn.hub.sessions l.fn.hub.store.table) (state_of l.hub.sessions l.hub.store.table)
+    × (l.hub.refusals ≡ l.fn.hub.refusals)

@@ -19,4 +19,5 @@ loop-client-preserved g c =
           (state_of c.args.hub.now.sessions c.args.hub.now.store.table) (state_of before.sessions before.store.table)
           (state_of hub.sessions hub.store.table) lt so_far.written c.write_for-any.ensures.written;
       store = c.write_for-any.ensures.store ∙ so_far.store;
+      refusals = c.write_for-any.ensures.refusals ∙ so_far.refusals;
     }

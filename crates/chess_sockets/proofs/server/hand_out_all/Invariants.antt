@@ -10,4 +10,5 @@ invariant-loop-client g l = record {
   written : IsDoneTo Stays (IsWritten g.S.Write.contents) l.client-index l.fn.clients.items l.client-items
       (state_of l.fn.hub.sessions l.fn.hub.store.table) (state_of l.hub.sessions l.hub.store.table);
   store : l.hub.store ≡ l.fn.hub.store;
+  refusals : l.hub.refusals ≡ l.fn.hub.refusals;
 }

@@ -1,9 +1,9 @@
 -- The store is asked by the hub's turn alone.
-use Rattle.std.proofs.Common.{◌≡◌, ap, sym}
+use Rattle.std.proofs.Common.{◌≡◌, ◌∙◌, Bool, Err, ap, refl, sym}
 use Rattle.chess_hub.specs.Faults.{CountsFault}
 use Rattle.chess_hub.specs.Turning.{AsksFor, AreRefused, IsTurnFault}
 use Rattle.chess_sockets.specs.Serving.{state_of}
-use Rattle.chess_sockets.proofs.StoreLemmas.{lasts_over, lasts_refused, at_err, turn_ends, turn_refusal}
+use Rattle.chess_sockets.proofs.StoreLemmas.{lasts_over, lasts_refused, at_err, turn_ends, turn_refusal, counts_refused, counts_done}
 use Rattle.chess_sockets.proofs.server.serve_clients.Goals as goal
 
 -- ---- what is left of the store
@@ -60,3 +60,19 @@ returns-in-Err-clause-cause_err g c =
     rw (sym c.take_in_all-has_read.ensures.store)
     (at_err c.turn.result c.in-Err.fault (λ fault. CountsFault fault (failures s.journal.device)
     (failures n.journal.device)) c.in-Err.is c.turn.ensures.tried.cause_err)
+
+-- ---- the count of refusals
+
+pub returns-in-Err-clause-counts : goal.returns-in-Err-clause-counts
+returns-in-Err-clause-counts g c =
+    let hub = c.take_in_all-has_read.new.hub in
+    rw (sym c.take_in_all-has_read.ensures.refusals)
+    (counts_refused {T = Bool} c.turn.result (Err c.in-Err.fault) c.in-Err.fault c.in-Err.fault hub.refusals
+    c.turn.new.self.refusals c.in-Err.is refl refl c.turn.ensures.counts)
+
+pub returns-clause-counts : goal.returns-clause-counts
+returns-clause-counts g c =
+    let hub = c.take_in_all-has_read.new.hub in
+    c.hand_out_all-has_written.ensures.refusals
+    ∙ counts_done c.turn.result tt hub.refusals c.turn.new.self.refusals c.in_default.is c.turn.ensures.counts
+    ∙ c.take_in_all-has_read.ensures.refusals

@@ -22,6 +22,7 @@ loop-client-preserved g c =
           (intake (state_of hub.sessions hub.store.table) c.read_for-any.new.room.lines) lt so_far.read
           c.read_for-any.ensures.read;
       store = c.read_for-any.ensures.store ∙ so_far.store;
+      refusals = c.read_for-any.ensures.refusals ∙ so_far.refusals;
     }
 
 pub returns-clause-read : goal.returns-clause-read

@@ -10,4 +10,5 @@ invariant-loop-client g l = record {
       (intake (state_of l.fn.hub.sessions l.fn.hub.store.table) 1)
       (intake (state_of l.hub.sessions l.hub.store.table) l.room.lines);
   store : l.hub.store ≡ l.fn.hub.store;
+  refusals : l.hub.refusals ≡ l.fn.hub.refusals;
 }

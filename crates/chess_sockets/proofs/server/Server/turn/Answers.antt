@@ -4,7 +4,7 @@ use Rattle.std.proofs.lemmas.Result.{err_from_is_err_and}
 use Rattle.chess_hub.specs.Faults.{CountsFault}
 use Rattle.chess_sockets.specs.Serving.{state_of, unknown}
 use Rattle.chess_sockets.specs.Turns.{EndsServing, IsTurnRefusal}
-use Rattle.chess_sockets.proofs.StoreLemmas.{lasts_over, lasts_handed, of_fault}
+use Rattle.chess_sockets.proofs.StoreLemmas.{lasts_over, lasts_handed, of_fault, counts_refused, counts_done}
 use Rattle.chess_sockets.proofs.ServingLemmas.{welcomed_there}
 use Rattle.chess_sockets.proofs.server.Server.turn.Goals as goal
 
@@ -75,3 +75,28 @@ returns-in_err-has_served-clause-cause_err g c =
     rw (sym (c.welcome-came.ensures.store ∙ ap (λ h. h.store) c.part.ensures.hub))
     (of_fault r.result e.0 c.in_err-has_served.field-0.0 (λ fault. CountsFault fault (failures s.journal.device)
     (failures n.journal.device)) e.1 e.2 c.in_err-has_served.ensures.cause_err)
+
+-- ---- the count of refusals
+
+pub returns-then-came-has_served-clause-counts : goal.returns-then-came-has_served-clause-counts
+returns-then-came-has_served-clause-counts g c =
+    ap (λ h. h.refusals) c.part-2.ensures.hub
+    ∙ counts_done c.serve_clients.result c.in_ok-has_served.has_served c.welcome-came.new.self.hub.refusals
+    c.serve_clients.new.hub.refusals c.in_ok-has_served.was c.serve_clients.ensures.counts
+    ∙ c.welcome-came.ensures.refusals ∙ ap (λ h. h.refusals) c.part.ensures.hub
+
+pub returns-else-came-has_served-clause-counts : goal.returns-else-came-has_served-clause-counts
+returns-else-came-has_served-clause-counts g c =
+    ap (λ h. h.refusals) c.part-2.ensures.hub
+    ∙ counts_done c.serve_clients.result c.in_ok-has_served.has_served c.welcome-came.new.self.hub.refusals
+    c.serve_clients.new.hub.refusals c.in_ok-has_served.was c.serve_clients.ensures.counts
+    ∙ c.welcome-came.ensures.refusals ∙ ap (λ h. h.refusals) c.part.ensures.hub
+
+pub returns-in_err-has_served-clause-counts : goal.returns-in_err-has_served-clause-counts
+returns-in_err-has_served-clause-counts g c =
+    let r = c.from_residual in
+    let e = err_from_is_err_and r.result r.ensures.1 in
+    rw (sym (c.welcome-came.ensures.refusals ∙ ap (λ h. h.refusals) c.part.ensures.hub))
+    (counts_refused c.serve_clients.result r.result e.0 c.in_err-has_served.field-0.0
+    c.welcome-came.new.self.hub.refusals c.serve_clients.new.hub.refusals c.in_err-has_served.was e.1 e.2
+    c.serve_clients.ensures.counts)

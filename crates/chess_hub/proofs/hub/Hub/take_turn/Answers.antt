@@ -9,7 +9,7 @@ use Rattle.chess_store.specs.Batch.{AreAnswered}
 use Rattle.chess_store.specs.declared.fault.StoreFault.{StoreFault}
 use Rattle.chess_hub.specs.Turning.{AsksFor, AreRefused}
 use Rattle.chess_hub.proofs.TurnLemmas.{lasts_same, lasts_passed, lasts_done, fault_passed, answered_since}
-use Rattle.chess_hub.proofs.hub.Hub.turn.Goals as goal
+use Rattle.chess_hub.proofs.hub.Hub.take_turn.Goals as goal
 
 pub returns-in_err-taken-clause-lasts : goal.returns-in_err-taken-clause-lasts
 returns-in_err-taken-clause-lasts g c = λ kept.

@@ -1,0 +1,66 @@
+//! Listeners whose tries fail.
+use crate::door::{Found, Listens, found_of, next_connection};
+use std::io::Error;
+use std::process::Abort;
+
+/// A listener that answers tries by these error numbers of Linux, 0 being a connection, and then that none waits.
+#[derive(Drop)]
+struct Queue {
+    codes: &'static [i32],
+    tries: usize,
+    found: Found,
+}
+
+/// None waits.
+const EAGAIN: i32 = 11;
+
+impl Listens for Queue {
+    type Stream = usize;
+
+    ghost last_found = { λ queue. queue.found };
+
+    fn accept_one(&mut self) -> Option<usize> {
+        let code = match self.codes.get(self.tries) {
+            Some(code) => *code,
+            None => EAGAIN,
+        };
+        self.tries = self.tries.saturating_add(1);
+        if code == 0 {
+            self.found = Found::Connection;
+            return Some(self.tries);
+        }
+        self.found = found_of(Error::from_raw_os_error(code).kind());
+        None
+    }
+
+    fn found(&self) -> Found {
+        self.found
+    }
+}
+
+// Which connection comes, after how many tries, and what the last of them found.
+fn come(codes: &'static [i32]) -> (Option<usize>, usize, Found) {
+    let mut queue = Queue {
+        codes,
+        tries: 0,
+        found: Found::Lost,
+    };
+    let came = next_connection(&mut queue);
+    (came, queue.tries, queue.found)
+}
+
+#[test]
+fn only_a_listener_without_connections_has_nobody(rt: HostRuntime) {
+    assert_eq!(rt; come(&[]), (None, 1, Found::Nobody));
+    assert_eq!(rt; come(&[0]), (Some(1), 1, Found::Connection));
+    // ECONNABORTED, ECONNRESET and EINTR are passed over.
+    assert_eq!(rt; come(&[103, 104, 4, 0]), (Some(4), 4, Found::Connection));
+    assert_eq!(rt; come(&[103]), (None, 2, Found::Nobody));
+    assert_eq!(rt; come(&[103; 100]), (None, 64, Found::Lost));
+    // At EMFILE, ENFILE, ENOMEM, ENOBUFS and EINVAL one may wait that is tried again in a later turn.
+    assert_eq!(rt; come(&[24, 0]), (None, 1, Found::Refused));
+    assert_eq!(rt; come(&[23, 0]), (None, 1, Found::Refused));
+    assert_eq!(rt; come(&[12, 0]), (None, 1, Found::Refused));
+    assert_eq!(rt; come(&[105, 0]), (None, 1, Found::Refused));
+    assert_eq!(rt; come(&[103, 22, 0]), (None, 2, Found::Refused));
+}
