@@ -1,9 +1,9 @@
 //! The words that make a journal and widen it.
-ghost use Rattle.std.specs.Prelude.{◌≡◌, ◌≤◌, ◌<◌, ◌↔◌, All, take, IsTrue, IfSome, IfOk, IfErr, IsErrOf};
+ghost use Rattle.std.specs.Prelude.{◌≡◌, ◌≤◌, ◌↔◌, All, take, IsTrue, IfSome, IfOk, IfErr, OnOk, IsErrOf};
 ghost use Rattle.rec_codec.specs.declared.limits.Version.TheVariants.{Two};
 ghost use Rattle.rec_codec.specs.Limits.{IsInRange};
-ghost use Rattle.sector_dev.specs.Image.{sector_at};
-ghost use Rattle.server_work.specs.Blank.{IsBlank};
+ghost use Rattle.sector_dev.specs.Device.{IsUnchanged};
+ghost use Rattle.server_work.specs.Blank.{IsBlankAt};
 ghost use Rattle.server_work.specs.Faults.{IsBlankFault, IsFormatFault, IsOpenFault, IsWidenFault, MayWiden};
 
 use crate::device::{JournalFile, TellingDevice};
@@ -11,7 +11,7 @@ use crate::ends::Fault;
 use crate::telling::Teller;
 use chess_store::{Store, StoreFault};
 use rec_codec::{Limits, need};
-use sector_dev::{Device, DeviceFault, FileDevice, Got};
+use sector_dev::{Device, FileDevice, Got};
 use server_words::{Formatting, Tables};
 use std::alloc::Global;
 use std::fs::{File, FileType};
@@ -172,33 +172,36 @@ pub(crate) fn may_overwrite<R: Files<File = File> + Eprint>(
     }
 }
 
-// Whether a sector can be read and holds zeros.
-fn is_blank_at<D: Device>(device: &mut D, at: u32) -> Result<bool, DeviceFault>
-    requires { at < D.sector_count device.old }
+// `Exists` where a device has this sector and it is not blank.
+fn stays_blank_at<D: Device>(device: &mut D, at: u32) -> Result<(), Fault>
     ensures blank { (D.state device.old).keeps_model
-        → IfOk result (λ blank. IsTrue blank ↔ IsBlank (sector_at (D.state device.old).reads at)) }
+        → OnOk result (IsBlankAt (D.state device.old).reads (D.sector_count device.old) at) }
+    ensures unchanged { (D.state device.old).keeps_model → IsUnchanged (D.state device.old) (D.state device.new) }
+    ensures model { (D.state device.new).keeps_model ↔ (D.state device.old).keeps_model }
     ensures sectors { D.sector_count device.new ≡ D.sector_count device.old }
+    ensures fault { IfErr result IsBlankFault }
 {
+    if device.sectors() <= at {
+        return Ok(());
+    }
     let mut bytes = [0; 512];
-    match device.read(at, &mut bytes)? {
-        Got::Whole => Ok(are_zeros(&bytes)),
-        Got::Unreadable => Ok(false),
+    match device.read(at, &mut bytes) {
+        Ok(Got::Whole) if are_zeros(&bytes) => Ok(()),
+        Ok(_) => Err(Fault::Store(StoreFault::Exists)),
+        Err(_) => Err(Fault::Store(StoreFault::Device { pending: 0 })),
     }
 }
 
-/// `Exists` where a device has one of its first two sectors and it is not blank. Of a file this is asked once it is
-/// locked: another program may have made it a journal meanwhile.
+/// `Exists` where one of a device's first two sectors is not blank. Of a file this is asked once it is locked: another
+/// program may have made it a journal meanwhile.
 pub(crate) fn stays_blank<D: Device>(device: &mut D) -> Result<(), Fault>
-    ensures { IfErr result IsBlankFault }
+    ensures blank { (D.state device.old).keeps_model
+        → OnOk result (IsBlankAt (D.state device.old).reads (D.sector_count device.old) 0
+        × IsBlankAt (D.state device.old).reads (D.sector_count device.old) 1) }
+    ensures fault { IfErr result IsBlankFault }
 {
-    for at in 0..device.sectors().min(2) {
-        match is_blank_at(device, at) {
-            Ok(true) => {}
-            Ok(false) => return Err(Fault::Store(StoreFault::Exists)),
-            Err(_) => return Err(Fault::Store(StoreFault::Device { pending: 0 })),
-        }
-    }
-    Ok(())
+    stays_blank_at(device, 0)?;
+    stays_blank_at(device, 1)
 }
 
 // Makes a file a journal of the empty table, and prints so.
