@@ -12,7 +12,9 @@ fn store_reason(fault: StoreFault) -> Option<&'static str>
 {
     match fault {
         StoreFault::Exists => {
-            Some("it is not made a journal: one stands in it, or other bytes than zeros at its front")
+            Some(
+                "it is not made a journal: one stands in it, or other bytes than zeros at its front",
+            )
         }
         StoreFault::TooSmall => Some("it is shorter than the limits of its journal need"),
         StoreFault::NotOurs => Some("no journal stands in it"),

@@ -45,7 +45,8 @@ impl<'a, R, D> TellingDevice<'a, R, D> {
 impl<R: Eprint, D: KeepsError> TellingDevice<'_, R, D> {
     // Tells of a call that failed.
     fn tell(&self, what: &str) {
-        self.teller.failed(self.path, what, self.device.kept_error());
+        self.teller
+            .failed(self.path, what, self.device.kept_error());
     }
 }
 

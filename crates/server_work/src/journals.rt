@@ -299,7 +299,11 @@ fn widen_journal<R: Files<File = File> + Print + Eprint>(
         return Err(Fault::Limits);
     }
     let sectors = need(tables.limits);
-    widen_on(alloc, make_file(rt, teller, tables.journal, sectors)?, tables.limits)?;
+    widen_on(
+        alloc,
+        make_file(rt, teller, tables.journal, sectors)?,
+        tables.limits,
+    )?;
     teller.printed(println!(rt; "ok widen {sectors}"))
 }
 

@@ -22,7 +22,10 @@ fn says_why(rt: HostRuntime) {
         ),
         (Fault::Changing, "it changed too fast to be read"),
         (Fault::LineTooLong, "a line has more than 255 bytes"),
-        (Fault::Hub(HubFault::NoMemory), "memory was refused to a session"),
+        (
+            Fault::Hub(HubFault::NoMemory),
+            "memory was refused to a session",
+        ),
         (
             Fault::Hub(HubFault::Store(StoreFault::Worn)),
             "its count of commits, or of entries, is 2^64 - 1",
