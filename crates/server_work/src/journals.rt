@@ -92,11 +92,11 @@ fn may_outgrow<D: Device + Drop>(alloc: Global, device: D, limits: Limits) -> Re
 
 // Whether a file that is there and shorter than the limits need may be made longer: no journal may stand in it. Nothing
 // of it changes.
-fn may_lengthen<R: Files<File = File> + Eprint>(
+fn may_lengthen<'a, R: Files<File = File> + Eprint>(
     rt: &R,
     alloc: Global,
-    teller: &Teller<'_, R>,
-    tables: &Tables<'_>,
+    teller: &'a Teller<'a, R>,
+    tables: &'a Tables<'a>,
 ) -> Result<(), Fault>
     ensures { IfErr result IsFormatFault }
 {
@@ -205,11 +205,11 @@ pub(crate) fn stays_blank<D: Device>(device: &mut D) -> Result<(), Fault>
 }
 
 // Makes a file a journal of the empty table, and prints so.
-fn make_journal<R: Files<File = File> + Print + Eprint>(
+fn make_journal<'a, R: Files<File = File> + Print + Eprint>(
     rt: &R,
     alloc: Global,
-    teller: &Teller<'_, R>,
-    formatting: &Formatting<'_>,
+    teller: &'a Teller<'a, R>,
+    formatting: &'a Formatting<'a>,
 ) -> Result<(), Fault>
     ensures { IfErr result IsFormatFault }
 {
@@ -266,11 +266,11 @@ fn widen_store<D: Device>(store: &mut Store<D>, limits: Limits) -> Result<(), Fa
 }
 
 // The present limits of the journal in a file.
-fn limits_of<R: Files<File = File> + Eprint>(
+fn limits_of<'a, R: Files<File = File> + Eprint>(
     rt: &R,
     alloc: Global,
-    teller: &Teller<'_, R>,
-    journal: &str,
+    teller: &'a Teller<'a, R>,
+    journal: &'a str,
 ) -> Result<Limits, Fault>
     ensures { IfErr result IsOpenFault }
 {
@@ -287,11 +287,11 @@ fn widen_on<D: Device + Drop>(alloc: Global, device: D, limits: Limits) -> Resul
 }
 
 // Lengthens a journal's file, raises its table's limits, and prints so.
-fn widen_journal<R: Files<File = File> + Print + Eprint>(
+fn widen_journal<'a, R: Files<File = File> + Print + Eprint>(
     rt: &R,
     alloc: Global,
-    teller: &Teller<'_, R>,
-    tables: &Tables<'_>,
+    teller: &'a Teller<'a, R>,
+    tables: &'a Tables<'a>,
 ) -> Result<(), Fault>
     ensures { IfErr result IsWidenFault }
 {

@@ -21,11 +21,11 @@ use std::rt::{Clock, Files};
 use std::time::Instant;
 
 // Answers the lines of a reader on a writer, over the games of a journal's file.
-fn play_journal<R, I: Read, O: Write>(
+fn play_journal<'a, R, I: Read, O: Write>(
     rt: &R,
     alloc: Global,
-    teller: &Teller<'_, R>,
-    journal: &str,
+    teller: &'a Teller<'a, R>,
+    journal: &'a str,
     input: &mut I,
     output: &mut O,
 ) -> Result<(), Fault>
@@ -34,8 +34,8 @@ where
     ensures { IfErr result IsRunFault }
 {
     let store = open_on(alloc, open_file(rt, teller, journal)?)?;
-    let mut source = ReaderSource::new(TellingReader::new(input, teller));
-    let mut writer = TellingWriter::new(output, teller);
+    let mut source = ReaderSource::new(TellingReader::new(&mut *input, teller));
+    let mut writer = TellingWriter::new(&mut *output, teller);
     match run(alloc, &mut source, &mut writer, store, SteadyClock::new(rt)) {
         Ok(()) => Ok(()),
         Err(fault) => Err(fault_of_run(fault)),
@@ -131,11 +131,11 @@ where
 }
 
 // Serves players over the games of a journal's file.
-fn serve_journal<R>(
+fn serve_journal<'a, R>(
     rt: &R,
     alloc: Global,
-    teller: &Teller<'_, R>,
-    serving: &Serving<'_>,
+    teller: &'a Teller<'a, R>,
+    serving: &'a Serving<'a>,
 ) -> Result<(), Fault>
 where
     R: Files<File = File>

@@ -62,11 +62,11 @@ fn copy_onto<D: Device>(source: &mut FileSource, target: &mut D) -> Result<(), F
 }
 
 // Makes a file a copy of a journal that is open, whose header says so many sectors.
-fn copy_into<R: Files<File = File> + Eprint>(
+fn copy_into<'a, R: Files<File = File> + Eprint>(
     rt: &R,
     alloc: Global,
-    teller: &Teller<'_, R>,
-    path: &str,
+    teller: &'a Teller<'a, R>,
+    path: &'a str,
     source: &mut FileSource,
 ) -> Result<u32, Fault>
     ensures { IfErr result IsCopyFault }
@@ -81,11 +81,11 @@ fn copy_into<R: Files<File = File> + Eprint>(
 }
 
 // Copies a journal, and prints so.
-fn make_copy<R: Files<File = File> + Print + Eprint>(
+fn make_copy<'a, R: Files<File = File> + Print + Eprint>(
     rt: &R,
     alloc: Global,
-    teller: &Teller<'_, R>,
-    copying: &Copying<'_>,
+    teller: &'a Teller<'a, R>,
+    copying: &'a Copying<'a>,
 ) -> Result<(), Fault>
     ensures { IfErr result IsCopyFault }
 {
@@ -195,7 +195,7 @@ pub fn show_games<R: Files<File = File> + Eprint, W: Write>(
     ensures { IfErr result IsShowFault }
 {
     let teller = Teller::new(rt, false);
-    let mut output = TellingWriter::new(output, &teller);
+    let mut output = TellingWriter::new(&mut *output, &teller);
     let shown = write_journal(rt, alloc, &teller, journal, &mut output);
     teller.told(journal, shown)
 }
