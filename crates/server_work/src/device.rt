@@ -26,9 +26,6 @@ pub(crate) struct TellingDevice<'a, R, D> {
     path: &'a str,
 }
 
-/// The device of a journal's file.
-pub(crate) type JournalFile<'a, R> = TellingDevice<'a, R, FileDevice>;
-
 impl<'a, R, D> TellingDevice<'a, R, D> {
     /// The device of this path.
     pub(crate) fn new(device: D, teller: &'a Teller<'a, R>, path: &'a str) -> Self

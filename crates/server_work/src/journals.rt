@@ -6,7 +6,7 @@ ghost use Rattle.sector_dev.specs.Device.{IsUnchanged};
 ghost use Rattle.server_work.specs.Blank.{IsBlankAt};
 ghost use Rattle.server_work.specs.Faults.{IsBlankFault, IsFormatFault, IsOpenFault, IsWidenFault, MayWiden};
 
-use crate::device::{JournalFile, TellingDevice};
+use crate::device::TellingDevice;
 use crate::ends::Fault;
 use crate::telling::Teller;
 use chess_store::{Store, StoreFault};
@@ -21,15 +21,15 @@ use std::rt::Files;
 use std::{fs, io};
 
 /// The device in a journal's file that is there.
-pub(crate) fn open_file<'a, R: Files<File = File> + Eprint>(
+pub(crate) fn open_file<R: Files<File = File> + Eprint>(
     rt: &R,
-    teller: &'a Teller<'a, R>,
-    journal: &'a str,
-) -> Result<JournalFile<'a, R>, Fault>
+    teller: &Teller<'_, R>,
+    journal: &str,
+) -> Result<FileDevice, Fault>
     ensures { IfErr result (λ fault. fault ≡ Fault.File) }
 {
     match FileDevice::open(rt, journal) {
-        Ok(device) => Ok(TellingDevice::new(device, teller, journal)),
+        Ok(device) => Ok(device),
         Err(error) => {
             teller.not_opened(journal, "it cannot be opened", &error);
             Err(Fault::File)
@@ -38,16 +38,16 @@ pub(crate) fn open_file<'a, R: Files<File = File> + Eprint>(
 }
 
 /// The device in a file that is made, or lengthened to so many sectors.
-pub(crate) fn make_file<'a, R: Files<File = File> + Eprint>(
+pub(crate) fn make_file<R: Files<File = File> + Eprint>(
     rt: &R,
-    teller: &'a Teller<'a, R>,
-    path: &'a str,
+    teller: &Teller<'_, R>,
+    path: &str,
     sectors: u32,
-) -> Result<JournalFile<'a, R>, Fault>
+) -> Result<FileDevice, Fault>
     ensures { IfErr result (λ fault. fault ≡ Fault.File) }
 {
     match FileDevice::create(rt, path, sectors) {
-        Ok(device) => Ok(TellingDevice::new(device, teller, path)),
+        Ok(device) => Ok(device),
         Err(error) => {
             teller.not_opened(path, "it cannot be made or lengthened", &error);
             Err(Fault::File)
@@ -92,11 +92,11 @@ fn may_outgrow<D: Device + Drop>(alloc: Global, device: D, limits: Limits) -> Re
 
 // Whether a file that is there and shorter than the limits need may be made longer: no journal may stand in it. Nothing
 // of it changes.
-fn may_lengthen<'a, R: Files<File = File> + Eprint>(
+fn may_lengthen<R: Files<File = File> + Eprint>(
     rt: &R,
     alloc: Global,
-    teller: &'a Teller<'a, R>,
-    tables: &'a Tables<'a>,
+    teller: &Teller<'_, R>,
+    tables: &Tables<'_>,
 ) -> Result<(), Fault>
     ensures { IfErr result IsFormatFault }
 {
@@ -204,12 +204,28 @@ pub(crate) fn stays_blank<D: Device>(device: &mut D) -> Result<(), Fault>
     stays_blank_at(device, 1)
 }
 
+// Makes a device a journal of the empty table within the limits, unless it is to be blank and is not.
+fn format_on<D: Device + Drop>(
+    alloc: Global,
+    mut device: D,
+    limits: Limits,
+    is_forced: bool,
+) -> Result<(), Fault>
+    requires { IsInRange Two limits }
+    ensures { IfErr result IsFormatFault }
+{
+    if !is_forced {
+        stays_blank(&mut device)?;
+    }
+    create_on(alloc, device, limits)
+}
+
 // Makes a file a journal of the empty table, and prints so.
-fn make_journal<'a, R: Files<File = File> + Print + Eprint>(
+fn make_journal<R: Files<File = File> + Print + Eprint>(
     rt: &R,
     alloc: Global,
-    teller: &'a Teller<'a, R>,
-    formatting: &'a Formatting<'a>,
+    teller: &Teller<'_, R>,
+    formatting: &Formatting<'_>,
 ) -> Result<(), Fault>
     ensures { IfErr result IsFormatFault }
 {
@@ -219,11 +235,9 @@ fn make_journal<'a, R: Files<File = File> + Print + Eprint>(
         may_overwrite(rt, alloc, teller, tables.journal)?;
     }
     may_lengthen(rt, alloc, teller, tables)?;
-    let mut device = make_file(rt, teller, tables.journal, sectors)?;
-    if !formatting.is_forced {
-        stays_blank(&mut device)?;
-    }
-    create_on(alloc, device, tables.limits)?;
+    let file = make_file(rt, teller, tables.journal, sectors)?;
+    let device = TellingDevice::new(file, teller, tables.journal);
+    format_on(alloc, device, tables.limits, formatting.is_forced)?;
     teller.printed(println!(rt; "ok format {sectors}"))
 }
 
@@ -265,16 +279,24 @@ fn widen_store<D: Device>(store: &mut Store<D>, limits: Limits) -> Result<(), Fa
     }
 }
 
+// The present limits of the journal on a device.
+fn limits_on<D: Device + Drop>(alloc: Global, device: D) -> Result<Limits, Fault>
+    ensures { IfErr result IsOpenFault }
+{
+    Ok(open_on(alloc, device)?.limits())
+}
+
 // The present limits of the journal in a file.
-fn limits_of<'a, R: Files<File = File> + Eprint>(
+fn limits_of<R: Files<File = File> + Eprint>(
     rt: &R,
     alloc: Global,
-    teller: &'a Teller<'a, R>,
-    journal: &'a str,
+    teller: &Teller<'_, R>,
+    journal: &str,
 ) -> Result<Limits, Fault>
     ensures { IfErr result IsOpenFault }
 {
-    Ok(open_on(alloc, open_file(rt, teller, journal)?)?.limits())
+    let file = open_file(rt, teller, journal)?;
+    limits_on(alloc, TellingDevice::new(file, teller, journal))
 }
 
 // Widens the table of the journal on a device.
@@ -287,11 +309,11 @@ fn widen_on<D: Device + Drop>(alloc: Global, device: D, limits: Limits) -> Resul
 }
 
 // Lengthens a journal's file, raises its table's limits, and prints so.
-fn widen_journal<'a, R: Files<File = File> + Print + Eprint>(
+fn widen_journal<R: Files<File = File> + Print + Eprint>(
     rt: &R,
     alloc: Global,
-    teller: &'a Teller<'a, R>,
-    tables: &'a Tables<'a>,
+    teller: &Teller<'_, R>,
+    tables: &Tables<'_>,
 ) -> Result<(), Fault>
     ensures { IfErr result IsWidenFault }
 {
@@ -299,11 +321,9 @@ fn widen_journal<'a, R: Files<File = File> + Print + Eprint>(
         return Err(Fault::Limits);
     }
     let sectors = need(tables.limits);
-    widen_on(
-        alloc,
-        make_file(rt, teller, tables.journal, sectors)?,
-        tables.limits,
-    )?;
+    let file = make_file(rt, teller, tables.journal, sectors)?;
+    let device = TellingDevice::new(file, teller, tables.journal);
+    widen_on(alloc, device, tables.limits)?;
     teller.printed(println!(rt; "ok widen {sectors}"))
 }
 

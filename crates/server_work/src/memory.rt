@@ -20,8 +20,8 @@ pub fn play_board<R: Eprint, I: Read, O: Write>(
     ensures { IfErr result IsBoardFault }
 {
     let teller = Teller::new(rt, false);
-    let mut source = ReaderSource::new(TellingReader::new(&mut *input, &teller));
-    let mut writer = TellingWriter::new(&mut *output, &teller);
+    let mut source = ReaderSource::new(TellingReader::new(input, &teller));
+    let mut writer = TellingWriter::new(output, &teller);
     match board(&mut source, &mut writer) {
         Ok(()) => Ok(()),
         Err(fault) => Err(fault_of_board(fault)),

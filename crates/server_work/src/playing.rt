@@ -3,12 +3,13 @@ ghost use Rattle.std.specs.Prelude.{IfErr};
 ghost use Rattle.server_work.specs.Faults.{IsRunFault, IsServeFault};
 
 use crate::clock::{SteadyClock, milliseconds_since};
+use crate::device::TellingDevice;
 use crate::ends::{Fault, fault_of_run};
 use crate::journals::{open_file, open_on};
 use crate::streams::{INPUT, TellingReader, TellingWriter};
 use crate::telling::{Found, Teller, TurnedAway};
 use chess_hub::Hub;
-use chess_run::{Moments, ReaderSource, run};
+use chess_run::{LineSource, Moments, ReaderSource, run};
 use chess_sockets::{Server, Turned};
 use chess_store::Store;
 use sector_dev::Device;
@@ -20,26 +21,39 @@ use std::net::{Net, TcpListener, TcpStream};
 use std::rt::{Clock, Files};
 use std::time::Instant;
 
-// Answers the lines of a reader on a writer, over the games of a journal's file.
-fn play_journal<'a, R, I: Read, O: Write>(
+// Answers the lines of a source on a writer, over the games of the journal on a device.
+fn play_on<D: Device + Drop, S: LineSource, W: Write, M: Moments + Drop>(
+    alloc: Global,
+    device: D,
+    source: &mut S,
+    writer: &mut W,
+    moments: M,
+) -> Result<(), Fault>
+    ensures { IfErr result IsRunFault }
+{
+    let store = open_on(alloc, device)?;
+    match run(alloc, source, writer, store, moments) {
+        Ok(()) => Ok(()),
+        Err(fault) => Err(fault_of_run(fault)),
+    }
+}
+
+// The same of the journal in a file.
+fn play_journal<R, S: LineSource, W: Write>(
     rt: &R,
     alloc: Global,
-    teller: &'a Teller<'a, R>,
-    journal: &'a str,
-    input: &mut I,
-    output: &mut O,
+    teller: &Teller<'_, R>,
+    journal: &str,
+    source: &mut S,
+    writer: &mut W,
 ) -> Result<(), Fault>
 where
     R: Files<File = File> + Clock + Eprint,
     ensures { IfErr result IsRunFault }
 {
-    let store = open_on(alloc, open_file(rt, teller, journal)?)?;
-    let mut source = ReaderSource::new(TellingReader::new(&mut *input, teller));
-    let mut writer = TellingWriter::new(&mut *output, teller);
-    match run(alloc, &mut source, &mut writer, store, SteadyClock::new(rt)) {
-        Ok(()) => Ok(()),
-        Err(fault) => Err(fault_of_run(fault)),
-    }
+    let file = open_file(rt, teller, journal)?;
+    let device = TellingDevice::new(file, teller, journal);
+    play_on(alloc, device, source, writer, SteadyClock::new(rt))
 }
 
 // What is at fault where a run breaks off.
@@ -64,7 +78,9 @@ where
     ensures { IfErr result IsRunFault }
 {
     let teller = Teller::new(rt, false);
-    let played = play_journal(rt, alloc, &teller, journal, input, output);
+    let mut source = ReaderSource::new(TellingReader::new(input, &teller));
+    let mut writer = TellingWriter::new(output, &teller);
+    let played = play_journal(rt, alloc, &teller, journal, &mut source, &mut writer);
     teller.told(at_fault(journal, played), played)
 }
 
@@ -130,12 +146,30 @@ where
     take_turns(&mut clock, teller, &mut server, serving.turns)
 }
 
-// Serves players over the games of a journal's file.
-fn serve_journal<'a, R>(
+// Serves players over the games of the journal on a device.
+fn serve_on<R, D: Device + Drop>(
     rt: &R,
     alloc: Global,
-    teller: &'a Teller<'a, R>,
-    serving: &'a Serving<'a>,
+    teller: &Teller<'_, R>,
+    serving: &Serving<'_>,
+    device: D,
+) -> Result<(), Fault>
+where
+    R: Clock + Print + Eprint + Net<Listener = TcpListener, Stream = TcpStream>,
+    ensures { IfErr result IsServeFault }
+{
+    let begun = Instant::now(rt).ok();
+    let store = open_on(alloc, device)?;
+    let took = milliseconds_since(rt, begun);
+    serve_store(rt, alloc, teller, serving, store, took)
+}
+
+// The same of the journal in a file.
+fn serve_journal<R>(
+    rt: &R,
+    alloc: Global,
+    teller: &Teller<'_, R>,
+    serving: &Serving<'_>,
 ) -> Result<(), Fault>
 where
     R: Files<File = File>
@@ -145,10 +179,9 @@ where
         + Net<Listener = TcpListener, Stream = TcpStream>,
     ensures { IfErr result IsServeFault }
 {
-    let begun = Instant::now(rt).ok();
-    let store = open_on(alloc, open_file(rt, teller, serving.journal)?)?;
-    let took = milliseconds_since(rt, begun);
-    serve_store(rt, alloc, teller, serving, store, took)
+    let file = open_file(rt, teller, serving.journal)?;
+    let device = TellingDevice::new(file, teller, serving.journal);
+    serve_on(rt, alloc, teller, serving, device)
 }
 
 /// Serves players on a port, over the games of a journal's file, and first prints `port P`, P being the port that it

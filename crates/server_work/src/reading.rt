@@ -3,6 +3,7 @@ ghost use Rattle.std.specs.Prelude.{◌≡◌, length, IfErr, OnOk};
 ghost use Rattle.server_work.specs.Faults.{IsCopyFault, IsReadingFault, IsShowFault};
 ghost use Rattle.server_work.specs.Games.{WritesGame, WritesGames};
 
+use crate::device::TellingDevice;
 use crate::ends::{Fault, fault_of_copy};
 use crate::journals::{make_file, may_overwrite, open_on, stays_blank};
 use crate::streams::TellingWriter;
@@ -61,31 +62,43 @@ fn copy_onto<D: Device>(source: &mut FileSource, target: &mut D) -> Result<(), F
     }
 }
 
+// Makes a device that is to be blank a copy of a journal that is open, and opens it.
+fn fill<D: Device + Drop>(
+    alloc: Global,
+    source: &mut FileSource,
+    mut target: D,
+) -> Result<(), Fault>
+    ensures { IfErr result IsCopyFault }
+{
+    stays_blank(&mut target)?;
+    copy_onto(source, &mut target)?;
+    open_on(alloc, target)?;
+    Ok(())
+}
+
 // Makes a file a copy of a journal that is open, whose header says so many sectors.
-fn copy_into<'a, R: Files<File = File> + Eprint>(
+fn copy_into<R: Files<File = File> + Eprint>(
     rt: &R,
     alloc: Global,
-    teller: &'a Teller<'a, R>,
-    path: &'a str,
+    teller: &Teller<'_, R>,
+    path: &str,
     source: &mut FileSource,
 ) -> Result<u32, Fault>
     ensures { IfErr result IsCopyFault }
 {
     let sectors = header_of(source)?.sectors;
     may_overwrite(rt, alloc, teller, path)?;
-    let mut target = make_file(rt, teller, path, sectors)?;
-    stays_blank(&mut target)?;
-    copy_onto(source, &mut target)?;
-    open_on(alloc, target)?;
+    let file = make_file(rt, teller, path, sectors)?;
+    fill(alloc, source, TellingDevice::new(file, teller, path))?;
     Ok(sectors)
 }
 
 // Copies a journal, and prints so.
-fn make_copy<'a, R: Files<File = File> + Print + Eprint>(
+fn make_copy<R: Files<File = File> + Print + Eprint>(
     rt: &R,
     alloc: Global,
-    teller: &'a Teller<'a, R>,
-    copying: &'a Copying<'a>,
+    teller: &Teller<'_, R>,
+    copying: &Copying<'_>,
 ) -> Result<(), Fault>
     ensures { IfErr result IsCopyFault }
 {
@@ -195,7 +208,7 @@ pub fn show_games<R: Files<File = File> + Eprint, W: Write>(
     ensures { IfErr result IsShowFault }
 {
     let teller = Teller::new(rt, false);
-    let mut output = TellingWriter::new(&mut *output, &teller);
+    let mut output = TellingWriter::new(output, &teller);
     let shown = write_journal(rt, alloc, &teller, journal, &mut output);
     teller.told(journal, shown)
 }
