@@ -146,19 +146,19 @@ where
     take_turns(&mut clock, teller, &mut server, serving.turns)
 }
 
-// Serves players over the games of the journal on a device.
+// Serves players over the games of the journal on a device, whose opening began then.
 fn serve_on<R, D: Device + Drop>(
     rt: &R,
     alloc: Global,
     teller: &Teller<'_, R>,
     serving: &Serving<'_>,
     device: D,
+    begun: Option<Instant>,
 ) -> Result<(), Fault>
 where
     R: Clock + Print + Eprint + Net<Listener = TcpListener, Stream = TcpStream>,
     ensures { IfErr result IsServeFault }
 {
-    let begun = Instant::now(rt).ok();
     let store = open_on(alloc, device)?;
     let took = milliseconds_since(rt, begun);
     serve_store(rt, alloc, teller, serving, store, took)
@@ -179,9 +179,10 @@ where
         + Net<Listener = TcpListener, Stream = TcpStream>,
     ensures { IfErr result IsServeFault }
 {
+    let begun = Instant::now(rt).ok();
     let file = open_file(rt, teller, serving.journal)?;
     let device = TellingDevice::new(file, teller, serving.journal);
-    serve_on(rt, alloc, teller, serving, device)
+    serve_on(rt, alloc, teller, serving, device, begun)
 }
 
 /// Serves players on a port, over the games of a journal's file, and first prints `port P`, P being the port that it
