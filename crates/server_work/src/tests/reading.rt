@@ -14,32 +14,32 @@ const LIMITS: Limits = Limits {
     plies: 60,
 };
 
-fn opening(who: Option<Name>, colour: Colour) -> Command {
-    Command {
-        at: 1_000,
-        who,
-        act: Act::NewGame {
-            colour,
-            initial: 300,
-            increment: 2,
-            fen: None,
-            period: None,
-        },
+const JOIN: Act = Act::Join { game: 1 };
+
+const RESIGN: Act = Act::Resign { game: 1 };
+
+fn opening(colour: Colour) -> Act {
+    Act::NewGame {
+        colour,
+        initial: 300,
+        increment: 2,
+        fen: None,
+        period: None,
     }
 }
 
-fn command(who: Option<Name>, act: Act) -> Command {
+fn command(who: &str, act: Act) -> Command {
     Command {
         at: 1_000,
-        who,
+        who: Name::try_new(who),
         act,
     }
 }
 
 // Submits a command, which is answered.
-fn submit(alloc: Global, store: &mut Store<MemoryDevice>, command: Command) -> Option<()> {
+fn submit(alloc: Global, store: &mut Store<MemoryDevice>, who: &str, act: Act) -> Option<()> {
     let mut commands = Vec::new(alloc);
-    commands.push(command).ok()?;
+    commands.push(command(who, act)).ok()?;
     let replies = store.submit(commands.as_slice()).ok()?;
     (replies.len() == 1).then_some(())
 }
@@ -48,11 +48,10 @@ fn submit(alloc: Global, store: &mut Store<MemoryDevice>, command: Command) -> O
 fn played(alloc: Global) -> Option<MemoryDevice> {
     let device = MemoryDevice::new(alloc, 212).ok()?;
     let mut store = Store::create(alloc, device, LIMITS).ok()?;
-    let (ann, bob) = (Name::try_new("ann"), Name::try_new("bob"));
-    submit(alloc, &mut store, opening(ann, Colour::White))?;
-    submit(alloc, &mut store, command(bob, Act::Join { game: 1 }))?;
-    submit(alloc, &mut store, opening(bob, Colour::Black))?;
-    submit(alloc, &mut store, command(bob, Act::Resign { game: 1 }))?;
+    submit(alloc, &mut store, "ann", opening(Colour::White))?;
+    submit(alloc, &mut store, "bob", JOIN)?;
+    submit(alloc, &mut store, "bob", opening(Colour::Black))?;
+    submit(alloc, &mut store, "bob", RESIGN)?;
     Some(store.into_device())
 }
 
