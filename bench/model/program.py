@@ -38,6 +38,10 @@ class Wrong(Exception):
     """What the program did otherwise than it should."""
 
 
+def last_line(text):
+    return b''.join(text.splitlines(keepends=True)[-1:])
+
+
 def server_path():
     """The program that CHESS_SERVER names, or this repository's, which is built where it has to be."""
     if 'CHESS_SERVER' in os.environ:
@@ -81,7 +85,8 @@ class Program:
             raise Wrong('format with limits %d and %d: status %d, %r' % (games, plies, made.returncode, made.stderr))
 
     def run(self, journal, moment, data):
-        """Status, output and error of a run that reads all of data."""
+        """Status and output of a run that reads all of data, and the last line of its standard error, which names the
+        fault; what stands before it says why in words."""
         process = self.start(journal, moment)
         try:
             out, error = process.communicate(data, timeout=PATIENCE)
@@ -89,7 +94,7 @@ class Program:
             process.kill()
             process.wait()
             raise Wrong('it hangs: no end of the run in %d seconds' % PATIENCE)
-        return process.returncode, out, error
+        return process.returncode, out, last_line(error)
 
     def run_in_pieces(self, journal, moment, pieces, kill_after=None, kill_in=PATIENCE):
         """The same, the input in pieces. It is killed once it has written so many bytes, or after so many seconds."""
@@ -116,7 +121,7 @@ class Program:
         process.stderr.close()
         if time.monotonic() - begun >= PATIENCE:
             raise Wrong('it hangs: no end of the run in %d seconds' % PATIENCE)
-        return status, bytes(out), error
+        return status, bytes(out), last_line(error)
 
 
 def feed(stream, pieces):

@@ -1,11 +1,10 @@
 //! A chess game server: its words.
 #![tactic(auto)]
 
-use board_session::{ReaderSource, board};
 use clap::Error;
 use server_words::{Word, read_words, words_given};
 use server_work::{
-    End, Fault, copy_journal, end_of_words, end_of_work, fault_of_board, format, name, run_journal,
+    End, Fault, copy_journal, end_of_words, end_of_work, format, name, play_board, run_journal,
     serve, show_games, status, tell_drill, widen,
 };
 use std::process::ExitCode;
@@ -34,10 +33,7 @@ fn end_with(rt: &HostRuntime, error: &Error) -> End {
 // Does what a word asks for.
 fn do_work(rt: &HostRuntime, word: Word<'_>) -> Result<(), Fault> {
     match word {
-        Word::Board => match board(&mut ReaderSource::new(rt.stdin()), &mut rt.stdout()) {
-            Ok(()) => Ok(()),
-            Err(fault) => Err(fault_of_board(fault)),
-        },
+        Word::Board => play_board(rt, &mut rt.stdin(), &mut rt.stdout()),
         Word::Format(formatting) => format(rt, rt.alloc(), &formatting),
         Word::Run(journal) => {
             let (mut input, mut output) = (rt.stdin(), rt.stdout());

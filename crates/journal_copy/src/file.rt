@@ -2,7 +2,7 @@
 ghost use Rattle.std.specs.Prelude.{◌≡◌};
 
 use crate::source::{Slots, Source};
-use sector_dev::DeviceFault;
+use sector_dev::{DeviceFault, FileDevice};
 use std::fs::File;
 use std::io::{ErrorKind, Seek, SeekFrom};
 use std::os::unix::fs::{FileExt, FileTypeExt};
@@ -19,7 +19,10 @@ pub struct FileSource {
 }
 
 impl FileSource {
-    /// Opens a file that is there. Its sectors are as many as it has whole, at most `u32::MAX`.
+    /// Opens a file that is there. Its sectors are as many as it has whole, at most `u32::MAX`. What the system's memory
+    /// holds of it is dropped first, so that reads give what the disk has, and not what a write brought there that failed.
+    ///
+    /// Each failure is an error of the system, or `InvalidInput` for what is no regular file and no block device.
     pub fn open<R: Files<File = File>>(files: &R, path: &str) -> io::Result<FileSource> {
         let found = fs::metadata(files, path)?.file_type();
         // The opening of a pipe would wait for who writes into it.
@@ -27,7 +30,9 @@ impl FileSource {
             let message = "no regular file and no block device";
             return Err(io::Error::new(ErrorKind::InvalidInput, message));
         }
+        let device = FileDevice::open_to_read(files, path)?;
         let mut file = File::open(files, path)?;
+        drop(device);
         let length = file.seek(SeekFrom::End(0))?;
         Ok(FileSource {
             file,

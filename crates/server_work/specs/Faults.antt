@@ -7,6 +7,12 @@ use Rattle.chess_lives.specs.Drill as drill
 use Rattle.server_work.specs.declared.ends.Fault.{Fault}
 use Rattle.server_work.specs.declared.ends.Fault.TheVariants as faults
 
+-- of `board`
+abbrev pub IsBoardFault : Fault → Type 0
+IsBoardFault faults.Read = ⊤
+IsBoardFault faults.Write = ⊤
+IsBoardFault _ = ⊥
+
 -- of opening a journal
 abbrev pub IsOpenFault : Fault → Type 0
 IsOpenFault faults.File = ⊤
@@ -20,6 +26,11 @@ IsFormatFault faults.Write = ⊤
 IsFormatFault faults.NoMemory = ⊤
 IsFormatFault (faults.Store fault) = store.IsCreateFault fault
 IsFormatFault _ = ⊥
+
+-- of looking whether a device may be made a journal
+abbrev pub IsBlankFault : Fault → Type 0
+IsBlankFault (faults.Store fault) = store.IsCreateFault fault
+IsBlankFault _ = ⊥
 
 -- of reading a journal without its lock
 abbrev pub IsReadingFault : Fault → Type 0

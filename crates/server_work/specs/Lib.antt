@@ -1,3 +1,5 @@
+pub mod Blank
+pub mod Causes
 pub mod End
 pub mod Faults
 pub mod Games

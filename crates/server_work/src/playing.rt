@@ -1,16 +1,18 @@
 //! The words that play in a journal.
-ghost use Rattle.std.specs.Prelude.{◌≡◌, IfErr};
-ghost use Rattle.server_work.specs.Faults.{IsOpenFault, IsRunFault, IsServeFault};
+ghost use Rattle.std.specs.Prelude.{IfErr};
+ghost use Rattle.server_work.specs.Faults.{IsRunFault, IsServeFault};
 
 use crate::clock::{SteadyClock, milliseconds_since};
+use crate::device::TellingDevice;
 use crate::ends::{Fault, fault_of_run};
-use crate::journals::open_journal;
+use crate::journals::{open_file, open_on};
+use crate::streams::{INPUT, TellingReader, TellingWriter};
 use crate::telling::{Found, Teller, TurnedAway};
 use chess_hub::Hub;
-use chess_run::{Moments, ReaderSource, run};
+use chess_run::{LineSource, Moments, ReaderSource, run};
 use chess_sockets::{Server, Turned};
 use chess_store::Store;
-use sector_dev::{Device, FileDevice};
+use sector_dev::Device;
 use server_words::Serving;
 use std::alloc::Global;
 use std::fs::File;
@@ -18,6 +20,49 @@ use std::io::{Read, Write};
 use std::net::{Net, TcpListener, TcpStream};
 use std::rt::{Clock, Files};
 use std::time::Instant;
+
+// Answers the lines of a source on a writer, over the games of the journal on a device.
+fn play_on<D: Device + Drop, S: LineSource, W: Write, M: Moments + Drop>(
+    alloc: Global,
+    device: D,
+    source: &mut S,
+    writer: &mut W,
+    moments: M,
+) -> Result<(), Fault>
+    ensures { IfErr result IsRunFault }
+{
+    let store = open_on(alloc, device)?;
+    match run(alloc, source, writer, store, moments) {
+        Ok(()) => Ok(()),
+        Err(fault) => Err(fault_of_run(fault)),
+    }
+}
+
+// The same of the journal in a file.
+fn play_journal<R, S: LineSource, W: Write>(
+    rt: &R,
+    alloc: Global,
+    teller: &Teller<'_, R>,
+    journal: &str,
+    source: &mut S,
+    writer: &mut W,
+) -> Result<(), Fault>
+where
+    R: Files<File = File> + Clock + Eprint,
+    ensures { IfErr result IsRunFault }
+{
+    let file = open_file(rt, teller, journal)?;
+    let device = TellingDevice::new(file, teller, journal);
+    play_on(alloc, device, source, writer, SteadyClock::new(rt))
+}
+
+// What is at fault where a run breaks off.
+fn at_fault<'a>(journal: &'a str, played: Result<(), Fault>) -> &'a str {
+    match played {
+        Err(Fault::LineTooLong) => INPUT,
+        _ => journal,
+    }
+}
 
 /// Answers the lines of a reader on a writer, over the games of a journal's file, at the moments of the system's clock as
 /// it was at the start, which goes on evenly.
@@ -29,25 +74,14 @@ pub fn run_journal<R, I: Read, O: Write>(
     output: &mut O,
 ) -> Result<(), Fault>
 where
-    R: Files<File = File> + Clock,
+    R: Files<File = File> + Clock + Eprint,
     ensures { IfErr result IsRunFault }
 {
-    let store = open_journal(rt, alloc, journal)?;
-    let mut source = ReaderSource::new(input);
-    match run(alloc, &mut source, output, store, SteadyClock::new(rt)) {
-        Ok(()) => Ok(()),
-        Err(fault) => Err(fault_of_run(fault)),
-    }
-}
-
-// Prints the port that a server listens on, at once.
-fn tell_port(rt: &impl Print, port: u16) -> Result<(), Fault>
-    ensures { IfErr result (λ fault. fault ≡ Fault.Write) }
-{
-    match println!(rt; "port {port}") {
-        Ok(()) => Ok(()),
-        Err(_) => Err(Fault::Write),
-    }
+    let teller = Teller::new(rt, false);
+    let mut source = ReaderSource::new(TellingReader::new(input, &teller));
+    let mut writer = TellingWriter::new(output, &teller);
+    let played = play_journal(rt, alloc, &teller, journal, &mut source, &mut writer);
+    teller.told(at_fault(journal, played), played)
 }
 
 // Takes the turns of a server: so many, or as many as 64 bits count.
@@ -74,31 +108,6 @@ fn take_turns<R: Clock + Eprint, D: Device>(
     Ok(())
 }
 
-// The store in a file that is there. What the system said of a failure is told.
-fn open_told<R: Files<File = File> + Eprint>(
-    rt: &R,
-    alloc: Global,
-    teller: &Teller<'_, R>,
-    journal: &str,
-) -> Result<Store<FileDevice>, Fault>
-    ensures { IfErr result IsOpenFault }
-{
-    let device = match FileDevice::open(rt, journal) {
-        Ok(device) => device,
-        Err(error) => {
-            teller.file_failed(journal, &error);
-            return Err(Fault::File);
-        }
-    };
-    match Store::open(alloc, device) {
-        Ok(store) => Ok(store),
-        Err(refused) => {
-            teller.device_failed(journal, refused.device.last_error());
-            Err(Fault::Store(refused.fault))
-        }
-    }
-}
-
 // What a store had when it was opened.
 fn found_in<D: Device>(store: &Store<D>, took: u64) -> Option<Found> {
     let table = store.table().ok()?;
@@ -106,12 +115,12 @@ fn found_in<D: Device>(store: &Store<D>, took: u64) -> Option<Found> {
 }
 
 // Serves players on a port, over the games of a store.
-fn serve_store<R>(
+fn serve_store<R, D: Device + Drop>(
     rt: &R,
     alloc: Global,
     teller: &Teller<'_, R>,
     serving: &Serving<'_>,
-    store: Store<FileDevice>,
+    store: Store<D>,
     took: u64,
 ) -> Result<(), Fault>
 where
@@ -127,15 +136,53 @@ where
             return Err(Fault::Socket);
         }
     };
-    tell_port(rt, server.port())?;
+    let port = server.port();
+    // At once, since who started it waits for it.
+    teller.printed(println!(rt; "port {port}"))?;
     let mut clock = SteadyClock::new(rt);
     if let Some(found) = found {
-        teller.serves(server.port(), found, clock.next());
+        teller.serves(port, found, clock.next());
     }
-    let served = take_turns(&mut clock, teller, &mut server, serving.turns);
-    let device = server.into_hub().into_store().into_device();
-    teller.device_failed(serving.journal, device.last_error());
-    served
+    take_turns(&mut clock, teller, &mut server, serving.turns)
+}
+
+// Serves players over the games of the journal on a device, whose opening began then.
+fn serve_on<R, D: Device + Drop>(
+    rt: &R,
+    alloc: Global,
+    teller: &Teller<'_, R>,
+    serving: &Serving<'_>,
+    device: D,
+    begun: Option<Instant>,
+) -> Result<(), Fault>
+where
+    R: Clock + Print + Eprint + Net<Listener = TcpListener, Stream = TcpStream>,
+    ensures { IfErr result IsServeFault }
+{
+    let store = open_on(alloc, device)?;
+    let took = milliseconds_since(rt, begun);
+    serve_store(rt, alloc, teller, serving, store, took)
+}
+
+// The same of the journal in a file.
+fn serve_journal<R>(
+    rt: &R,
+    alloc: Global,
+    teller: &Teller<'_, R>,
+    serving: &Serving<'_>,
+) -> Result<(), Fault>
+where
+    R: Files<File = File>
+        + Clock
+        + Print
+        + Eprint
+        + Net<Listener = TcpListener, Stream = TcpStream>,
+    ensures { IfErr result IsServeFault }
+{
+    let begun = Instant::now(rt).ok();
+    let file = open_file(rt, teller, serving.journal)?;
+    let device = TellingDevice::new(file, teller, serving.journal);
+    serve_on(rt, alloc, teller, serving, device, begun)
 }
 
 /// Serves players on a port, over the games of a journal's file, and first prints `port P`, P being the port that it
@@ -151,8 +198,6 @@ where
     ensures { IfErr result IsServeFault }
 {
     let teller = Teller::new(rt, serving.is_quiet);
-    let begun = Instant::now(rt).ok();
-    let store = open_told(rt, alloc, &teller, serving.journal)?;
-    let took = milliseconds_since(rt, begun);
-    serve_store(rt, alloc, &teller, serving, store, took)
+    let served = serve_journal(rt, alloc, &teller, serving);
+    teller.told(serving.journal, served)
 }

@@ -3,15 +3,18 @@ ghost use Rattle.std.specs.Prelude.{◌≡◌, length, IfErr, OnOk};
 ghost use Rattle.server_work.specs.Faults.{IsCopyFault, IsReadingFault, IsShowFault};
 ghost use Rattle.server_work.specs.Games.{WritesGame, WritesGames};
 
+use crate::device::TellingDevice;
 use crate::ends::{Fault, fault_of_copy};
-use crate::journals::{may_overwrite, open_on, tell};
+use crate::journals::{make_file, may_overwrite, open_on, stays_blank};
+use crate::streams::TellingWriter;
 use crate::telling::Teller;
 use chess_answer::pgn_reply;
 use chess_game::Game;
+use chess_store::StoreFault;
 use chess_table::Table;
 use journal_copy::{Copied, FileSource, copy, header_in_force};
 use rec_codec::Header;
-use sector_dev::{CrashDevice, Device, FileDevice, MemoryDevice};
+use sector_dev::{CrashDevice, Device, MemoryDevice};
 use server_words::Copying;
 use std::alloc::Global;
 use std::fs::File;
@@ -32,7 +35,7 @@ fn open_source<R: Files<File = File> + Eprint>(
     match FileSource::open(rt, journal) {
         Ok(source) => Ok(source),
         Err(error) => {
-            teller.file_failed(journal, &error);
+            teller.not_opened(journal, "it cannot be opened", &error);
             Err(Fault::File)
         }
     }
@@ -59,26 +62,64 @@ fn copy_onto<D: Device>(source: &mut FileSource, target: &mut D) -> Result<(), F
     }
 }
 
-// The file that is to be the copy, of so many sectors.
-fn make_target<R: Files<File = File> + Eprint>(
+// Makes a device that is to be blank a copy of a journal that is open, and opens it.
+fn fill<D: Device + Drop>(
+    alloc: Global,
+    source: &mut FileSource,
+    mut target: D,
+) -> Result<(), Fault>
+    ensures { IfErr result IsCopyFault }
+{
+    stays_blank(&mut target)?;
+    copy_onto(source, &mut target)?;
+    open_on(alloc, target)?;
+    Ok(())
+}
+
+// Makes a file a copy of a journal that is open, whose header says so many sectors.
+fn copy_into<R: Files<File = File> + Eprint>(
     rt: &R,
+    alloc: Global,
     teller: &Teller<'_, R>,
     path: &str,
-    sectors: u32,
-) -> Result<FileDevice, Fault>
-    ensures { IfErr result (λ fault. fault ≡ Fault.File) }
+    source: &mut FileSource,
+) -> Result<u32, Fault>
+    ensures { IfErr result IsCopyFault }
 {
-    match FileDevice::create(rt, path, sectors) {
-        Ok(device) => Ok(device),
-        Err(error) => {
-            teller.file_failed(path, &error);
-            Err(Fault::File)
-        }
+    let sectors = header_of(source)?.sectors;
+    may_overwrite(rt, alloc, teller, path)?;
+    let file = make_file(rt, teller, path, sectors)?;
+    fill(alloc, source, TellingDevice::new(file, teller, path))?;
+    Ok(sectors)
+}
+
+// Copies a journal, and prints so.
+fn make_copy<R: Files<File = File> + Print + Eprint>(
+    rt: &R,
+    alloc: Global,
+    teller: &Teller<'_, R>,
+    copying: &Copying<'_>,
+) -> Result<(), Fault>
+    ensures { IfErr result IsCopyFault }
+{
+    let mut source = open_source(rt, teller, copying.journal)?;
+    let copied = copy_into(rt, alloc, teller, copying.copy, &mut source);
+    teller.failed(copying.journal, "a read failed", source.last_error());
+    let sectors = copied?;
+    teller.printed(println!(rt; "ok copy {sectors}"))
+}
+
+// The file that is at fault where no copy was made.
+fn at_fault<'a>(copying: &Copying<'a>, copied: Result<(), Fault>) -> &'a str {
+    match copied {
+        Err(Fault::Store(StoreFault::Exists)) => copying.copy,
+        _ => copying.journal,
     }
 }
 
 /// Makes a file a copy of a journal, also of one in which somebody plays, and prints `ok copy S`, S being its sectors. It
 /// has been opened then, and means a table. `Exists` where the file may not be made a journal: nothing of it has changed.
+/// Of two that make one file at once, one at most answers so.
 pub fn copy_journal<R: Files<File = File> + Print + Eprint>(
     rt: &R,
     alloc: Global,
@@ -87,16 +128,8 @@ pub fn copy_journal<R: Files<File = File> + Print + Eprint>(
     ensures { IfErr result IsCopyFault }
 {
     let teller = Teller::new(rt, false);
-    let mut source = open_source(rt, &teller, copying.journal)?;
-    let sectors = header_of(&mut source)?.sectors;
-    may_overwrite(rt, alloc, copying.copy)?;
-    let mut target = make_target(rt, &teller, copying.copy, sectors)?;
-    let copied = copy_onto(&mut source, &mut target);
-    teller.device_failed(copying.journal, source.last_error());
-    teller.device_failed(copying.copy, target.last_error());
-    copied?;
-    open_on(alloc, target)?;
-    tell(rt, "copy", sectors)
+    let copied = make_copy(rt, alloc, &teller, copying);
+    teller.told(at_fault(copying, copied), copied)
 }
 
 // A copy of a journal in memory.
@@ -148,6 +181,23 @@ pub(crate) fn write_games<W: Write>(
     Ok(())
 }
 
+// Writes the games of a journal's file.
+fn write_journal<R: Files<File = File> + Eprint, W: Write>(
+    rt: &R,
+    alloc: Global,
+    teller: &Teller<'_, R>,
+    journal: &str,
+    output: &mut W,
+) -> Result<(), Fault>
+    ensures { IfErr result IsShowFault }
+{
+    let mut source = open_source(rt, teller, journal)?;
+    let copied = copy_in_memory(alloc, &mut source);
+    teller.failed(journal, "a read failed", source.last_error());
+    let parts = open_on(alloc, copied?)?.into_parts();
+    write_games(alloc, &parts.table, output)
+}
+
 /// Writes the PGN of each game of a journal, by rising number, also of a journal in which somebody plays.
 pub fn show_games<R: Files<File = File> + Eprint, W: Write>(
     rt: &R,
@@ -158,9 +208,7 @@ pub fn show_games<R: Files<File = File> + Eprint, W: Write>(
     ensures { IfErr result IsShowFault }
 {
     let teller = Teller::new(rt, false);
-    let mut source = open_source(rt, &teller, journal)?;
-    let copied = copy_in_memory(alloc, &mut source);
-    teller.device_failed(journal, source.last_error());
-    let parts = open_on(alloc, copied?)?.into_parts();
-    write_games(alloc, &parts.table, output)
+    let mut output = TellingWriter::new(output, &teller);
+    let shown = write_journal(rt, alloc, &teller, journal, &mut output);
+    teller.told(journal, shown)
 }

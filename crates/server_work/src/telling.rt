@@ -1,11 +1,15 @@
 //! What an operator is told on standard error, a line for each: as the system's journal and a human read it, and without
 //! a time, which the journal puts before it.
-ghost use Rattle.std.specs.Prelude.{ℕ, ◌≡◌, ◌<◌, ◌+◌, None, Some, IsSome, IfSome, IfNone, length};
+ghost use Rattle.std.specs.Prelude.{ℕ, ◌≡◌, ◌<◌, ◌+◌, None, Some, IsSome, IfErr, IfSome, IfNone, length};
 
+use crate::causes::reason;
 use crate::clock::behind;
+use crate::ends::Fault;
+use crate::streams::OUTPUT;
 use chess_entry::Limits;
 use chess_table::Table;
 use std::io;
+use std::io::ErrorKind;
 
 /// What a journal had when it was opened.
 #[derive(Clone, Copy, Debug)]
@@ -93,24 +97,73 @@ impl<'a, R: Eprint> Teller<'a, R> {
         Teller { rt, is_quiet }
     }
 
-    /// What the system said of a file.
-    pub(crate) fn file_failed(&self, path: &str, error: &io::Error) {
+    /// What the system said of a file: what could not be done, and its error.
+    pub(crate) fn file_failed(&self, path: &str, what: &str, error: &io::Error) {
         if !self.is_quiet {
-            let _ = eprintln!(self.rt; "{path}: {error}");
+            let _ = eprintln!(self.rt; "{path}: {what}: {error}");
         }
     }
 
     /// The same, where the system said something.
-    pub(crate) fn device_failed(&self, path: &str, error: Option<&io::Error>) {
+    pub(crate) fn failed(&self, path: &str, what: &str, error: Option<&io::Error>) {
         if let Some(error) = error {
-            self.file_failed(path, error);
+            self.file_failed(path, what, error);
+        }
+    }
+
+    /// The same of a file that could not be opened. Another program may have it locked.
+    pub(crate) fn not_opened(&self, path: &str, what: &str, error: &io::Error) {
+        if error.kind() == ErrorKind::WouldBlock {
+            self.file_failed(path, "another program has it open", error);
+        } else {
+            self.file_failed(path, what, error);
+        }
+    }
+
+    /// The same of a stream, unless the call was only interrupted.
+    pub(crate) fn stream_failed(&self, name: &str, what: &str, error: &io::Error) {
+        if error.kind() != ErrorKind::Interrupted {
+            self.file_failed(name, what, error);
+        }
+    }
+
+    /// What a print on standard output came to.
+    pub(crate) fn printed(&self, print: io::Result<()>) -> Result<(), Fault>
+        ensures { IfErr result (λ fault. fault ≡ Fault.Write) }
+    {
+        match print {
+            Ok(()) => Ok(()),
+            Err(error) => {
+                self.file_failed(OUTPUT, "a write failed", &error);
+                Err(Fault::Write)
+            }
+        }
+    }
+
+    /// What a word's work on a file or a stream came to. Why it broke off is told, where the system has not said it.
+    pub(crate) fn told(&self, path: &str, ended: Result<(), Fault>) -> Result<(), Fault>
+        ensures { result ≡ ended }
+    {
+        if let Err(fault) = ended {
+            self.explain(path, fault);
+        }
+        ended
+    }
+
+    // Tells why a fault came.
+    fn explain(&self, path: &str, fault: Fault) {
+        if self.is_quiet {
+            return;
+        }
+        if let Some(reason) = reason(fault) {
+            let _ = eprintln!(self.rt; "{path}: {reason}");
         }
     }
 
     /// What the system said of a port.
     pub(crate) fn port_failed(&self, port: u16, error: &io::Error) {
         if !self.is_quiet {
-            let _ = eprintln!(self.rt; "port {port}: {error}");
+            let _ = eprintln!(self.rt; "port {port}: it cannot be listened on: {error}");
         }
     }
 

@@ -1,0 +1,94 @@
+//! A journal's device that tells an operator why a call of it failed.
+ghost use Rattle.std.specs.Prelude.{◌≡◌};
+
+use crate::telling::Teller;
+use sector_dev::{Device, DeviceFault, FileDevice, Got, PositionedFile};
+use std::io;
+
+/// A device that keeps the system's error.
+pub(crate) trait KeepsError {
+    /// The error of the last call that failed.
+    fn kept_error(&self) -> Option<&io::Error>;
+}
+
+impl<F: PositionedFile> KeepsError for FileDevice<F> {
+    fn kept_error(&self) -> Option<&io::Error> {
+        self.last_error()
+    }
+}
+
+/// A device, of whose failures an operator is told: which file, what kind of call, and the system's error. All else is
+/// the device below.
+#[derive(Drop)]
+pub(crate) struct TellingDevice<'a, R, D> {
+    device: D,
+    teller: &'a Teller<'a, R>,
+    path: &'a str,
+}
+
+impl<'a, R, D> TellingDevice<'a, R, D> {
+    /// The device of this path.
+    pub(crate) fn new(device: D, teller: &'a Teller<'a, R>, path: &'a str) -> Self
+        ensures { result.device ≡ device }
+    {
+        TellingDevice {
+            device,
+            teller,
+            path,
+        }
+    }
+}
+
+impl<R: Eprint, D: KeepsError> TellingDevice<'_, R, D> {
+    // Tells of a call that failed.
+    fn tell(&self, what: &str) {
+        self.teller
+            .failed(self.path, what, self.device.kept_error());
+    }
+}
+
+impl<R: Eprint, D: Device + KeepsError> Device for TellingDevice<'_, R, D> {
+    ghost state = { λ telling. D.state telling.device };
+
+    ghost sector_count = { λ telling. D.sector_count telling.device };
+
+    ghost failures = { λ telling. D.failures telling.device };
+
+    ghost calls_left = { λ telling. D.calls_left telling.device };
+
+    ghost coherent = { λ telling. D.coherent telling.device };
+
+    fn sectors(&self) -> u32 {
+        self.device.sectors()
+    }
+
+    fn read(&mut self, at: u32, into: &mut [u8; 512]) -> Result<Got, DeviceFault> {
+        match self.device.read(at, into) {
+            Ok(got) => Ok(got),
+            Err(fault) => {
+                self.tell("a read failed");
+                Err(fault)
+            }
+        }
+    }
+
+    fn write(&mut self, at: u32, from: &[u8; 512]) -> Result<(), DeviceFault> {
+        match self.device.write(at, from) {
+            Ok(()) => Ok(()),
+            Err(fault) => {
+                self.tell("a write failed");
+                Err(fault)
+            }
+        }
+    }
+
+    fn sync(&mut self) -> Result<(), DeviceFault> {
+        match self.device.sync() {
+            Ok(()) => Ok(()),
+            Err(fault) => {
+                self.tell("a sync failed");
+                Err(fault)
+            }
+        }
+    }
+}

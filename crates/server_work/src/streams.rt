@@ -1,0 +1,84 @@
+//! Standard input and output that tell an operator why a call of them failed.
+ghost use Rattle.std.specs.Prelude.{◌≡◌};
+
+use crate::telling::Teller;
+use std::io;
+use std::io::{Read, Write};
+
+/// The name under which standard input is told of.
+pub(crate) const INPUT: &str = "standard input";
+
+/// The name under which standard output is told of.
+pub(crate) const OUTPUT: &str = "standard output";
+
+/// A reader, of whose failures an operator is told as of standard input. One that is only interrupted is read again, and
+/// nothing is told.
+#[derive(Drop)]
+pub(crate) struct TellingReader<'a, R, I> {
+    reader: I,
+    teller: &'a Teller<'a, R>,
+}
+
+impl<'a, R, I> TellingReader<'a, R, I> {
+    /// The reader, of which is told.
+    pub(crate) fn new(reader: I, teller: &'a Teller<'a, R>) -> Self
+        ensures { result.reader ≡ reader }
+    {
+        TellingReader { reader, teller }
+    }
+}
+
+impl<R: Eprint, I: Read> Read for TellingReader<'_, R, I> {
+    ghost remaining = { λ telling. I.remaining telling.reader };
+
+    fn read(&mut self, buf: &mut [u8]) -> io::Result<usize> {
+        match self.reader.read(buf) {
+            Ok(count) => Ok(count),
+            Err(error) => {
+                self.teller.stream_failed(INPUT, "a read failed", &error);
+                Err(error)
+            }
+        }
+    }
+}
+
+/// A writer, of whose failures an operator is told as of standard output. One that is only interrupted is written again,
+/// and nothing is told.
+#[derive(Drop)]
+pub(crate) struct TellingWriter<'a, R, O> {
+    writer: O,
+    teller: &'a Teller<'a, R>,
+}
+
+impl<'a, R, O> TellingWriter<'a, R, O> {
+    /// The writer, of which is told.
+    pub(crate) fn new(writer: O, teller: &'a Teller<'a, R>) -> Self
+        ensures { result.writer ≡ writer }
+    {
+        TellingWriter { writer, teller }
+    }
+}
+
+impl<R: Eprint, O: Write> Write for TellingWriter<'_, R, O> {
+    ghost contents = { λ telling. O.contents telling.writer };
+
+    fn write(&mut self, buf: &[u8]) -> io::Result<usize> {
+        match self.writer.write(buf) {
+            Ok(count) => Ok(count),
+            Err(error) => {
+                self.teller.stream_failed(OUTPUT, "a write failed", &error);
+                Err(error)
+            }
+        }
+    }
+
+    fn flush(&mut self) -> io::Result<()> {
+        match self.writer.flush() {
+            Ok(()) => Ok(()),
+            Err(error) => {
+                self.teller.stream_failed(OUTPUT, "a write failed", &error);
+                Err(error)
+            }
+        }
+    }
+}
