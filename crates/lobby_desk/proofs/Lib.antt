@@ -1,0 +1,5 @@
+pub mod Sent
+pub mod Found
+pub mod Opened
+pub mod Lines
+pub mod Runs
