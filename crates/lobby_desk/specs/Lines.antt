@@ -34,6 +34,7 @@ act_lines said name line = if is_said said name then line ∷ [] else name_line 
 abbrev pub lines_of : Plan → Option (List ℕ) → List ℕ → List (List ℕ)
 lines_of plans.Read said text = text ∷ []
 lines_of (plans.Act who) said text = act_lines said who.name text
+lines_of (plans.Drop who game) said text = game_line (codes "show ") game ∷ []
 lines_of plans.Lobby said text = codes "list" ∷ []
 lines_of (plans.Watch game) said text = game_line (codes "show ") game ∷ game_line (codes "fen ") game ∷ []
 lines_of (plans.Line game) said text = game_line (codes "pgn ") game ∷ []

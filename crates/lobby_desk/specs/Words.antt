@@ -1,7 +1,8 @@
 -- What the first word of a message says.
-use Rattle.std.specs.Prelude.{ℕ, Bool, true, false, ◌&&◌, ◌||◌, ◌==◌, not, nat_le, List, length, codes, if◌then◌else◌}
+use Rattle.std.specs.Prelude.{ℕ, ◌^◌, Bool, true, false, ◌&&◌, ◌||◌, ◌==◌, not, nat_le, nat_lt, List, length, codes, decimal, Option, None, Some, if◌then◌else◌}
 use Rattle.std.specs.List.{before_first, after_first, list_all}
 use Rattle.std.specs.Str.{bytes_eq}
+use Rattle.std.specs.Str.Parse.{digits_value}
 use Rattle.lobby_desk.specs.declared.words.Sort.{Sort}
 use Rattle.lobby_desk.specs.declared.words.Sort.TheVariants as sorts
 
@@ -72,3 +73,25 @@ is_name_sort _ = false
 abbrev pub is_login_sort : Sort → Bool
 is_login_sort sorts.Login = true
 is_login_sort _ = false
+
+abbrev pub is_leave_sort : Sort → Bool
+is_leave_sort sorts.Leave = true
+is_leave_sort _ = false
+
+abbrev pub is_leave_lobby_sort : Sort → Bool
+is_leave_lobby_sort sorts.LeaveLobby = true
+is_leave_lobby_sort _ = false
+
+-- the number below 2 ^ 32 that a text spells without a leading zero, and nothing else
+unfoldable pub number_in : List ℕ → Option ℕ
+number_in text =
+    if nat_lt (digits_value 10 text) (2 ^ 32) && bytes_eq (decimal (digits_value 10 text)) text
+    then Some (digits_value 10 text)
+    else None
+
+abbrev pub or_0 : Option ℕ → ℕ
+or_0 None = 0
+or_0 (Some n) = n
+
+abbrev pub number_or_0 : List ℕ → ℕ
+number_or_0 text = or_0 (number_in text)

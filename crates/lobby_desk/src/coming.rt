@@ -1,63 +1,82 @@
 //! The answers that come from the server, line by line.
+ghost use Rattle.std.specs.Prelude.{◌≡◌, ◌++◌, ◌↔◌, [], OnOk, IsTrue};
+ghost use Rattle.std.specs.String.{string_bytes};
+ghost use Rattle.lobby_desk.specs.Lines.{ended};
+ghost use Rattle.lobby_desk.specs.Answers as answers;
+
+use crate::words::{cut, number_or_0};
 use std::alloc::{AllocError, Global};
 
 /// An answer of which not every line has come.
 #[derive(Drop)]
 pub struct Coming {
     alloc: Global,
-    text: String,
-    // How many lines are still to come, once one has.
-    left: Option<u32>,
+    pub text: String,
+    /// How many lines are still to come; 0 where none has.
+    pub left: u32,
 }
 
 // How many lines stand behind the first line of an answer: as many as `ok list K` and `ok pgn G K` say, and else none.
-fn lines_behind(first: &str) -> u32 {
-    let count = match first.strip_prefix("ok list ") {
-        Some(count) => Some(count),
-        None => pgn_count(first),
-    };
-    match count {
-        Some(count) => count.parse::<u32>().unwrap_or(0),
-        None => 0,
+fn lines_behind(first: &str) -> u32
+    ensures { result ≡ answers.lines_behind first.now }
+{
+    let (word, rest) = cut(first);
+    let (kind, rest) = cut(rest);
+    let (_, last) = cut(rest);
+    if word != "ok" {
+        0
+    } else if kind == "list" {
+        number_or_0(rest)
+    } else if kind == "pgn" {
+        number_or_0(last)
+    } else {
+        0
     }
-}
-
-// What stands behind the number of the game in `ok pgn G K`.
-fn pgn_count(first: &str) -> Option<&str> {
-    let rest = first.strip_prefix("ok pgn ")?;
-    let (_, count) = rest.split_once(' ')?;
-    Some(count)
 }
 
 impl Coming {
     /// Nothing has come.
-    pub fn new(alloc: Global) -> Coming {
+    pub fn new(alloc: Global) -> Coming
+        ensures text { string_bytes result.text ≡ [] }
+        ensures left { result.left ≡ 0 }
+    {
         Coming {
             alloc,
             text: String::new(alloc),
-            left: None,
+            left: 0,
         }
     }
 
-    /// Takes a line, and gives the answer with all its lines where it was the last of them.
-    pub fn take(&mut self, line: &str) -> Result<Option<String>, AllocError> {
+    /// A line comes.
+    pub fn add(&mut self, line: &str) -> Result<(), AllocError>
+        ensures text { OnOk result (string_bytes self.new.text ≡ string_bytes self.old.text ++ ended line.now) }
+        ensures left { OnOk result (self.new.left ≡ answers.left_after self.old.left line.now) }
+    {
         self.text.push_str(line)?;
         self.text.push('\n')?;
-        let left = match self.left {
-            None => lines_behind(line),
-            Some(left) => left.saturating_sub(1),
+        self.left = if self.left == 0 {
+            lines_behind(line)
+        } else {
+            self.left - 1
         };
-        if left > 0 {
-            self.left = Some(left);
-            return Ok(None);
-        }
-        self.left = None;
-        Ok(Some(std::mem::replace(&mut self.text, String::new(self.alloc))))
+        Ok(())
+    }
+
+    /// The lines that have come, where they are all of the answer.
+    pub fn take(&mut self) -> String
+        ensures text { string_bytes result ≡ string_bytes self.old.text }
+        ensures taken { string_bytes self.new.text ≡ [] }
+        ensures left { self.new.left ≡ self.old.left }
+    {
+        std::mem::replace(&mut self.text, String::new(self.alloc))
     }
 
     /// Forgets what has come.
-    pub fn clear(&mut self) {
+    pub fn clear(&mut self)
+        ensures text { string_bytes self.new.text ≡ [] }
+        ensures left { self.new.left ≡ 0 }
+    {
         self.text.clear();
-        self.left = None;
+        self.left = 0;
     }
 }

@@ -1,11 +1,11 @@
 //! What is done about a message.
-ghost use Rattle.std.specs.Prelude.{ℕ, ◌≡◌, ◌<◌, ◌^◌, Option, IfSome};
+ghost use Rattle.std.specs.Prelude.{◌≡◌};
 ghost use Rattle.lobby_desk.specs.Words as words;
 ghost use Rattle.lobby_desk.specs.Plans as plans;
 
 use crate::players::Identity;
 use crate::refusals::Refusal;
-use crate::words::{Sort, cut, game_named, is_message, sort_of};
+use crate::words::{Sort, cut, is_message, number_named, sort_of};
 
 /// What is done about a message.
 #[derive(Clone, Copy)]
@@ -15,6 +15,8 @@ pub enum Plan {
     Read,
     /// The message is passed on under a name.
     Act(Identity),
+    /// Who is seated in the game is asked for, and the message is passed on under a name of theirs.
+    Drop(Identity, u32),
     Login(Identity),
     Players,
     Lobby,
@@ -35,6 +37,8 @@ pub struct Standing {
     pub is_here: bool,
     /// Whether the connection watches as many games as may be.
     pub is_full: bool,
+    /// Whether the message opens a game where the player has as many waiting for a second player as may be.
+    pub is_crowded: bool,
 }
 
 // What asks for the server.
@@ -48,17 +52,33 @@ fn asked(standing: &Standing, plan: Plan) -> Plan
     }
 }
 
-// An act.
-fn act_plan(is_drop: bool, standing: &Standing) -> Plan
-    ensures { result ≡ plans.act_plan is_drop standing.now standing.now.who }
+// An act but a drop.
+fn act_plan(standing: &Standing) -> Plan
+    ensures { result ≡ plans.act_plan standing.now standing.now.who }
 {
     match standing.who {
         None => Plan::Refuse(Refusal::NoToken),
         Some(who) => {
-            if is_drop && !who.is_arbiter {
-                Plan::Refuse(Refusal::NotArbiter)
+            if standing.is_crowded {
+                asked(standing, Plan::Refuse(Refusal::TooManyOpen))
             } else {
                 asked(standing, Plan::Act(who))
+            }
+        }
+    }
+}
+
+// A drop.
+fn drop_plan(standing: &Standing, game: u32) -> Plan
+    ensures { result ≡ plans.drop_plan standing.now standing.now.who game }
+{
+    match standing.who {
+        None => Plan::Refuse(Refusal::NoToken),
+        Some(who) => {
+            if who.is_arbiter {
+                asked(standing, Plan::Drop(who, game))
+            } else {
+                Plan::Refuse(Refusal::NotArbiter)
             }
         }
     }
@@ -87,6 +107,7 @@ fn game_plan(sort: Sort, standing: &Standing, game: u32) -> Plan
             }
         }
         Sort::Line => asked(standing, Plan::Line(game)),
+        Sort::Drop => drop_plan(standing, game),
         _ => Plan::Leave(game),
     }
 }
@@ -97,14 +118,13 @@ fn sort_plan(sort: Sort, standing: &Standing, game: Option<u32>) -> Plan
 {
     match sort {
         Sort::Read => asked(standing, Plan::Read),
-        Sort::Act => act_plan(false, standing),
-        Sort::Drop => act_plan(true, standing),
+        Sort::Act => act_plan(standing),
         Sort::Login => login_plan(standing.holder),
         Sort::Players => Plan::Players,
         Sort::Lobby => asked(standing, Plan::Lobby),
         Sort::LeaveLobby => Plan::LeaveLobby,
         Sort::Name | Sort::Nothing => Plan::Refuse(Refusal::BadLine),
-        Sort::Watch | Sort::Leave | Sort::Line => match game {
+        Sort::Watch | Sort::Leave | Sort::Line | Sort::Drop => match game {
             None => Plan::Refuse(Refusal::BadLine),
             Some(game) => game_plan(sort, standing, game),
         },
@@ -113,10 +133,10 @@ fn sort_plan(sort: Sort, standing: &Standing, game: Option<u32>) -> Plan
 
 /// What is done about a message.
 pub fn plan_of(standing: &Standing, text: &str) -> Plan
-    ensures { (game : Option ℕ) × IfSome game (λ g. g < 2 ^ 32) × (result ≡ plans.plan_of (words.is_message text.now) (words.sort_of text.now) standing.now game) }
+    ensures { result ≡ plans.plan_of (words.is_message text.now) (words.sort_of text.now) standing.now (words.number_in (words.rest_of text.now)) }
 {
     let (_, rest) = cut(text);
-    let game = game_named(rest);
+    let game = number_named(rest);
     let sort = sort_of(text);
     let is_line = is_message(text);
     if is_line {

@@ -11,6 +11,8 @@ pub enum Refusal {
     BadToken,
     /// Who asks is no arbiter.
     NotArbiter,
+    /// As many games of the player wait for a second player as may be.
+    TooManyOpen,
     /// The server is not there.
     NoServer,
     /// As many games are watched as may be.
@@ -25,6 +27,7 @@ impl Refusal {
             Refusal::NoToken => "no 31 NoToken\n",
             Refusal::BadToken => "no 32 BadToken\n",
             Refusal::NotArbiter => "no 33 NotArbiter\n",
+            Refusal::TooManyOpen => "no 35 TooManyOpen\n",
             Refusal::NoServer => "no 36 NoServer\n",
             Refusal::TooManyWatched => "no 37 TooManyWatched\n",
         }

@@ -1,5 +1,5 @@
 //! What the first word of a message says.
-ghost use Rattle.std.specs.Prelude.{◌≡◌, ◌<◌, ◌^◌, IfSome, decimal};
+ghost use Rattle.std.specs.Prelude.{ℕ, ◌≡◌, ◌<◌, ◌^◌, Some, IfSome, decimal};
 ghost use Rattle.std.specs.List.{list_all};
 ghost use Rattle.lobby_desk.specs.Words as words;
 
@@ -142,18 +142,36 @@ pub fn sort_of(text: &str) -> Sort
     }
 }
 
-/// The number of a game, in the one spelling that a line of the server has.
-pub fn game_named(text: &str) -> Option<u32>
-    ensures small { IfSome result (λ game. game < 2 ^ 32) }
-    ensures spelled { IfSome result (λ game. text.now ≡ decimal game) }
+/// The number that a text spells, in the one spelling that a line of the server has.
+pub fn number_named(text: &str) -> Option<u32>
+    ensures { result ≡ words.number_in text.now }
 {
-    let Ok(game) = text.parse::<u32>() else {
+    let number = number_read(text);
+    number
+}
+
+// The number that is read and must be what is written for it.
+fn number_read(text: &str) -> Option<u32>
+    ensures some { IfSome result (λ n. (n < 2 ^ 32) × (text.now ≡ decimal n)) }
+    ensures every { (n : ℕ) → n < 2 ^ 32 → text.now ≡ decimal n → result ≡ Some n }
+{
+    let Ok(number) = text.parse::<u32>() else {
         return None;
     };
     let mut buffer = Buffer::new();
-    if buffer.format(game) == text {
-        Some(game)
+    if buffer.format(number) == text {
+        Some(number)
     } else {
         None
+    }
+}
+
+/// The same, and 0 where a text spells no number.
+pub fn number_or_0(text: &str) -> u32
+    ensures { result ≡ words.number_or_0 text.now }
+{
+    match number_named(text) {
+        Some(number) => number,
+        None => 0,
     }
 }
