@@ -13,7 +13,7 @@ use Rattle.lobby_desk.specs.Words.{is_message, is_message_byte, sort_of, rest_of
 use Rattle.lobby_desk.specs.Lines.{name_line, game_line}
 use Rattle.lobby_desk.proofs.Found.{and_first, and_second, and_both}
 
-own : IsNumeralModel (AllDigits 10) (digits_value 10)
+pub own : IsNumeralModel (AllDigits 10) (digits_value 10)
 own = record { to = λ _ h. h; from = λ _ h. h; same = λ _ _. refl }
 
 byte_shown : (c : ℕ) → 32 ≤ c → c ≤ 126 → is_message_byte c ≡ true

@@ -4,6 +4,8 @@ use Rattle.std.specs.String.{string_bytes}
 use Rattle.lobby_desk.specs.declared.telling.Told.{Told}
 use Rattle.lobby_desk.specs.declared.server_line.Due.{Due}
 use Rattle.lobby_desk.specs.declared.server_line.Due.TheVariants as dues
+use Rattle.lobby_desk.specs.declared.planning.Plan.{Plan}
+use Rattle.lobby_desk.specs.declared.planning.Plan.TheVariants as plans
 use Rattle.lobby_desk.specs.Words.{rest_of, sort_of, is_drop_sort, number_in}
 
 -- what comes in; of a message that comes too fast nothing is read
@@ -58,6 +60,11 @@ owed_last who (line ∷ next ∷ lines) = Nobody ∷ owed_last who (next ∷ lin
 -- whose the answer to a message's last line is
 abbrev pub asker : ℕ → List ℕ → Owed
 asker c text = if is_drop_sort (sort_of text) then Dropper c text else Asker c
+
+-- the same, by the plan for the message
+abbrev pub plan_asker : Plan → ℕ → List ℕ → Owed
+plan_asker (plans.Drop who game) c text = Dropper c text
+plan_asker _ c text = Asker c
 
 -- The last of lines that the desk sends by itself is of a game: `fen G`.
 abbrev pub last_game : List (List ℕ) → Option ℕ

@@ -1,5 +1,5 @@
 -- How fast a connection may say messages.
-use Rattle.std.specs.Prelude.{ℕ, ◌+◌, ◌-◌, ◌^◌, Bool, true, false, ◌&&◌, nat_lt, nat_le, Option, None, Some, if◌then◌else◌}
+use Rattle.std.specs.Prelude.{ℕ, ◌+◌, ◌-◌, Bool, true, false, ◌&&◌, nat_lt, nat_le, Option, None, Some, if◌then◌else◌}
 
 -- the later of two moments
 abbrev pub later : ℕ → ℕ → ℕ
@@ -9,7 +9,7 @@ later a b = if nat_lt a b then b else a
 -- 20 a second. Until when its time is taken after a message at this moment; none where the message comes too fast.
 abbrev pub paced : ℕ → ℕ → Option ℕ
 paced until now =
-    if nat_le (later until now - now) 950 && nat_lt (later until now + 50) (2 ^ 64) then Some (later until now + 50) else None
+    if nat_le (later until now - now) 950 && nat_le (later until now) 18446744073709551565 then Some (later until now + 50) else None
 
 abbrev pub is_some_moment : Option ℕ → Bool
 is_some_moment None = false

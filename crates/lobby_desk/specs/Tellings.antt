@@ -1,6 +1,6 @@
 -- What connections are told.
 use Rattle.std.specs.Prelude.{ℕ, ◌≡◌, ◌⊎◌, Bool, true, false, ◌&&◌, ◌||◌, ◌==◌, List, [], ◌∷◌, ◌++◌, length, take, codes, decimal, Option, None, Some, IfSome, if◌then◌else◌}
-use Rattle.std.specs.List.{AllByRecursion, list_any}
+use Rattle.std.specs.List.{list_all, list_any}
 use Rattle.std.specs.Str.{bytes_eq}
 use Rattle.lobby_desk.specs.Words.{rest_of, is_message, sort_of, is_leave_sort, is_leave_lobby_sort, number_in}
 use Rattle.lobby_desk.specs.Lines.{ended}
@@ -18,12 +18,12 @@ pub record Known : Type 0 where
   pub watches : ℕ → ℕ → Bool
   pub table : ℕ → Bool
 
--- whether a line ends an answer, and the answer that it ends
-abbrev pub is_whole : Known → List ℕ → Bool
-is_whole k line = left_after k.left line == 0
+-- whether a line ends an answer where so many lines were still to come, and the answer behind these lines
+abbrev pub is_whole : ℕ → List ℕ → Bool
+is_whole left line = left_after left line == 0
 
-abbrev pub answer : Known → List ℕ → List ℕ
-answer k line = k.begun ++ ended line
+abbrev pub answer : List ℕ → List ℕ → List ℕ
+answer begun line = begun ++ ended line
 
 -- whether the message is for this connection alone, and begins so
 abbrev pub begins : List ℕ → List ℕ → Bool
@@ -52,7 +52,6 @@ leaves_table text = is_message text && is_leave_lobby_sort (sort_of text)
 
 -- Whether a connection is told of a game from now on: from the answer `ok watch G` until it says `leave G` or is gone.
 abbrev pub watches_now : Event → List Telling → ℕ → ℕ → Bool → Bool
-watches_now (Opened d) tells c game before = if d == c then false else before
 watches_now (Closed d) tells c game before = if d == c then false else before
 watches_now (Said d text) tells c game before = if d == c && leaves text game then false else before
 watches_now (Heard line) tells c game before = before || list_any (is_told c (watch_front game)) tells
@@ -60,7 +59,6 @@ watches_now _ tells c game before = before
 
 -- the same of the table: from the answer `ok lobby` until it says `leave lobby` or is gone
 abbrev pub table_now : Event → List Telling → ℕ → Bool → Bool
-table_now (Opened d) tells c before = if d == c then false else before
 table_now (Closed d) tells c before = if d == c then false else before
 table_now (Said d text) tells c before = if d == c && leaves_table text then false else before
 table_now (Heard line) tells c before = before || list_any (is_told c table_front) tells
@@ -72,35 +70,36 @@ owed_answered [] lines = []
 owed_answered (o ∷ owed) lines = owed ++ owed_last (follower o lines) lines
 
 -- For whom the next answers are: the server answers each line, in the order in which the lines went to it.
-abbrev pub owed_now : Event → List (List ℕ) → Known → List Owed
-owed_now (Said c text) lines k = k.owed ++ owed_last (asker c text) lines
-owed_now (Heard line) lines k = if is_whole k line then owed_answered k.owed lines else k.owed
-owed_now Gone lines k = []
-owed_now Here lines k = []
-owed_now _ lines k = k.owed
+abbrev pub owed_now : Event → List (List ℕ) → ℕ → List Owed → List Owed
+owed_now (Said c text) lines left owed = owed ++ owed_last (asker c text) lines
+owed_now (Heard line) lines left owed = if is_whole left line then owed_answered owed lines else owed
+owed_now Gone lines left owed = []
+owed_now Here lines left owed = []
+owed_now _ lines left owed = owed
 
-abbrev pub left_now : Event → Known → ℕ
-left_now (Heard line) k = left_after k.left line
-left_now Gone k = 0
-left_now Here k = 0
-left_now _ k = k.left
+abbrev pub left_now : Event → ℕ → ℕ
+left_now (Heard line) left = left_after left line
+left_now Gone left = 0
+left_now Here left = 0
+left_now _ left = left
 
-abbrev pub begun_now : Event → Known → List ℕ
-begun_now (Heard line) k = if is_whole k line then [] else answer k line
-begun_now Gone k = []
-begun_now Here k = []
-begun_now _ k = k.begun
+abbrev pub begun_now : Event → ℕ → List ℕ → List ℕ
+begun_now (Heard line) left begun = if is_whole left line then [] else answer begun line
+begun_now Gone left begun = []
+begun_now Here left begun = []
+begun_now _ left begun = begun
 
-abbrev pub last_now : Event → Known → List ℕ
-last_now (Heard line) k = if is_whole k line then answer k line else k.last
-last_now _ k = k.last
+abbrev pub last_now : Event → ℕ → List ℕ → List ℕ → List ℕ
+last_now (Heard line) left begun last = if is_whole left line then answer begun line else last
+last_now _ left begun last = last
 
+-- what is known after an event
 abbrev pub known_now : Event → List (List ℕ) → List Telling → Known → Known
 known_now event lines tells k = record {
-  owed = owed_now event lines k;
-  left = left_now event k;
-  begun = begun_now event k;
-  last = last_now event k;
+  owed = owed_now event lines k.left k.owed;
+  left = left_now event k.left;
+  begun = begun_now event k.left k.begun;
+  last = last_now event k.left k.begun k.last;
   watches = λ c game. watches_now event tells c game (k.watches c game);
   table = λ c. table_now event tells c (k.table c);
 }
@@ -122,7 +121,7 @@ IsMadeOf before now text =
 
 -- a notice: each who is told of it watches the game or is told of the table
 pub record IsNotice (k : Known) (game : ℕ) (now : List ℕ) (t : Telling) : Type 0 where
-  pub to : AllByRecursion (λ c. (k.watches c game ≡ true) ⊎ (k.table c ≡ true)) t.to
+  pub to : list_all (λ c. k.watches c game || k.table c) t.to ≡ true
   pub act : List ℕ
   pub text : t.text ≡ codes "told " ++ decimal game ++ codes "\n" ++ act ++ k.last ++ now
 
@@ -156,12 +155,17 @@ lost (Asker c ∷ owed) = to_one c (codes "lost\n") ∷ lost owed
 lost (Dropper c text ∷ owed) = to_one c (codes "lost\n") ∷ lost owed
 lost (Followers game ∷ owed) = lost owed
 
+-- what tells that the server is there, and that it is not
+abbrev pub presence : Bool → List ℕ
+presence true = codes "server here\n"
+presence false = codes "server gone\n"
+
 -- what connections are told for an event, where this is known before it and these lines go out
 abbrev pub IsTold : Event → List (List ℕ) → List Telling → Known → Type 0
 IsTold (Opened c) lines tells k = IsToldOne c tells
 IsTold (Closed c) lines tells k = tells ≡ []
 IsTold (Said c text) lines tells k = IsToldOrSent lines c tells
 IsTold (Hurried c) lines tells k = tells ≡ to_one c (codes "no 34 TooFast\n") ∷ []
-IsTold (Heard line) lines tells k = IsToldHeard (is_whole k line) k (answer k line) lines tells
-IsTold Gone lines tells k = (to : List ℕ) × (tells ≡ lost k.owed ++ record { to = to; text = codes "server gone\n" } ∷ [])
-IsTold Here lines tells k = (to : List ℕ) × (tells ≡ record { to = to; text = codes "server here\n" } ∷ [])
+IsTold (Heard line) lines tells k = IsToldHeard (is_whole k.left line) k (answer k.begun line) lines tells
+IsTold Gone lines tells k = (to : List ℕ) × (tells ≡ lost k.owed ++ record { to = to; text = presence false } ∷ [])
+IsTold Here lines tells k = (to : List ℕ) × (tells ≡ record { to = to; text = presence true } ∷ [])

@@ -19,8 +19,8 @@ use Rattle.lobby_desk.specs.Plans.{plan_of}
 use Rattle.lobby_desk.specs.Pace.{is_too_fast}
 use Rattle.lobby_desk.specs.Lines.{bytes_of, lines_of, act_lines, said_after, notice_lines, IsNamed}
 use Rattle.lobby_desk.specs.Answers.{IsSeated}
-use Rattle.lobby_desk.specs.Events.{Event, Opened, Closed, Said, Hurried, Heard, Gone, Here, Telling, Owed, Nobody, Asker, Dropper, Followers, owed_of, owed_last, follower}
-use Rattle.lobby_desk.specs.Tellings.{Known, is_whole, answer, is_told, watch_front, table_front, watches_now, table_now, owed_now, left_now, begun_now, last_now, owed_answered, IsTold, IsToldFor, IsToldNext}
+use Rattle.lobby_desk.specs.Events.{Event, Opened, Closed, Said, Hurried, Heard, Gone, Here, Telling, Owed, Nobody, Asker, Dropper, Followers, owed_of, owed_last, plan_asker, follower}
+use Rattle.lobby_desk.specs.Tellings.{Known, is_whole, answer, is_told, watch_front, table_front, watches_now, table_now, owed_now, left_now, begun_now, last_now, owed_answered, IsTold, IsToldOne, IsToldFor, IsToldNext}
 
 -- the player for whom a connection acts
 abbrev pub who_in : BTreeMap ℕ Visitor → ℕ → Option Identity
@@ -49,6 +49,31 @@ IsReady desk c = IsSomeAnd (get nat_cmp desk.visitors c) (λ (v : Visitor). v.wa
 abbrev pub who_noted : Plan → Option Identity → Option Identity
 who_noted (plans.Login who) before = Some who
 who_noted _ before = before
+
+-- whether a plan leaves a game, and whether it leaves the table
+abbrev pub is_left : Plan → ℕ → Bool
+is_left (plans.Leave left) game = game == left
+is_left _ game = false
+
+abbrev pub is_risen : Plan → Bool
+is_risen plans.LeaveLobby = true
+is_risen _ = false
+
+-- whether nothing goes out by a plan, so that a message is answered at once
+abbrev pub is_own : Plan → Bool
+is_own (plans.Refuse refusal) = true
+is_own (plans.Login who) = true
+is_own plans.Players = true
+is_own plans.LeaveLobby = true
+is_own (plans.Leave game) = true
+is_own _ = false
+
+abbrev pub IsAnsweredIf : Bool → ℕ → List Telling → Type 0
+IsAnsweredIf true c tells = IsToldOne c tells
+IsAnsweredIf false c tells = tells ≡ []
+
+abbrev pub IsAnswered : Plan → ℕ → List Telling → Type 0
+IsAnswered plan c tells = IsAnsweredIf (is_own plan) c tells
 
 -- whether a connection watches a game
 abbrev pub is_watch : ℕ → ℕ → Watch → Bool
@@ -81,6 +106,20 @@ pub record View : Type 0 where
 
 abbrev pub view : Desk → View
 view desk = record { who = who_of desk; said = desk.line.said; here = desk.line.is_here; known = known desk }
+
+-- A desk that begins: no connection has come, and nothing was said.
+pub record BeginsView (now : View) : Type 0 where
+  pub who : (c : ℕ) → now.who c ≡ None
+  pub said : now.said ≡ None
+  pub owed : now.known.owed ≡ []
+  pub left : now.known.left ≡ 0
+  pub begun : now.known.begun ≡ []
+  pub last : now.known.last ≡ []
+  pub watches : (c game : ℕ) → now.known.watches c game ≡ false
+  pub table : (c : ℕ) → now.known.table c ≡ false
+
+abbrev pub Begins : Desk → Type 0
+Begins desk = BeginsView (view desk)
 
 -- a message, or one that comes too fast
 abbrev pub said_event : Bool → ℕ → List ℕ → Event
@@ -128,7 +167,7 @@ IsSentHeard true owed said now lines later = IsSentNext owed said now lines late
 
 -- a line of the server is taken
 pub record IsHeard (old : View) (line : List ℕ) (lines : List (List ℕ)) (new : View) : Type 0 where
-  pub sent : IsSentHeard (is_whole old.known line) old.known.owed old.said (answer old.known line) lines new.said
+  pub sent : IsSentHeard (is_whole old.known.left line) old.known.owed old.said (answer old.known.begun line) lines new.said
   pub here_is : new.here ≡ old.here
   pub who_is : (d : ℕ) → new.who d ≡ old.who d
 
@@ -165,10 +204,10 @@ IsDone players old Here lines new = IsTurned old true lines new
 
 -- What is known then. Of a connection that is told of a game, or of the table, what came and went says that it is.
 pub record IsKnown (event : Event) (lines : List (List ℕ)) (tells : List Telling) (old new : Known) : Type 0 where
-  pub owed : new.owed ≡ owed_now event lines old
-  pub left : new.left ≡ left_now event old
-  pub begun : new.begun ≡ begun_now event old
-  pub last : new.last ≡ last_now event old
+  pub owed : new.owed ≡ owed_now event lines old.left old.owed
+  pub left : new.left ≡ left_now event old.left
+  pub begun : new.begun ≡ begun_now event old.left old.begun
+  pub last : new.last ≡ last_now event old.left old.begun old.last
   pub watches : (c game : ℕ) → new.watches c game ≡ true → watches_now event tells c game (old.watches c game) ≡ true
   pub table : (c : ℕ) → new.table c ≡ true → table_now event tells c (old.table c) ≡ true
 
@@ -186,6 +225,23 @@ pub record Steps (old : Desk) (event : Event) (before after : List ℕ) (told_be
   pub told : told_after ≡ told_before ++ tells
   pub step : IsStep old.players.items (view old) event lines tells (view new)
   pub players : new.players.items ≡ old.players.items
+
+-- a plan for a message is carried out
+pub record Carried (old : Desk) (from : ℕ) (text : List ℕ) (plan : Plan) (before after : List ℕ) (told_before told_after : List Telling) (new : Desk) : Type 0 where
+  pub tells : List Telling
+  pub sent : after ≡ before ++ bytes_of (lines_of plan old.line.said text)
+  pub told : told_after ≡ told_before ++ tells
+  pub answers : IsAnswered plan from tells
+  pub named : IsNamed plan
+  pub said_is : new.line.said ≡ said_after plan old.line.said
+  pub here_is : new.line.is_here ≡ old.line.is_here
+  pub who_is : (c : ℕ) → who_of new c ≡ (if from == c then who_noted plan (who_of old c) else who_of old c)
+  pub owed : (known new).owed ≡ (known old).owed ++ owed_last (plan_asker plan from text) (lines_of plan old.line.said text)
+  pub watches : (c game : ℕ) → watched new.watches.items c game ≡ (if from == c && is_left plan game then false else watched old.watches.items c game)
+  pub table : (c : ℕ) → at_table new.table.items c ≡ (if from == c && is_risen plan then false else at_table old.table.items c)
+  pub coming : new.coming ≡ old.coming
+  pub last : new.last ≡ old.last
+  pub players : new.players ≡ old.players
 
 -- An answer of the server is taken, by whose it is; the first that was owed is taken off before.
 pub record AnswersTo (o : Owed) (now : List ℕ) (old : Desk) (before after : List ℕ) (told_before told_after : List Telling) (new : Desk) : Type 0 where

@@ -30,6 +30,8 @@ pub struct Visitor {
     pub who: Option<Identity>,
     /// Whether a line of it waits for the server's answer.
     pub waits: bool,
+    /// Until when its time is taken by what it said.
+    pub until: u64,
 }
 
 // Whether two sums are the same. Each byte is looked at, wherever they differ.

@@ -1,7 +1,7 @@
 //! The lobby's connection to the server: the name that was said last on it, and whose answer comes next.
-ghost use Rattle.std.specs.Prelude.{◌≡◌, ◌++◌, false, Some, None, OnOk};
-ghost use Rattle.std.specs.String.{string_bytes};
+ghost use Rattle.std.specs.Prelude.{◌≡◌, ◌++◌, [], ◌∷◌, map, Some, None, OnOk};
 ghost use Rattle.rec_codec.specs.Name.{IsName};
+ghost use Rattle.lobby_desk.specs.Events.{owed_of, owed_last};
 ghost use Rattle.lobby_desk.specs.Lines as lines;
 ghost use Rattle.lobby_desk.specs.Lines.{ended, bytes_of, act_lines, game_line};
 
@@ -19,23 +19,31 @@ pub struct Acting {
     pub text: String,
 }
 
+/// A notice of an act: its game, the lines that tell of it, and whether those who are told of the table are told of it.
+#[derive(Drop)]
+pub struct Notice {
+    pub game: u32,
+    pub act: String,
+    pub is_table: bool,
+}
+
 /// Whom an answer is for, and what is still to be done with it.
 #[derive(Drop)]
 pub enum Due {
-    /// The desk's own `name`: nobody is told of it.
-    Name,
+    /// The desk's own line: nobody is told of it by itself.
+    Own,
     /// A connection's line.
     Reply(u64, Kind),
     /// The `list` of a connection that will be told of the table.
     Table(u64),
     /// A connection's act.
     Act(Acting),
-    /// The desk's own `show G`, behind which its own `fen G` comes; what stands before both answers.
-    Show(String),
-    /// The `fen G` for a connection that will watch the game.
+    /// The `show G` before a connection's `drop G`.
+    Drop(Acting),
+    /// The `fen G`, behind `show G`, for a connection that will watch the game.
     Watch(u64, u32),
-    /// The `fen G` of a notice for those who watch the game, and perhaps for those who are told of the table.
-    Notice { game: u32, is_table: bool },
+    /// The `fen G`, behind `show G`, for those who are told of a game.
+    Notice(Notice),
 }
 
 /// The lobby's connection to the server.
@@ -71,13 +79,14 @@ fn is_said(said: &Option<Name>, name: &Name) -> bool
 }
 
 impl ServerLine {
-    /// The server is not there.
-    pub fn new(alloc: Global) -> ServerLine
-        ensures here { result.is_here ≡ false }
+    /// A connection on which nothing was said, or none.
+    pub fn new(alloc: Global, is_here: bool) -> ServerLine
+        ensures here { result.is_here ≡ is_here }
         ensures said { result.said ≡ None }
+        ensures owed { result.queue.items ≡ [] }
     {
         ServerLine {
-            is_here: false,
+            is_here,
             said: None,
             queue: VecDeque::new(alloc),
         }
@@ -92,6 +101,7 @@ impl ServerLine {
         wire: &mut Vec<u8>,
     ) -> Result<(), AllocError>
         ensures sent { OnOk result (wire.new.items ≡ wire.old.items ++ ended (front.now ++ rest.now)) }
+        ensures owed { OnOk result (map owed_of self.new.queue.items ≡ map owed_of self.old.queue.items ++ owed_of due ∷ []) }
         ensures said { self.new.said ≡ self.old.said }
         ensures here { self.new.is_here ≡ self.old.is_here }
     {
@@ -103,6 +113,7 @@ impl ServerLine {
     /// Passes a line on.
     pub fn pass(&mut self, line: &str, due: Due, wire: &mut Vec<u8>) -> Result<(), AllocError>
         ensures sent { OnOk result (wire.new.items ≡ wire.old.items ++ ended line.now) }
+        ensures owed { OnOk result (map owed_of self.new.queue.items ≡ map owed_of self.old.queue.items ++ owed_of due ∷ []) }
         ensures said { self.new.said ≡ self.old.said }
         ensures here { self.new.is_here ≡ self.old.is_here }
     {
@@ -119,6 +130,7 @@ impl ServerLine {
         wire: &mut Vec<u8>,
     ) -> Result<(), AllocError>
         ensures sent { OnOk result (wire.new.items ≡ wire.old.items ++ bytes_of (act_lines self.old.said name line.now)) }
+        ensures owed { OnOk result (map owed_of self.new.queue.items ≡ map owed_of self.old.queue.items ++ owed_last (owed_of due) (act_lines self.old.said name line.now)) }
         ensures said { OnOk result (self.new.said ≡ Some name) }
         ensures here { self.new.is_here ≡ self.old.is_here }
         ensures named { OnOk result (IsName name) }
@@ -126,7 +138,7 @@ impl ServerLine {
         if is_said(&self.said, &name) {
             return self.pass(line, due, wire);
         }
-        self.send("name ", name.as_str(), Due::Name, wire)?;
+        self.send("name ", name.as_str(), Due::Own, wire)?;
         self.said = Some(name);
         self.pass(line, due, wire)
     }
@@ -140,6 +152,7 @@ impl ServerLine {
         wire: &mut Vec<u8>,
     ) -> Result<(), AllocError>
         ensures sent { OnOk result (wire.new.items ≡ wire.old.items ++ ended (game_line word.now game)) }
+        ensures owed { OnOk result (map owed_of self.new.queue.items ≡ map owed_of self.old.queue.items ++ owed_of due ∷ []) }
         ensures said { self.new.said ≡ self.old.said }
         ensures here { self.new.is_here ≡ self.old.is_here }
     {

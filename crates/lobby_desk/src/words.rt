@@ -146,8 +146,7 @@ pub fn sort_of(text: &str) -> Sort
 pub fn number_named(text: &str) -> Option<u32>
     ensures { result ≡ words.number_in text.now }
 {
-    let number = number_read(text);
-    number
+    number_read(text)
 }
 
 // The number that is read and must be what is written for it.
