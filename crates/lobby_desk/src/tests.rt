@@ -52,7 +52,7 @@ fn say(
 ) -> Result<Vec<Told>, AllocError> {
     let mut told = Vec::new(alloc);
     if desk.is_ready(from) {
-        desk.said(from, text, wire, &mut told)?;
+        desk.said(from, text, 0, wire, &mut told)?;
     }
     Ok(told)
 }
@@ -103,6 +103,7 @@ fn nothing_goes_for_who_may_not(rt: HostRuntime) -> Result<(), Fail> {
         ("list\nname ann", "no 1 BadLine\n"),
         ("login ann", "ok login ann player Ann Lee\n"),
         ("drop 1", "no 33 NotArbiter\n"),
+        ("drop 01", "no 1 BadLine\n"),
         ("name bob", "no 1 BadLine\n"),
         ("leave 1", "ok leave 1\n"),
         ("leave lobby", "ok leave lobby\n"),

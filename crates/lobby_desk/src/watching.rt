@@ -37,7 +37,7 @@ pub fn is_at_table(table: &[u64], by: u64) -> bool
 }
 
 /// A connection is told of a game from now on.
-pub fn watch(watches: &mut Vec<Watch>, by: u64, game: u32) -> Result<(), AllocError>
+pub fn add_watch(watches: &mut Vec<Watch>, by: u64, game: u32) -> Result<(), AllocError>
     ensures { OnOk result ((c g : ℕ) → watched watches.new.items c g ≡ true → (watched watches.old.items c g || (by == c && game == g)) ≡ true) }
 {
     if !is_watched(watches.as_slice(), by, game) {
