@@ -5,4 +5,5 @@ pub mod Lines
 pub mod Numbers
 pub mod Carry
 pub mod Watched
+pub mod Steps
 pub mod Runs

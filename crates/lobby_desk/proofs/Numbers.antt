@@ -18,9 +18,9 @@ is_below : (v : ℕ) → v < 2 ^ 32 → nat_lt v (2 ^ 32) ≡ true
 is_below v h = grind (arith, nat_tests)
 
 -- a number that is found is small, and spelled so
-record Spells (text : List ℕ) (v : ℕ) : Type 0 where
-  small : v < 2 ^ 32
-  spelled : text ≡ decimal v
+pub record Spells (text : List ℕ) (v : ℕ) : Type 0 where
+  pub small : v < 2 ^ 32
+  pub spelled : text ≡ decimal v
 
 found_at : (text : List ℕ) (v : ℕ) (a b : Bool) → nat_lt v (2 ^ 32) ≡ a → bytes_eq (decimal v) text ≡ b →
     IfSome (if a && b then Some v else None) (Spells text)

@@ -140,7 +140,7 @@ record Under (text name : List ℕ) (said : Option (List ℕ)) (lines : List (Li
   acts : ActsUnder said lines name
   of_text : AllByRecursion (IsOf text) lines
   whole : AreWhole lines
-  name : then_said ≡ name_through said lines
+  later : then_said ≡ name_through said lines
 
 -- where this name was said last or not
 said_or_not : (text name : List ℕ) (said : Option (List ℕ)) (sort : Sort) → is_message text ≡ true → sort_of text ≡ sort →
@@ -152,7 +152,7 @@ said_or_not text name said sort message is no_name named true same =
       acts = (λ _. same refl, tt);
       of_text = (inl refl, tt);
       whole = (message, tt);
-      name = sym (stays ∙ same refl);
+      later = sym (stays ∙ same refl);
     }
 said_or_not text name said sort message is no_name named false same =
     let names : sort_of (name_line name) ≡ sorts.Name = name_names name in
@@ -164,7 +164,7 @@ said_or_not text name said sort message is no_name named false same =
       acts = (λ act. absurd (false≢true (sym (ap is_act_sort names) ∙ act)), (λ _. first, tt));
       of_text = (inr (inl names), (inl refl, tt));
       whole = (name_whole name named, (message, tt));
-      name = sym (stays ∙ first);
+      later = sym (stays ∙ first);
     }
 
 act_under : (text name : List ℕ) (said : Option (List ℕ)) (sort : Sort) → is_message text ≡ true → sort_of text ≡ sort →
@@ -199,7 +199,7 @@ acts_good text who said message is named =
       drops = act_no_drop text who.name (ap is_drop_sort is) (is_said said who.name);
       of_text = under.of_text;
       whole = under.whole;
-      name = under.name;
+      name = under.later;
     }
 
 act_good : (text : List ℕ) (s : Standing) (said : Option (List ℕ)) (who : Option Identity) → is_message text ≡ true → sort_of text ≡ sorts.Act →
@@ -301,42 +301,45 @@ said_good players old c text lines new h =
     subst (λ (n : Option (List ℕ)). Good text (old.who c) old.said lines n) (sym h.said_is) lined
 
 -- what is known of the connections and of the server is what the past says
-record Alike (now past : Known) : Type 0 where
-  owed : now.owed ≡ past.owed
-  left : now.left ≡ past.left
-  begun : now.begun ≡ past.begun
-  last : now.last ≡ past.last
-  watches : (c game : ℕ) → now.watches c game ≡ true → past.watches c game ≡ true
-  table : (c : ℕ) → now.table c ≡ true → past.table c ≡ true
+pub record Alike (now past : Known) : Type 0 where
+  pub owed : now.owed ≡ past.owed
+  pub left : now.left ≡ past.left
+  pub begun : now.begun ≡ past.begun
+  pub last : now.last ≡ past.last
+  pub watches : (c game : ℕ) → now.watches c game ≡ true → past.watches c game ≡ true
+  pub table : (c : ℕ) → now.table c ≡ true → past.table c ≡ true
+
+or_more : (a b x y : Bool) → (a ≡ true → x ≡ true) → (b ≡ true → y ≡ true) → (a || b) ≡ true → (x || y) ≡ true
+or_more true b x y p q h = ap (λ t. t || y) (p refl)
+or_more false b true y p q h = refl
+or_more false b false y p q h = q h
 
 -- whether a connection is told of a game then is whether it is now, unless what comes and goes says otherwise
 watch_more : (event : Event) (tells : List Telling) (c game : ℕ) (a b : Bool) → (a ≡ true → b ≡ true) →
     watches_now event tells c game a ≡ true → watches_now event tells c game b ≡ true
-watch_more (Opened d) tells c game a b more h = more h
+watch_more (Opened d) tells c game a b more = more
 watch_more (Closed d) tells c game a b more =
     elim (d == c) as (λ t. (if t then false else a) ≡ true → (if t then false else b) ≡ true) [ true ↦ λ h. h | false ↦ more ]
 watch_more (Said d text) tells c game a b more =
     elim (d == c && leaves text game) as (λ t. (if t then false else a) ≡ true → (if t then false else b) ≡ true) [ true ↦ λ h. h | false ↦ more ]
-watch_more (Hurried d) tells c game a b more h = more h
-watch_more (Heard line) tells c game true b more h = ap (λ t. t || list_any (is_told c (watch_front game)) tells) (more refl)
-watch_more (Heard line) tells c game false true more h = refl
-watch_more (Heard line) tells c game false false more h = h
-watch_more Gone tells c game a b more h = more h
-watch_more Here tells c game a b more h = more h
+watch_more (Hurried d) tells c game a b more = more
+watch_more (Heard line) tells c game a b more =
+    or_more a (list_any (is_told c (watch_front game)) tells) b (list_any (is_told c (watch_front game)) tells) more (λ h. h)
+watch_more Gone tells c game a b more = more
+watch_more Here tells c game a b more = more
 
 table_more : (event : Event) (tells : List Telling) (c : ℕ) (a b : Bool) → (a ≡ true → b ≡ true) →
     table_now event tells c a ≡ true → table_now event tells c b ≡ true
-table_more (Opened d) tells c a b more h = more h
+table_more (Opened d) tells c a b more = more
 table_more (Closed d) tells c a b more =
     elim (d == c) as (λ t. (if t then false else a) ≡ true → (if t then false else b) ≡ true) [ true ↦ λ h. h | false ↦ more ]
 table_more (Said d text) tells c a b more =
     elim (d == c && leaves_table text) as (λ t. (if t then false else a) ≡ true → (if t then false else b) ≡ true) [ true ↦ λ h. h | false ↦ more ]
-table_more (Hurried d) tells c a b more h = more h
-table_more (Heard line) tells c true b more h = ap (λ t. t || list_any (is_told c table_front) tells) (more refl)
-table_more (Heard line) tells c false true more h = refl
-table_more (Heard line) tells c false false more h = h
-table_more Gone tells c a b more h = more h
-table_more Here tells c a b more h = more h
+table_more (Hurried d) tells c a b more = more
+table_more (Heard line) tells c a b more =
+    or_more a (list_any (is_told c table_front) tells) b (list_any (is_told c table_front) tells) more (λ h. h)
+table_more Gone tells c a b more = more
+table_more Here tells c a b more = more
 
 alike_then : (event : Event) (lines : List (List ℕ)) (tells : List Telling) (old new past : Known) →
     IsKnown event lines tells old new → Alike old past → Alike new (known_now event lines tells past)
@@ -355,11 +358,6 @@ all_more : (f g : ℕ → Bool) → ((c : ℕ) → f c ≡ true → g c ≡ true
 all_more f g more [] h = refl
 all_more f g more (c ∷ cs) h =
     and_both (g c) (list_all g cs) (more c (and_first (f c) (list_all f cs) h)) (all_more f g more cs (and_second (f c) (list_all f cs) h))
-
-or_more : (a b x y : Bool) → (a ≡ true → x ≡ true) → (b ≡ true → y ≡ true) → (a || b) ≡ true → (x || y) ≡ true
-or_more true b x y p q h = ap (λ t. t || y) (p refl)
-or_more false b true y p q h = refl
-or_more false b false y p q h = q h
 
 notice_alike : (old past : Known) → Alike old past → (game : ℕ) (now : List ℕ) (tells : List Telling) →
     IsNoticeOrNone old game now tells → IsNoticeOrNone past game now tells
@@ -434,10 +432,10 @@ are_asked_both : (players : List Player) (past : List Step) (a b : List Owed) �
 are_asked_both players past [] b h k = k
 are_asked_both players past (o ∷ owed) b h k = (h.0, are_asked_both players past owed b h.1 k)
 
-asked_last : (players : List Player) (past : List Step) (o : Owed) → IsAsked players past o → (lines : List (List ℕ)) → AreAsked players past (owed_last o lines)
-asked_last players past o h [] = tt
-asked_last players past o h (line ∷ []) = (h, tt)
-asked_last players past o h (line ∷ next ∷ lines) = (tt, asked_last players past o h (next ∷ lines))
+wait_last : (players : List Player) (past : List Step) (o : Owed) → IsAsked players past o → (lines : List (List ℕ)) → AreAsked players past (owed_last o lines)
+wait_last players past o h [] = tt
+wait_last players past o h (line ∷ []) = (h, tt)
+wait_last players past o h (line ∷ next ∷ lines) = (tt, wait_last players past o h (next ∷ lines))
 
 asked_follower : (players : List Player) (past : List Step) (o : Owed) (lines : List (List ℕ)) → IsAsked players past (follower o lines)
 asked_follower players past Nobody lines = tt
@@ -450,7 +448,7 @@ asked_answered : (players : List Player) (past : List Step) (owed : List Owed) (
 asked_answered players past [] lines h = tt
 asked_answered players past (o ∷ owed) lines h =
     are_asked_both players past owed (owed_last (follower o lines) lines) h.1
-    (asked_last players past (follower o lines) (asked_follower players past o lines) lines)
+    (wait_last players past (follower o lines) (asked_follower players past o lines) lines)
 
 asked_heard : (players : List Player) (past : List Step) (owed : List Owed) (lines : List (List ℕ)) → AreAsked players past owed →
     (b : Bool) → AreAsked players past (if b then owed_answered owed lines else owed)
@@ -516,10 +514,10 @@ asker_asked : (players : List Player) (past : List Step) (c : ℕ) (text : List 
     AreAsked players (record { event = Said c text; lines = all; tells = tells } ∷ past) (owed_last (if b then Dropper c text else Asker c) lines)
 asker_asked players past c text all [] tells b is asks = tt
 asker_asked players past c text all (line ∷ lines) tells true is asks =
-    asked_last players (record { event = Said c text; lines = all; tells = tells } ∷ past) (Dropper c text)
+    wait_last players (record { event = Said c text; lines = all; tells = tells } ∷ past) (Dropper c text)
     (inl (refl, refl, asks.0, asks.1, is)) (line ∷ lines)
 asker_asked players past c text all (line ∷ lines) tells false is asks =
-    asked_last players (record { event = Said c text; lines = all; tells = tells } ∷ past) (Asker c) tt (line ∷ lines)
+    wait_last players (record { event = Said c text; lines = all; tells = tells } ∷ past) (Asker c) tt (line ∷ lines)
 
 -- what is seen of the desk is what the past says
 pub record Agrees (players : List Player) (past : List Step) (now : View) : Type 0 where
@@ -607,7 +605,7 @@ dropped_heard players past line c text others waits asked lines later h =
     let was = was_asked players past c text asked in
     let under = act_under text h.name (name_in past) (sort_of text) was.message refl (drop_names_none (sort_of text) was.drop) h.named in
     record {
-      said = h.said_is ∙ (under.name ∙ ap (name_through (name_in past)) (sym h.lines_are));
+      said = h.said_is ∙ (under.later ∙ ap (name_through (name_in past)) (sym h.lines_are));
       right = inr (record {
         c = c;
         text = text;

@@ -18,7 +18,7 @@ left_after left line = if left == 0 then lines_behind line else left - 1
 
 -- The answer to `show` says that this name has a seat in this game: `ok show G WHITE BLACK ..`.
 pub record IsSeated (answer game name : List ℕ) : Type 0 where
-  pub ok : word_of answer ≡ codes "ok"
-  pub show : word_of (rest_of answer) ≡ codes "show"
-  pub game : word_of (rest_of (rest_of answer)) ≡ game
+  pub accepted : word_of answer ≡ codes "ok"
+  pub shows : word_of (rest_of answer) ≡ codes "show"
+  pub numbered : word_of (rest_of (rest_of answer)) ≡ game
   pub seat : (name ≡ word_of (rest_of (rest_of (rest_of answer)))) ⊎ (name ≡ word_of (rest_of (rest_of (rest_of (rest_of answer)))))

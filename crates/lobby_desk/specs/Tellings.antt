@@ -147,13 +147,20 @@ abbrev pub IsToldHeard : Bool → Known → List ℕ → List (List ℕ) → Lis
 IsToldHeard false k now lines tells = (lines ≡ []) × (tells ≡ [])
 IsToldHeard true k now lines tells = IsToldNext k k.owed now lines tells
 
+-- the connection whose message waits for an answer
+abbrev pub waiter : Owed → Option ℕ
+waiter (Asker c) = Some c
+waiter (Dropper c text) = Some c
+waiter _ = None
+
 -- `lost` to each connection whose message waits, in the order of the messages
+abbrev pub lost_of : Option ℕ → List Telling
+lost_of None = []
+lost_of (Some c) = to_one c (codes "lost\n") ∷ []
+
 abbrev pub lost : List Owed → List Telling
 lost [] = []
-lost (Nobody ∷ owed) = lost owed
-lost (Asker c ∷ owed) = to_one c (codes "lost\n") ∷ lost owed
-lost (Dropper c text ∷ owed) = to_one c (codes "lost\n") ∷ lost owed
-lost (Followers game ∷ owed) = lost owed
+lost (o ∷ owed) = lost_of (waiter o) ++ lost owed
 
 -- what tells that the server is there, and that it is not
 abbrev pub presence : Bool → List ℕ

@@ -4,6 +4,8 @@ use Rattle.std.specs.List.{list_any}
 use Rattle.std.specs.BTreeMap.{BTreeMap, get}
 use Rattle.std.specs.Ordering.{nat_cmp}
 use Rattle.std.specs.String.{string_bytes}
+use Rattle.std.specs.declared.string.String.{String}
+use Rattle.lobby_desk.specs.declared.coming.Coming.{Coming}
 use Rattle.rec_codec.specs.Name.{IsName}
 use Rattle.lobby_desk.specs.declared.planning.Plan.{Plan}
 use Rattle.lobby_desk.specs.declared.planning.Plan.TheVariants as plans
@@ -21,6 +23,12 @@ use Rattle.lobby_desk.specs.Lines.{bytes_of, lines_of, act_lines, said_after, no
 use Rattle.lobby_desk.specs.Answers.{IsSeated}
 use Rattle.lobby_desk.specs.Events.{Event, Opened, Closed, Said, Hurried, Heard, Gone, Here, Telling, Owed, Nobody, Asker, Dropper, Followers, owed_of, owed_last, plan_asker, follower}
 use Rattle.lobby_desk.specs.Tellings.{Known, is_whole, answer, is_told, watch_front, table_front, watches_now, table_now, owed_now, left_now, begun_now, last_now, owed_answered, IsTold, IsToldOne, IsToldFor, IsToldNext}
+
+-- a line of an answer is taken: the whole answer is given where it was the last
+abbrev pub IsTaken : Coming → List ℕ → Option String → Coming → Type 0
+IsTaken old line None new = (is_whole old.left line ≡ false) × (string_bytes new.text ≡ answer (string_bytes old.text) line)
+IsTaken old line (Some text) new =
+    (is_whole old.left line ≡ true) × (string_bytes text ≡ answer (string_bytes old.text) line) × (string_bytes new.text ≡ [])
 
 -- the player for whom a connection acts
 abbrev pub who_in : BTreeMap ℕ Visitor → ℕ → Option Identity

@@ -180,10 +180,13 @@ pub fn who_acts(visitors: &BTreeMap<u64, Visitor>, connection: u64) -> Option<Id
 pub fn put(
     visitors: &mut BTreeMap<u64, Visitor>,
     connection: u64,
-    visitor: Visitor,
+    who: Option<Identity>,
+    waits: bool,
+    until: u64,
 ) -> Result<(), AllocError>
-    ensures { OnOk result ((c : ℕ) → who_in visitors.new c ≡ (if connection == c then visitor.who else who_in visitors.old c)) }
+    ensures { OnOk result ((c : ℕ) → who_in visitors.new c ≡ (if connection == c then who else who_in visitors.old c)) }
 {
+    let visitor = Visitor { who, waits, until };
     visitors.insert(connection, visitor)?;
     Ok(())
 }
@@ -198,11 +201,7 @@ pub fn note(
     ensures { OnOk result ((c : ℕ) → who_in visitors.new c ≡ (if from == c then who_noted plan.now (who_in visitors.old c) else who_in visitors.old c)) }
 {
     let before = who_acts(visitors, from);
-    let visitor = Visitor {
-        who: who_noted(before, plan),
-        waits: waits_noted(plan),
-        until,
-    };
-    put(visitors, from, visitor)?;
+    let waits = waits_noted(plan);
+    put(visitors, from, who_noted(before, plan), waits, until)?;
     Ok(())
 }

@@ -1,7 +1,8 @@
 //! The answers that come from the server, line by line.
-ghost use Rattle.std.specs.Prelude.{◌≡◌, ◌++◌, ◌↔◌, [], OnOk, IsTrue};
+ghost use Rattle.std.specs.Prelude.{◌≡◌, ◌==◌, [], IfOk, OnOk};
 ghost use Rattle.std.specs.String.{string_bytes};
-ghost use Rattle.lobby_desk.specs.Lines.{ended};
+ghost use Rattle.lobby_desk.specs.Tellings.{answer};
+ghost use Rattle.lobby_desk.specs.Who.{IsTaken};
 ghost use Rattle.lobby_desk.specs.Answers as answers;
 
 use crate::words::{cut, number_or_0};
@@ -47,9 +48,9 @@ impl Coming {
         }
     }
 
-    /// A line comes.
-    pub fn add(&mut self, line: &str) -> Result<(), AllocError>
-        ensures text { OnOk result (string_bytes self.new.text ≡ string_bytes self.old.text ++ ended line.now) }
+    // A line comes.
+    fn add(&mut self, line: &str) -> Result<(), AllocError>
+        ensures text { OnOk result (string_bytes self.new.text ≡ answer (string_bytes self.old.text) line.now) }
         ensures left { OnOk result (self.new.left ≡ answers.left_after self.old.left line.now) }
     {
         self.text.push_str(line)?;
@@ -62,13 +63,34 @@ impl Coming {
         Ok(())
     }
 
-    /// The lines that have come, where they are all of the answer.
-    pub fn take(&mut self) -> String
+    // Whether no line is still to come.
+    fn is_whole(&self) -> bool
+        ensures { result ≡ (self.now.left == 0) }
+    {
+        self.left == 0
+    }
+
+    // The lines that have come.
+    fn take_all(&mut self) -> String
         ensures text { string_bytes result ≡ string_bytes self.old.text }
         ensures taken { string_bytes self.new.text ≡ [] }
         ensures left { self.new.left ≡ self.old.left }
     {
         std::mem::replace(&mut self.text, String::new(self.alloc))
+    }
+
+    /// Takes a line, and gives the answer with all its lines where it was the last of them.
+    pub fn take(&mut self, line: &str) -> Result<Option<String>, AllocError>
+        ensures left { OnOk result (self.new.left ≡ answers.left_after self.old.left line.now) }
+        ensures taken { IfOk result (λ whole. IsTaken self.old line.now whole self.new) }
+    {
+        self.add(line)?;
+        let whole = self.is_whole();
+        if whole {
+            Ok(Some(self.take_all()))
+        } else {
+            Ok(None)
+        }
     }
 
     /// Forgets what has come.

@@ -1,7 +1,8 @@
 //! The lobby's connection to the server: the name that was said last on it, and whose answer comes next.
 ghost use Rattle.std.specs.Prelude.{◌≡◌, ◌++◌, [], ◌∷◌, map, Some, None, OnOk};
 ghost use Rattle.rec_codec.specs.Name.{IsName};
-ghost use Rattle.lobby_desk.specs.Events.{owed_of, owed_last};
+ghost use Rattle.std.specs.String.{string_bytes};
+ghost use Rattle.lobby_desk.specs.Events.{owed_of, owed_last, Asker};
 ghost use Rattle.lobby_desk.specs.Lines as lines;
 ghost use Rattle.lobby_desk.specs.Lines.{ended, bytes_of, act_lines, game_line};
 
@@ -141,6 +142,23 @@ impl ServerLine {
         self.send("name ", name.as_str(), Due::Own, wire)?;
         self.said = Some(name);
         self.pass(line, due, wire)
+    }
+
+    /// Sends the drop that waited under a name.
+    pub fn drop_under(
+        &mut self,
+        alloc: Global,
+        name: Name,
+        act: Acting,
+        wire: &mut Vec<u8>,
+    ) -> Result<(), AllocError>
+        ensures sent { OnOk result (wire.new.items ≡ wire.old.items ++ bytes_of (act_lines self.old.said name (string_bytes act.text))) }
+        ensures owed { OnOk result (map owed_of self.new.queue.items ≡ map owed_of self.old.queue.items ++ owed_last (Asker act.from) (act_lines self.old.said name (string_bytes act.text))) }
+        ensures said { OnOk result (self.new.said ≡ Some name) }
+        ensures here { OnOk result (self.new.is_here ≡ self.old.is_here) }
+    {
+        let text = String::from_str(alloc, act.text.as_str())?;
+        self.act(name, text.as_str(), Due::Act(act), wire)
     }
 
     /// Asks something of a game; the word ends with a space.

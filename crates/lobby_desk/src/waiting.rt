@@ -46,8 +46,15 @@ fn is_opening(due: &Due, name: &str) -> bool {
     }
 }
 
-/// Notes an act that was accepted in a game.
-pub fn note_act(waiting: &mut Vec<Waiting>, act: &Acting, game: u32) -> Result<(), AllocError> {
+/// Notes an act, where it was accepted in a game.
+pub fn note_act(
+    waiting: &mut Vec<Waiting>,
+    act: &Acting,
+    game: Option<u32>,
+) -> Result<(), AllocError> {
+    let Some(game) = game else {
+        return Ok(());
+    };
     let (word, _) = cut(act.text.as_str());
     if word == "open" {
         waiting.push(Waiting { game, by: act.who })?;
@@ -57,8 +64,20 @@ pub fn note_act(waiting: &mut Vec<Waiting>, act: &Acting, game: u32) -> Result<(
     Ok(())
 }
 
-/// The games that wait, of the answer to `list`.
-pub fn waiting_in(alloc: Global, list: &str) -> Result<Vec<Waiting>, AllocError> {
+/// Takes the games that wait from an answer, where it is one to `list`.
+pub fn note_list(
+    waiting: &mut Vec<Waiting>,
+    alloc: Global,
+    answer: &str,
+) -> Result<(), AllocError> {
+    if answer.starts_with("ok list ") {
+        *waiting = waiting_in(alloc, answer)?;
+    }
+    Ok(())
+}
+
+// The games that wait, of the answer to `list`.
+fn waiting_in(alloc: Global, list: &str) -> Result<Vec<Waiting>, AllocError> {
     let mut waiting = Vec::new(alloc);
     for row in list.lines() {
         if let Some(one) = waiting_row(row) {
