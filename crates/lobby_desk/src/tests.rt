@@ -198,3 +198,77 @@ fn what_waits_is_lost_with_the_server(rt: HostRuntime) -> Result<(), Fail> {
     );
     Ok(())
 }
+
+// The server's lines, one after another.
+fn hear(
+    desk: &mut Desk,
+    alloc: Global,
+    lines: &str,
+    wire: &mut Vec<u8>,
+) -> Result<String, AllocError> {
+    let mut told = Vec::new(alloc);
+    for line in lines.lines() {
+        desk.heard(line, wire, &mut told)?;
+    }
+    all_of(alloc, told.as_slice())
+}
+
+#[test]
+fn an_arbiters_drop_goes_under_a_seated_name(rt: HostRuntime) -> Result<(), Fail> {
+    let alloc = rt.alloc();
+    let mut desk = club(alloc)?;
+    let mut told = Vec::new(alloc);
+    let mut wire = Vec::new(alloc);
+    let eve = desk.opened(&mut told)?;
+    say(&mut desk, alloc, eve, "login eve", &mut wire)?;
+    // What the server says to `show`, what goes out for it, and what the arbiter is told.
+    let cases = [
+        ("ok show 7 ann bob 4 w 1 2 - 1-0 5.1.2\n", "show 7\nname ann\ndrop 7\n", ""),
+        ("ok show 7 - bob 0 w 1 1 - * -\n", "show 7\nname bob\ndrop 7\n", ""),
+        ("no 3 NoGame\n", "show 7\n", "no 3 NoGame\n"),
+    ];
+    for (show, sent, answer) in cases {
+        wire.clear();
+        say(&mut desk, alloc, eve, "drop 7", &mut wire)?;
+        let heard = hear(&mut desk, alloc, show, &mut wire)?;
+        assert_eq!(rt; heard.as_str(), answer);
+        assert!(rt; wire.as_slice() == sent.as_bytes());
+        let dropped = hear(&mut desk, alloc, "ok name x\nok drop 7\n", &mut wire)?;
+        assert!(rt; answer.is_empty() == (dropped.as_str() == "ok drop 7\n"));
+        hear(&mut desk, alloc, "no 3 NoGame\nno 3 NoGame\n", &mut wire)?;
+    }
+    Ok(())
+}
+
+#[test]
+fn too_many_messages_and_games_are_refused(rt: HostRuntime) -> Result<(), Fail> {
+    let alloc = rt.alloc();
+    let mut desk = club(alloc)?;
+    let mut told = Vec::new(alloc);
+    let mut wire = Vec::new(alloc);
+    let ann = desk.opened(&mut told)?;
+    let mut fast = 0;
+    for _ in 0..25 {
+        let answer = say(&mut desk, alloc, ann, "leave 1", &mut wire)?;
+        if all_of(alloc, answer.as_slice())?.as_str() == "no 34 TooFast\n" {
+            fast = fast + 1;
+        }
+    }
+    assert_eq!(rt; fast, 5);
+    told.clear();
+    if desk.is_ready(ann) {
+        desk.said(ann, "login ann", 50, &mut wire, &mut told)?;
+    }
+    assert_eq!(rt; all_of(alloc, told.as_slice())?.as_str(), "ok login ann player Ann Lee\n");
+    if desk.is_ready(ann) {
+        desk.said(ann, "list", 2000, &mut wire, &mut told)?;
+    }
+    let list = "ok list 17\n1 ann - 0 *\n2 - ann 0 *\n3 ann - 0 *\n4 ann - 0 *\n5 ann - 0 *\n6 ann - 0 *\n7 ann - 0 *\n8 ann - 0 *\n9 ann - 0 *\n10 ann - 0 *\n11 ann - 0 *\n12 ann - 0 *\n13 ann - 0 *\n14 ann - 0 *\n15 ann - 0 *\n16 ann - 0 *\n17 ann bob 0 *\n";
+    hear(&mut desk, alloc, list, &mut wire)?;
+    told.clear();
+    if desk.is_ready(ann) {
+        desk.said(ann, "open white 300 2", 3000, &mut wire, &mut told)?;
+    }
+    assert_eq!(rt; all_of(alloc, told.as_slice())?.as_str(), "no 35 TooManyOpen\n");
+    Ok(())
+}
