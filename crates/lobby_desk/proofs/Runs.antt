@@ -503,7 +503,6 @@ asks_at true sorts.Nothing s game said text = tt
 said_asks : (players : List Player) (old : View) (c : ℕ) (text : List ℕ) (lines : List (List ℕ)) (new : View) →
     IsSaid players old c text lines new → AsksDrop (is_drop text) lines (old.who c) (is_message text)
 said_asks players old c text lines new h =
-    let game = number_in (rest_of text) in
     let planned = asks_at (is_message text) (sort_of text) h.standing (number_in (rest_of text)) old.said text in
     let by_plan = subst (λ (plan : Plan). AsksDrop (is_drop text) (lines_of plan old.said text) h.standing.who (is_message text)) (sym h.planned) planned in
     let lined = subst (λ (ls : List (List ℕ)). AsksDrop (is_drop text) ls h.standing.who (is_message text)) (sym h.lines_are) by_plan in
@@ -703,7 +702,6 @@ asked_then players past old (Opened c) lines tells now agrees step = are_asked_l
 asked_then players past old (Closed c) lines tells now agrees step = are_asked_later players (record { event = Closed c; lines = lines; tells = tells }) past old.known.owed agrees.asked
 asked_then players past old (Hurried c) lines tells now agrees step = are_asked_later players (record { event = Hurried c; lines = lines; tells = tells }) past old.known.owed agrees.asked
 asked_then players past old (Said c text) lines tells now agrees step =
-    let s = record { event = Said c text; lines = lines; tells = tells } in
     let asks = subst (λ (who : Option Identity). AsksDrop (is_drop text) lines who (is_message text)) (agrees.who c) (said_asks players old c text lines now step) in
     are_asked_both players (record { event = Said c text; lines = lines; tells = tells } ∷ past) old.known.owed (owed_last (asker c text) lines)
     (are_asked_later players (record { event = Said c text; lines = lines; tells = tells }) past old.known.owed agrees.asked)

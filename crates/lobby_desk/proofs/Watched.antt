@@ -1,11 +1,11 @@
 -- Who is told of what.
-use Rattle.std.proofs.Common.{ℕ, suc, ◌≡◌, ◌<◌, Bool, true, false, not, ◌&&◌, ◌||◌, ◌==◌, List, [], ◌∷◌, ◌++◌, length, get_or, take, map, Option, Some, refl, sym, ap, ◌∙◌, append_assoc, arith}
+use Rattle.std.proofs.Common.{ℕ, ◌≡◌, ◌<◌, Bool, true, false, not, ◌&&◌, ◌||◌, ◌==◌, List, [], ◌∷◌, ◌++◌, length, get_or, take, map, Option, Some, refl, sym, ap, ◌∙◌, append_assoc, arith}
 use Rattle.std.specs.Prelude.{if◌then◌else◌, option_to_list}
 use Rattle.std.specs.List.{list_any, list_all, filter}
 use Rattle.std.specs.Str.{bytes_eq}
 use Rattle.std.proofs.lemmas.Bool.Decides.{Decides-eqb}
 use Rattle.std.proofs.Math.Seq.{take-append_seam}
-use Rattle.std.proofs.lemmas.List.Folds.{list_all-append}
+use Rattle.std.proofs.lemmas.List.Folds.{list_any_at, list_all-append}
 use Rattle.std.proofs.lemmas.Slice.Eq.{bytes_eq-Decides}
 use Rattle.std.proofs.lemmas.Map.Views.{any-filter_same}
 use Rattle.lobby_desk.specs.declared.watching.Watch.{Watch}
@@ -53,22 +53,16 @@ one_unwatched watches by left c game =
     ∙ and_not (by == c && left == game) (watched watches c game)
 
 -- an element is found
-any_at : {X : Type 0} (p : X → Bool) (xs : List X) (i : ℕ) (d : X) → i < length xs → p (get_or xs i d) ≡ true → list_any p xs ≡ true
-any_at p [] i d short h = absurd (omega (arith, short))
-any_at p (x ∷ xs) 0 d short h = ap (λ b. b || list_any p xs) h
-any_at p (x ∷ xs) (suc i) d short h =
-    elim (p x) as (λ b. (b || list_any p xs) ≡ true) [ true ↦ refl | false ↦ any_at p xs i d (omega arith) h ]
-
 pub watched_at : (watches : List Watch) (i game : ℕ) (d : Watch) → i < length watches → ((get_or watches i d).game == game) ≡ true →
     watched watches (get_or watches i d).by game ≡ true
 watched_at watches i game d short same =
-    any_at (is_watch (get_or watches i d).by game) watches i d short
+    list_any_at (is_watch (get_or watches i d).by game) watches i d short
     (and_both ((get_or watches i d).by == (get_or watches i d).by) ((get_or watches i d).game == game)
     ((Decides-eqb (get_or watches i d).by (get_or watches i d).by).1 refl) same)
 
 pub at_table_at : (table : List ℕ) (i : ℕ) → i < length table → at_table table (get_or table i 0) ≡ true
 at_table_at table i short =
-    any_at (λ one. one == get_or table i 0) table i 0 short ((Decides-eqb (get_or table i 0) (get_or table i 0)).1 refl)
+    list_any_at (λ one. one == get_or table i 0) table i 0 short ((Decides-eqb (get_or table i 0) (get_or table i 0)).1 refl)
 
 pub or_first : (a b : Bool) → a ≡ true → (a || b) ≡ true
 or_first a b h = ap (λ t. t || b) h

@@ -25,7 +25,7 @@ use Rattle.lobby_desk.specs.Events.{Event, Opened, Closed, Said, Hurried, Heard,
 use Rattle.lobby_desk.specs.Tellings.{Known, is_whole, answer, is_told, watch_front, table_front, watches_now, table_now, owed_now, left_now, begun_now, last_now, owed_answered, IsTold, IsToldOne, IsToldFor, IsToldNext}
 
 -- a line of an answer is taken: the whole answer is given where it was the last
-abbrev pub IsTaken : Coming → List ℕ → Option String → Coming → Type 0
+abbrev pub IsTaken : {A : Type 0} → Coming → List ℕ → Option (String A) → Coming → Type 0
 IsTaken old line None new = (is_whole old.left line ≡ false) × (string_bytes new.text ≡ answer (string_bytes old.text) line)
 IsTaken old line (Some text) new =
     (is_whole old.left line ≡ true) × (string_bytes text ≡ answer (string_bytes old.text) line) × (string_bytes new.text ≡ [])
