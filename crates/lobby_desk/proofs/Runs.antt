@@ -348,7 +348,7 @@ alike_then event lines tells old new past known alike = record {
   left = known.left ∙ ap (left_now event) alike.left;
   begun = known.begun ∙ (ap (λ n. begun_now event n old.begun) alike.left ∙ ap (begun_now event past.left) alike.begun);
   last = known.last ∙ (ap (λ n. last_now event n old.begun old.last) alike.left
-    ∙ (ap (λ t. last_now event past.left t old.last) alike.begun ∙ ap (last_now event past.left past.begun) alike.last));
+      ∙ (ap (λ t. last_now event past.left t old.last) alike.begun ∙ ap (last_now event past.left past.begun) alike.last));
   watches = λ c game h. watch_more event tells c game (old.watches c game) (past.watches c game) (alike.watches c game) (known.watches c game h);
   table = λ c h. table_more event tells c (old.table c) (past.table c) (alike.table c) (known.table c h);
 }
@@ -364,7 +364,7 @@ notice_alike : (old past : Known) → Alike old past → (game : ℕ) (now : Lis
 notice_alike old past alike game now [] h = tt
 notice_alike old past alike game now (t ∷ []) h = record {
   to = all_more (λ c. old.watches c game || old.table c) (λ c. past.watches c game || past.table c)
-    (λ c. or_more (old.watches c game) (old.table c) (past.watches c game) (past.table c) (alike.watches c game) (alike.table c)) t.to h.to;
+      (λ c. or_more (old.watches c game) (old.table c) (past.watches c game) (past.table c) (alike.watches c game) (alike.table c)) t.to h.to;
   act = h.act;
   text = h.text ∙ ap (λ (last : List ℕ). codes "told " ++ decimal game ++ codes "\n" ++ h.act ++ last ++ now) alike.last;
 }
@@ -576,6 +576,7 @@ asked_now players past (Hurried d) c text h = absurd h
 asked_now players past (Heard line) c text h = absurd h
 asked_now players past Gone c text h = absurd h
 asked_now players past Here c text h = absurd h
+
 was_asked : (players : List Player) (past : List Step) (c : ℕ) (text : List ℕ) → HasAsked players past c text → WasAsked text
 was_asked players [] c text h = absurd h
 was_asked players (s ∷ past) c text h =

@@ -43,11 +43,7 @@ pub fn answer_plan(
 }
 
 // The line that a connection is answered for a plan by which nothing is sent.
-fn own_answer(
-    alloc: Global,
-    plan: &Plan,
-    players: &[Player],
-) -> Result<Option<String>, AllocError>
+fn own_answer(alloc: Global, plan: &Plan, players: &[Player]) -> Result<Option<String>, AllocError>
     ensures { IfOk result (λ answer. is_some answer ≡ is_own plan.now) }
 {
     match plan {

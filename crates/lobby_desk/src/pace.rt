@@ -4,6 +4,7 @@ ghost use Rattle.lobby_desk.specs.Pace.{paced};
 
 // What a message takes of a connection's time, and how far before it another may come, in milliseconds.
 const COST: u64 = 50;
+
 const AHEAD: u64 = 950;
 
 /// Until when the time of a connection is taken after a message that comes at a moment; `None` where it comes too fast.

@@ -223,8 +223,16 @@ fn an_arbiters_drop_goes_under_a_seated_name(rt: HostRuntime) -> Result<(), Fail
     say(&mut desk, alloc, eve, "login eve", &mut wire)?;
     // What the server says to `show`, what goes out for it, and what the arbiter is told.
     let cases = [
-        ("ok show 7 ann bob 4 w 1 2 - 1-0 5.1.2\n", "show 7\nname ann\ndrop 7\n", ""),
-        ("ok show 7 - bob 0 w 1 1 - * -\n", "show 7\nname bob\ndrop 7\n", ""),
+        (
+            "ok show 7 ann bob 4 w 1 2 - 1-0 5.1.2\n",
+            "show 7\nname ann\ndrop 7\n",
+            "",
+        ),
+        (
+            "ok show 7 - bob 0 w 1 1 - * -\n",
+            "show 7\nname bob\ndrop 7\n",
+            "",
+        ),
         ("no 3 NoGame\n", "show 7\n", "no 3 NoGame\n"),
     ];
     for (show, sent, answer) in cases {
@@ -259,16 +267,23 @@ fn too_many_messages_and_games_are_refused(rt: HostRuntime) -> Result<(), Fail> 
     if desk.is_ready(ann) {
         desk.said(ann, "login ann", 50, &mut wire, &mut told)?;
     }
-    assert_eq!(rt; all_of(alloc, told.as_slice())?.as_str(), "ok login ann player Ann Lee\n");
+    assert_eq!(rt;
+        all_of(alloc, told.as_slice())?.as_str(),
+        "ok login ann player Ann Lee\n"
+    );
     if desk.is_ready(ann) {
         desk.said(ann, "list", 2000, &mut wire, &mut told)?;
     }
-    let list = "ok list 17\n1 ann - 0 *\n2 - ann 0 *\n3 ann - 0 *\n4 ann - 0 *\n5 ann - 0 *\n6 ann - 0 *\n7 ann - 0 *\n8 ann - 0 *\n9 ann - 0 *\n10 ann - 0 *\n11 ann - 0 *\n12 ann - 0 *\n13 ann - 0 *\n14 ann - 0 *\n15 ann - 0 *\n16 ann - 0 *\n17 ann bob 0 *\n";
+    let list =
+        "ok list 17\n1 ann - 0 *\n2 - ann 0 *\n3 ann - 0 *\n4 ann - 0 *\n5 ann - 0 *\n6 ann - 0 *\n7 ann - 0 *\n8 ann - 0 *\n9 ann - 0 *\n10 ann - 0 *\n11 ann - 0 *\n12 ann - 0 *\n13 ann - 0 *\n14 ann - 0 *\n15 ann - 0 *\n16 ann - 0 *\n17 ann bob 0 *\n";
     hear(&mut desk, alloc, list, &mut wire)?;
     told.clear();
     if desk.is_ready(ann) {
         desk.said(ann, "open white 300 2", 3000, &mut wire, &mut told)?;
     }
-    assert_eq!(rt; all_of(alloc, told.as_slice())?.as_str(), "no 35 TooManyOpen\n");
+    assert_eq!(rt;
+        all_of(alloc, told.as_slice())?.as_str(),
+        "no 35 TooManyOpen\n"
+    );
     Ok(())
 }
