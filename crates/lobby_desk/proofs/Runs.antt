@@ -17,7 +17,7 @@ use Rattle.lobby_desk.specs.Plans.{asked, act_plan, drop_plan, login_plan, numbe
 use Rattle.lobby_desk.specs.Lines.{lines_of, act_lines, said_after, name_line, game_line, is_said, notice_lines, IsNamed}
 use Rattle.lobby_desk.specs.Events.{Event, Opened, Closed, Said, Hurried, Heard, Gone, Here, Telling, Owed, Nobody, Asker, Dropper, Followers, owed_last, asker, follower}
 use Rattle.lobby_desk.specs.Tellings.{Known, is_whole, answer, is_told, watch_front, table_front, leaves, leaves_table, watches_now, table_now, owed_answered, owed_now, left_now, begun_now, last_now, known_now, presence, lost, IsMadeOf, IsNoticeOrNone, IsToldFor, IsToldNext, IsToldHeard, IsTold}
-use Rattle.lobby_desk.specs.Who.{View, BeginsView, IsSaid, IsHeard, IsDropped, IsSentFor, IsSentNext, IsSentHeard, IsDone, IsKnown, IsStep, who_noted}
+use Rattle.lobby_desk.specs.Who.{View, BeginsView, IsSaid, IsHeard, IsDropped, IsSentFor, IsSentNext, IsSentHeard, IsDone, IsKnown, who_noted}
 use Rattle.lobby_desk.specs.History.{Step, shown_by, player_said, player_after, player_in, is_drop, name_behind, name_through, name_before, name_in, ActsUnder, ActsRight, NoActs, NoDrops, AllRead, IsOf, known_in, IsArbiter, AsksNow, HasAsked, IsDropOf, IsRight, AreWhole, AllRight, AllTold, IsRun}
 use Rattle.lobby_desk.proofs.Found.{and_first, and_second, and_both}
 use Rattle.lobby_desk.proofs.Numbers.{number_small}

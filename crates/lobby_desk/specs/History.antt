@@ -7,7 +7,7 @@ use Rattle.lobby_desk.specs.declared.players.Player.{Player}
 use Rattle.lobby_desk.specs.Words.{rest_of, is_message, sort_of, is_act_sort, is_drop_sort, is_name_sort, is_login_sort}
 use Rattle.lobby_desk.specs.Players.{holder_of}
 use Rattle.lobby_desk.specs.Answers.{IsSeated}
-use Rattle.lobby_desk.specs.Events.{Event, Opened, Closed, Said, Hurried, Heard, Gone, Here, Telling, Owed, Dropper}
+use Rattle.lobby_desk.specs.Events.{Event, Opened, Closed, Said, Heard, Gone, Here, Telling, Owed, Dropper}
 use Rattle.lobby_desk.specs.Tellings.{Known, known_now, answer, IsTold}
 use Rattle.lobby_desk.specs.Who.{View, BeginsView, IsStep}
 

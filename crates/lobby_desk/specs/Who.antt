@@ -18,10 +18,9 @@ use Rattle.lobby_desk.specs.declared.desk.Desk.{Desk}
 use Rattle.lobby_desk.specs.Words.{rest_of, is_message, sort_of, number_in}
 use Rattle.lobby_desk.specs.Players.{holder_of}
 use Rattle.lobby_desk.specs.Plans.{plan_of}
-use Rattle.lobby_desk.specs.Pace.{is_too_fast}
 use Rattle.lobby_desk.specs.Lines.{bytes_of, lines_of, act_lines, said_after, notice_lines, IsNamed}
 use Rattle.lobby_desk.specs.Answers.{IsSeated}
-use Rattle.lobby_desk.specs.Events.{Event, Opened, Closed, Said, Hurried, Heard, Gone, Here, Telling, Owed, Nobody, Asker, Dropper, Followers, owed_of, owed_last, plan_asker, follower}
+use Rattle.lobby_desk.specs.Events.{Event, Opened, Closed, Said, Hurried, Heard, Gone, Here, Telling, Owed, Asker, Dropper, owed_of, owed_last, plan_asker, follower}
 use Rattle.lobby_desk.specs.Tellings.{Known, is_whole, answer, is_told, watch_front, table_front, watches_now, table_now, owed_now, left_now, begun_now, last_now, owed_answered, IsTold, IsToldOne, IsToldFor, IsToldNext}
 
 -- a line of an answer is taken: the whole answer is given where it was the last

@@ -1,5 +1,4 @@
-use Rattle.std.proofs.Common.{ℕ, ◌||◌, get_or, arith}
-use Rattle.lobby_desk.specs.declared.watching.Watch.{Watch}
+use Rattle.std.proofs.Common.{◌||◌}
 use Rattle.lobby_desk.specs.Who.{watched, at_table}
 use Rattle.lobby_desk.proofs.Watched.{or_first, or_second, watched_at, at_table_at}
 use Rattle.lobby_desk.proofs.watching.followers.Goals as goal
