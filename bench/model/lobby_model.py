@@ -40,7 +40,8 @@ POLICY = ("default-src 'none'; script-src 'self'; style-src 'self'; img-src 'sel
           "base-uri 'none'; form-action 'none'; frame-ancestors 'none'")
 TYPES = {'html': 'text/html; charset=utf-8', 'css': 'text/css; charset=utf-8',
          'js': 'text/javascript; charset=utf-8', 'svg': 'image/svg+xml'}
-MOST_WATCHED, MOST_OPEN, A_SECOND, GAMES, PLIES = 16, 8, 20, 4096, 600
+MOST_WATCHED, MOST_OPEN, GAMES, PLIES = 16, 16, 4096, 600
+COST_MS, AHEAD_MS = 50, 950
 G = '(0|[1-9][0-9]{0,9})'
 
 
@@ -81,7 +82,7 @@ class Connection:
         self.player = None
         self.watched = set()
         self.at_table = False
-        self.heard = collections.deque()
+        self.until = 0                 # until when its time is taken, in milliseconds
 
     def tell(self, lines):
         self.socket.outgoing.put_nowait(''.join(line + '\n' for line in lines))
@@ -102,13 +103,12 @@ class Lobby:
 
     def message(self, c, text):
         """The answer's lines and the notice that follows it, or None."""
-        now = time.monotonic()
-        while c.heard and now - c.heard[0] >= 1:
-            c.heard.popleft()
-        c.heard.append(now)
+        now = time.monotonic_ns() // 1000000
+        start = max(c.until, now)
         try:
-            if len(c.heard) > A_SECOND:
+            if start - now > AHEAD_MS:
                 refuse(34)
+            c.until = start + COST_MS
             return self.judged(c, text)
         except Refused as refused:
             return [str(refused)], None
@@ -120,6 +120,8 @@ class Lobby:
         if word in OWN:
             return self.own(c, word, text), None
         if word not in READS + ACTS:
+            refuse(1)
+        if word == 'drop' and not (re.fullmatch('drop ' + G, text) and int(text[5:]) <= model.TOP):
             refuse(1)
         if word in ACTS and c.player is None:
             refuse(31)
@@ -137,7 +139,13 @@ class Lobby:
         if fault == 'drop':
             self.server_is(False)
             return ['lost'], None
-        answer = self.server.ask(name, text)
+        seat = name
+        if word == 'drop':
+            show = self.server.ask(None, 'show' + text[4:])[0].split(' ')
+            if show[0] == 'no':
+                return [' '.join(show)], None
+            seat = show[3] if show[3] != '-' else show[4]
+        answer = self.server.ask(seat, text)
         if fault == 'lose':
             self.server_is(False)
             return ['lost'], None

@@ -1,0 +1,101 @@
+-- The desk's own lines.
+use Rattle.std.proofs.Common.{ℕ, ◌≡◌, ◌<◌, ◌≤◌, ◌^◌, true, ◌&&◌, List, [], ◌∷◌, length, length-append, codes, decimal, refl, ap, ◌∙◌, arith}
+use Rattle.std.specs.Int.{IsInRange}
+use Rattle.std.specs.List.{list_all}
+use Rattle.std.specs.Str.Parse.{AllDigits, digits_value}
+use Rattle.std.proofs.lemmas.Bool.Decides.{nat_tests}
+use Rattle.std.proofs.lemmas.Fmt.{digits_decimal, length-decimal-le}
+use Rattle.std.proofs.lemmas.List.Folds.{list_all-append}
+use Rattle.std.proofs.lemmas.Str.Parse.{IsNumeralModel, digit_at}
+use Rattle.rec_codec.specs.Name.{IsName, is_name_byte}
+use Rattle.lobby_desk.specs.declared.words.Sort.TheVariants as sorts
+use Rattle.lobby_desk.specs.Words.{is_message, is_message_byte, sort_of, rest_of, is_read_word}
+use Rattle.lobby_desk.specs.Lines.{name_line, game_line}
+use Rattle.lobby_desk.proofs.Found.{and_first, and_second, and_both}
+
+pub own : IsNumeralModel (AllDigits 10) (digits_value 10)
+own = record { to = λ _ h. h; from = λ _ h. h; same = λ _ _. refl }
+
+byte_shown : (c : ℕ) → 32 ≤ c → c ≤ 126 → is_message_byte c ≡ true
+byte_shown c low high = grind (arith, nat_tests)
+
+digits_shown : (ds : List ℕ) → AllDigits 10 ds → list_all is_message_byte ds ≡ true
+digits_shown [] h = refl
+digits_shown (c ∷ cs) h =
+    let here : IsInRange 48 57 c = digit_at (c ∷ cs) 0 h (omega arith) in
+    and_both (is_message_byte c) (list_all is_message_byte cs) (byte_shown c (omega arith) (omega arith)) (digits_shown cs h.1)
+
+-- a text of at most 255 bytes that may stand in a message
+message : (text : List ℕ) → 1 ≤ length text → length text ≤ 255 → list_all is_message_byte text ≡ true → is_message text ≡ true
+message text some short bytes = grind (arith, nat_tests)
+
+decimal_short : (n : ℕ) → n < 2 ^ 32 → length (decimal n) ≤ 10
+decimal_short n small = length-decimal-le 10 n (omega arith) (omega arith) (omega arith)
+
+game_shown : (word : List ℕ) (n : ℕ) → n < 2 ^ 32 → list_all is_message_byte word ≡ true → list_all is_message_byte (game_line word n) ≡ true
+game_shown word n small shown =
+    list_all-append is_message_byte word (decimal n)
+    ∙ (ap (λ b. b && list_all is_message_byte (decimal n)) shown ∙ digits_shown (decimal n) (digits_decimal own n (omega arith)))
+
+pub show_whole : (n : ℕ) → n < 2 ^ 32 → is_message (game_line (codes "show ") n) ≡ true
+show_whole n small =
+    let short = decimal_short n small in
+    let len = length-append (codes "show ") (decimal n) in
+    message (game_line (codes "show ") n) (omega arith) (omega arith) (game_shown (codes "show ") n small refl)
+
+pub fen_whole : (n : ℕ) → n < 2 ^ 32 → is_message (game_line (codes "fen ") n) ≡ true
+fen_whole n small =
+    let short = decimal_short n small in
+    let len = length-append (codes "fen ") (decimal n) in
+    message (game_line (codes "fen ") n) (omega arith) (omega arith) (game_shown (codes "fen ") n small refl)
+
+pub pgn_whole : (n : ℕ) → n < 2 ^ 32 → is_message (game_line (codes "pgn ") n) ≡ true
+pgn_whole n small =
+    let short = decimal_short n small in
+    let len = length-append (codes "pgn ") (decimal n) in
+    message (game_line (codes "pgn ") n) (omega arith) (omega arith) (game_shown (codes "pgn ") n small refl)
+
+pub list_whole : is_message (codes "list") ≡ true
+list_whole = refl
+
+name_byte_shown : (c : ℕ) → is_name_byte c ≡ true → is_message_byte c ≡ true
+name_byte_shown c h = grind (arith, nat_tests)
+
+name_shown : (name : List ℕ) → list_all is_name_byte name ≡ true → list_all is_message_byte name ≡ true
+name_shown [] h = refl
+name_shown (c ∷ cs) h =
+    and_both (is_message_byte c) (list_all is_message_byte cs)
+    (name_byte_shown c (and_first (is_name_byte c) (list_all is_name_byte cs) h))
+    (name_shown cs (and_second (is_name_byte c) (list_all is_name_byte cs) h))
+
+pub name_whole : (name : List ℕ) → IsName name → is_message (name_line name) ≡ true
+name_whole name is =
+    let len = length-append (codes "name ") name in
+    let some = is.some in
+    let short = is.short in
+    message (name_line name) (omega arith) (omega arith)
+    (list_all-append is_message_byte (codes "name ") name ∙ name_shown name is.bytes)
+
+-- what the desk's own lines are
+pub show_reads : (n : ℕ) → sort_of (game_line (codes "show ") n) ≡ sorts.Read
+unfolding sort_of is_read_word
+show_reads n = refl
+
+pub fen_reads : (n : ℕ) → sort_of (game_line (codes "fen ") n) ≡ sorts.Read
+unfolding sort_of is_read_word
+fen_reads n = refl
+
+pub pgn_reads : (n : ℕ) → sort_of (game_line (codes "pgn ") n) ≡ sorts.Read
+unfolding sort_of is_read_word
+pgn_reads n = refl
+
+pub list_reads : sort_of (codes "list") ≡ sorts.Read
+unfolding sort_of is_read_word
+list_reads = refl
+
+pub name_names : (name : List ℕ) → sort_of (name_line name) ≡ sorts.Name
+unfolding sort_of
+name_names name = refl
+
+pub name_rest : (name : List ℕ) → rest_of (name_line name) ≡ name
+name_rest name = refl

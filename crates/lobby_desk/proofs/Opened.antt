@@ -1,0 +1,72 @@
+-- For whom connections act.
+use Rattle.std.proofs.Common.{ℕ, ◌≡◌, ◌==◌, Bool, true, false, Option, None, Some, refl, ap, sym, ◌∙◌}
+use Rattle.std.specs.Prelude.{IsSome, IsSomeAnd, if◌then◌else◌, option_and_then, cond}
+use Rattle.std.specs.Cmp.{nat_cmp_is}
+use Rattle.std.specs.Ordering.{is_eq, nat_cmp}
+use Rattle.std.specs.declared.cmp.Ordering.{Ordering}
+use Rattle.std.specs.declared.cmp.Ordering.TheVariants.{Less, Equal, Greater}
+use Rattle.std.proofs.lemmas.Bool.{false≢true}
+use Rattle.std.proofs.lemmas.Map.Lookups.{exact_unsigned}
+use Rattle.lobby_desk.specs.declared.players.Visitor.{Visitor}
+use Rattle.lobby_desk.proofs.Found.{same_test}
+use Rattle.std.proofs.lemmas.Bool.Decides.{Decides-eqb}
+use Rattle.lobby_desk.specs.declared.planning.Plan.{Plan}
+use Rattle.lobby_desk.specs.declared.players.Identity.{Identity}
+use Rattle.lobby_desk.specs.Who.{who_noted}
+
+pub some_of : {X : Type 0} (o : Option X) (P : X → Type 0) → IsSomeAnd o P → IsSome o
+some_of None P h = absurd h
+some_of (Some x) P h = refl
+
+noted_at : (f : ℕ → Option Identity) (from c : ℕ) (plan : Plan) (before : Option Identity) → before ≡ f from →
+    (b : Bool) → (b ≡ true → from ≡ c) →
+    (if b then who_noted plan before else f c) ≡ (if b then who_noted plan (f c) else f c)
+noted_at f from c plan before is true same = ap (who_noted plan) (is ∙ ap f (same refl))
+noted_at f from c plan before is false same = refl
+
+-- for whom a connection acts after a plan, where it acted for this player before
+pub noted_is : (f : ℕ → Option Identity) (from c : ℕ) (plan : Plan) (before : Option Identity) → before ≡ f from →
+    (if from == c then who_noted plan before else f c) ≡ (if from == c then who_noted plan (f c) else f c)
+noted_is f from c plan before is = noted_at f from c plan before is (from == c) (Decides-eqb from c).0
+
+kept_at : (f : ℕ → Option Identity) (from c : ℕ) (before : Option Identity) → before ≡ f from →
+    (b : Bool) → (b ≡ true → from ≡ c) → (if b then before else f c) ≡ f c
+kept_at f from c before is true same = is ∙ ap f (same refl)
+kept_at f from c before is false same = refl
+
+-- the same, where it acts for the same player again
+pub kept_is : (f : ℕ → Option Identity) (from c : ℕ) (before : Option Identity) → before ≡ f from →
+    (if from == c then before else f c) ≡ f c
+kept_is f from c before is = kept_at f from c before is (from == c) (Decides-eqb from c).0
+
+is_equal : (o : Ordering) → is_eq o ≡ true → o ≡ Equal
+is_equal Less h = absurd (false≢true h)
+is_equal Equal h = refl
+is_equal Greater h = absurd (false≢true h)
+
+same_key : (a b : ℕ) → is_eq (nat_cmp a b) ≡ (a == b)
+same_key a b =
+    same_test (is_eq (nat_cmp a b)) (a == b)
+    (λ h. (Decides-eqb a b).1 (exact_unsigned a b (is_equal (nat_cmp a b) h)))
+    (λ h. ap is_eq (sym (nat_cmp_is a b Equal ((Decides-eqb a b).0 h))))
+
+-- for whom connection q acts, where this is put at k
+pub put_who : (k q : ℕ) (v : Visitor) (o : Option Visitor) →
+    option_and_then (λ (w : Visitor). w.who) (cond (is_eq (nat_cmp k q)) (Some v) o)
+    ≡ (if k == q then v.who else option_and_then (λ (w : Visitor). w.who) o)
+put_who k q v o =
+    ap (λ b. option_and_then (λ (w : Visitor). w.who) (cond b (Some v) o)) (same_key k q)
+    ∙ elim (k == q) as (λ b. option_and_then (λ (w : Visitor). w.who) (cond b (Some v) o) ≡ (if b then v.who else option_and_then (λ (w : Visitor). w.who) o)) [
+      | true ↦ refl
+      | false ↦ refl
+    ]
+
+pub removed_who : (k q : ℕ) (o : Option Visitor) →
+    option_and_then (λ (w : Visitor). w.who) (cond (is_eq (nat_cmp k q)) None o)
+    ≡ (if k == q then None else option_and_then (λ (w : Visitor). w.who) o)
+removed_who k q o =
+    ap (λ b. option_and_then (λ (w : Visitor). w.who) (cond b None o)) (same_key k q)
+    ∙ elim (k == q) as (λ b. option_and_then (λ (w : Visitor). w.who) (cond b None o) ≡ (if b then None else option_and_then (λ (w : Visitor). w.who) o)) [
+      | true ↦ refl
+      | false ↦ refl
+    ]

@@ -1,0 +1,751 @@
+-- What is promised holds of each run.
+use Rattle.std.proofs.Common.{ℕ, ◌≡◌, ◌<◌, ◌^◌, ◌⊎◌, inl, inr, Bool, true, false, ◌&&◌, ◌||◌, ◌==◌, List, [], ◌∷◌, ◌++◌, Option, None, Some, IfSome, codes, decimal, refl, sym, ap, ◌∙◌, subst}
+use Rattle.std.specs.Prelude.{if◌then◌else◌}
+use Rattle.std.specs.List.{AllByRecursion, list_all, list_any}
+use Rattle.std.proofs.lemmas.Bool.{false≢true}
+use Rattle.rec_codec.specs.Name.{IsName}
+use Rattle.lobby_desk.specs.declared.words.Sort.{Sort}
+use Rattle.lobby_desk.specs.declared.words.Sort.TheVariants as sorts
+use Rattle.lobby_desk.specs.declared.refusals.Refusal.TheVariants as refusals
+use Rattle.lobby_desk.specs.declared.planning.Plan.{Plan}
+use Rattle.lobby_desk.specs.declared.planning.Plan.TheVariants as plans
+use Rattle.lobby_desk.specs.declared.planning.Standing.{Standing}
+use Rattle.lobby_desk.specs.declared.players.Identity.{Identity}
+use Rattle.lobby_desk.specs.declared.players.Player.{Player}
+use Rattle.lobby_desk.specs.Words.{rest_of, is_message, sort_of, is_act_sort, is_drop_sort, is_name_sort, is_login_sort, number_in}
+use Rattle.lobby_desk.specs.Plans.{asked, act_plan, drop_plan, login_plan, numbered_plan, plan_of}
+use Rattle.lobby_desk.specs.Lines.{lines_of, act_lines, said_after, name_line, game_line, is_said, notice_lines, IsNamed}
+use Rattle.lobby_desk.specs.Events.{Event, Opened, Closed, Said, Hurried, Heard, Gone, Here, Telling, Owed, Nobody, Asker, Dropper, Followers, owed_last, asker, follower}
+use Rattle.lobby_desk.specs.Tellings.{Known, is_whole, answer, is_told, watch_front, table_front, leaves, leaves_table, watches_now, table_now, owed_answered, owed_now, left_now, begun_now, last_now, known_now, presence, lost, IsMadeOf, IsNoticeOrNone, IsToldFor, IsToldNext, IsToldHeard, IsTold}
+use Rattle.lobby_desk.specs.Who.{View, BeginsView, IsSaid, IsHeard, IsDropped, IsSentFor, IsSentNext, IsSentHeard, IsDone, IsKnown, who_noted}
+use Rattle.lobby_desk.specs.History.{Step, shown_by, player_said, player_after, player_in, is_drop, name_behind, name_through, name_before, name_in, ActsUnder, ActsRight, NoActs, NoDrops, AllRead, IsOf, known_in, IsArbiter, AsksNow, HasAsked, IsDropOf, IsRight, AreWhole, AllRight, AllTold, IsRun}
+use Rattle.lobby_desk.proofs.Found.{and_first, and_second, and_both}
+use Rattle.lobby_desk.proofs.Numbers.{number_small}
+use Rattle.lobby_desk.proofs.Sent.{is_said_same}
+use Rattle.lobby_desk.proofs.Lines.{show_whole, fen_whole, pgn_whole, list_whole, name_whole, show_reads, fen_reads, pgn_reads, list_reads, name_names}
+
+-- for whom the connection acts after a plan
+asked_who : (s : Standing) (plan : Plan) (before : Option Identity) → who_noted plan before ≡ before → who_noted (asked s plan) before ≡ before
+asked_who s plan before h =
+    elim s.is_here as (λ b. who_noted (if b then plan else plans.Refuse refusals.NoServer) before ≡ before) [ true ↦ h | false ↦ refl ]
+
+act_who : (s : Standing) (who : Option Identity) (before : Option Identity) → who_noted (act_plan s who) before ≡ before
+act_who s None before = refl
+act_who s (Some who) before =
+    elim s.is_crowded as (λ b. who_noted (if b then asked s (plans.Refuse refusals.TooManyOpen) else asked s (plans.Act who)) before ≡ before) [
+      | true ↦ asked_who s (plans.Refuse refusals.TooManyOpen) before refl
+      | false ↦ asked_who s (plans.Act who) before refl
+    ]
+
+drop_who : (s : Standing) (who : Option Identity) (game : ℕ) (before : Option Identity) → who_noted (drop_plan s who game) before ≡ before
+drop_who s None game before = refl
+drop_who s (Some who) game before =
+    elim who.is_arbiter as (λ b. who_noted (if b then asked s (plans.Drop who game) else plans.Refuse refusals.NotArbiter) before ≡ before) [
+      | true ↦ asked_who s (plans.Drop who game) before refl
+      | false ↦ refl
+    ]
+
+dropped_who : (s : Standing) (game : Option ℕ) (before : Option Identity) → who_noted (numbered_plan sorts.Drop s game) before ≡ before
+dropped_who s None before = refl
+dropped_who s (Some game) before = drop_who s s.who game before
+
+login_who : (holder before : Option Identity) → who_noted (login_plan holder) before ≡ shown_by holder before
+login_who None before = refl
+login_who (Some who) before = refl
+
+watch_who : (s : Standing) (game : Option ℕ) (before : Option Identity) → who_noted (numbered_plan sorts.Watch s game) before ≡ before
+watch_who s None before = refl
+watch_who s (Some game) before =
+    elim s.is_full as (λ b. who_noted (if b then asked s (plans.Refuse refusals.TooManyWatched) else asked s (plans.Watch game)) before ≡ before) [
+      | true ↦ asked_who s (plans.Refuse refusals.TooManyWatched) before refl
+      | false ↦ asked_who s (plans.Watch game) before refl
+    ]
+
+leave_who : (s : Standing) (game : Option ℕ) (before : Option Identity) → who_noted (numbered_plan sorts.Leave s game) before ≡ before
+leave_who s None before = refl
+leave_who s (Some game) before = refl
+
+line_who : (s : Standing) (game : Option ℕ) (before : Option Identity) → who_noted (numbered_plan sorts.Line s game) before ≡ before
+line_who s None before = refl
+line_who s (Some game) before = asked_who s (plans.Line game) before refl
+
+planned_who : (m : Bool) (sort : Sort) (s : Standing) (game : Option ℕ) (before : Option Identity) →
+    who_noted (plan_of m sort s game) before ≡ (if m && is_login_sort sort then shown_by s.holder before else before)
+planned_who false sort s game before = refl
+planned_who true sorts.Read s game before = asked_who s plans.Read before refl
+planned_who true sorts.Act s game before = act_who s s.who before
+planned_who true sorts.Drop s game before = dropped_who s game before
+planned_who true sorts.Login s game before = login_who s.holder before
+planned_who true sorts.Players s game before = refl
+planned_who true sorts.Lobby s game before = asked_who s plans.Lobby before refl
+planned_who true sorts.LeaveLobby s game before = refl
+planned_who true sorts.Watch s game before = watch_who s game before
+planned_who true sorts.Leave s game before = leave_who s game before
+planned_who true sorts.Line s game before = line_who s game before
+planned_who true sorts.Name s game before = refl
+planned_who true sorts.Nothing s game before = refl
+
+-- what lines for a message have to be
+record Good (text : List ℕ) (who : Option Identity) (said : Option (List ℕ)) (lines : List (List ℕ)) (then_said : Option (List ℕ)) : Type 0 where
+  acts : ActsRight who said lines
+  drops : NoDrops lines
+  of_text : AllByRecursion (IsOf text) lines
+  whole : AreWhole lines
+  name : then_said ≡ name_through said lines
+
+no_acts : (lines : List (List ℕ)) → AllRead lines → NoActs lines
+no_acts [] h = tt
+no_acts (line ∷ lines) h = (ap is_act_sort h.0, no_acts lines h.1)
+
+no_drops : (lines : List (List ℕ)) → AllRead lines → NoDrops lines
+no_drops [] h = tt
+no_drops (line ∷ lines) h = (ap is_drop_sort h.0, no_drops lines h.1)
+
+acts_under : (said : Option (List ℕ)) (lines : List (List ℕ)) (name : List ℕ) → AllRead lines → ActsUnder said lines name
+acts_under said [] name h = tt
+acts_under said (line ∷ lines) name h =
+    (λ is. absurd (false≢true (sym (ap is_act_sort h.0) ∙ is)), acts_under (name_behind said line) lines name h.1)
+
+name_stays : (said : Option (List ℕ)) (line : List ℕ) → sort_of line ≡ sorts.Read → name_behind said line ≡ said
+name_stays said line h = ap (λ sort. if is_name_sort sort then Some (rest_of line) else said) h
+
+names_stay : (said : Option (List ℕ)) (lines : List (List ℕ)) → AllRead lines → name_through said lines ≡ said
+names_stay said [] h = refl
+names_stay said (line ∷ lines) h =
+    ap (λ name. name_through name lines) (name_stays said line h.0) ∙ names_stay said lines h.1
+
+reads_right : (who : Option Identity) (said : Option (List ℕ)) (lines : List (List ℕ)) → AllRead lines → ActsRight who said lines
+reads_right None said lines h = no_acts lines h
+reads_right (Some who) said lines h = acts_under said lines who.name h
+
+own_lines : (text : List ℕ) (lines : List (List ℕ)) → AllRead lines → AllByRecursion (IsOf text) lines
+own_lines text [] h = tt
+own_lines text (line ∷ lines) h = (inr (inr h.0), own_lines text lines h.1)
+
+reads_good : (text : List ℕ) (who : Option Identity) (said : Option (List ℕ)) (lines : List (List ℕ)) → AllRead lines → AreWhole lines →
+    Good text who said lines said
+reads_good text who said lines h whole = record {
+  acts = reads_right who said lines h;
+  drops = no_drops lines h;
+  of_text = own_lines text lines h;
+  whole = whole;
+  name = sym (names_stay said lines h);
+}
+
+none_good : (text : List ℕ) (who : Option Identity) (said : Option (List ℕ)) → Good text who said [] said
+none_good text who said = reads_good text who said [] tt tt
+
+-- lines of an act under a name
+record Under (text name : List ℕ) (said : Option (List ℕ)) (lines : List (List ℕ)) (then_said : Option (List ℕ)) : Type 0 where
+  acts : ActsUnder said lines name
+  of_text : AllByRecursion (IsOf text) lines
+  whole : AreWhole lines
+  later : then_said ≡ name_through said lines
+
+-- where this name was said last or not
+said_or_not : (text name : List ℕ) (said : Option (List ℕ)) (sort : Sort) → is_message text ≡ true → sort_of text ≡ sort →
+    is_name_sort sort ≡ false → IsName name → (b : Bool) → (b ≡ true → said ≡ Some name) →
+    Under text name said (if b then text ∷ [] else name_line name ∷ text ∷ []) (Some name)
+said_or_not text name said sort message is no_name named true same =
+    let stays : name_behind said text ≡ said = ap (λ (k : Sort). if is_name_sort k then Some (rest_of text) else said) is ∙ ap (λ b. if b then Some (rest_of text) else said) no_name in
+    record {
+      acts = (λ _. same refl, tt);
+      of_text = (inl refl, tt);
+      whole = (message, tt);
+      later = sym (stays ∙ same refl);
+    }
+said_or_not text name said sort message is no_name named false same =
+    let names : sort_of (name_line name) ≡ sorts.Name = name_names name in
+    let first : name_behind said (name_line name) ≡ Some name = ap (λ (k : Sort). if is_name_sort k then Some name else said) names in
+    let stays : name_behind (name_behind said (name_line name)) text ≡ name_behind said (name_line name) =
+    ap (λ (k : Sort). if is_name_sort k then Some (rest_of text) else name_behind said (name_line name)) is
+    ∙ ap (λ b. if b then Some (rest_of text) else name_behind said (name_line name)) no_name in
+    record {
+      acts = (λ act. absurd (false≢true (sym (ap is_act_sort names) ∙ act)), (λ _. first, tt));
+      of_text = (inr (inl names), (inl refl, tt));
+      whole = (name_whole name named, (message, tt));
+      later = sym (stays ∙ first);
+    }
+
+act_under : (text name : List ℕ) (said : Option (List ℕ)) (sort : Sort) → is_message text ≡ true → sort_of text ≡ sort →
+    is_name_sort sort ≡ false → IsName name → Under text name said (act_lines said name text) (Some name)
+act_under text name said sort message is no_name named =
+    said_or_not text name said sort message is no_name named (is_said said name) (is_said_same said name)
+
+-- no drop is among the lines of another act
+act_no_drop : (text name : List ℕ) → is_drop text ≡ false → (b : Bool) → NoDrops (if b then text ∷ [] else name_line name ∷ text ∷ [])
+act_no_drop text name none true = (none, tt)
+act_no_drop text name none false = (ap is_drop_sort (name_names name), (none, tt))
+
+-- a plan by which nothing goes out where the server is not there
+asked_good : (text : List ℕ) (s : Standing) (who : Option Identity) (said : Option (List ℕ)) (plan : Plan) →
+    (IsNamed plan → Good text who said (lines_of plan said text) (said_after plan said)) → IsNamed (asked s plan) →
+    Good text who said (lines_of (asked s plan) said text) (said_after (asked s plan) said)
+asked_good text s who said plan h =
+    elim s.is_here as (λ b. IsNamed (if b then plan else plans.Refuse refusals.NoServer) →
+    Good text who said (lines_of (if b then plan else plans.Refuse refusals.NoServer) said text)
+    (said_after (if b then plan else plans.Refuse refusals.NoServer) said)) [
+      | true ↦ h
+      | false ↦ λ _. none_good text who said
+    ]
+
+-- the plan for an act
+acts_good : (text : List ℕ) (who : Identity) (said : Option (List ℕ)) → is_message text ≡ true → sort_of text ≡ sorts.Act → IsName who.name →
+    Good text (Some who) said (act_lines said who.name text) (Some who.name)
+acts_good text who said message is named =
+    let under = act_under text who.name said sorts.Act message is refl named in
+    record {
+      acts = under.acts;
+      drops = act_no_drop text who.name (ap is_drop_sort is) (is_said said who.name);
+      of_text = under.of_text;
+      whole = under.whole;
+      name = under.later;
+    }
+
+act_good : (text : List ℕ) (s : Standing) (said : Option (List ℕ)) (who : Option Identity) → is_message text ≡ true → sort_of text ≡ sorts.Act →
+    IsNamed (act_plan s who) → Good text who said (lines_of (act_plan s who) said text) (said_after (act_plan s who) said)
+act_good text s said None message is = λ named. none_good text None said
+act_good text s said (Some who) message is =
+    elim s.is_crowded as (λ b. IsNamed (if b then asked s (plans.Refuse refusals.TooManyOpen) else asked s (plans.Act who)) →
+    Good text (Some who) said (lines_of (if b then asked s (plans.Refuse refusals.TooManyOpen) else asked s (plans.Act who)) said text)
+    (said_after (if b then asked s (plans.Refuse refusals.TooManyOpen) else asked s (plans.Act who)) said)) [
+      | true ↦ asked_good text s (Some who) said (plans.Refuse refusals.TooManyOpen) (λ _. none_good text (Some who) said)
+      | false ↦ asked_good text s (Some who) said (plans.Act who) (λ named. acts_good text who said message is named)
+    ]
+
+-- the plan for a drop asks who is seated
+show_good : (text : List ℕ) (who : Option Identity) (said : Option (List ℕ)) (game : ℕ) → game < 2 ^ 32 →
+    Good text who said (game_line (codes "show ") game ∷ []) said
+show_good text who said game small =
+    reads_good text who said (game_line (codes "show ") game ∷ []) (show_reads game, tt) (show_whole game small, tt)
+
+drop_good : (text : List ℕ) (s : Standing) (said : Option (List ℕ)) (one : Option Identity) (who : Option Identity) (game : ℕ) → game < 2 ^ 32 →
+    IsNamed (drop_plan s who game) → Good text one said (lines_of (drop_plan s who game) said text) (said_after (drop_plan s who game) said)
+drop_good text s said one None game small = λ named. none_good text one said
+drop_good text s said one (Some who) game small =
+    elim who.is_arbiter as (λ b. IsNamed (if b then asked s (plans.Drop who game) else plans.Refuse refusals.NotArbiter) →
+    Good text one said (lines_of (if b then asked s (plans.Drop who game) else plans.Refuse refusals.NotArbiter) said text)
+    (said_after (if b then asked s (plans.Drop who game) else plans.Refuse refusals.NotArbiter) said)) [
+      | true ↦ asked_good text s one said (plans.Drop who game) (λ _. show_good text one said game small)
+      | false ↦ λ _. none_good text one said
+    ]
+
+dropped_good : (text : List ℕ) (s : Standing) (said : Option (List ℕ)) (game : Option ℕ) → IfSome game (λ g. g < 2 ^ 32) →
+    IsNamed (numbered_plan sorts.Drop s game) →
+    Good text s.who said (lines_of (numbered_plan sorts.Drop s game) said text) (said_after (numbered_plan sorts.Drop s game) said)
+dropped_good text s said None small = λ named. none_good text s.who said
+dropped_good text s said (Some game) small = drop_good text s said s.who s.who game small
+
+login_good : (text : List ℕ) (who : Option Identity) (said : Option (List ℕ)) (holder : Option Identity) →
+    Good text who said (lines_of (login_plan holder) said text) (said_after (login_plan holder) said)
+login_good text who said None = none_good text who said
+login_good text who said (Some one) = none_good text who said
+
+watch_good : (text : List ℕ) (s : Standing) (who : Option Identity) (said : Option (List ℕ)) (game : Option ℕ) → IfSome game (λ g. g < 2 ^ 32) →
+    IsNamed (numbered_plan sorts.Watch s game) →
+    Good text who said (lines_of (numbered_plan sorts.Watch s game) said text) (said_after (numbered_plan sorts.Watch s game) said)
+watch_good text s who said None small = λ named. none_good text who said
+watch_good text s who said (Some game) small =
+    elim s.is_full as (λ b. IsNamed (if b then asked s (plans.Refuse refusals.TooManyWatched) else asked s (plans.Watch game)) →
+    Good text who said (lines_of (if b then asked s (plans.Refuse refusals.TooManyWatched) else asked s (plans.Watch game)) said text)
+    (said_after (if b then asked s (plans.Refuse refusals.TooManyWatched) else asked s (plans.Watch game)) said)) [
+      | true ↦ asked_good text s who said (plans.Refuse refusals.TooManyWatched) (λ _. none_good text who said)
+      | false ↦ asked_good text s who said (plans.Watch game) (λ _.
+          reads_good text who said (game_line (codes "show ") game ∷ game_line (codes "fen ") game ∷ [])
+          (show_reads game, (fen_reads game, tt)) (show_whole game small, (fen_whole game small, tt)))
+    ]
+
+leave_good : (text : List ℕ) (s : Standing) (who : Option Identity) (said : Option (List ℕ)) (game : Option ℕ) →
+    Good text who said (lines_of (numbered_plan sorts.Leave s game) said text) (said_after (numbered_plan sorts.Leave s game) said)
+leave_good text s who said None = none_good text who said
+leave_good text s who said (Some game) = none_good text who said
+
+line_good : (text : List ℕ) (s : Standing) (who : Option Identity) (said : Option (List ℕ)) (game : Option ℕ) → IfSome game (λ g. g < 2 ^ 32) →
+    IsNamed (numbered_plan sorts.Line s game) →
+    Good text who said (lines_of (numbered_plan sorts.Line s game) said text) (said_after (numbered_plan sorts.Line s game) said)
+line_good text s who said None small named = none_good text who said
+line_good text s who said (Some game) small named =
+    asked_good text s who said (plans.Line game)
+    (λ _. reads_good text who said (game_line (codes "pgn ") game ∷ []) (pgn_reads game, tt) (pgn_whole game small, tt)) named
+
+-- each plan for a message
+plan_good : (text : List ℕ) (s : Standing) (said : Option (List ℕ)) (game : Option ℕ) (m : Bool) (sort : Sort) → is_message text ≡ m →
+    sort_of text ≡ sort → IfSome game (λ g. g < 2 ^ 32) → IsNamed (plan_of m sort s game) →
+    Good text s.who said (lines_of (plan_of m sort s game) said text) (said_after (plan_of m sort s game) said)
+plan_good text s said game false sort message is small named = none_good text s.who said
+plan_good text s said game true sorts.Read message is small named =
+    asked_good text s s.who said plans.Read (λ _. reads_good text s.who said (text ∷ []) (is, tt) (message, tt)) named
+plan_good text s said game true sorts.Act message is small named = act_good text s said s.who message is named
+plan_good text s said game true sorts.Drop message is small named = dropped_good text s said game small named
+plan_good text s said game true sorts.Login message is small named = login_good text s.who said s.holder
+plan_good text s said game true sorts.Players message is small named = none_good text s.who said
+plan_good text s said game true sorts.Lobby message is small named =
+    asked_good text s s.who said plans.Lobby (λ _. reads_good text s.who said (codes "list" ∷ []) (list_reads, tt) (list_whole, tt)) named
+plan_good text s said game true sorts.LeaveLobby message is small named = none_good text s.who said
+plan_good text s said game true sorts.Watch message is small named = watch_good text s s.who said game small named
+plan_good text s said game true sorts.Leave message is small named = leave_good text s s.who said game
+plan_good text s said game true sorts.Line message is small named = line_good text s s.who said game small named
+plan_good text s said game true sorts.Name message is small named = none_good text s.who said
+plan_good text s said game true sorts.Nothing message is small named = none_good text s.who said
+
+-- a message
+said_good : (players : List Player) (old : View) (c : ℕ) (text : List ℕ) (lines : List (List ℕ)) (new : View) →
+    IsSaid players old c text lines new → Good text (old.who c) old.said lines new.said
+said_good players old c text lines new h =
+    let game = number_in (rest_of text) in
+    let named : IsNamed (plan_of (is_message text) (sort_of text) h.standing (number_in (rest_of text))) = subst IsNamed h.planned h.named in
+    let planned = plan_good text h.standing old.said game (is_message text) (sort_of text) refl refl (number_small (rest_of text)) named in
+    let done = subst (λ (plan : Plan). Good text h.standing.who old.said (lines_of plan old.said text) (said_after plan old.said)) (sym h.planned) planned in
+    let by = subst (λ (who : Option Identity). Good text who old.said (lines_of h.plan old.said text) (said_after h.plan old.said)) h.who done in
+    let lined = subst (λ (ls : List (List ℕ)). Good text (old.who c) old.said ls (said_after h.plan old.said)) (sym h.lines_are) by in
+    subst (λ (n : Option (List ℕ)). Good text (old.who c) old.said lines n) (sym h.said_is) lined
+
+-- what is known of the connections and of the server is what the past says
+pub record Alike (now past : Known) : Type 0 where
+  pub owed : now.owed ≡ past.owed
+  pub left : now.left ≡ past.left
+  pub begun : now.begun ≡ past.begun
+  pub last : now.last ≡ past.last
+  pub watches : (c game : ℕ) → now.watches c game ≡ true → past.watches c game ≡ true
+  pub table : (c : ℕ) → now.table c ≡ true → past.table c ≡ true
+
+or_more : (a b x y : Bool) → (a ≡ true → x ≡ true) → (b ≡ true → y ≡ true) → (a || b) ≡ true → (x || y) ≡ true
+or_more true b x y p q h = ap (λ t. t || y) (p refl)
+or_more false b true y p q h = refl
+or_more false b false y p q h = q h
+
+-- whether a connection is told of a game then is whether it is now, unless what comes and goes says otherwise
+watch_more : (event : Event) (tells : List Telling) (c game : ℕ) (a b : Bool) → (a ≡ true → b ≡ true) →
+    watches_now event tells c game a ≡ true → watches_now event tells c game b ≡ true
+watch_more (Opened d) tells c game a b more = more
+watch_more (Closed d) tells c game a b more =
+    elim (d == c) as (λ t. (if t then false else a) ≡ true → (if t then false else b) ≡ true) [ true ↦ λ h. h | false ↦ more ]
+watch_more (Said d text) tells c game a b more =
+    elim (d == c && leaves text game) as (λ t. (if t then false else a) ≡ true → (if t then false else b) ≡ true) [ true ↦ λ h. h | false ↦ more ]
+watch_more (Hurried d) tells c game a b more = more
+watch_more (Heard line) tells c game a b more =
+    or_more a (list_any (is_told c (watch_front game)) tells) b (list_any (is_told c (watch_front game)) tells) more (λ h. h)
+watch_more Gone tells c game a b more = more
+watch_more Here tells c game a b more = more
+
+table_more : (event : Event) (tells : List Telling) (c : ℕ) (a b : Bool) → (a ≡ true → b ≡ true) →
+    table_now event tells c a ≡ true → table_now event tells c b ≡ true
+table_more (Opened d) tells c a b more = more
+table_more (Closed d) tells c a b more =
+    elim (d == c) as (λ t. (if t then false else a) ≡ true → (if t then false else b) ≡ true) [ true ↦ λ h. h | false ↦ more ]
+table_more (Said d text) tells c a b more =
+    elim (d == c && leaves_table text) as (λ t. (if t then false else a) ≡ true → (if t then false else b) ≡ true) [ true ↦ λ h. h | false ↦ more ]
+table_more (Hurried d) tells c a b more = more
+table_more (Heard line) tells c a b more =
+    or_more a (list_any (is_told c table_front) tells) b (list_any (is_told c table_front) tells) more (λ h. h)
+table_more Gone tells c a b more = more
+table_more Here tells c a b more = more
+
+alike_then : (event : Event) (lines : List (List ℕ)) (tells : List Telling) (old new past : Known) →
+    IsKnown event lines tells old new → Alike old past → Alike new (known_now event lines tells past)
+alike_then event lines tells old new past known alike = record {
+  owed = known.owed ∙ (ap (λ n. owed_now event lines n old.owed) alike.left ∙ ap (owed_now event lines past.left) alike.owed);
+  left = known.left ∙ ap (left_now event) alike.left;
+  begun = known.begun ∙ (ap (λ n. begun_now event n old.begun) alike.left ∙ ap (begun_now event past.left) alike.begun);
+  last = known.last ∙ (ap (λ n. last_now event n old.begun old.last) alike.left
+      ∙ (ap (λ t. last_now event past.left t old.last) alike.begun ∙ ap (last_now event past.left past.begun) alike.last));
+  watches = λ c game h. watch_more event tells c game (old.watches c game) (past.watches c game) (alike.watches c game) (known.watches c game h);
+  table = λ c h. table_more event tells c (old.table c) (past.table c) (alike.table c) (known.table c h);
+}
+
+-- who is told of a notice watches, as far as the past says
+all_more : (f g : ℕ → Bool) → ((c : ℕ) → f c ≡ true → g c ≡ true) → (to : List ℕ) → list_all f to ≡ true → list_all g to ≡ true
+all_more f g more [] h = refl
+all_more f g more (c ∷ cs) h =
+    and_both (g c) (list_all g cs) (more c (and_first (f c) (list_all f cs) h)) (all_more f g more cs (and_second (f c) (list_all f cs) h))
+
+notice_alike : (old past : Known) → Alike old past → (game : ℕ) (now : List ℕ) (tells : List Telling) →
+    IsNoticeOrNone old game now tells → IsNoticeOrNone past game now tells
+notice_alike old past alike game now [] h = tt
+notice_alike old past alike game now (t ∷ []) h = record {
+  to = all_more (λ c. old.watches c game || old.table c) (λ c. past.watches c game || past.table c)
+      (λ c. or_more (old.watches c game) (old.table c) (past.watches c game) (past.table c) (alike.watches c game) (alike.table c)) t.to h.to;
+  act = h.act;
+  text = h.text ∙ ap (λ (last : List ℕ). codes "told " ++ decimal game ++ codes "\n" ++ h.act ++ last ++ now) alike.last;
+}
+notice_alike old past alike game now (t ∷ next ∷ tells) h = h
+
+followers_alike : (old past : Known) → Alike old past → (game : Option ℕ) (now : List ℕ) (tells : List Telling) →
+    IfSome game (λ g. IsNoticeOrNone old g now tells) → IfSome game (λ g. IsNoticeOrNone past g now tells)
+followers_alike old past alike None now tells h = h
+followers_alike old past alike (Some game) now tells h = notice_alike old past alike game now tells h
+
+told_for_alike : (old past : Known) → Alike old past → (o : Owed) (now : List ℕ) (lines : List (List ℕ)) (tells : List Telling) →
+    IsToldFor old o now lines tells → IsToldFor past o now lines tells
+told_for_alike old past alike Nobody now lines tells h = h
+told_for_alike old past alike (Asker c) now lines tells h =
+    (h.0, subst (λ (last : List ℕ). IsMadeOf last now h.0) alike.last h.1, h.2)
+told_for_alike old past alike (Dropper c text) now [] tells h = h
+told_for_alike old past alike (Dropper c text) now (line ∷ lines) tells h = h
+told_for_alike old past alike (Followers game) now lines tells h = (h.0, followers_alike old past alike game now tells h.1)
+
+told_next_alike : (old past : Known) → Alike old past → (owed : List Owed) (now : List ℕ) (lines : List (List ℕ)) (tells : List Telling) →
+    IsToldNext old owed now lines tells → IsToldNext past owed now lines tells
+told_next_alike old past alike [] now lines tells h = h
+told_next_alike old past alike (o ∷ owed) now lines tells h = told_for_alike old past alike o now lines tells h
+
+told_heard_alike : (old past : Known) → Alike old past → (b : Bool) (now : List ℕ) (lines : List (List ℕ)) (tells : List Telling) →
+    IsToldHeard b old now lines tells → IsToldHeard b past now lines tells
+told_heard_alike old past alike false now lines tells h = h
+told_heard_alike old past alike true now lines tells h =
+    subst (λ (owed : List Owed). IsToldNext past owed now lines tells) alike.owed (told_next_alike old past alike old.owed now lines tells h)
+
+-- what connections are told is right by what the past says
+told_alike : (event : Event) (lines : List (List ℕ)) (tells : List Telling) (old past : Known) → Alike old past →
+    IsTold event lines tells old → IsTold event lines tells past
+told_alike (Opened c) lines tells old past alike h = h
+told_alike (Closed c) lines tells old past alike h = h
+told_alike (Said c text) lines tells old past alike h = h
+told_alike (Hurried c) lines tells old past alike h = h
+told_alike (Heard line) lines tells old past alike h =
+    let here = told_heard_alike old past alike (is_whole old.left line) (answer old.begun line) lines tells h in
+    let begun = subst (λ (begun : List ℕ). IsToldHeard (is_whole old.left line) past (answer begun line) lines tells) alike.begun here in
+    subst (λ (left : ℕ). IsToldHeard (is_whole left line) past (answer past.begun line) lines tells) alike.left begun
+told_alike Gone lines tells old past alike h =
+    (h.0, h.1 ∙ ap (λ (owed : List Owed). lost owed ++ record { to = h.0; text = presence false } ∷ []) alike.owed)
+told_alike Here lines tells old past alike h = h
+
+-- each drop that waits was asked for
+abbrev pub IsAsked : List Player → List Step → Owed → Type 0
+IsAsked players past (Dropper c text) = HasAsked players past c text
+IsAsked players past _ = Unit {0}
+
+abbrev pub AreAsked : List Player → List Step → List Owed → Type 0
+AreAsked players past owed = AllByRecursion (IsAsked players past) owed
+
+asked_later : (players : List Player) (s : Step) (past : List Step) (o : Owed) → IsAsked players past o → IsAsked players (s ∷ past) o
+asked_later players s past Nobody h = tt
+asked_later players s past (Asker c) h = tt
+asked_later players s past (Dropper c text) h = inr h
+asked_later players s past (Followers game) h = tt
+
+are_asked_later : (players : List Player) (s : Step) (past : List Step) (owed : List Owed) → AreAsked players past owed → AreAsked players (s ∷ past) owed
+are_asked_later players s past [] h = tt
+are_asked_later players s past (o ∷ owed) h = (asked_later players s past o h.0, are_asked_later players s past owed h.1)
+
+are_asked_both : (players : List Player) (past : List Step) (a b : List Owed) → AreAsked players past a → AreAsked players past b → AreAsked players past (a ++ b)
+are_asked_both players past [] b h k = k
+are_asked_both players past (o ∷ owed) b h k = (h.0, are_asked_both players past owed b h.1 k)
+
+wait_last : (players : List Player) (past : List Step) (o : Owed) → IsAsked players past o → (lines : List (List ℕ)) → AreAsked players past (owed_last o lines)
+wait_last players past o h [] = tt
+wait_last players past o h (line ∷ []) = (h, tt)
+wait_last players past o h (line ∷ next ∷ lines) = (tt, wait_last players past o h (next ∷ lines))
+
+asked_follower : (players : List Player) (past : List Step) (o : Owed) (lines : List (List ℕ)) → IsAsked players past (follower o lines)
+asked_follower players past Nobody lines = tt
+asked_follower players past (Asker c) lines = tt
+asked_follower players past (Dropper c text) lines = tt
+asked_follower players past (Followers game) lines = tt
+
+asked_answered : (players : List Player) (past : List Step) (owed : List Owed) (lines : List (List ℕ)) → AreAsked players past owed →
+    AreAsked players past (owed_answered owed lines)
+asked_answered players past [] lines h = tt
+asked_answered players past (o ∷ owed) lines h =
+    are_asked_both players past owed (owed_last (follower o lines) lines) h.1
+    (wait_last players past (follower o lines) (asked_follower players past o lines) lines)
+
+asked_heard : (players : List Player) (past : List Step) (owed : List Owed) (lines : List (List ℕ)) → AreAsked players past owed →
+    (b : Bool) → AreAsked players past (if b then owed_answered owed lines else owed)
+asked_heard players past owed lines h true = asked_answered players past owed lines h
+asked_heard players past owed lines h false = h
+
+-- where something goes out for a message that asks for a drop, an arbiter asks
+abbrev pub AsksDrop : Bool → List (List ℕ) → Option Identity → Bool → Type 0
+AsksDrop false lines who m = Unit {0}
+AsksDrop true [] who m = Unit {0}
+AsksDrop true (line ∷ lines) who m = IsArbiter who × (m ≡ true)
+
+asks_none : (b : Bool) (who : Option Identity) (m : Bool) → AsksDrop b [] who m
+asks_none true who m = tt
+asks_none false who m = tt
+
+drop_asks_at : (s : Standing) (who : Identity) (game : ℕ) (said : Option (List ℕ)) (text : List ℕ) (b : Bool) → who.is_arbiter ≡ b →
+    AsksDrop true (lines_of (if b then asked s (plans.Drop who game) else plans.Refuse refusals.NotArbiter) said text) (Some who) true
+drop_asks_at s who game said text true is =
+    elim s.is_here as (λ h. AsksDrop true (lines_of (if h then plans.Drop who game else plans.Refuse refusals.NoServer) said text) (Some who) true) [
+      | true ↦ (is, refl)
+      | false ↦ tt
+    ]
+drop_asks_at s who game said text false is = tt
+
+drop_asks : (s : Standing) (who : Option Identity) (game : ℕ) (said : Option (List ℕ)) (text : List ℕ) →
+    AsksDrop true (lines_of (drop_plan s who game) said text) who true
+drop_asks s None game said text = tt
+drop_asks s (Some who) game said text = drop_asks_at s who game said text who.is_arbiter refl
+
+dropped_asks : (s : Standing) (game : Option ℕ) (said : Option (List ℕ)) (text : List ℕ) →
+    AsksDrop true (lines_of (numbered_plan sorts.Drop s game) said text) s.who true
+dropped_asks s None said text = tt
+dropped_asks s (Some game) said text = drop_asks s s.who game said text
+
+asks_at : (m : Bool) (sort : Sort) (s : Standing) (game : Option ℕ) (said : Option (List ℕ)) (text : List ℕ) →
+    AsksDrop (is_drop_sort sort) (lines_of (plan_of m sort s game) said text) s.who m
+asks_at false sort s game said text = asks_none (is_drop_sort sort) s.who false
+asks_at true sorts.Read s game said text = tt
+asks_at true sorts.Act s game said text = tt
+asks_at true sorts.Drop s game said text = dropped_asks s game said text
+asks_at true sorts.Login s game said text = tt
+asks_at true sorts.Players s game said text = tt
+asks_at true sorts.Lobby s game said text = tt
+asks_at true sorts.LeaveLobby s game said text = tt
+asks_at true sorts.Watch s game said text = tt
+asks_at true sorts.Leave s game said text = tt
+asks_at true sorts.Line s game said text = tt
+asks_at true sorts.Name s game said text = tt
+asks_at true sorts.Nothing s game said text = tt
+
+said_asks : (players : List Player) (old : View) (c : ℕ) (text : List ℕ) (lines : List (List ℕ)) (new : View) →
+    IsSaid players old c text lines new → AsksDrop (is_drop text) lines (old.who c) (is_message text)
+said_asks players old c text lines new h =
+    let planned = asks_at (is_message text) (sort_of text) h.standing (number_in (rest_of text)) old.said text in
+    let by_plan = subst (λ (plan : Plan). AsksDrop (is_drop text) (lines_of plan old.said text) h.standing.who (is_message text)) (sym h.planned) planned in
+    let lined = subst (λ (ls : List (List ℕ)). AsksDrop (is_drop text) ls h.standing.who (is_message text)) (sym h.lines_are) by_plan in
+    subst (λ (who : Option Identity). AsksDrop (is_drop text) lines who (is_message text)) h.who lined
+
+asker_asked : (players : List Player) (past : List Step) (c : ℕ) (text : List ℕ) (all lines : List (List ℕ)) (tells : List Telling) (b : Bool) →
+    is_drop text ≡ b → AsksDrop b lines (player_in players past c) (is_message text) →
+    AreAsked players (record { event = Said c text; lines = all; tells = tells } ∷ past) (owed_last (if b then Dropper c text else Asker c) lines)
+asker_asked players past c text all [] tells b is asks = tt
+asker_asked players past c text all (line ∷ lines) tells true is asks =
+    wait_last players (record { event = Said c text; lines = all; tells = tells } ∷ past) (Dropper c text)
+    (inl (refl, refl, asks.0, asks.1, is)) (line ∷ lines)
+asker_asked players past c text all (line ∷ lines) tells false is asks =
+    wait_last players (record { event = Said c text; lines = all; tells = tells } ∷ past) (Asker c) tt (line ∷ lines)
+
+-- what is seen of the desk is what the past says
+pub record Agrees (players : List Player) (past : List Step) (now : View) : Type 0 where
+  pub who : (c : ℕ) → now.who c ≡ player_in players past c
+  pub said : now.said ≡ name_in past
+  pub alike : Alike now.known (known_in past)
+  pub asked : AreAsked players past now.known.owed
+
+record DoneGood (players : List Player) (past : List Step) (event : Event) (lines : List (List ℕ)) (now : View) : Type 0 where
+  who : (c : ℕ) → now.who c ≡ player_after players event c (player_in players past c)
+  said : now.said ≡ name_through (name_before event (name_in past)) lines
+  right : IsRight players past event lines
+  whole : AreWhole lines
+
+said_who : (players : List Player) (old : View) (c : ℕ) (text : List ℕ) (lines : List (List ℕ)) (new : View) →
+    IsSaid players old c text lines new → (d : ℕ) → new.who d ≡ player_after players (Said c text) d (old.who d)
+said_who players old c text lines new h d =
+    let plan : who_noted h.plan (old.who d) ≡ player_said players text (old.who d) =
+    ap (λ (plan : Plan). who_noted plan (old.who d)) h.planned
+    ∙ (planned_who (is_message text) (sort_of text) h.standing (number_in (rest_of text)) (old.who d)
+    ∙ ap (λ (holder : Option Identity). if is_message text && is_login_sort (sort_of text) then shown_by holder (old.who d) else old.who d) h.holder) in
+    h.who_is d ∙ ap (λ (one : Option Identity). if c == d then one else old.who d) plan
+
+notice_read : (game : Option ℕ) → IfSome game (λ g. g < 2 ^ 32) → AllRead (notice_lines game) × AreWhole (notice_lines game)
+notice_read None small = (tt, tt)
+notice_read (Some game) small = ((show_reads game, (fen_reads game, tt)), (show_whole game small, (fen_whole game small, tt)))
+
+-- what goes out for an answer
+record HeardGood (players : List Player) (past : List Step) (line : List ℕ) (lines : List (List ℕ)) (later : Option (List ℕ)) : Type 0 where
+  said : later ≡ name_through (name_in past) lines
+  right : AllRead lines ⊎ IsDropOf players past line lines
+  whole : AreWhole lines
+
+heard_reads : (players : List Player) (past : List Step) (line : List ℕ) (lines : List (List ℕ)) (later : Option (List ℕ)) →
+    later ≡ name_in past → AllRead lines → AreWhole lines → HeardGood players past line lines later
+heard_reads players past line lines later said read whole = record {
+  said = said ∙ sym (names_stay (name_in past) lines read);
+  right = inl read;
+  whole = whole;
+}
+
+heard_none : (players : List Player) (past : List Step) (line : List ℕ) (lines : List (List ℕ)) (later : Option (List ℕ)) →
+    later ≡ name_in past → lines ≡ [] → HeardGood players past line lines later
+heard_none players past line lines later said none =
+    heard_reads players past line lines later said (subst AllRead (sym none) tt) (subst AreWhole (sym none) tt)
+
+-- a message that asks for a drop, as it was said
+record WasAsked (text : List ℕ) : Type 0 where
+  message : is_message text ≡ true
+  drop : is_drop text ≡ true
+
+asked_now : (players : List Player) (past : List Step) (event : Event) (c : ℕ) (text : List ℕ) → AsksNow players past event c text → WasAsked text
+asked_now players past (Opened d) c text h = absurd h
+asked_now players past (Closed d) c text h = absurd h
+asked_now players past (Said d said) c text h = record { message = h.3; drop = h.4 }
+asked_now players past (Hurried d) c text h = absurd h
+asked_now players past (Heard line) c text h = absurd h
+asked_now players past Gone c text h = absurd h
+asked_now players past Here c text h = absurd h
+
+was_asked : (players : List Player) (past : List Step) (c : ℕ) (text : List ℕ) → HasAsked players past c text → WasAsked text
+was_asked players [] c text h = absurd h
+was_asked players (s ∷ past) c text h =
+    elim h [ inl now ↦ asked_now players past s.event c text now | inr before ↦ was_asked players past c text before ]
+
+-- a sort that is a drop is no name
+drop_names_none : (sort : Sort) → is_drop_sort sort ≡ true → is_name_sort sort ≡ false
+drop_names_none sorts.Read h = absurd (false≢true h)
+drop_names_none sorts.Act h = absurd (false≢true h)
+drop_names_none sorts.Drop h = refl
+drop_names_none sorts.Login h = absurd (false≢true h)
+drop_names_none sorts.Players h = absurd (false≢true h)
+drop_names_none sorts.Lobby h = absurd (false≢true h)
+drop_names_none sorts.LeaveLobby h = absurd (false≢true h)
+drop_names_none sorts.Watch h = absurd (false≢true h)
+drop_names_none sorts.Leave h = absurd (false≢true h)
+drop_names_none sorts.Line h = absurd (false≢true h)
+drop_names_none sorts.Name h = absurd (false≢true h)
+drop_names_none sorts.Nothing h = absurd (false≢true h)
+
+dropped_heard : (players : List Player) (past : List Step) (line : List ℕ) (c : ℕ) (text : List ℕ) (others : List Owed) →
+    (known_in past).owed ≡ Dropper c text ∷ others → HasAsked players past c text →
+    (lines : List (List ℕ)) (later : Option (List ℕ)) → IsDropped (name_in past) (answer (known_in past).begun line) text lines later →
+    HeardGood players past line lines later
+dropped_heard players past line c text others waits asked lines later h =
+    let was = was_asked players past c text asked in
+    let under = act_under text h.name (name_in past) (sort_of text) was.message refl (drop_names_none (sort_of text) was.drop) h.named in
+    record {
+      said = h.said_is ∙ (under.later ∙ ap (name_through (name_in past)) (sym h.lines_are));
+      right = inr (record {
+        c = c;
+        text = text;
+        asked = asked;
+        others = others;
+        waits = waits;
+        name = h.name;
+        seated = h.seated;
+        acts = subst (λ (ls : List (List ℕ)). ActsUnder (name_in past) ls h.name) (sym h.lines_are) under.acts;
+        of_text = subst (λ (ls : List (List ℕ)). AllByRecursion (IsOf text) ls) (sym h.lines_are) under.of_text;
+      });
+      whole = subst AreWhole (sym h.lines_are) under.whole;
+    }
+
+sent_for : (players : List Player) (past : List Step) (line : List ℕ) (o : Owed) (others : List Owed) → (known_in past).owed ≡ o ∷ others →
+    IsAsked players past o → (lines : List (List ℕ)) (later : Option (List ℕ)) →
+    IsSentFor o (name_in past) (answer (known_in past).begun line) lines later → HeardGood players past line lines later
+sent_for players past line Nobody others waits asked lines later h = heard_none players past line lines later h.1 h.0
+sent_for players past line (Asker c) others waits asked lines later h =
+    let asks = notice_read h.0 h.1 in
+    heard_reads players past line lines later h.3 (subst AllRead (sym h.2) asks.0) (subst AreWhole (sym h.2) asks.1)
+sent_for players past line (Dropper c text) others waits asked lines later h =
+    elim h [
+      | inl none ↦ heard_none players past line lines later none.1 none.0
+      | inr goes ↦ dropped_heard players past line c text others waits asked lines later goes
+    ]
+sent_for players past line (Followers game) others waits asked lines later h = heard_none players past line lines later h.1 h.0
+
+sent_next : (players : List Player) (past : List Step) (line : List ℕ) (owed : List Owed) → (known_in past).owed ≡ owed →
+    AreAsked players past owed → (lines : List (List ℕ)) (later : Option (List ℕ)) →
+    IsSentNext owed (name_in past) (answer (known_in past).begun line) lines later → HeardGood players past line lines later
+sent_next players past line [] waits asked lines later h = heard_none players past line lines later h.1 h.0
+sent_next players past line (o ∷ owed) waits asked lines later h = sent_for players past line o owed waits asked.0 lines later h
+
+sent_heard : (players : List Player) (past : List Step) (line : List ℕ) (owed : List Owed) → (known_in past).owed ≡ owed →
+    AreAsked players past owed → (lines : List (List ℕ)) (later : Option (List ℕ)) (b : Bool) →
+    IsSentHeard b owed (name_in past) (answer (known_in past).begun line) lines later → HeardGood players past line lines later
+sent_heard players past line owed waits asked lines later false h = heard_none players past line lines later h.1 h.0
+sent_heard players past line owed waits asked lines later true h = sent_next players past line owed waits asked lines later h
+
+heard_good : (players : List Player) (past : List Step) (old : View) (line : List ℕ) (lines : List (List ℕ)) (now : View) →
+    Agrees players past old → IsHeard old line lines now → HeardGood players past line lines now.said
+heard_good players past old line lines now agrees h =
+    let said = subst (λ (n : Option (List ℕ)). IsSentHeard (is_whole old.known.left line) old.known.owed n (answer old.known.begun line) lines now.said) agrees.said h.sent in
+    let begun = subst (λ (t : List ℕ). IsSentHeard (is_whole old.known.left line) old.known.owed (name_in past) (answer t line) lines now.said) agrees.alike.begun said in
+    sent_heard players past line old.known.owed (sym agrees.alike.owed) agrees.asked lines now.said (is_whole old.known.left line) begun
+
+none_done : (players : List Player) (past : List Step) (event : Event) (lines : List (List ℕ)) (now : View) →
+    (lines ≡ [] → IsRight players past event lines) → lines ≡ [] → now.said ≡ name_before event (name_in past) →
+    ((c : ℕ) → now.who c ≡ player_after players event c (player_in players past c)) → DoneGood players past event lines now
+none_done players past event lines now right none said who = record {
+  who = who;
+  said = said ∙ ap (name_through (name_before event (name_in past))) (sym none);
+  right = right none;
+  whole = subst AreWhole (sym none) tt;
+}
+
+done_good : (players : List Player) (past : List Step) (old : View) (event : Event) (lines : List (List ℕ)) (now : View) →
+    Agrees players past old → IsDone players old event lines now → DoneGood players past event lines now
+done_good players past old (Opened c) lines now agrees step =
+    none_done players past (Opened c) lines now (λ none. none) step.none (step.said_is ∙ agrees.said)
+    (λ d. step.who_is d ∙ ap (λ (before : Option Identity). if c == d then None else before) (agrees.who d))
+done_good players past old (Closed c) lines now agrees step =
+    none_done players past (Closed c) lines now (λ none. none) step.none (step.said_is ∙ agrees.said)
+    (λ d. step.who_is d ∙ ap (λ (before : Option Identity). if c == d then None else before) (agrees.who d))
+done_good players past old (Hurried c) lines now agrees step =
+    none_done players past (Hurried c) lines now (λ none. none) step.none (step.said_is ∙ agrees.said)
+    (λ d. step.who_is d ∙ agrees.who d)
+done_good players past old (Said c text) lines now agrees step =
+    let good = said_good players old c text lines now step in
+    record {
+      who = λ d. said_who players old c text lines now step d ∙ ap (λ (before : Option Identity). player_after players (Said c text) d before) (agrees.who d);
+      said = good.name ∙ ap (λ (n : Option (List ℕ)). name_through n lines) agrees.said;
+      right = (
+        subst (λ (n : Option (List ℕ)). ActsRight (player_in players past c) n lines) agrees.said
+            (subst (λ (who : Option Identity). ActsRight who old.said lines) (agrees.who c) good.acts),
+        good.drops,
+        good.of_text,
+      );
+      whole = good.whole;
+    }
+done_good players past old (Heard line) lines now agrees step =
+    let good = heard_good players past old line lines now agrees step in
+    record { who = λ d. step.who_is d ∙ agrees.who d; said = good.said; right = good.right; whole = good.whole }
+done_good players past old Gone lines now agrees step =
+    none_done players past Gone lines now (λ none. none) step.none step.said_is (λ d. step.who_is d ∙ agrees.who d)
+done_good players past old Here lines now agrees step =
+    none_done players past Here lines now (λ none. none) step.none step.said_is (λ d. step.who_is d ∙ agrees.who d)
+
+-- each drop that waits then was asked for
+asked_then : (players : List Player) (past : List Step) (old : View) (event : Event) (lines : List (List ℕ)) (tells : List Telling) (now : View) →
+    Agrees players past old → IsDone players old event lines now →
+    AreAsked players (record { event = event; lines = lines; tells = tells } ∷ past) (owed_now event lines old.known.left old.known.owed)
+asked_then players past old (Opened c) lines tells now agrees step = are_asked_later players (record { event = Opened c; lines = lines; tells = tells }) past old.known.owed agrees.asked
+asked_then players past old (Closed c) lines tells now agrees step = are_asked_later players (record { event = Closed c; lines = lines; tells = tells }) past old.known.owed agrees.asked
+asked_then players past old (Hurried c) lines tells now agrees step = are_asked_later players (record { event = Hurried c; lines = lines; tells = tells }) past old.known.owed agrees.asked
+asked_then players past old (Said c text) lines tells now agrees step =
+    let asks = subst (λ (who : Option Identity). AsksDrop (is_drop text) lines who (is_message text)) (agrees.who c) (said_asks players old c text lines now step) in
+    are_asked_both players (record { event = Said c text; lines = lines; tells = tells } ∷ past) old.known.owed (owed_last (asker c text) lines)
+    (are_asked_later players (record { event = Said c text; lines = lines; tells = tells }) past old.known.owed agrees.asked)
+    (asker_asked players past c text lines lines tells (is_drop text) refl asks)
+asked_then players past old (Heard line) lines tells now agrees step =
+    asked_heard players (record { event = Heard line; lines = lines; tells = tells } ∷ past) old.known.owed lines
+    (are_asked_later players (record { event = Heard line; lines = lines; tells = tells }) past old.known.owed agrees.asked)
+    (is_whole old.known.left line)
+asked_then players past old Gone lines tells now agrees step = tt
+asked_then players past old Here lines tells now agrees step = tt
+
+begins_alike : (now : View) → BeginsView now → Alike now.known (known_in [])
+begins_alike now begins = record {
+  owed = begins.owed;
+  left = begins.left;
+  begun = begins.begun;
+  last = begins.last;
+  watches = λ c game h. absurd (false≢true (sym (begins.watches c game) ∙ h));
+  table = λ c h. absurd (false≢true (sym (begins.table c) ∙ h));
+}
+
+pub record RunGood (players : List Player) (steps : List Step) (now : View) : Type 0 where
+  pub agrees : Agrees players steps now
+  pub right : AllRight players steps
+  pub told : AllTold steps
+
+pub run_good : (players : List Player) (steps : List Step) (now : View) → IsRun players steps now → RunGood players steps now
+run_good players [] now run = record {
+  agrees = record { who = run.who; said = run.said; alike = begins_alike now run; asked = subst (AreAsked players []) (sym run.owed) tt };
+  right = tt;
+  told = tt;
+}
+run_good players (s ∷ past) now run =
+    let before = run_good players past run.0 run.1 in
+    let step = run.2 in
+    let good = done_good players past run.0 s.event s.lines now before.agrees step.done in
+    record {
+      agrees = record {
+        who = good.who;
+        said = good.said;
+        alike = alike_then s.event s.lines s.tells run.0.known now.known (known_in past) step.known before.agrees.alike;
+        asked = subst (AreAsked players (s ∷ past)) (sym step.known.owed) (asked_then players past run.0 s.event s.lines s.tells now before.agrees step.done);
+      };
+      right = (good.right, good.whole, before.right);
+      told = (told_alike s.event s.lines s.tells run.0.known (known_in past) before.agrees.alike step.told, before.told);
+    }

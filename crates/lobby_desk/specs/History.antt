@@ -1,0 +1,152 @@
+-- What is promised of whatever came in and went out.
+use Rattle.std.specs.Prelude.{ℕ, ◌≡◌, ◌⊎◌, Bool, true, false, ◌&&◌, ◌==◌, List, [], ◌∷◌, Option, None, Some, if◌then◌else◌}
+use Rattle.std.specs.List.{AllByRecursion}
+use Rattle.lobby_desk.specs.declared.words.Sort.TheVariants as sorts
+use Rattle.lobby_desk.specs.declared.players.Identity.{Identity}
+use Rattle.lobby_desk.specs.declared.players.Player.{Player}
+use Rattle.lobby_desk.specs.Words.{rest_of, is_message, sort_of, is_act_sort, is_drop_sort, is_name_sort, is_login_sort}
+use Rattle.lobby_desk.specs.Players.{holder_of}
+use Rattle.lobby_desk.specs.Answers.{IsSeated}
+use Rattle.lobby_desk.specs.Events.{Event, Opened, Closed, Said, Heard, Gone, Here, Telling, Owed, Dropper}
+use Rattle.lobby_desk.specs.Tellings.{Known, known_now, answer, IsTold}
+use Rattle.lobby_desk.specs.Who.{View, BeginsView, IsStep}
+
+-- one event, the lines that went to the server for it, and what connections were told
+pub record Step : Type 0 where
+  pub event : Event
+  pub lines : List (List ℕ)
+  pub tells : List Telling
+
+-- what a message shows of a connection: the player who has its token, if it is a login and a player has
+abbrev pub shown_by : Option Identity → Option Identity → Option Identity
+shown_by None before = before
+shown_by (Some who) before = Some who
+
+abbrev pub player_said : List Player → List ℕ → Option Identity → Option Identity
+player_said players text before =
+    if is_message text && is_login_sort (sort_of text) then shown_by (holder_of players (rest_of text)) before else before
+
+abbrev pub player_after : List Player → Event → ℕ → Option Identity → Option Identity
+player_after players (Opened d) c before = if d == c then None else before
+player_after players (Closed d) c before = if d == c then None else before
+player_after players (Said d text) c before = if d == c then player_said players text before else before
+player_after players _ c before = before
+
+-- The player whose token connection c has shown, the last if several, since it came. The past is told from its newest
+-- step back.
+abbrev pub player_in : List Player → List Step → ℕ → Option Identity
+player_in players [] c = None
+player_in players (s ∷ past) c = player_after players s.event c (player_in players past c)
+
+-- a line says a name, is an act, is a `drop`
+abbrev pub says_name : List ℕ → Bool
+says_name line = is_name_sort (sort_of line)
+
+abbrev pub is_act : List ℕ → Bool
+is_act line = is_act_sort (sort_of line)
+
+abbrev pub is_drop : List ℕ → Bool
+is_drop line = is_drop_sort (sort_of line)
+
+-- the name that holds behind a line, and behind lines
+abbrev pub name_behind : Option (List ℕ) → List ℕ → Option (List ℕ)
+name_behind said line = if says_name line then Some (rest_of line) else said
+
+abbrev pub name_through : Option (List ℕ) → List (List ℕ) → Option (List ℕ)
+name_through said [] = said
+name_through said (line ∷ lines) = name_through (name_behind said line) lines
+
+-- no name holds on a new connection to the server
+abbrev pub name_before : Event → Option (List ℕ) → Option (List ℕ)
+name_before Gone said = None
+name_before Here said = None
+name_before _ said = said
+
+-- the name that holds at the server behind all lines that went to it
+abbrev pub name_in : List Step → Option (List ℕ)
+name_in [] = None
+name_in (s ∷ past) = name_through (name_before s.event (name_in past)) s.lines
+
+-- each act among lines stands under this name
+abbrev pub ActsUnder : Option (List ℕ) → List (List ℕ) → List ℕ → Type 0
+ActsUnder said [] name = Unit {0}
+ActsUnder said (line ∷ lines) name = (is_act line ≡ true → said ≡ Some name) × ActsUnder (name_behind said line) lines name
+
+abbrev pub NoActs : List (List ℕ) → Type 0
+NoActs lines = AllByRecursion (λ line. is_act line ≡ false) lines
+
+abbrev pub NoDrops : List (List ℕ) → Type 0
+NoDrops lines = AllByRecursion (λ line. is_drop line ≡ false) lines
+
+-- lines that change nothing
+abbrev pub AllRead : List (List ℕ) → Type 0
+AllRead lines = AllByRecursion (λ line. sort_of line ≡ sorts.Read) lines
+
+-- The lines for a message of a connection: where it has shown no token none is an act; else each act stands under the name
+-- of the player whose token it is. No `drop` is among them.
+abbrev pub ActsRight : Option Identity → Option (List ℕ) → List (List ℕ) → Type 0
+ActsRight None said lines = NoActs lines
+ActsRight (Some who) said lines = ActsUnder said lines who.name
+
+-- a line is the message, or says a name, or changes nothing
+abbrev pub IsOf : List ℕ → List ℕ → Type 0
+IsOf text line = (line ≡ text) ⊎ (sort_of line ≡ sorts.Name) ⊎ (sort_of line ≡ sorts.Read)
+
+-- what is known of the connections and of the server behind a past
+abbrev pub known_in : List Step → Known
+known_in [] = record { owed = []; left = 0; begun = []; last = []; watches = λ _ _. false; table = λ _. false }
+known_in (s ∷ past) = known_now s.event s.lines s.tells (known_in past)
+
+abbrev pub IsArbiter : Option Identity → Type 0
+IsArbiter None = ⊥
+IsArbiter (Some who) = who.is_arbiter ≡ true
+
+-- a connection that had shown an arbiter's token has said this message, which asks for a drop
+abbrev pub AsksNow : List Player → List Step → Event → ℕ → List ℕ → Type 0
+AsksNow players past (Said d said) c text =
+    (d ≡ c) × (said ≡ text) × IsArbiter (player_in players past c) × (is_message text ≡ true) × (is_drop text ≡ true)
+AsksNow players past _ c text = ⊥
+
+abbrev pub HasAsked : List Player → List Step → ℕ → List ℕ → Type 0
+HasAsked players [] c text = ⊥
+HasAsked players (s ∷ past) c text = AsksNow players past s.event c text ⊎ HasAsked players past c text
+
+-- A drop goes out behind an answer of the server. It is the message of a connection that had shown an arbiter's token when it
+-- said it; the answer is the one for which this message waits; and the drop stands under the name of a player who, as that
+-- answer says, has a seat in the game.
+pub record IsDropOf (players : List Player) (past : List Step) (line : List ℕ) (lines : List (List ℕ)) : Type 0 where
+  pub c : ℕ
+  pub text : List ℕ
+  pub asked : HasAsked players past c text
+  pub others : List Owed
+  pub waits : (known_in past).owed ≡ Dropper c text ∷ others
+  pub name : List ℕ
+  pub seated : IsSeated (answer (known_in past).begun line) (rest_of text) name
+  pub acts : ActsUnder (name_in past) lines name
+  pub of_text : AllByRecursion (IsOf text) lines
+
+-- what goes out for an event
+abbrev pub IsRight : List Player → List Step → Event → List (List ℕ) → Type 0
+IsRight players past (Said c text) lines =
+    ActsRight (player_in players past c) (name_in past) lines × NoDrops lines × AllByRecursion (IsOf text) lines
+IsRight players past (Heard line) lines = AllRead lines ⊎ IsDropOf players past line lines
+IsRight players past _ lines = lines ≡ []
+
+-- a line that has 1 to 255 bytes, each of them 32 to 126, so that no line feed is in it
+abbrev pub AreWhole : List (List ℕ) → Type 0
+AreWhole lines = AllByRecursion (λ line. is_message line ≡ true) lines
+
+-- at each step
+abbrev pub AllRight : List Player → List Step → Type 0
+AllRight players [] = Unit {0}
+AllRight players (s ∷ past) = IsRight players past s.event s.lines × AreWhole s.lines × AllRight players past
+
+-- at each step, by what came and went before it
+abbrev pub AllTold : List Step → Type 0
+AllTold [] = Unit {0}
+AllTold (s ∷ past) = IsTold s.event s.lines s.tells (known_in past) × AllTold past
+
+-- a desk that begins, and steps of it
+abbrev pub IsRun : List Player → List Step → View → Type 0
+IsRun players [] now = BeginsView now
+IsRun players (s ∷ past) now = (before : View) × IsRun players past before × IsStep players before s.event s.lines s.tells now

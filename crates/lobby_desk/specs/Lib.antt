@@ -1,0 +1,10 @@
+pub mod Words
+pub mod Players
+pub mod Lines
+pub mod Answers
+pub mod Plans
+pub mod Pace
+pub mod Events
+pub mod Tellings
+pub mod Who
+pub mod History

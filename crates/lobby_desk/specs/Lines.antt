@@ -1,0 +1,56 @@
+-- Lines to the server.
+use Rattle.std.specs.Prelude.{ℕ, Bool, false, List, [], ◌∷◌, ◌++◌, Option, Some, None, codes, decimal, if◌then◌else◌}
+use Rattle.std.specs.Str.{bytes_eq}
+use Rattle.lobby_desk.specs.declared.planning.Plan.{Plan}
+use Rattle.lobby_desk.specs.declared.planning.Plan.TheVariants as plans
+use Rattle.rec_codec.specs.Name.{IsName}
+
+-- a line with the line feed that ends it
+abbrev pub ended : List ℕ → List ℕ
+ended line = line ++ 10 ∷ []
+
+-- lines, one behind the other
+abbrev pub bytes_of : List (List ℕ) → List ℕ
+bytes_of [] = []
+bytes_of (line ∷ lines) = ended line ++ bytes_of lines
+
+-- the line that says a name
+abbrev pub name_line : List ℕ → List ℕ
+name_line name = codes "name " ++ name
+
+-- the line that asks something of a game
+abbrev pub game_line : List ℕ → ℕ → List ℕ
+game_line word game = word ++ decimal game
+
+abbrev pub is_said : Option (List ℕ) → List ℕ → Bool
+is_said None name = false
+is_said (Some said) name = bytes_eq said name
+
+-- an act under a name, where another or none was said last
+abbrev pub act_lines : Option (List ℕ) → List ℕ → List ℕ → List (List ℕ)
+act_lines said name line = if is_said said name then line ∷ [] else name_line name ∷ line ∷ []
+
+-- the lines that a plan sends
+abbrev pub lines_of : Plan → Option (List ℕ) → List ℕ → List (List ℕ)
+lines_of plans.Read said text = text ∷ []
+lines_of (plans.Act who) said text = act_lines said who.name text
+lines_of (plans.Drop who game) said text = game_line (codes "show ") game ∷ []
+lines_of plans.Lobby said text = codes "list" ∷ []
+lines_of (plans.Watch game) said text = game_line (codes "show ") game ∷ game_line (codes "fen ") game ∷ []
+lines_of (plans.Line game) said text = game_line (codes "pgn ") game ∷ []
+lines_of _ said text = []
+
+-- the name that was said last after a plan's lines
+abbrev pub said_after : Plan → Option (List ℕ) → Option (List ℕ)
+said_after (plans.Act who) said = Some who.name
+said_after _ said = said
+
+-- what an accepted act makes the desk ask, of the game that its answer names
+abbrev pub notice_lines : Option ℕ → List (List ℕ)
+notice_lines None = []
+notice_lines (Some game) = game_line (codes "show ") game ∷ game_line (codes "fen ") game ∷ []
+
+-- the name under which a plan acts is one
+abbrev pub IsNamed : Plan → Type 0
+IsNamed (plans.Act who) = IsName who.name
+IsNamed _ = Unit {0}

@@ -1,0 +1,203 @@
+//! What is done by a plan for a message.
+ghost use Rattle.std.specs.Prelude.{ℕ, List, ◌≡◌, ◌++◌, ◌==◌, ◌&&◌, false, IfOk, OnOk, map, is_some, if◌then◌else◌};
+ghost use Rattle.std.specs.String.{string_bytes};
+ghost use Rattle.lobby_desk.specs.Lines.{bytes_of, lines_of, said_after, IsNamed};
+ghost use Rattle.lobby_desk.specs.Events.{Telling, tellings, owed_of, owed_last, plan_asker};
+ghost use Rattle.lobby_desk.specs.Who.{who_in, who_noted, is_left, is_risen, is_own, watched, at_table, IsAnswered};
+
+use crate::planning::Plan;
+use crate::players::{Identity, Player, Visitor};
+use crate::server_line::{Acting, Due, ServerLine};
+use crate::telling::{Kind, Told, headed, tell};
+use crate::watching::{Watch, rise, unwatch};
+use rec_codec::Name;
+use std::alloc::{AllocError, Global};
+use std::collections::BTreeMap;
+
+/// A connection is told no more of what it leaves.
+pub fn forget(watches: &mut Vec<Watch>, table: &mut Vec<u64>, from: u64, plan: &Plan)
+    ensures watches { (c game : ℕ) → watched watches.new.items c game ≡ (if from == c && is_left plan.now game then false else watched watches.old.items c game) }
+    ensures table { (c : ℕ) → at_table table.new.items c ≡ (if from == c && is_risen plan.now then false else at_table table.old.items c) }
+{
+    match plan {
+        Plan::LeaveLobby => rise(table, from),
+        Plan::Leave(game) => unwatch(watches, from, *game),
+        _ => {}
+    }
+}
+
+/// Answers a connection, where nothing is asked of the server.
+pub fn answer_plan(
+    alloc: Global,
+    players: &[Player],
+    from: u64,
+    plan: &Plan,
+    told: &mut Vec<Told>,
+) -> Result<(), AllocError>
+    ensures { OnOk result ((tells : List Telling) × (tellings told.new.items ≡ tellings told.old.items ++ tells) × IsAnswered plan.now from tells) }
+{
+    match own_answer(alloc, plan, players)? {
+        None => Ok(()),
+        Some(answer) => tell(alloc, told, from, Kind::Whole, answer),
+    }
+}
+
+// The line that a connection is answered for a plan by which nothing is sent.
+fn own_answer(alloc: Global, plan: &Plan, players: &[Player]) -> Result<Option<String>, AllocError>
+    ensures { IfOk result (λ answer. is_some answer ≡ is_own plan.now) }
+{
+    match plan {
+        Plan::Refuse(refusal) => Ok(Some(String::from_str(alloc, refusal.line())?)),
+        Plan::Login(who) => Ok(Some(login_line(alloc, who, players)?)),
+        Plan::Players => Ok(Some(player_rows(alloc, players)?)),
+        Plan::LeaveLobby => Ok(Some(String::from_str(alloc, "ok leave lobby\n")?)),
+        Plan::Leave(game) => Ok(Some(headed(alloc, "ok leave ", *game)?)),
+        _ => Ok(None),
+    }
+}
+
+// A player's name, role and full name, and a line feed.
+fn push_player(
+    text: &mut String,
+    name: &Name,
+    is_arbiter: bool,
+    full_name: &str,
+) -> Result<(), AllocError> {
+    text.push_str(name.as_str())?;
+    text.push_str(if is_arbiter { " arbiter " } else { " player " })?;
+    text.push_str(full_name)?;
+    text.push('\n')
+}
+
+// The answer to a `login` that is accepted.
+fn login_line(alloc: Global, who: &Identity, players: &[Player]) -> Result<String, AllocError> {
+    let mut text = String::from_str(alloc, "ok login ")?;
+    let mut full_name = "";
+    for player in players {
+        if player.name.as_str() == who.name.as_str() {
+            full_name = player.full_name.as_str();
+        }
+    }
+    push_player(&mut text, &who.name, who.is_arbiter, full_name)?;
+    Ok(text)
+}
+
+// The answer to `players`.
+fn player_rows(alloc: Global, players: &[Player]) -> Result<String, AllocError> {
+    let count = players.len();
+    let mut text = format!(in alloc; "ok players {count}\n")?;
+    for player in players {
+        push_player(
+            &mut text,
+            &player.name,
+            player.is_arbiter,
+            player.full_name.as_str(),
+        )?;
+    }
+    Ok(text)
+}
+
+// A connection's act, as it waits.
+fn acting(alloc: Global, from: u64, who: &Identity, text: &str) -> Result<Acting, AllocError>
+    ensures { IfOk result (λ act. (act.from ≡ from) × (string_bytes act.text ≡ text.now)) }
+{
+    Ok(Acting {
+        from,
+        who: who.name,
+        text: String::from_str(alloc, text)?,
+    })
+}
+
+/// The name that was said last on the connection to the server, and the lines of a plan.
+pub fn send(
+    line: &mut ServerLine,
+    alloc: Global,
+    from: u64,
+    text: &str,
+    plan: &Plan,
+    wire: &mut Vec<u8>,
+) -> Result<(), AllocError>
+    ensures sent { OnOk result (wire.new.items ≡ wire.old.items ++ bytes_of (lines_of plan.now line.old.said text.now)) }
+    ensures owed { OnOk result (map owed_of line.new.queue.items ≡ map owed_of line.old.queue.items ++ owed_last (plan_asker plan.now from text.now) (lines_of plan.now line.old.said text.now)) }
+    ensures said { OnOk result (line.new.said ≡ said_after plan.now line.old.said) }
+    ensures here { line.new.is_here ≡ line.old.is_here }
+    ensures named { OnOk result (IsNamed plan.now) }
+{
+    match plan {
+        Plan::Read => line.pass(text, Due::Reply(from, Kind::Whole), wire),
+        Plan::Act(who) => {
+            let act = acting(alloc, from, who, text)?;
+            line.act(who.name, text, Due::Act(act), wire)
+        }
+        Plan::Drop(who, game) => {
+            let act = acting(alloc, from, who, text)?;
+            line.ask("show ", *game, Due::Drop(act), wire)
+        }
+        Plan::Lobby => line.pass("list", Due::Table(from), wire),
+        Plan::Watch(game) => {
+            line.ask("show ", *game, Due::Own, wire)?;
+            line.ask("fen ", *game, Due::Watch(from, *game), wire)
+        }
+        Plan::Line(game) => line.ask("pgn ", *game, Due::Reply(from, Kind::Line), wire),
+        _ => Ok(()),
+    }
+}
+
+// Whether a connection that was ready waits after a plan.
+fn waits_noted(plan: &Plan) -> bool {
+    match plan {
+        Plan::Refuse(_) | Plan::Login(_) | Plan::Players | Plan::LeaveLobby | Plan::Leave(_) =>
+            false,
+        _ => true,
+    }
+}
+
+// For whom a connection acts after a plan.
+fn who_noted(before: Option<Identity>, plan: &Plan) -> Option<Identity>
+    ensures { result ≡ who_noted plan.now before }
+{
+    match plan {
+        Plan::Login(who) => Some(*who),
+        _ => before,
+    }
+}
+
+/// For whom a connection acts.
+pub fn who_acts(visitors: &BTreeMap<u64, Visitor>, connection: u64) -> Option<Identity>
+    ensures { result ≡ who_in visitors.now connection }
+{
+    match visitors.get(&connection) {
+        Some(visitor) => visitor.who,
+        None => None,
+    }
+}
+
+/// A connection is so from now on.
+pub fn put(
+    visitors: &mut BTreeMap<u64, Visitor>,
+    connection: u64,
+    who: Option<Identity>,
+    waits: bool,
+    until: u64,
+) -> Result<(), AllocError>
+    ensures { OnOk result ((c : ℕ) → who_in visitors.new c ≡ (if connection == c then who else who_in visitors.old c)) }
+{
+    let visitor = Visitor { who, waits, until };
+    visitors.insert(connection, visitor)?;
+    Ok(())
+}
+
+/// What stays of a plan: for whom the connection acts, whether it waits, and until when its time is taken.
+pub fn note(
+    visitors: &mut BTreeMap<u64, Visitor>,
+    from: u64,
+    plan: &Plan,
+    until: u64,
+) -> Result<(), AllocError>
+    ensures { OnOk result ((c : ℕ) → who_in visitors.new c ≡ (if from == c then who_noted plan.now (who_in visitors.old c) else who_in visitors.old c)) }
+{
+    let before = who_acts(visitors, from);
+    let waits = waits_noted(plan);
+    put(visitors, from, who_noted(before, plan), waits, until)?;
+    Ok(())
+}

@@ -1,0 +1,20 @@
+//! How fast a connection may say messages.
+ghost use Rattle.std.specs.Prelude.{◌≡◌};
+ghost use Rattle.lobby_desk.specs.Pace.{paced};
+
+// What a message takes of a connection's time, and how far before it another may come, in milliseconds.
+const COST: u64 = 50;
+
+const AHEAD: u64 = 950;
+
+/// Until when the time of a connection is taken after a message that comes at a moment; `None` where it comes too fast.
+pub fn paced(until: u64, now: u64) -> Option<u64>
+    ensures { result ≡ paced until now }
+{
+    let from = if until < now { now } else { until };
+    if from - now <= AHEAD && from <= u64::MAX - COST {
+        Some(from + COST)
+    } else {
+        None
+    }
+}
