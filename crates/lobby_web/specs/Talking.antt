@@ -1,0 +1,124 @@
+-- What a socket reads, gives and sends.
+use Rattle.std.specs.Prelude.{ℕ, ◌≡◌, ◌≢◌, ◌⊎◌, ◌<◌, Bool, true, false, not, ◌&&◌, List, [], ◌∷◌, ◌++◌, drop, length, Option, Some, None, Result, Ok, Err}
+use Rattle.websocket.specs.declared.protocol.config.Role.TheVariants.{Server}
+use Rattle.websocket.specs.declared.protocol.state.WebSocketState.TheVariants.{Active}
+use Rattle.websocket.specs.declared.protocol.frame.coding.CloseCode.{CloseCode}
+use Rattle.websocket.specs.declared.protocol.frame.coding.OpCode.TheVariants as Op
+use Rattle.websocket.specs.declared.protocol.frame.coding.Control.TheVariants as Control
+use Rattle.websocket.specs.declared.protocol.frame.codec.FrameStatus.TheVariants.{Partial, Complete}
+use Rattle.websocket.specs.Content.{Content, close_payload, content_opcode, content_payload}
+use Rattle.websocket.specs.Connection.{Connection, Effect, read_step, can_write, failed_connection}
+use Rattle.websocket.specs.View.{GivesError}
+use Rattle.lobby_web.specs.declared.socket.Socket.{Socket}
+use Rattle.lobby_web.specs.declared.socket.Frame.{Frame}
+use Rattle.lobby_web.specs.declared.socket.Frame.TheVariants.{Waits, Quiet, Text, Lost, Binary, Close, Bad}
+use Rattle.lobby_web.specs.declared.socket.Heard.{Heard}
+use Rattle.lobby_web.specs.declared.socket.Heard.TheVariants.{Opened, Text as Words}
+use Rattle.lobby_web.specs.declared.socket.Unsaid.{Unsaid}
+use Rattle.lobby_web.specs.declared.socket.Unsaid.TheVariants.{NotOpen, NotText, Slow, Memory}
+use Rattle.lobby_web.specs.Codes.{IsFrameOf}
+use Rattle.lobby_web.specs.Frames.{Run, Runs, texts, replies, reply_bytes, frame_bytes}
+
+-- A socket that begins: a server's, open, with no message begun, and with the limits on messages.
+pub record IsFresh (s : Socket) : Type 0 where
+  pub conn : s.context ≡ record {
+    role = Server;
+    state = Active;
+    config = record { max_message_size = Some 4096; max_frame_size = Some 4096; accept_unmasked_frames = false };
+    fragments = None;
+  }
+  pub open : s.is_over ≡ false
+
+-- Only what waits to be written is another.
+abbrev pub Keeps : Socket → Socket → Type 0
+Keeps old new = (new.context ≡ old.context) × (new.input.items ≡ old.input.items) × (new.is_over ≡ old.is_over)
+
+-- A whole frame was taken off what came, the first, and answered as the protocol has it; it was this for the lobby.
+pub record TakesWhole (old new : Socket) (frame : Frame) : Type 0 where
+  pub taken : ℕ × Effect
+  pub read : read_step old.context old.input.items ≡ Ok (Complete taken)
+  pub state : new.context ≡ taken.1.next
+  pub input : new.input.items ≡ drop taken.0 old.input.items
+  pub output : new.output.items ≡ old.output.items ++ reply_bytes taken.1.reply
+  pub shorter : length new.input.items < length old.input.items
+  pub is : IsFrameOf taken.1.message frame
+
+-- What the next frame was, and what is left.
+abbrev pub TakesFrame : Socket → Socket → Frame → Type 0
+TakesFrame old new Waits =
+    ((needed : ℕ) × (read_step old.context old.input.items ≡ Ok (Partial needed))) × (new.context ≡ old.context)
+    × (new.input.items ≡ old.input.items) × (new.output.items ≡ old.output.items)
+TakesFrame old new Quiet = TakesWhole old new Quiet
+TakesFrame old new (Text bytes) = TakesWhole old new (Text bytes)
+TakesFrame old new Lost = TakesWhole old new Lost
+TakesFrame old new Binary = TakesWhole old new Binary
+TakesFrame old new Close = TakesWhole old new Close
+TakesFrame old new (Bad error) =
+    GivesError (read_step old.context old.input.items) error × (new.context ≡ failed_connection old.context)
+    × (new.output.items ≡ old.output.items)
+
+-- The list of what an option has.
+abbrev pub given : Option (List ℕ) → List (List ℕ)
+given None = []
+given (Some text) = text ∷ []
+
+-- a close frame of this code, without a reason
+abbrev pub close_frame : CloseCode → List ℕ
+close_frame code = frame_bytes (Op.Control Control.Close) (close_payload (Some (code, [])))
+
+-- nothing more goes out, or a close frame of this code does
+abbrev pub ClosesBy : CloseCode → List ℕ → List ℕ → Type 0
+ClosesBy code old new = (new ≡ old) ⊎ (new ≡ old ++ close_frame code)
+
+-- It is over now, with a close frame where one could be sent.
+abbrev pub EndsWith : CloseCode → Socket → Socket → Type 0
+EndsWith code old new = (new.input.items ≡ old.input.items) × ClosesBy code old.output.items new.output.items
+
+-- The frames that were read made up one text message, which is given, and no other; or one that is lost for want of memory.
+abbrev pub GivesTexts : Run → Option (List ℕ) → Bool → Type 0
+GivesTexts frames text over =
+    (texts frames ≡ given text) ⊎ ((over ≡ true) × (text ≡ None) × ((lost : List ℕ) × (texts frames ≡ lost ∷ [])))
+
+-- What is given is the first text message of the frames that came. The replies to all that were read are behind what
+-- waited; and where nothing is given, no whole frame is left, or it is over, and then with one close frame at most.
+pub record Gives (old new : Socket) (text : Option (List ℕ)) : Type 0 where
+  pub frames : Run
+  pub conn : Connection
+  pub rest : List ℕ
+  pub runs : Runs old.context old.input.items frames conn rest
+  pub texts : GivesTexts frames text new.is_over
+  pub open : new.is_over ≡ false → (new.context ≡ conn) × (new.input.items ≡ rest)
+      × (new.output.items ≡ old.output.items ++ replies frames)
+  pub over : new.is_over ≡ true → (code : CloseCode) × ClosesBy code (old.output.items ++ replies frames) new.output.items
+  pub waits : text ≡ None → new.is_over ≡ false → (needed : ℕ) × (read_step conn rest ≡ Ok (Partial needed))
+  pub ended : old.is_over ≡ true → (text ≡ None) × (new ≡ old)
+
+-- whether something may be said
+abbrev pub may_say : Socket → Bool
+may_say s = not s.is_over && can_write s.context.state
+
+-- What becomes of what is to be said: its one frame is behind all that waits; or it is not said, for this reason.
+abbrev pub Says : Content → Socket → Socket → Result (Unit {0}) Unsaid → Type 0
+Says content old new (Ok _) =
+    (may_say old ≡ true) × (new.is_over ≡ false) × (new.input.items ≡ old.input.items)
+    × (new.output.items ≡ old.output.items ++ frame_bytes (content_opcode content) (content_payload content))
+Says content old new (Err NotOpen) = (may_say old ≡ false) × (new ≡ old)
+Says content old new (Err NotText) = ⊥
+Says content old new (Err Slow) =
+    (may_say old ≡ true) × (1048576 < length old.output.items) × (new.is_over ≡ true)
+    × (new.output.items ≡ old.output.items)
+Says content old new (Err Memory) =
+    (may_say old ≡ true) × (new.is_over ≡ true) × (new.output.items ≡ old.output.items)
+
+-- What is heard next: first, once, that it is open, and nothing else changes by it; then what its frames give.
+abbrev pub Hears : Socket → Socket → Option Heard → Type 0
+Hears old new (Some Opened) = (old.is_told ≡ false) × (new ≡ record old { is_told = true })
+Hears old new (Some (Words text)) = (old.is_told ≡ true) × Gives old new (Some text.items)
+Hears old new None = (old.is_told ≡ true) × Gives old new None
+
+-- Bytes came, none as the peer's end: they are behind those that were not read, or it is over.
+abbrev pub TakesIn : List ℕ → Socket → Socket → Type 0
+TakesIn bytes old new =
+    (new.output.items ≡ old.output.items)
+    × ((new.is_over ≡ true) ⊎ ((bytes ≢ []) × (new.context ≡ old.context) × (new.input.items ≡ old.input.items ++ bytes)
+    × (new.is_over ≡ old.is_over) × (new.is_told ≡ old.is_told)))
