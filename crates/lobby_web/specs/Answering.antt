@@ -1,5 +1,5 @@
 -- What a site answers to a request.
-use Rattle.std.specs.Prelude.{ℕ, ◌≡◌, ◌⊎◌, ◌==◌, Bool, List, [], ◌∷◌, ◌++◌, Option, None, Some, codes, MatchBool}
+use Rattle.std.specs.Prelude.{ℕ, ◌≡◌, ◌⊎◌, ◌==◌, Bool, true, List, [], ◌∷◌, ◌++◌, Option, None, Some, codes, MatchBool}
 use Rattle.http.specs.declared.request.Request.{Request}
 use Rattle.http1.specs.Fields.{Header}
 use Rattle.http_server.specs.declared.response.Response.{Response}
@@ -76,3 +76,11 @@ IsAnswer site r response =
 -- the response hands the connection over
 abbrev pub is_switch : Response → Bool
 is_switch response = response.status == 101
+
+-- The request names a host that is taken, and asks, from a page of that host, to go on as a WebSocket at `/ws`.
+pub record IsGranted (site : Site) (r : Request (List ℕ)) : Type 0 where
+  pub host : is_taken site r ≡ true
+  pub socket : asks_socket r ≡ true
+  pub page : is_from_page r ≡ true
+  pub asks : asks_upgrade r ≡ true
+  pub key : IsValidKey (field r (codes "sec-websocket-key"))

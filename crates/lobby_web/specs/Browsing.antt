@@ -14,7 +14,7 @@ use Rattle.lobby_web.specs.declared.socket.Unsaid.{Unsaid}
 use Rattle.lobby_web.specs.declared.socket.Unsaid.TheVariants.{NotOpen}
 use Rattle.lobby_web.specs.declared.browser.Stage.{Stage}
 use Rattle.lobby_web.specs.declared.browser.Stage.TheVariants as At
-use Rattle.lobby_web.specs.Answering.{IsAnswer}
+use Rattle.lobby_web.specs.Answering.{IsAnswer, IsGranted}
 use Rattle.lobby_web.specs.Talking.{IsFresh, Keeps, TakesIn, Hears, Says, may_say}
 
 -- heads of at most 16,384 bytes, and requests without a body
@@ -52,8 +52,8 @@ pub record HandsOver (config : Config) (site : Site) (old : History) (socket : S
   pub last : History
   pub serves : Serves config site old last
   pub upgraded : last.state ≡ Upgraded
-  pub granted : (before : List Call) × (call : Call) × (last.calls ≡ before ++ call ∷ []) × IsAnswer site call.0 call.1
-      × (call.1.status ≡ 101)
+  pub granted : (before : List Call) × (call : Call) × (last.calls ≡ before ++ call ∷ []) × (call.1.status ≡ 101)
+      × IsGranted site call.0
   pub fresh : IsFresh socket
   pub input : socket.input.items ≡ last.unread
   pub output : socket.output.items ≡ last.pending

@@ -2,6 +2,7 @@ pub mod Media
 pub mod Pages
 pub mod Requests
 pub mod Answering
+pub mod Asking
 pub mod Codes
 pub mod Frames
 pub mod Talking

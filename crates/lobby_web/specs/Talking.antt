@@ -1,12 +1,12 @@
 -- What a socket reads, gives and sends.
 use Rattle.std.specs.Prelude.{ℕ, ◌≡◌, ◌≢◌, ◌⊎◌, ◌<◌, Bool, true, false, not, ◌&&◌, List, [], ◌∷◌, ◌++◌, drop, length, Option, Some, None, Result, Ok, Err}
 use Rattle.websocket.specs.declared.protocol.config.Role.TheVariants.{Server}
-use Rattle.websocket.specs.declared.protocol.state.WebSocketState.TheVariants.{Active}
+use Rattle.websocket.specs.declared.protocol.state.WebSocketState.TheVariants.{Active, ClosedByUs}
 use Rattle.websocket.specs.declared.protocol.frame.coding.CloseCode.{CloseCode}
 use Rattle.websocket.specs.declared.protocol.frame.coding.OpCode.TheVariants as Op
 use Rattle.websocket.specs.declared.protocol.frame.coding.Control.TheVariants as Control
 use Rattle.websocket.specs.declared.protocol.frame.codec.FrameStatus.TheVariants.{Partial, Complete}
-use Rattle.websocket.specs.Content.{Content, close_payload, content_opcode, content_payload}
+use Rattle.websocket.specs.Content.{Content, text, binary, ping, pong, close, close_payload, content_opcode, content_payload}
 use Rattle.websocket.specs.Connection.{Connection, Effect, read_step, can_write, failed_connection}
 use Rattle.websocket.specs.View.{GivesError}
 use Rattle.lobby_web.specs.declared.socket.Socket.{Socket}
@@ -31,7 +31,9 @@ pub record IsFresh (s : Socket) : Type 0 where
 
 -- Only what waits to be written is another.
 abbrev pub Keeps : Socket → Socket → Type 0
-Keeps old new = (new.context ≡ old.context) × (new.input.items ≡ old.input.items) × (new.is_over ≡ old.is_over)
+Keeps old new =
+    (new.context ≡ old.context) × (new.input.items ≡ old.input.items) × (new.is_over ≡ old.is_over)
+    × (new.is_told ≡ old.is_told)
 
 -- A whole frame was taken off what came, the first, and answered as the protocol has it; it was this for the lobby.
 pub record TakesWhole (old new : Socket) (frame : Frame) : Type 0 where
@@ -97,10 +99,19 @@ pub record Gives (old new : Socket) (text : Option (List ℕ)) : Type 0 where
 abbrev pub may_say : Socket → Bool
 may_say s = not s.is_over && can_write s.context.state
 
+-- the state behind what was said: only a close changes it
+abbrev pub said_state : Content → Connection → Connection
+said_state (text bytes) conn = conn
+said_state (binary bytes) conn = conn
+said_state (ping bytes) conn = conn
+said_state (pong bytes) conn = conn
+said_state (close frame) conn = record conn { state = ClosedByUs }
+
 -- What becomes of what is to be said: its one frame is behind all that waits; or it is not said, for this reason.
 abbrev pub Says : Content → Socket → Socket → Result (Unit {0}) Unsaid → Type 0
 Says content old new (Ok _) =
-    (may_say old ≡ true) × (new.is_over ≡ false) × (new.input.items ≡ old.input.items)
+    (may_say old ≡ true) × (new.context ≡ said_state content old.context) × (new.input.items ≡ old.input.items)
+    × (new.is_over ≡ false) × (new.is_told ≡ old.is_told)
     × (new.output.items ≡ old.output.items ++ frame_bytes (content_opcode content) (content_payload content))
 Says content old new (Err NotOpen) = (may_say old ≡ false) × (new ≡ old)
 Says content old new (Err NotText) = ⊥

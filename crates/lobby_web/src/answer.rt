@@ -1,12 +1,12 @@
 //! What a request is answered.
-ghost use Rattle.std.specs.Prelude.{◌≡◌, ◌++◌, ◌||◌, [], false, OnOk, bytes_eq};
+ghost use Rattle.std.specs.Prelude.{◌≡◌, ◌++◌, [], false, OnOk, bytes_eq};
 ghost use Rattle.std.specs.Option.{option_copied};
 ghost use Rattle.http_header.specs.Token.{lowercase};
 ghost use Rattle.http_header.specs.FieldValue.{plain_value};
 ghost use Rattle.http_server.specs.Response.{IsBlank, IsResponse};
 ghost use Rattle.lobby_web.specs.Media.{media_type};
 ghost use Rattle.lobby_web.specs.Requests.{field, is_from_page, lists_upgrade, asks_upgrade, only_reads};
-ghost use Rattle.lobby_web.specs.Answering.{guarded, IsTold, IsFileAnswer, IsOtherMethodAnswer, IsSwitch, IsSocketAnswer, IsAnswer, is_switch};
+ghost use Rattle.lobby_web.specs.Answering.{guarded, IsTold, IsFileAnswer, IsOtherMethodAnswer, IsSwitch, IsSocketAnswer, IsAnswer};
 
 use crate::site::{File, Kind, Site};
 use bytes::{BufMut, Bytes};
@@ -213,7 +213,7 @@ fn answer(
     send_file(response, site.file_at(path))
 }
 
-/// The site, as it answers the requests of one connection, and whether it has granted an upgrade.
+/// The site, as it answers the requests of one connection, and whether the last answer was an upgrade.
 #[derive(Drop)]
 pub struct Asked<'a> {
     alloc: Global,
@@ -234,7 +234,7 @@ impl<'a> Asked<'a> {
         }
     }
 
-    /// Whether an upgrade was granted.
+    /// Whether the last answer was an upgrade.
     pub fn has_switched(&self) -> bool
         ensures { result ≡ self.now.has_switched }
     {
@@ -243,8 +243,9 @@ impl<'a> Asked<'a> {
 }
 
 impl Service for Asked<'_> {
-    ghost answers = { λ old request response new. IsAnswer old.site.now request response
-        × (new.site.now ≡ old.site.now) × (new.has_switched ≡ (old.has_switched || is_switch response)) };
+    ghost use Rattle.lobby_web.specs.Asking.{Replies};
+
+    ghost answers = { Replies };
 
     fn call(
         &mut self,
@@ -252,9 +253,7 @@ impl Service for Asked<'_> {
         response: &mut Response,
     ) -> Result<(), AllocError> {
         answer(self.alloc, self.site, request, response)?;
-        if response.status.as_u16() == 101 {
-            self.has_switched = true;
-        }
+        self.has_switched = response.status.as_u16() == 101;
         Ok(())
     }
 }

@@ -1,0 +1,47 @@
+-- Which requests are answered by an upgrade.
+use Rattle.std.proofs.Common.{ℕ, ◌≡◌, ◌⊎◌, inl, inr, List, [], ◌∷◌, ◌++◌, Option, None, Some, Bool, true, false, MatchBool, codes, refl, sym, ◌∙◌, arith}
+use Rattle.http.specs.declared.request.Request.{Request}
+use Rattle.http_server.specs.declared.response.Response.{Response}
+use Rattle.http_server.specs.Exchange.{Call}
+use Rattle.http_server.specs.Response.{IsResponse}
+use Rattle.websocket.specs.Handshake.{IsValidKey, accept_key_of}
+use Rattle.lobby_web.specs.declared.site.Site.{Site}
+use Rattle.lobby_web.specs.declared.site.File.{File}
+use Rattle.lobby_web.specs.Pages.{file_at}
+use Rattle.lobby_web.specs.Requests.{field, path_of, is_taken, is_from_page, asks_socket, asks_upgrade, only_reads}
+use Rattle.lobby_web.specs.Answering.{IsAnswer, IsSocketAnswer, IsPageAnswer, IsKeyAnswer, IsFileAnswer, IsOtherMethodAnswer, IsTold, IsSwitch, IsGranted}
+
+matched : (b : Bool) (P Q : Type 0) → MatchBool b P Q → ((b ≡ true) × P) ⊎ ((b ≡ false) × Q)
+matched true P Q h = inl (refl, h)
+matched false P Q h = inr (refl, h)
+
+file-status : (file : Option File) (response : Response) → IsFileAnswer file response → response.status ≡ 101 → ⊥
+file-status None response h switch = omega (arith, h.status, switch)
+file-status (Some file) response h switch = omega (arith, h.status, switch)
+
+pub granted : (site : Site) (r : Request (List ℕ)) (response : Response) → IsAnswer site r response → response.status ≡ 101 → IsGranted site r
+granted site r response answer switch =
+    elim (matched (is_taken site r) _ _ answer) [
+      | inr no ↦ absurd (omega (arith, no.1.status, switch))
+      | inl taken ↦
+          elim (matched (asks_socket r) _ _ taken.1) [
+            | inr page ↦
+                elim (matched (only_reads r) _ _ page.1) [
+                  | inl file ↦ absurd (file-status (file_at site (path_of r)) response file.1 switch)
+                  | inr method ↦ absurd (omega (arith, method.1.status, switch))
+                ]
+            | inl socket ↦
+                elim (matched (is_from_page r) _ _ socket.1) [
+                  | inr no ↦ absurd (omega (arith, no.1.status, switch))
+                  | inl own ↦
+                      elim (matched (asks_upgrade r) _ _ own.1) [
+                        | inr no ↦ absurd (omega (arith, no.1.status, switch))
+                        | inl asks ↦
+                            elim asks.1 [
+                              | inl key ↦ record { host = taken.0; socket = socket.0; page = own.0; asks = asks.0; key = key.0 }
+                              | inr no ↦ absurd (omega (arith, no.1.status, switch))
+                            ]
+                      ]
+                ]
+          ]
+    ]

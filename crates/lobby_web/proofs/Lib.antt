@@ -1,0 +1,6 @@
+pub mod OriginLemmas
+pub mod GrantLemmas
+pub mod ChainLemmas
+pub mod RunLemmas
+pub mod RoleLemmas
+pub mod SendLemmas
