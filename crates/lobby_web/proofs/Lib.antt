@@ -4,3 +4,4 @@ pub mod ChainLemmas
 pub mod RunLemmas
 pub mod RoleLemmas
 pub mod SendLemmas
+pub mod LifeLemmas

@@ -26,9 +26,9 @@ runs-more conn after input rest more (frame ∷ frames) runs =
 -- one run behind another
 pub runs-join : (conn mid after : Connection) (input left rest : List ℕ) (frames more : Run) → Runs conn input frames mid left
     → Runs mid left more after rest → Runs conn input (frames ++ more) after rest
-runs-join conn mid after input left rest [] more runs then = rw (← runs.0, ← runs.1) then
-runs-join conn mid after input left rest (frame ∷ frames) more runs then =
-    (runs.0, runs-join frame.1.next mid after (drop frame.0 input) left rest frames more runs.1 then)
+runs-join conn mid after input left rest [] more runs next = rw (← runs.0, ← runs.1) next
+runs-join conn mid after input left rest (frame ∷ frames) more runs next =
+    (runs.0, runs-join frame.1.next mid after (drop frame.0 input) left rest frames more runs.1 next)
 
 pub texts-append : (frames more : Run) → texts (frames ++ more) ≡ texts frames ++ texts more
 texts-append [] more = refl

@@ -7,3 +7,4 @@ pub mod Codes
 pub mod Frames
 pub mod Talking
 pub mod Browsing
+pub mod Happening

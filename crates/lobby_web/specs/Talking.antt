@@ -27,7 +27,7 @@ pub record IsFresh (s : Socket) : Type 0 where
     config = record { max_message_size = Some 4096; max_frame_size = Some 4096; accept_unmasked_frames = false };
     fragments = None;
   }
-  pub open : s.is_over ≡ false
+  pub begun : s.is_over ≡ false
 
 -- Only what waits to be written is another.
 abbrev pub Keeps : Socket → Socket → Type 0
@@ -62,7 +62,7 @@ TakesFrame old new (Bad error) =
 -- The list of what an option has.
 abbrev pub given : Option (List ℕ) → List (List ℕ)
 given None = []
-given (Some text) = text ∷ []
+given (Some words) = words ∷ []
 
 -- a close frame of this code, without a reason
 abbrev pub close_frame : CloseCode → List ℕ
@@ -78,22 +78,22 @@ EndsWith code old new = (new.input.items ≡ old.input.items) × ClosesBy code o
 
 -- The frames that were read made up one text message, which is given, and no other; or one that is lost for want of memory.
 abbrev pub GivesTexts : Run → Option (List ℕ) → Bool → Type 0
-GivesTexts frames text over =
-    (texts frames ≡ given text) ⊎ ((over ≡ true) × (text ≡ None) × ((lost : List ℕ) × (texts frames ≡ lost ∷ [])))
+GivesTexts frames words over =
+    (texts frames ≡ given words) ⊎ ((over ≡ true) × (words ≡ None) × ((lost : List ℕ) × (texts frames ≡ lost ∷ [])))
 
 -- What is given is the first text message of the frames that came. The replies to all that were read are behind what
 -- waited; and where nothing is given, no whole frame is left, or it is over, and then with one close frame at most.
-pub record Gives (old new : Socket) (text : Option (List ℕ)) : Type 0 where
+pub record Gives (old new : Socket) (words : Option (List ℕ)) : Type 0 where
   pub frames : Run
   pub conn : Connection
   pub rest : List ℕ
   pub runs : Runs old.context old.input.items frames conn rest
-  pub texts : GivesTexts frames text new.is_over
-  pub open : new.is_over ≡ false → (new.context ≡ conn) × (new.input.items ≡ rest)
+  pub texts : GivesTexts frames words new.is_over
+  pub stands : new.is_over ≡ false → (new.context ≡ conn) × (new.input.items ≡ rest)
       × (new.output.items ≡ old.output.items ++ replies frames)
   pub over : new.is_over ≡ true → (code : CloseCode) × ClosesBy code (old.output.items ++ replies frames) new.output.items
-  pub waits : text ≡ None → new.is_over ≡ false → (needed : ℕ) × (read_step conn rest ≡ Ok (Partial needed))
-  pub ended : old.is_over ≡ true → (text ≡ None) × (new ≡ old)
+  pub waits : words ≡ None → new.is_over ≡ false → (needed : ℕ) × (read_step conn rest ≡ Ok (Partial needed))
+  pub ended : old.is_over ≡ true → (words ≡ None) × (new ≡ old)
 
 -- whether something may be said
 abbrev pub may_say : Socket → Bool
@@ -124,7 +124,7 @@ Says content old new (Err Memory) =
 -- What is heard next: first, once, that it is open, and nothing else changes by it; then what its frames give.
 abbrev pub Hears : Socket → Socket → Option Heard → Type 0
 Hears old new (Some Opened) = (old.is_told ≡ false) × (new ≡ record old { is_told = true })
-Hears old new (Some (Words text)) = (old.is_told ≡ true) × Gives old new (Some text.items)
+Hears old new (Some (Words found)) = (old.is_told ≡ true) × Gives old new (Some found.items)
 Hears old new None = (old.is_told ≡ true) × Gives old new None
 
 -- Bytes came, none as the peer's end: they are behind those that were not read, or it is over.

@@ -4,12 +4,14 @@
 
 mod answer;
 mod browser;
+mod laws;
 mod site;
 mod socket;
 #[cfg(test)]
 mod tests;
 
 pub use crate::browser::{Browser, MOST_AT_ONCE};
+pub use crate::laws::law_of_messages;
 pub use crate::site::{File, Kind, Site};
 pub use crate::socket::{Heard, Unsaid};
 pub use websocket::protocol::CloseCode;
