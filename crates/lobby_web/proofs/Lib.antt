@@ -3,5 +3,7 @@ pub mod GrantLemmas
 pub mod ChainLemmas
 pub mod RunLemmas
 pub mod RoleLemmas
+pub mod ReplyLemmas
 pub mod SendLemmas
 pub mod LifeLemmas
+pub mod SayingLemmas

@@ -30,7 +30,7 @@ stays-over (said content (Err NotOpen)) old new does over = (ap (λ (s : Socket)
 stays-over (said content (Err NotText)) old new does over = absurd does
 stays-over (said content (Err Slow)) old new does over = absurd (shut old over does.0)
 stays-over (said content (Err Memory)) old new does over = absurd (shut old over does.0)
-stays-over (wrote count) old new does over = (does.2.2 ∙ over, refl)
+stays-over (wrote bytes) old new does over = (does.1.2 ∙ over, refl)
 
 silent : (events : List Event) (old new : Socket) → Happen events old new → old.is_over ≡ true → (new.is_over ≡ true) × (all_texts events ≡ [])
 silent [] old new happen over = (ap (λ (s : Socket). s.is_over) happen ∙ over, refl)
@@ -135,8 +135,8 @@ heeds-event (said content (Err NotOpen)) events old mid new keeps does over heed
 heeds-event (said content (Err NotText)) events old mid new keeps does over heeds = absurd does
 heeds-event (said content (Err Slow)) events old mid new keeps does over heeds = unread old.context _ _ new (over does.2).0 (over does.2).1
 heeds-event (said content (Err Memory)) events old mid new keeps does over heeds = unread old.context _ _ new (over does.1).0 (over does.1).1
-heeds-event (wrote count) events old mid new keeps does over heeds =
-    same-heeds old mid new (all_bytes events) (all_texts events) does.2.0 does.2.1 heeds
+heeds-event (wrote bytes) events old mid new keeps does over heeds =
+    same-heeds old mid new (all_bytes events) (all_texts events) does.1.0 does.1.1 heeds
 
 pub heeded : (events : List Event) (old new : Socket) → AllKeepOpen events → Happen events old new
     → Heeds old.context (old.input.items ++ all_bytes events) (all_texts events) new

@@ -1,6 +1,8 @@
 -- Frames that came, one after another, and frames that go.
 use Rattle.std.specs.Prelude.{ℕ, ◌≡◌, List, [], ◌∷◌, ◌++◌, drop, Option, Some, None, Ok}
 use Rattle.websocket.specs.declared.protocol.frame.coding.OpCode.{OpCode}
+use Rattle.websocket.specs.declared.protocol.frame.coding.OpCode.TheVariants as Op
+use Rattle.websocket.specs.declared.protocol.frame.coding.Data.TheVariants as Data
 use Rattle.websocket.specs.declared.protocol.frame.codec.FrameStatus.TheVariants.{Complete}
 use Rattle.websocket.specs.Content.{Content, text, binary, ping, pong, close}
 use Rattle.websocket.specs.Connection.{Connection, Effect, Outgoing, read_step, whole_header}
@@ -42,3 +44,23 @@ reply_bytes (Some out) = frame_bytes out.opcode out.payload
 abbrev pub replies : Run → List ℕ
 replies [] = []
 replies (frame ∷ frames) = reply_bytes frame.1.reply ++ replies frames
+
+-- the frames that go, one behind the other
+abbrev pub frames_bytes : List Outgoing → List ℕ
+frames_bytes [] = []
+frames_bytes (out ∷ outs) = frame_bytes out.opcode out.payload ++ frames_bytes outs
+
+abbrev pub outgoing : Option Outgoing → List Outgoing
+outgoing None = []
+outgoing (Some out) = out ∷ []
+
+abbrev pub text_payload : OpCode → List ℕ → List (List ℕ)
+text_payload (Op.Data Data.Text) payload = payload ∷ []
+text_payload (Op.Data Data.Binary) payload = []
+text_payload (Op.Data Data.Continue) payload = []
+text_payload (Op.Control control) payload = []
+
+-- the texts among frames that go
+abbrev pub texts_sent : List Outgoing → List (List ℕ)
+texts_sent [] = []
+texts_sent (out ∷ outs) = text_payload out.opcode out.payload ++ texts_sent outs
