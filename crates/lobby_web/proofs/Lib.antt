@@ -5,5 +5,8 @@ pub mod RunLemmas
 pub mod RoleLemmas
 pub mod ReplyLemmas
 pub mod SendLemmas
+pub mod TakeLemmas
+pub mod GivesLemmas
+pub mod ServeLemmas
 pub mod LifeLemmas
 pub mod SayingLemmas

@@ -35,7 +35,7 @@ pub differs : (origin scheme host : List ℕ) → bytes_eq (take (length scheme)
 differs origin scheme host begins =
     false-unless _
     (λ same.
-      let whole = (bytes_eq-Decides origin (scheme ++ host)).0 same in
-      let front : bytes_eq (take (length scheme) origin) scheme ≡ true =
-      (bytes_eq-Decides _ scheme).1 (ap (λ l. take (length scheme) l) whole ∙ take-front scheme host) in
-      cc (begins, front))
+    let whole = (bytes_eq-Decides origin (scheme ++ host)).0 same in
+    let front : bytes_eq (take (length scheme) origin) scheme ≡ true =
+    (bytes_eq-Decides _ scheme).1 (ap (λ l. take (length scheme) l) whole ∙ take-front scheme host) in
+    cc (begins, front))

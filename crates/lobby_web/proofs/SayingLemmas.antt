@@ -137,12 +137,12 @@ uttered (event ∷ events) old new happen =
     record {
       frames = outs ++ later.frames;
       bytes = append_assoc (bytes_out event) (all_written events) new.output.items
-      ∙ ap (λ l. bytes_out event ++ l) later.bytes
-      ∙ sym (append_assoc (bytes_out event) happen.0.output.items (frames_bytes later.frames))
-      ∙ ap (λ l. l ++ frames_bytes later.frames) first.sum
-      ∙ append_assoc old.output.items first.more (frames_bytes later.frames)
-      ∙ ap (λ l. old.output.items ++ (l ++ frames_bytes later.frames)) first.frames.spelled
-      ∙ ap (λ l. old.output.items ++ l) (sym (frames_bytes-append outs later.frames));
+          ∙ ap (λ l. bytes_out event ++ l) later.bytes
+          ∙ sym (append_assoc (bytes_out event) happen.0.output.items (frames_bytes later.frames))
+          ∙ ap (λ l. l ++ frames_bytes later.frames) first.sum
+          ∙ append_assoc old.output.items first.more (frames_bytes later.frames)
+          ∙ ap (λ l. old.output.items ++ (l ++ frames_bytes later.frames)) first.frames.spelled
+          ∙ ap (λ l. old.output.items ++ l) (sym (frames_bytes-append outs later.frames));
       texts = texts_sent-append outs later.frames ∙ ap (λ l. l ++ texts_sent later.frames) first.frames.words
-      ∙ ap (λ l. texts_said event ++ l) later.texts;
+          ∙ ap (λ l. texts_said event ++ l) later.texts;
     }

@@ -6,7 +6,7 @@ use Rattle.websocket.specs.declared.protocol.frame.coding.CloseCode.{CloseCode}
 use Rattle.websocket.specs.declared.protocol.frame.coding.CloseCode.TheVariants as Code
 use Rattle.websocket.specs.Content.{Content, text, binary, ping, pong, close}
 use Rattle.lobby_web.specs.declared.socket.Frame.{Frame}
-use Rattle.lobby_web.specs.declared.socket.Frame.TheVariants.{Waits, Quiet, Text, Lost, Binary, Close, Bad}
+use Rattle.lobby_web.specs.declared.socket.Frame.TheVariants.{Waits, Quiet, Text, Lost, Binary, Close, Slow, Bad}
 
 -- the text, or lost for want of memory
 abbrev pub IsTextOf : List ℕ → Frame → Type 0
@@ -16,6 +16,7 @@ IsTextOf bytes (Text found) = found.items ≡ bytes
 IsTextOf bytes Lost = ⊤
 IsTextOf bytes Binary = ⊥
 IsTextOf bytes Close = ⊥
+IsTextOf bytes Slow = ⊥
 IsTextOf bytes (Bad error) = ⊥
 
 -- What a frame is that gives this message: a text is given as it came, or lost where memory is refused.

@@ -11,7 +11,7 @@ use Rattle.websocket.specs.Connection.{Connection, Effect, read_step, can_write,
 use Rattle.websocket.specs.View.{GivesError}
 use Rattle.lobby_web.specs.declared.socket.Socket.{Socket}
 use Rattle.lobby_web.specs.declared.socket.Frame.{Frame}
-use Rattle.lobby_web.specs.declared.socket.Frame.TheVariants.{Waits, Quiet, Text, Lost, Binary, Close, Bad}
+use Rattle.lobby_web.specs.declared.socket.Frame.TheVariants.{Waits, Quiet, Text, Lost, Binary, Close, Slow as SlowFrame, Bad}
 use Rattle.lobby_web.specs.declared.socket.Heard.{Heard}
 use Rattle.lobby_web.specs.declared.socket.Heard.TheVariants.{Opened, Text as Words}
 use Rattle.lobby_web.specs.declared.socket.Unsaid.{Unsaid}
@@ -35,29 +35,41 @@ Keeps old new =
     (new.context ≡ old.context) × (new.input.items ≡ old.input.items) × (new.is_over ≡ old.is_over)
     × (new.is_told ≡ old.is_told)
 
--- A whole frame was taken off what came, the first, and answered as the protocol has it; it was this for the lobby.
-pub record TakesWhole (old new : Socket) (frame : Frame) : Type 0 where
+-- A whole frame was taken off what had come, the first, and answered as the protocol has it; it was this for the lobby.
+pub record TakesWhole (conn : Connection) (input output : List ℕ) (new : Socket) (frame : Frame) : Type 0 where
   pub taken : ℕ × Effect
-  pub read : read_step old.context old.input.items ≡ Ok (Complete taken)
+  pub read : read_step conn input ≡ Ok (Complete taken)
   pub state : new.context ≡ taken.1.next
-  pub input : new.input.items ≡ drop taken.0 old.input.items
-  pub output : new.output.items ≡ old.output.items ++ reply_bytes taken.1.reply
-  pub shorter : length new.input.items < length old.input.items
+  pub rest : new.input.items ≡ drop taken.0 input
+  pub reply : new.output.items ≡ output ++ reply_bytes taken.1.reply
+  pub shorter : length new.input.items < length input
   pub is : IsFrameOf taken.1.message frame
 
--- What the next frame was, and what is left.
-abbrev pub TakesFrame : Socket → Socket → Frame → Type 0
-TakesFrame old new Waits =
-    ((needed : ℕ) × (read_step old.context old.input.items ≡ Ok (Partial needed))) × (new.context ≡ old.context)
-    × (new.input.items ≡ old.input.items) × (new.output.items ≡ old.output.items)
-TakesFrame old new Quiet = TakesWhole old new Quiet
-TakesFrame old new (Text bytes) = TakesWhole old new (Text bytes)
-TakesFrame old new Lost = TakesWhole old new Lost
-TakesFrame old new Binary = TakesWhole old new Binary
-TakesFrame old new Close = TakesWhole old new Close
-TakesFrame old new (Bad error) =
-    GivesError (read_step old.context old.input.items) error × (new.context ≡ failed_connection old.context)
-    × (new.output.items ≡ old.output.items)
+-- Nothing was taken.
+abbrev pub TakesNothing : Connection → List ℕ → List ℕ → Socket → Type 0
+TakesNothing conn input output new = (new.context ≡ conn) × (new.input.items ≡ input) × (new.output.items ≡ output)
+
+-- What the next frame was, from this state, of what had come and with what waited, and what is left.
+abbrev pub TakesFrame : Connection → List ℕ → List ℕ → Socket → Frame → Type 0
+TakesFrame conn input output new Waits =
+    ((needed : ℕ) × (read_step conn input ≡ Ok (Partial needed))) × TakesNothing conn input output new
+TakesFrame conn input output new Quiet = TakesWhole conn input output new Quiet
+TakesFrame conn input output new (Text bytes) = TakesWhole conn input output new (Text bytes)
+TakesFrame conn input output new Lost = TakesWhole conn input output new Lost
+TakesFrame conn input output new Binary = TakesWhole conn input output new Binary
+TakesFrame conn input output new Close = TakesWhole conn input output new Close
+TakesFrame conn input output new SlowFrame = TakesNothing conn input output new
+TakesFrame conn input output new (Bad error) =
+    GivesError (read_step conn input) error × (new.context ≡ failed_connection conn) × (new.output.items ≡ output)
+
+-- Frames were passed over that gave no text, and then came this one.
+pub record Reaches (old new : Socket) (frame : Frame) : Type 0 where
+  pub frames : Run
+  pub conn : Connection
+  pub rest : List ℕ
+  pub runs : Runs old.context old.input.items frames conn rest
+  pub quiet : texts frames ≡ []
+  pub last : TakesFrame conn rest (old.output.items ++ replies frames) new frame
 
 -- The list of what an option has.
 abbrev pub given : Option (List ℕ) → List (List ℕ)

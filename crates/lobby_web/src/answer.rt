@@ -59,10 +59,10 @@ fn lists_upgrade(connection: &[u8]) -> bool
 fn asks_upgrade(request: &Request<Bytes>) -> bool
     ensures { result ≡ asks_upgrade request.now }
 {
-    request.method().as_str().as_bytes() == b"GET"
+    request.method().as_str().as_bytes() == b"GET".as_slice()
         && lists_upgrade(field(request, "connection"))
         && eq_ignore_case(field(request, "upgrade"), b"websocket")
-        && field(request, "sec-websocket-version") == b"13"
+        && field(request, "sec-websocket-version") == b"13".as_slice()
 }
 
 // Whether a request only reads.
@@ -70,7 +70,7 @@ fn only_reads(request: &Request<Bytes>) -> bool
     ensures { result ≡ only_reads request.now }
 {
     let method = request.method().as_str().as_bytes();
-    method == b"GET" || method == b"HEAD"
+    method == b"GET".as_slice() || method == b"HEAD".as_slice()
 }
 
 fn media_type(kind: Kind) -> HeaderValue
@@ -85,7 +85,8 @@ fn media_type(kind: Kind) -> HeaderValue
 }
 
 // The browser runs and loads only what is of the page's own host, frames it nowhere, and sends no form.
-const POLICY: &str = "default-src 'none'; script-src 'self'; style-src 'self'; img-src 'self'; connect-src 'self'; base-uri 'none'; form-action 'none'; frame-ancestors 'none'";
+const POLICY: &str =
+    "default-src 'none'; script-src 'self'; style-src 'self'; img-src 'self'; connect-src 'self'; base-uri 'none'; form-action 'none'; frame-ancestors 'none'";
 
 // The status and the fields of an answer, and no body yet.
 fn begin(response: &mut Response, status: StatusCode, kind: HeaderValue) -> Result<(), AllocError>
@@ -131,7 +132,11 @@ fn send_file(response: &mut Response, file: Option<&File>) -> Result<(), AllocEr
     ensures { OnOk result (IsFileAnswer (option_copied file) response.new) }
 {
     let Some(file) = file else {
-        return tell(response, StatusCode::NOT_FOUND, "There is no such page here.");
+        return tell(
+            response,
+            StatusCode::NOT_FOUND,
+            "There is no such page here.",
+        );
     };
     begin(response, StatusCode::OK, media_type(file.kind))?;
     response.body.push(file.bytes.clone()?)
@@ -142,7 +147,11 @@ fn refuse_method(response: &mut Response) -> Result<(), AllocError>
     requires { IsBlank response.old }
     ensures { OnOk result (IsOtherMethodAnswer response.new) }
 {
-    tell(response, StatusCode::METHOD_NOT_ALLOWED, "Only GET and HEAD are answered.")?;
+    tell(
+        response,
+        StatusCode::METHOD_NOT_ALLOWED,
+        "Only GET and HEAD are answered.",
+    )?;
     response.add_header(
         HeaderName::from_static("allow"),
         HeaderValue::from_static("GET, HEAD"),
@@ -179,14 +188,26 @@ fn open_socket(
     ensures { OnOk result (IsSocketAnswer request.now response.new) }
 {
     if !is_from_page(request) {
-        return tell(response, StatusCode::FORBIDDEN, "Only this site's own page opens this socket.");
+        return tell(
+            response,
+            StatusCode::FORBIDDEN,
+            "Only this site's own page opens this socket.",
+        );
     }
     if !asks_upgrade(request) {
-        return tell(response, StatusCode::BAD_REQUEST, "Here is a WebSocket of version 13.");
+        return tell(
+            response,
+            StatusCode::BAD_REQUEST,
+            "Here is a WebSocket of version 13.",
+        );
     }
     match accept_key(field(request, "sec-websocket-key")) {
         Ok(key) => switch(alloc, response, &key),
-        Err(_) => tell(response, StatusCode::BAD_REQUEST, "The key of this WebSocket is none."),
+        Err(_) => tell(
+            response,
+            StatusCode::BAD_REQUEST,
+            "The key of this WebSocket is none.",
+        ),
     }
 }
 
@@ -201,10 +222,14 @@ fn answer(
     ensures { OnOk result (IsAnswer site.now request.now response.new) }
 {
     if request.uri().authority().is_some() || !site.has_host(field(request, "host")) {
-        return tell(response, StatusCode::FORBIDDEN, "This host is not served here.");
+        return tell(
+            response,
+            StatusCode::FORBIDDEN,
+            "This host is not served here.",
+        );
     }
     let path = request.uri().path().as_bytes();
-    if path == b"/ws" {
+    if path == b"/ws".as_slice() {
         return open_socket(alloc, request, response);
     }
     if !only_reads(request) {

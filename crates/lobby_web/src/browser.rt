@@ -37,7 +37,7 @@ pub struct Browser {
 }
 
 // The limits of HTTP: heads of 16,384 bytes, and requests without a body.
-fn config() -> Config
+fn web_config() -> Config
     ensures { result ≡ web_config }
 {
     Config {
@@ -98,7 +98,7 @@ impl Browser {
     {
         Browser {
             alloc,
-            stage: Stage::Http(Connection::new(alloc, keys, config())),
+            stage: Stage::Http(Connection::new(alloc, keys, web_config())),
         }
     }
 

@@ -2,6 +2,7 @@
 ghost use Rattle.std.specs.Prelude.{◌≡◌, ◌≢◌, ◌++◌, ◌<◌, ◌≤◌, ◌↔◌, [], true, false, IsTrue, IfOk, IfErr, IfSome, OnOk, OnErr, IsUtf8, length, drop, option_map};
 ghost use Rattle.bytes.specs.Unread.{IsChunkOf};
 ghost use Rattle.websocket.specs.declared.protocol.config.Role.TheVariants.{Server};
+ghost use Rattle.lobby_web.specs.Codes.{code_of, IsFrameOf};
 ghost use Rattle.websocket.specs.CloseCode.{is_allowed};
 ghost use Rattle.websocket.specs.Content.{message_content, received_content, text as Text, ping as Ping, close as Close, IsReceivedInside};
 ghost use Rattle.websocket.specs.Connection.{read_step, failed_connection, can_write};
@@ -63,12 +64,14 @@ pub enum Frame {
     Binary,
     /// The peer's close.
     Close,
+    /// None: more waits to be written than a browser may leave there.
+    Slow,
     /// None: the protocol was broken, or memory was refused.
     Bad(Error),
 }
 
 /// The connection after the upgrade.
-#[derive(Debug, Drop)]
+#[derive(Drop)]
 pub struct Socket {
     alloc: Global,
     context: WebSocketContext,
@@ -112,7 +115,7 @@ fn frame_of(alloc: Global, message: &Option<Received>, input: &[u8]) -> Frame
 }
 
 impl Socket {
-    ghost use Rattle.lobby_web.specs.Talking.{IsFresh, TakesFrame, Gives, Hears, Says, EndsWith, Keeps};
+    ghost use Rattle.lobby_web.specs.Talking.{IsFresh, TakesFrame, Reaches, Gives, Hears, Says, EndsWith, Keeps};
 
     /// A socket that begins with what HTTP left: bytes that came behind the upgrade, and what waits to be written.
     pub fn new(alloc: Global, input: BytesMut, output: Rope) -> Socket
@@ -205,12 +208,13 @@ impl Socket {
         ensures err_state { OnErr result (self.new.context ≡ failed_connection self.old.context) }
         ensures over { self.new.is_over ≡ self.old.is_over }
     {
-        self.context.read(self.input.as_mut_slice(), &mut self.output, &mut NoMask)
+        self.context
+            .read(self.input.as_mut_slice(), &mut self.output, &mut NoMask)
     }
 
     // Takes the next frame off what came.
     fn take_frame(&mut self) -> Frame
-        ensures takes { TakesFrame self.old self.new result }
+        ensures takes { TakesFrame self.old.context self.old.input.items self.old.output.items self.new result }
         ensures over { self.new.is_over ≡ self.old.is_over }
     {
         let step = match self.read_frame() {
@@ -223,6 +227,23 @@ impl Socket {
         frame
     }
 
+    // Takes frames up to the first that is more than a part of a message, a ping or a pong: these are answered and passed
+    // over.
+    fn next_frame(&mut self) -> Frame
+        ensures reaches { Reaches self.old self.new result }
+        ensures over { self.new.is_over ≡ self.old.is_over }
+    {
+        loop {
+            if self.output.len() > MOST_WAITING {
+                return Frame::Slow;
+            }
+            match self.take_frame() {
+                Frame::Quiet => {}
+                frame => return frame,
+            }
+        }
+    }
+
     // It is over, with a close frame where one may still be sent and memory is there.
     fn fail(&mut self, code: CloseCode)
         ensures over { self.new.is_over ≡ true }
@@ -230,27 +251,25 @@ impl Socket {
     {
         self.is_over = true;
         let frame = CloseFrame { code, reason: "" };
-        let _ = self.context.close(Some(frame), &mut self.output, &mut NoMask);
+        let _ = self
+            .context
+            .close(Some(frame), &mut self.output, &mut NoMask);
     }
 
-    // The next text message, from the frames that came. None where no whole message is left, or it is over: pings are
-    // answered, the peer's close is, and what breaks the protocol is answered by a close.
+    // The next text message, from the frames that came. None where no whole message is left, or it is over: the peer's
+    // close is answered, and what breaks the protocol is answered by a close.
     fn next(&mut self) -> Option<Vec<u8>>
         ensures { Gives self.old self.new (option_map (λ text. text.items) result) }
     {
-        while !self.is_over {
-            if self.output.len() > MOST_WAITING {
-                self.is_over = true;
-                return None;
-            }
-            match self.take_frame() {
-                Frame::Waits => return None,
-                Frame::Quiet => {}
-                Frame::Text(text) => return Some(text),
-                Frame::Binary => self.fail(CloseCode::Unsupported),
-                Frame::Close | Frame::Lost => self.is_over = true,
-                Frame::Bad(error) => self.fail(code_of(error)),
-            }
+        if self.is_over {
+            return None;
+        }
+        match self.next_frame() {
+            Frame::Text(text) => return Some(text),
+            Frame::Waits | Frame::Quiet => {}
+            Frame::Binary => self.fail(CloseCode::Unsupported),
+            Frame::Close | Frame::Lost | Frame::Slow => self.is_over = true,
+            Frame::Bad(error) => self.fail(code_of(error)),
         }
         None
     }
@@ -263,7 +282,10 @@ impl Socket {
             self.is_told = true;
             return Some(Heard::Opened);
         }
-        self.next().map(Heard::Text)
+        match self.next() {
+            Some(text) => Some(Heard::Text(text)),
+            None => None,
+        }
     }
 
     // Puts a message behind what waits to be written.

@@ -10,18 +10,21 @@ const INDEX: &[u8] = b"<!doctype html><title>Chess club</title>";
 
 const SCRIPT: &[u8] = b"export const SIZE = 8;";
 
-const FILE_FIELDS: &[u8] = b"\r\ncontent-security-policy: default-src 'none'; script-src 'self'; style-src 'self'; \
+const FILE_FIELDS: &[u8] =
+    b"\r\ncontent-security-policy: default-src 'none'; script-src 'self'; style-src 'self'; \
     img-src 'self'; connect-src 'self'; base-uri 'none'; form-action 'none'; frame-ancestors 'none'\r\n\
     x-content-type-options: nosniff\r\nreferrer-policy: no-referrer\r\ncache-control: no-cache\r\n";
 
 // The key, and the answer to it, of RFC 6455, section 1.3.
-const UPGRADE: &[u8] = b"GET /ws HTTP/1.1\r\nHost: club:80\r\nOrigin: http://club:80\r\nConnection: keep-alive, Upgrade\r\n\
+const UPGRADE: &[u8] =
+    b"GET /ws HTTP/1.1\r\nHost: club:80\r\nOrigin: http://club:80\r\nConnection: keep-alive, Upgrade\r\n\
     Upgrade: websocket\r\nSec-WebSocket-Version: 13\r\nSec-WebSocket-Key: dGhlIHNhbXBsZSBub25jZQ==\r\n\r\n";
 
-const SWITCHED: &[u8] = b"HTTP/1.1 101 Switching Protocols\r\nconnection: Upgrade\r\nupgrade: websocket\r\n\
+const SWITCHED: &[u8] =
+    b"HTTP/1.1 101 Switching Protocols\r\nconnection: Upgrade\r\nupgrade: websocket\r\n\
     sec-websocket-accept: s3pPLMBiTxaQ9kYGzzhZRbK+xOo=\r\n\r\n";
 
-fn site(rt: &HostRuntime) -> Result<Site, Fail> {
+fn club_site(rt: &HostRuntime) -> Result<Site, Fail> {
     let alloc = rt.alloc();
     let mut hosts = Vec::new(alloc);
     hosts.push(b"club:80".to_vec(alloc)?)?;
@@ -53,7 +56,7 @@ fn write_out(browser: &mut Browser, site: &Site, out: &mut Vec<u8>) -> Result<()
 
 /// What became of an input.
 #[derive(Drop)]
-struct Told {
+struct Outcome {
     out: Vec<u8>,
     heard: Vec<Vec<u8>>,
     was_opened: bool,
@@ -61,12 +64,12 @@ struct Told {
 }
 
 /// Gives a browser an input in pieces of so many bytes.
-fn told(rt: &HostRuntime, input: &[u8], step: usize) -> Result<Told, Fail>
+fn outcome_of(rt: &HostRuntime, input: &[u8], step: usize) -> Result<Outcome, Fail>
     requires { 0 < step }
 {
-    let site = site(rt)?;
+    let site = club_site(rt)?;
     let mut browser = Browser::new(rt.alloc(), RandomState::new(rt)?);
-    let mut told = Told {
+    let mut told = Outcome {
         out: Vec::new(rt.alloc()),
         heard: Vec::new(rt.alloc()),
         was_opened: false,
@@ -109,14 +112,30 @@ fn contains(text: &[u8], part: &[u8]) -> bool {
 #[test]
 fn files_go_by_their_paths(rt: HostRuntime) -> Result<(), Fail> {
     let cases: [(&[u8], &[u8], &[u8]); 4] = [
-        (b"GET / HTTP/1.1\r\nHost: club:80\r\n\r\n", b"text/html; charset=utf-8", INDEX),
-        (b"GET /?x=1 HTTP/1.1\r\nHost: 127.0.0.1:8080\r\n\r\n", b"text/html; charset=utf-8", INDEX),
-        (b"GET /page.js HTTP/1.1\r\nHost: club:80\r\n\r\n", b"text/javascript; charset=utf-8", SCRIPT),
-        (b"HEAD /page.js HTTP/1.1\r\nHost: club:80\r\n\r\n", b"text/javascript; charset=utf-8", b""),
+        (
+            b"GET / HTTP/1.1\r\nHost: club:80\r\n\r\n",
+            b"text/html; charset=utf-8",
+            INDEX,
+        ),
+        (
+            b"GET /?x=1 HTTP/1.1\r\nHost: 127.0.0.1:8080\r\n\r\n",
+            b"text/html; charset=utf-8",
+            INDEX,
+        ),
+        (
+            b"GET /page.js HTTP/1.1\r\nHost: club:80\r\n\r\n",
+            b"text/javascript; charset=utf-8",
+            SCRIPT,
+        ),
+        (
+            b"HEAD /page.js HTTP/1.1\r\nHost: club:80\r\n\r\n",
+            b"text/javascript; charset=utf-8",
+            b"",
+        ),
     ];
     for (input, kind, body) in cases {
         for step in [1, 7, 1_000] {
-            let told = told(&rt, input, step)?;
+            let told = outcome_of(&rt, input, step)?;
             let head = joined(&rt, b"HTTP/1.1 200 OK\r\ncontent-type: ", kind)?;
             let head = joined(&rt, &head, FILE_FIELDS)?;
             assert!(rt; told.out.starts_with(&head));
@@ -130,26 +149,69 @@ fn files_go_by_their_paths(rt: HostRuntime) -> Result<(), Fail> {
 #[test]
 fn requests_are_refused_for_a_reason(rt: HostRuntime) -> Result<(), Fail> {
     let cases: [(&[u8], &[u8], bool); 15] = [
-        (b"GET /other HTTP/1.1\r\nHost: club:80\r\n\r\n", b"404", false),
-        (b"GET /../page.js HTTP/1.1\r\nHost: club:80\r\n\r\n", b"404", false),
+        (
+            b"GET /other HTTP/1.1\r\nHost: club:80\r\n\r\n",
+            b"404",
+            false,
+        ),
+        (
+            b"GET /../page.js HTTP/1.1\r\nHost: club:80\r\n\r\n",
+            b"404",
+            false,
+        ),
         (b"POST / HTTP/1.1\r\nHost: club:80\r\n\r\n", b"405", false),
         (b"GET / HTTP/1.1\r\nHost: club\r\n\r\n", b"403", false),
-        (b"GET / HTTP/1.1\r\nHost: evil.example\r\n\r\n", b"403", false),
-        (b"GET http://club:80/ HTTP/1.1\r\nHost: club:80\r\n\r\n", b"403", false),
+        (
+            b"GET / HTTP/1.1\r\nHost: evil.example\r\n\r\n",
+            b"403",
+            false,
+        ),
+        (
+            b"GET http://club:80/ HTTP/1.1\r\nHost: club:80\r\n\r\n",
+            b"403",
+            false,
+        ),
         (b"GET / HTTP/1.1\r\n\r\n", b"400", true),
-        (b"GET / HTTP/1.1\r\nHost: club:80\r\nHost: club:80\r\n\r\n", b"400", true),
+        (
+            b"GET / HTTP/1.1\r\nHost: club:80\r\nHost: club:80\r\n\r\n",
+            b"400",
+            true,
+        ),
         (b"GET / HTTP/1.1\r\nHost club:80\r\n\r\n", b"400", true),
-        (b"\x16\x03\x01\x02\x00\x01\x00\x01\xfc\x03\x03\r\n\r\n", b"400", true),
-        (b"POST / HTTP/1.1\r\nHost: club:80\r\nContent-Length: 1\r\n\r\nx", b"413", true),
-        (b"GET / HTTP/1.1\r\nHost: club:80\r\nContent-Length: 1\r\nTransfer-Encoding: chunked\r\n\r\n", b"400", true),
-        (b"GET / HTTP/1.1\r\nHost: club:80\r\nTransfer-Encoding: gzip, chunked\r\n\r\n", b"501", true),
-        (b"GET / HTTP/1.1\r\nHost: club:80\r\nConnection: close\r\n\r\n", b"200", true),
+        (
+            b"\x16\x03\x01\x02\x00\x01\x00\x01\xfc\x03\x03\r\n\r\n",
+            b"400",
+            true,
+        ),
+        (
+            b"POST / HTTP/1.1\r\nHost: club:80\r\nContent-Length: 1\r\n\r\nx",
+            b"413",
+            true,
+        ),
+        (
+            b"GET / HTTP/1.1\r\nHost: club:80\r\nContent-Length: 1\r\nTransfer-Encoding: chunked\r\n\r\n",
+            b"400",
+            true,
+        ),
+        (
+            b"GET / HTTP/1.1\r\nHost: club:80\r\nTransfer-Encoding: gzip, chunked\r\n\r\n",
+            b"501",
+            true,
+        ),
+        (
+            b"GET / HTTP/1.1\r\nHost: club:80\r\nConnection: close\r\n\r\n",
+            b"200",
+            true,
+        ),
         (b"GET / HTTP/1.0\r\nHost: club:80\r\n\r\n", b"200", true),
     ];
     for (input, status, is_over) in cases {
         for step in [1, 1_000] {
-            let told = told(&rt, input, step)?;
-            assert!(rt; told.out.len() > 12 && &told.out[9..12] == status, "{input:?}");
+            let told = outcome_of(&rt, input, step)?;
+            assert!(rt;
+                told.out.len() > 12 && &told.out[9..12] == status,
+                "{input:?}"
+            );
             assert!(rt; told.is_over == is_over, "{input:?}");
             assert!(rt; !told.was_opened && told.heard.is_empty());
         }
@@ -170,7 +232,7 @@ fn long_heads_are_refused(rt: HostRuntime) -> Result<(), Fail> {
     many.extend_from_slice(b"\r\n")?;
     let cases: [(&[u8], &[u8]); 3] = [(&target, b"414"), (&field, b"431"), (&many, b"431")];
     for (input, status) in cases {
-        let told = told(&rt, input, 1_000)?;
+        let told = outcome_of(&rt, input, 1_000)?;
         assert!(rt; told.out.len() > 12 && &told.out[9..12] == status);
         assert!(rt; told.is_over);
     }
@@ -179,12 +241,19 @@ fn long_heads_are_refused(rt: HostRuntime) -> Result<(), Fail> {
 
 #[test]
 fn a_pipeline_is_answered_in_its_order(rt: HostRuntime) -> Result<(), Fail> {
-    let input = b"GET /page.js HTTP/1.1\r\nHost: club:80\r\n\r\nGET /no HTTP/1.1\r\nHost: club:80\r\n\r\n\
+    let input =
+        b"GET /page.js HTTP/1.1\r\nHost: club:80\r\n\r\nGET /no HTTP/1.1\r\nHost: club:80\r\n\r\n\
         GET / HTTP/1.1\r\nHost: club:80\r\nConnection: close\r\n\r\nGET /page.js HTTP/1.1\r\nHost: club:80\r\n\r\n";
     for step in [1, 30, 1_000] {
-        let told = told(&rt, input, step)?;
-        let script = contains(&told.out, &joined(&rt, SCRIPT, b"HTTP/1.1 404 Not Found\r\n")?);
-        assert!(rt; told.out.starts_with(b"HTTP/1.1 200 OK\r\ncontent-type: text/javascript"));
+        let told = outcome_of(&rt, input, step)?;
+        let script = contains(
+            &told.out,
+            &joined(&rt, SCRIPT, b"HTTP/1.1 404 Not Found\r\n")?,
+        );
+        assert!(rt;
+            told.out
+                .starts_with(b"HTTP/1.1 200 OK\r\ncontent-type: text/javascript")
+        );
         assert!(rt; script && told.out.ends_with(INDEX) && told.is_over);
     }
     Ok(())
@@ -196,7 +265,7 @@ fn a_page_opens_its_socket(rt: HostRuntime) -> Result<(), Fail> {
     let frames = b"\x81\x85\x37\xfa\x21\x3d\x7f\x9f\x4d\x51\x58\x81\x80\0\0\0\0";
     let input = joined(&rt, UPGRADE, frames)?;
     for step in [1, 2, 11, 10_000] {
-        let told = told(&rt, &input, step)?;
+        let told = outcome_of(&rt, &input, step)?;
         assert!(rt; told.was_opened && !told.is_over);
         assert_eq!(rt; told.out.as_slice(), SWITCHED);
         assert_eq!(rt; told.heard.len(), 2);
@@ -219,15 +288,26 @@ fn nobody_else_opens_it(rt: HostRuntime) -> Result<(), Fail> {
         (b"keep-alive, Upgrade", b"keep-alive", b"400"),
         (b"Upgrade: websocket", b"Upgrade: h2c", b"400"),
         (b"13", b"8", b"400"),
-        (b"dGhlIHNhbXBsZSBub25jZQ==", b"dGhlIHNhbXBsZSBub25jZQ", b"400"),
+        (
+            b"dGhlIHNhbXBsZSBub25jZQ==",
+            b"dGhlIHNhbXBsZSBub25jZQ",
+            b"400",
+        ),
     ];
     for (old, new, status) in cases {
         let input = replaced(&rt, UPGRADE, old, new)?;
-        let told = told(&rt, &joined(&rt, &input, b"\x81\x85\0\0\0\0Hello")?, 10_000)?;
-        assert!(rt; told.out.len() > 12 && &told.out[9..12] == status, "{new:?}");
+        let told = outcome_of(&rt, &joined(&rt, &input, b"\x81\x85\0\0\0\0Hello")?, 10_000)?;
+        assert!(rt;
+            told.out.len() > 12 && &told.out[9..12] == status,
+            "{new:?}"
+        );
         assert!(rt; !told.was_opened && told.heard.is_empty());
     }
-    let secure = told(&rt, &replaced(&rt, UPGRADE, b"http://club", b"https://club")?, 10_000)?;
+    let secure = outcome_of(
+        &rt,
+        &replaced(&rt, UPGRADE, b"http://club", b"https://club")?,
+        10_000,
+    )?;
     assert!(rt; secure.was_opened);
     Ok(())
 }
@@ -247,16 +327,36 @@ fn frames_are_taken_or_refused(rt: HostRuntime) -> Result<(), Fail> {
     // What comes behind the upgrade, what is answered, how many messages are heard, and whether it is over.
     let cases: [(&[u8], &[u8], usize, bool); 16] = [
         // a ping between the parts of a text, and a pong
-        (b"\x01\x82\0\0\0\0sh\x89\x81\0\0\0\0p\x80\x84\0\0\0\0ow 1\x8a\x80\0\0\0\0", b"\x8a\x01p", 1, false),
+        (
+            b"\x01\x82\0\0\0\0sh\x89\x81\0\0\0\0p\x80\x84\0\0\0\0ow 1\x8a\x80\0\0\0\0",
+            b"\x8a\x01p",
+            1,
+            false,
+        ),
         // a close, and what comes behind it
-        (b"\x88\x82\0\0\0\0\x03\xe9\x81\x81\0\0\0\0a", b"\x88\x02\x03\xe9", 0, true),
+        (
+            b"\x88\x82\0\0\0\0\x03\xe9\x81\x81\0\0\0\0a",
+            b"\x88\x02\x03\xe9",
+            0,
+            true,
+        ),
         (b"\x88\x80\0\0\0\0", b"\x88\x00", 0, true),
         // text, then something that is none
-        (b"\x81\x81\0\0\0\0a\x82\x81\0\0\0\0a", b"\x88\x02\x03\xeb", 1, true),
+        (
+            b"\x81\x81\0\0\0\0a\x82\x81\0\0\0\0a",
+            b"\x88\x02\x03\xeb",
+            1,
+            true,
+        ),
         (b"\x81\x81\0\0\0\0\xff", b"\x88\x02\x03\xef", 0, true),
         // too long, in one frame and in two; and 4,096 bytes to come
         (b"\x81\xfe\x10\x01\0\0\0\0", b"\x88\x02\x03\xf1", 0, true),
-        (b"\x81\xff\0\0\0\0\xff\xff\xff\xff\0\0\0\0", b"\x88\x02\x03\xf1", 0, true),
+        (
+            b"\x81\xff\0\0\0\0\xff\xff\xff\xff\0\0\0\0",
+            b"\x88\x02\x03\xf1",
+            0,
+            true,
+        ),
         (b"\x81\xfe\x10\x00\0\0\0\0a", b"", 0, false),
         // no mask, a reserved bit, a reserved opcode, a length that is not the shortest
         (b"\x81\x01a", b"\x88\x02\x03\xea", 0, true),
@@ -265,14 +365,23 @@ fn frames_are_taken_or_refused(rt: HostRuntime) -> Result<(), Fail> {
         (b"\x81\xfe\x00\x01\0\0\0\0a", b"\x88\x02\x03\xea", 0, true),
         // a part without a first, a text within a text, a ping in parts, a ping that is too long
         (b"\x80\x81\0\0\0\0a", b"\x88\x02\x03\xea", 0, true),
-        (b"\x01\x81\0\0\0\0a\x81\x81\0\0\0\0b", b"\x88\x02\x03\xea", 0, true),
+        (
+            b"\x01\x81\0\0\0\0a\x81\x81\0\0\0\0b",
+            b"\x88\x02\x03\xea",
+            0,
+            true,
+        ),
         (b"\x09\x81\0\0\0\0a", b"\x88\x02\x03\xea", 0, true),
         (b"\x89\xfe\x00\x7e\0\0\0\0", b"", 0, false),
     ];
     for (frames, answer, heard, is_over) in cases {
         for step in [1, 3, 10_000] {
-            let told = told(&rt, &joined(&rt, UPGRADE, frames)?, step)?;
-            assert_eq!(rt; told.out.as_slice(), joined(&rt, SWITCHED, answer)?.as_slice(), "{frames:?}");
+            let told = outcome_of(&rt, &joined(&rt, UPGRADE, frames)?, step)?;
+            assert_eq!(rt;
+                told.out.as_slice(),
+                joined(&rt, SWITCHED, answer)?.as_slice(),
+                "{frames:?}"
+            );
             assert_eq!(rt; told.heard.len(), heard, "{frames:?}");
             assert_eq!(rt; told.is_over, is_over, "{frames:?}");
         }
@@ -294,7 +403,7 @@ fn opened(rt: &HostRuntime, site: &Site) -> Result<Browser, Fail> {
 
 #[test]
 fn what_is_said_goes_out_in_frames(rt: HostRuntime) -> Result<(), Fail> {
-    let site = site(&rt)?;
+    let site = club_site(&rt)?;
     let mut early = Browser::new(rt.alloc(), RandomState::new(&rt)?);
     assert_eq!(rt; early.say(b"ok"), Err(Unsaid::NotOpen));
     let mut browser = opened(&rt, &site)?;
@@ -309,7 +418,11 @@ fn what_is_said_goes_out_in_frames(rt: HostRuntime) -> Result<(), Fail> {
     assert_eq!(rt; browser.say(b"ok"), Err(Unsaid::NotOpen));
     let mut out = Vec::new(rt.alloc());
     write_out(&mut browser, &site, &mut out)?;
-    let expected = joined(&rt, b"\x81\x0fok move 1 1 e4\n\x89\x00\x81\x7e\x01\x2c", &long)?;
+    let expected = joined(
+        &rt,
+        b"\x81\x0fok move 1 1 e4\n\x89\x00\x81\x7e\x01\x2c",
+        &long,
+    )?;
     let expected = joined(&rt, &expected, b"\x88\x02\x03\xe9")?;
     assert_eq!(rt; out.as_slice(), expected.as_slice());
     browser.take(&site, b"\x88\x82\0\0\0\0\x03\xe9");
@@ -319,7 +432,7 @@ fn what_is_said_goes_out_in_frames(rt: HostRuntime) -> Result<(), Fail> {
 
 #[test]
 fn what_waits_is_bounded(rt: HostRuntime) -> Result<(), Fail> {
-    let site = site(&rt)?;
+    let site = club_site(&rt)?;
     let text = [b'x'; 10_000];
     // Who does not read what is said.
     let mut slow = opened(&rt, &site)?;
@@ -357,7 +470,7 @@ fn what_waits_is_bounded(rt: HostRuntime) -> Result<(), Fail> {
 
 #[test]
 fn the_end_of_the_input_ends_it(rt: HostRuntime) -> Result<(), Fail> {
-    let site = site(&rt)?;
+    let site = club_site(&rt)?;
     let mut browser = opened(&rt, &site)?;
     browser.take(&site, b"\x81\x83\0\0\0\0one\x81\x83\0\0");
     browser.take(&site, b"");
