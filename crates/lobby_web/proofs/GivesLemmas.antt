@@ -11,7 +11,7 @@ use Rattle.lobby_web.specs.declared.socket.Frame.{Frame}
 use Rattle.lobby_web.specs.declared.socket.Frame.TheVariants as Is
 use Rattle.lobby_web.specs.Codes.{IsFrameOf, IsTextOf}
 use Rattle.lobby_web.specs.Frames.{Run, Runs, texts, text_in, replies, reply_bytes}
-use Rattle.lobby_web.specs.Talking.{TakesWhole, TakesNothing, Gives, GivesTexts, given, ClosesBy, EndsWith}
+use Rattle.lobby_web.specs.Talking.{IsSame, TakesWhole, TakesNothing, Gives, GivesTexts, given, ClosesBy, EndsWith}
 use Rattle.lobby_web.proofs.RunLemmas.{runs-snoc, texts-snoc, replies-snoc}
 
 -- the text of a frame
@@ -57,7 +57,7 @@ pub record Read (old mid : Socket) (words : List (List ℕ)) : Type 0 where
   pub conn : Connection
   pub rest : List ℕ
   pub runs : Runs old.context old.input.items frames conn rest
-  pub texts : texts frames ≡ words
+  pub found : texts frames ≡ words
   pub state : mid.context ≡ conn
   pub input : mid.input.items ≡ rest
   pub output : mid.output.items ≡ old.output.items ++ replies frames
@@ -70,11 +70,11 @@ one-more old mid frame frames conn rest runs quiet last = record {
   conn = last.taken.1.next;
   rest = drop last.taken.0 rest;
   runs = runs-snoc old.context conn old.input.items rest frames last.taken runs last.read;
-  texts = texts-snoc frames last.taken ∙ ap (λ l. l ++ text_in last.taken.1.message) quiet;
+  found = texts-snoc frames last.taken ∙ ap (λ l. l ++ text_in last.taken.1.message) quiet;
   state = last.state;
   input = last.rest;
   output = last.reply ∙ append_assoc old.output.items (replies frames) (reply_bytes last.taken.1.reply)
-  ∙ ap (λ l. old.output.items ++ l) (sym (replies-snoc frames last.taken));
+      ∙ ap (λ l. old.output.items ++ l) (sym (replies-snoc frames last.taken));
 }
 
 pub one-more-told : (old mid : Socket) (frame : Frame) (frames : Run) (conn : Connection) (rest : List ℕ) → Runs old.context old.input.items frames conn rest
@@ -85,7 +85,7 @@ one-more-told old mid frame frames conn rest runs quiet last kept =
 pub read-none : (old mid : Socket) (frames : Run) (conn : Connection) (rest : List ℕ) → Runs old.context old.input.items frames conn rest → texts frames ≡ []
     → TakesNothing conn rest (old.output.items ++ replies frames) mid → Read old mid []
 read-none old mid frames conn rest runs quiet same =
-    record { frames = frames; conn = conn; rest = rest; runs = runs; texts = quiet; state = same.0; input = same.1; output = same.2 }
+    record { frames = frames; conn = conn; rest = rest; runs = runs; found = quiet; state = same.0; input = same.1; output = same.2 }
 
 -- a text was given, and nothing else became of it
 pub gives-text : (old new : Socket) (words : List ℕ) → old.is_over ≡ false → new.is_over ≡ false → Read old new (words ∷ []) → Gives old new (Some words)
@@ -94,7 +94,7 @@ gives-text old new words was is read = record {
   conn = read.conn;
   rest = read.rest;
   runs = read.runs;
-  texts = inl read.texts;
+  texts = inl read.found;
   stands = λ still. (read.state, read.input, read.output);
   over = λ now. cc (is, now);
   waits = λ no. cc no;
@@ -109,7 +109,7 @@ gives-none old new needed was is read waits = record {
   conn = read.conn;
   rest = read.rest;
   runs = read.runs;
-  texts = inl read.texts;
+  texts = inl read.found;
   stands = λ still. (read.state, read.input, read.output);
   over = λ now. cc (is, now);
   waits = λ no still. (needed, waits);
@@ -124,7 +124,7 @@ gives-over old mid new code was is read closes = record {
   conn = read.conn;
   rest = read.rest;
   runs = read.runs;
-  texts = inl read.texts;
+  texts = inl read.found;
   stands = λ still. cc (is, still);
   over = λ now. (code, subst (λ (l : List ℕ). ClosesBy code l new.output.items) read.output closes);
   waits = λ no still. cc (is, still);
@@ -139,7 +139,7 @@ gives-lost old new code bytes was is read = record {
   conn = read.conn;
   rest = read.rest;
   runs = read.runs;
-  texts = inr (is, refl, (bytes, read.texts));
+  texts = inr (is, refl, (bytes, read.found));
   stands = λ still. cc (is, still);
   over = λ now. (code, inl read.output);
   waits = λ no still. cc (is, still);
@@ -163,9 +163,9 @@ gives-failed old mid new code frames conn rest was is runs quiet output closes =
 }
 
 -- it was over before
-pub gives-nothing : (old new : Socket) → old.is_over ≡ true → new ≡ old → Gives old new None
+pub gives-nothing : (old new : Socket) → old.is_over ≡ true → IsSame old new → Gives old new None
 gives-nothing old new was same =
-    let over : new.is_over ≡ true = ap (λ (s : Socket). s.is_over) same ∙ was in
+    let over : new.is_over ≡ true = same.3 ∙ was in
     record {
       frames = [];
       conn = old.context;
@@ -173,7 +173,7 @@ gives-nothing old new was same =
       runs = (refl, refl);
       texts = inl refl;
       stands = λ still. cc (over, still);
-      over = λ now. (Code.Normal, inl (ap (λ (s : Socket). s.output.items) same ∙ sym (append-nil old.output.items)));
+      over = λ now. (Code.Normal, inl (same.2 ∙ sym (append-nil old.output.items)));
       waits = λ no still. cc (over, still);
       ended = λ before. (refl, same);
     }

@@ -21,20 +21,20 @@ file-status (Some file) response h switch = omega (arith, h.status, switch)
 
 pub granted : (site : Site) (r : Request (List ℕ)) (response : Response) → IsAnswer site r response → response.status ≡ 101 → IsGranted site r
 granted site r response answer switch =
-    elim (matched (is_taken site r) _ _ answer) [
+    elim (matched (is_taken site r) (MatchBool (asks_socket r) (IsSocketAnswer r response) (IsPageAnswer site r response)) (IsTold 403 (codes "This host is not served here.") response) answer) [
       | inr no ↦ absurd (omega (arith, no.1.status, switch))
       | inl taken ↦
-          elim (matched (asks_socket r) _ _ taken.1) [
+          elim (matched (asks_socket r) (IsSocketAnswer r response) (IsPageAnswer site r response) taken.1) [
             | inr page ↦
-                elim (matched (only_reads r) _ _ page.1) [
+                elim (matched (only_reads r) (IsFileAnswer (file_at site (path_of r)) response) (IsOtherMethodAnswer response) page.1) [
                   | inl file ↦ absurd (file-status (file_at site (path_of r)) response file.1 switch)
                   | inr method ↦ absurd (omega (arith, method.1.status, switch))
                 ]
             | inl socket ↦
-                elim (matched (is_from_page r) _ _ socket.1) [
+                elim (matched (is_from_page r) (MatchBool (asks_upgrade r) (IsKeyAnswer (field r (codes "sec-websocket-key")) response) (IsTold 400 (codes "Here is a WebSocket of version 13.") response)) (IsTold 403 (codes "Only this site's own page opens this socket.") response) socket.1) [
                   | inr no ↦ absurd (omega (arith, no.1.status, switch))
                   | inl own ↦
-                      elim (matched (asks_upgrade r) _ _ own.1) [
+                      elim (matched (asks_upgrade r) (IsKeyAnswer (field r (codes "sec-websocket-key")) response) (IsTold 400 (codes "Here is a WebSocket of version 13.") response) own.1) [
                         | inr no ↦ absurd (omega (arith, no.1.status, switch))
                         | inl asks ↦
                             elim asks.1 [

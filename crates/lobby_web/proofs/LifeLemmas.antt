@@ -22,11 +22,11 @@ stays-over (came bytes) old new does over =
       | inl now ↦ (now, refl)
       | inr taken ↦ (taken.3 ∙ over, refl)
     ]
-stays-over (asked None) old new does over = (ap (λ (s : Socket). s.is_over) (does.1.ended over).1 ∙ over, refl)
-stays-over (asked (Some Opened)) old new does over = (ap (λ (s : Socket). s.is_over) does.1 ∙ over, refl)
+stays-over (asked None) old new does over = ((does.1.ended over).1.3 ∙ over, refl)
+stays-over (asked (Some Opened)) old new does over = (does.1.3 ∙ over, refl)
 stays-over (asked (Some (Words found))) old new does over = absurd (cc (does.1.ended over).0)
 stays-over (said content (Ok x)) old new does over = absurd (shut old over does.0)
-stays-over (said content (Err NotOpen)) old new does over = (ap (λ (s : Socket). s.is_over) does.1 ∙ over, refl)
+stays-over (said content (Err NotOpen)) old new does over = (does.1.3 ∙ over, refl)
 stays-over (said content (Err NotText)) old new does over = absurd does
 stays-over (said content (Err Slow)) old new does over = absurd (shut old over does.0)
 stays-over (said content (Err Memory)) old new does over = absurd (shut old over does.0)
@@ -55,14 +55,14 @@ given-over : (frames : Run) (words : Option (List ℕ)) (more : List (List ℕ))
     → new.is_over ≡ true → AreGiven frames (given words ++ more) new.is_over
 given-over frames words more mid new (inl all) none over = inl (all ∙ sym (append-nil (given words)) ∙ ap (λ l. given words ++ l) (sym none))
 given-over frames words more mid new (inr lost) none over =
-    inr (over, lost.2.0, lost.2.1 ∙ ap (λ l. l ++ lost.2.0 ∷ []) (sym (ap (λ l. given words ++ l) none ∙ append-nil (given words) ∙ ap given lost.1)))
+    inr (over, (lost.2.0, lost.2.1 ∙ ap (λ l. l ++ lost.2.0 ∷ []) (sym (ap (λ l. given words ++ l) none ∙ append-nil (given words) ∙ ap given lost.1))))
 
 given-open : (frames more : Run) (words : Option (List ℕ)) (rest : List (List ℕ)) (over last : Bool) → GivesTexts frames words over → over ≡ false
     → AreGiven more rest last → AreGiven (frames ++ more) (given words ++ rest) last
 given-open frames more words rest over last (inr lost) still next = cc (lost.0, still)
 given-open frames more words rest over last (inl all) still (inl next) = inl (texts-append frames more ∙ ap (λ l. l ++ texts more) all ∙ ap (λ l. given words ++ l) next)
 given-open frames more words rest over last (inl all) still (inr lost) =
-    inr (lost.0, lost.1.0, texts-append frames more ∙ ap (λ l. l ++ texts more) all ∙ ap (λ l. given words ++ l) lost.1.1 ∙ sym (append_assoc (given words) rest (lost.1.0 ∷ [])))
+    inr (lost.0, (lost.1.0, texts-append frames more ∙ ap (λ l. l ++ texts more) all ∙ ap (λ l. given words ++ l) lost.1.1 ∙ sym (append_assoc (given words) rest (lost.1.0 ∷ []))))
 
 gives-over : (old mid new : Socket) (words : Option (List ℕ)) (bytes : List ℕ) (more : List (List ℕ)) → Gives old mid words → new.is_over ≡ true → more ≡ []
     → Heeds old.context (old.input.items ++ bytes) (given words ++ more) new
@@ -122,7 +122,7 @@ heeds-event (asked None) events old mid new keeps does over heeds =
       | inr still ↦ gives-open old mid new None (all_bytes events) (all_texts events) does.1 still heeds
     ]
 heeds-event (asked (Some Opened)) events old mid new keeps does over heeds =
-    same-heeds old mid new (all_bytes events) (all_texts events) (ap (λ (s : Socket). s.context) does.1) (ap (λ (s : Socket). s.input.items) does.1) heeds
+    same-heeds old mid new (all_bytes events) (all_texts events) does.1.0 does.1.1 heeds
 heeds-event (asked (Some (Words found))) events old mid new keeps does over heeds =
     elim (over-or-open mid.is_over) [
       | inl now ↦ gives-over old mid new (Some found.items) (all_bytes events) (all_texts events) does.1 (over now).0 (over now).1
@@ -131,7 +131,7 @@ heeds-event (asked (Some (Words found))) events old mid new keeps does over heed
 heeds-event (said content (Ok x)) events old mid new keeps does over heeds =
     same-heeds old mid new (all_bytes events) (all_texts events) (does.1 ∙ said-same content old.context keeps) does.2 heeds
 heeds-event (said content (Err NotOpen)) events old mid new keeps does over heeds =
-    same-heeds old mid new (all_bytes events) (all_texts events) (ap (λ (s : Socket). s.context) does.1) (ap (λ (s : Socket). s.input.items) does.1) heeds
+    same-heeds old mid new (all_bytes events) (all_texts events) does.1.0 does.1.1 heeds
 heeds-event (said content (Err NotText)) events old mid new keeps does over heeds = absurd does
 heeds-event (said content (Err Slow)) events old mid new keeps does over heeds = unread old.context _ _ new (over does.2).0 (over does.2).1
 heeds-event (said content (Err Memory)) events old mid new keeps does over heeds = unread old.context _ _ new (over does.1).0 (over does.1).1

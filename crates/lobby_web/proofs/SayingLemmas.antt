@@ -116,11 +116,11 @@ adds : (event : Event) (old new : Socket) → Does event old new → Adds old.ou
 adds (came bytes) old new does = record { more = []; frames = none; sum = unchanged old.output.items new.output.items does.0 }
 adds (asked None) old new does = gives-adds old new None None does.1
 adds (asked (Some Opened)) old new does =
-    record { more = []; frames = none; sum = unchanged old.output.items new.output.items (ap (λ (s : Socket). s.output.items) does.1) }
+    record { more = []; frames = none; sum = unchanged old.output.items new.output.items does.1.2 }
 adds (asked (Some (Words found))) old new does = gives-adds old new (Some found.items) (Some (Words found)) does.1
 adds (said content (Ok x)) old new does = record { more = _; frames = content-frames content; sum = does.5 }
 adds (said content (Err NotOpen)) old new does =
-    record { more = []; frames = none; sum = unchanged old.output.items new.output.items (ap (λ (s : Socket). s.output.items) does.1) }
+    record { more = []; frames = none; sum = unchanged old.output.items new.output.items does.1.2 }
 adds (said content (Err NotText)) old new does = absurd does
 adds (said content (Err Slow)) old new does = record { more = []; frames = none; sum = unchanged old.output.items new.output.items does.3 }
 adds (said content (Err Memory)) old new does = record { more = []; frames = none; sum = unchanged old.output.items new.output.items does.2 }

@@ -118,7 +118,7 @@ active-writes conn after (pong bytes) old new server active leaves =
     let l = checked (check_control_size bytes) effect after old new leaves in
     sends-server after.role effect.reply old new server l.1
 active-writes conn after (close frame) old new server active leaves =
-    let leaves2 : Leaves (close_to conn frame (Some State.ClosedByUs)) after old new = rw active-state conn.state active at leaves in
+    let leaves2 : Leaves (close_to conn frame (Some State.ClosedByUs)) after old new = rw (active-state conn.state active) at leaves in
     let effect : Effect = record { message = None; reply = Some (record { opcode = Op.Control Control.Close; payload = close_payload frame }); next = record conn { state = State.ClosedByUs } } in
     let l = checked (check_close frame) effect after old new leaves2 in
     sends-server after.role effect.reply old new server l.1
@@ -139,7 +139,7 @@ active-leaves conn after (ping bytes) old new active leaves =
 active-leaves conn after (pong bytes) old new active leaves =
     (checked (check_control_size bytes) (record { message = None; reply = Some (record { opcode = Op.Control Control.Pong; payload = bytes }); next = conn }) after old new leaves).0
 active-leaves conn after (close frame) old new active leaves =
-    let leaves2 : Leaves (close_to conn frame (Some State.ClosedByUs)) after old new = rw active-state conn.state active at leaves in
+    let leaves2 : Leaves (close_to conn frame (Some State.ClosedByUs)) after old new = rw (active-state conn.state active) at leaves in
     (checked (check_close frame) (record { message = None; reply = Some (record { opcode = Op.Control Control.Close; payload = close_payload frame }); next = record conn { state = State.ClosedByUs } }) after old new leaves2).0
 
 -- and leaves this state

@@ -35,6 +35,12 @@ Keeps old new =
     (new.context ≡ old.context) × (new.input.items ≡ old.input.items) × (new.is_over ≡ old.is_over)
     × (new.is_told ≡ old.is_told)
 
+-- Nothing has changed but whether it was told that it is open.
+abbrev pub IsSame : Socket → Socket → Type 0
+IsSame old new =
+    (new.context ≡ old.context) × (new.input.items ≡ old.input.items) × (new.output.items ≡ old.output.items)
+    × (new.is_over ≡ old.is_over)
+
 -- A whole frame was taken off what had come, the first, and answered as the protocol has it; it was this for the lobby.
 pub record TakesWhole (conn : Connection) (input output : List ℕ) (new : Socket) (frame : Frame) : Type 0 where
   pub taken : ℕ × Effect
@@ -105,7 +111,7 @@ pub record Gives (old new : Socket) (words : Option (List ℕ)) : Type 0 where
       × (new.output.items ≡ old.output.items ++ replies frames)
   pub over : new.is_over ≡ true → (code : CloseCode) × ClosesBy code (old.output.items ++ replies frames) new.output.items
   pub waits : words ≡ None → new.is_over ≡ false → (needed : ℕ) × (read_step conn rest ≡ Ok (Partial needed))
-  pub ended : old.is_over ≡ true → (words ≡ None) × (new ≡ old)
+  pub ended : old.is_over ≡ true → (words ≡ None) × IsSame old new
 
 -- whether something may be said
 abbrev pub may_say : Socket → Bool
@@ -125,7 +131,7 @@ Says content old new (Ok _) =
     (may_say old ≡ true) × (new.context ≡ said_state content old.context) × (new.input.items ≡ old.input.items)
     × (new.is_over ≡ false) × (new.is_told ≡ old.is_told)
     × (new.output.items ≡ old.output.items ++ frame_bytes (content_opcode content) (content_payload content))
-Says content old new (Err NotOpen) = (may_say old ≡ false) × (new ≡ old)
+Says content old new (Err NotOpen) = (may_say old ≡ false) × IsSame old new
 Says content old new (Err NotText) = ⊥
 Says content old new (Err Slow) =
     (may_say old ≡ true) × (1048576 < length old.output.items) × (new.is_over ≡ true)
@@ -135,7 +141,7 @@ Says content old new (Err Memory) =
 
 -- What is heard next: first, once, that it is open, and nothing else changes by it; then what its frames give.
 abbrev pub Hears : Socket → Socket → Option Heard → Type 0
-Hears old new (Some Opened) = (old.is_told ≡ false) × (new ≡ record old { is_told = true })
+Hears old new (Some Opened) = (old.is_told ≡ false) × IsSame old new × (new.is_told ≡ true)
 Hears old new (Some (Words found)) = (old.is_told ≡ true) × Gives old new (Some found.items)
 Hears old new None = (old.is_told ≡ true) × Gives old new None
 
