@@ -6,7 +6,6 @@ ghost use Rattle.http_server.specs.History.{after_read};
 ghost use Rattle.websocket.specs.CloseCode.{is_allowed};
 ghost use Rattle.websocket.specs.Content.{text as Text, ping as Ping, close as Close};
 ghost use Rattle.lobby_web.specs.Browsing.{web_config, pending, Answers, WantsBytes, IsOver, is_open, Takes, Writes, HearsNext, SaysTo, IsNew};
-ghost use Rattle.lobby_web.specs.Talking.{TakesIn};
 
 use crate::answer::Asked;
 use crate::site::Site;
@@ -58,8 +57,9 @@ fn answered(alloc: Global, site: &Site, mut connection: Connection) -> Stage
 {
     let mut asked = Asked::new(alloc, site);
     connection.advance(&mut asked);
-    if connection.state() != State::Upgraded {
-        return Stage::Http(connection);
+    match connection.state() {
+        State::Upgraded => {}
+        _ => return Stage::Http(connection),
     }
     if !asked.has_switched() {
         return Stage::Over;
@@ -77,18 +77,6 @@ fn read_http(alloc: Global, site: &Site, mut connection: Connection, bytes: &[u8
         Ok(count) if count == bytes.len() => answered(alloc, site, connection),
         _ => Stage::Over,
     }
-}
-
-// The socket once these bytes came.
-fn read_socket(mut socket: Socket, bytes: &[u8]) -> Socket
-    ensures { TakesIn bytes.now socket result }
-{
-    if bytes.is_empty() {
-        socket.end();
-    } else {
-        socket.take(bytes);
-    }
-    socket
 }
 
 impl Browser {
@@ -128,7 +116,10 @@ impl Browser {
         ensures { IsTrue result ↔ IsOver self.now.stage }
     {
         match &self.stage {
-            Stage::Http(connection) => connection.state() != State::Open,
+            Stage::Http(connection) => match connection.state() {
+                State::Open => false,
+                _ => true,
+            },
             Stage::Socket(socket) => socket.is_over(),
             Stage::Over => true,
         }
@@ -146,7 +137,10 @@ impl Browser {
         }
         self.stage = match stage {
             Stage::Http(connection) => read_http(self.alloc, site, connection, bytes),
-            Stage::Socket(socket) => Stage::Socket(read_socket(socket, bytes)),
+            Stage::Socket(mut socket) => {
+                socket.take(bytes);
+                Stage::Socket(socket)
+            }
             Stage::Over => Stage::Over,
         };
     }

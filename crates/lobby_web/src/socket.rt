@@ -115,7 +115,7 @@ fn frame_of(alloc: Global, message: &Option<Received>, input: &[u8]) -> Frame
 }
 
 impl Socket {
-    ghost use Rattle.lobby_web.specs.Talking.{IsFresh, TakesFrame, Reaches, Gives, Hears, Says, EndsWith, Keeps};
+    ghost use Rattle.lobby_web.specs.Talking.{IsFresh, TakesFrame, Reaches, Gives, Hears, Says, EndsWith, Keeps, TakesIn};
 
     /// A socket that begins with what HTTP left: bytes that came behind the upgrade, and what waits to be written.
     pub fn new(alloc: Global, input: BytesMut, output: Rope) -> Socket
@@ -175,24 +175,19 @@ impl Socket {
         self.output.advance(count);
     }
 
-    /// Bytes came: they are put behind those that are not read. Where memory is refused it is over.
+    /// Bytes came, none as the peer's end: they are put behind those that are not read. At the end, and where memory is
+    /// refused, it is over.
     pub fn take(&mut self, bytes: &[u8])
-        ensures taken { self.new.is_over ≡ false → self.new.input.items ≡ self.old.input.items ++ bytes.now }
-        ensures rest { (self.new.context ≡ self.old.context) × (self.new.output.items ≡ self.old.output.items) }
-        ensures over { self.old.is_over ≡ true → self.new.is_over ≡ true }
+        ensures { TakesIn bytes.now self.old self.new }
     {
-        if self.input.extend_from_slice(bytes).is_err() {
+        if bytes.is_empty() {
             self.is_over = true;
+            return;
         }
-    }
-
-    /// The peer sends no more.
-    pub fn end(&mut self)
-        ensures over { self.new.is_over ≡ true }
-        ensures output { self.new.output.items ≡ self.old.output.items }
-    {
-        self.context.end_of_input();
-        self.is_over = true;
+        match self.input.extend_from_slice(bytes) {
+            Ok(()) => {}
+            Err(_) => self.is_over = true,
+        }
     }
 
     // One step of the protocol on what came.
