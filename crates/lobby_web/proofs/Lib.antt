@@ -8,5 +8,6 @@ pub mod SendLemmas
 pub mod TakeLemmas
 pub mod GivesLemmas
 pub mod ServeLemmas
+pub mod ReadLemmas
 pub mod LifeLemmas
 pub mod SayingLemmas

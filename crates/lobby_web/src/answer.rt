@@ -129,7 +129,7 @@ fn tell(response: &mut Response, status: StatusCode, words: &str) -> Result<(), 
 // The file of the path, or that there is none.
 fn send_file(response: &mut Response, file: Option<&File>) -> Result<(), AllocError>
     requires { IsBlank response.old }
-    ensures { OnOk result (IsFileAnswer (option_copied file) response.new) }
+    ensures { OnOk result (IsFileAnswer (option_copied file.entry) response.new) }
 {
     let Some(file) = file else {
         return tell(

@@ -5,7 +5,7 @@ ghost use Rattle.http_server.specs.Connection.{config_of, history};
 ghost use Rattle.http_server.specs.History.{after_read};
 ghost use Rattle.websocket.specs.CloseCode.{is_allowed};
 ghost use Rattle.websocket.specs.Content.{text as Text, ping as Ping, close as Close};
-ghost use Rattle.lobby_web.specs.Browsing.{web_config, pending, Answers, WantsBytes, IsOver, is_open, Takes, Writes, HearsNext, SaysTo, IsNew};
+ghost use Rattle.lobby_web.specs.Browsing.{web_config, pending, Answers, WantsBytes, IsOver, is_open, Takes, TakesBytes, Writes, HearsNext, SaysTo, IsNew};
 
 use crate::answer::Asked;
 use crate::site::Site;
@@ -79,6 +79,39 @@ fn read_http(alloc: Global, site: &Site, mut connection: Connection, bytes: &[u8
     }
 }
 
+// The connection once these bytes came, where bytes are wanted.
+fn taken(alloc: Global, site: &Site, stage: Stage, bytes: &[u8]) -> Stage
+    requires { WantsBytes stage }
+    ensures { TakesBytes site.now bytes.now stage result }
+{
+    match stage {
+        Stage::Http(connection) => read_http(alloc, site, connection, bytes),
+        Stage::Socket(mut socket) => {
+            socket.take(bytes);
+            Stage::Socket(socket)
+        }
+        Stage::Over => Stage::Over,
+    }
+}
+
+// The connection once so many of the bytes that waited were written.
+fn lightened(alloc: Global, site: &Site, stage: Stage, count: usize) -> Stage
+    requires { count ≤ length (pending stage) }
+    ensures { Writes site.now count stage result }
+{
+    match stage {
+        Stage::Http(mut connection) => {
+            connection.sent(count);
+            answered(alloc, site, connection)
+        }
+        Stage::Socket(mut socket) => {
+            socket.written(count);
+            Stage::Socket(socket)
+        }
+        Stage::Over => Stage::Over,
+    }
+}
+
 impl Browser {
     /// A connection that begins. The keys are for the names of headers, which the peer chooses.
     pub fn new(alloc: Global, keys: RandomState) -> Browser
@@ -132,17 +165,9 @@ impl Browser {
     {
         let wanted = self.wants_read();
         let stage = mem::replace(&mut self.stage, Stage::Over);
-        if !wanted {
-            return;
+        if wanted {
+            self.stage = taken(self.alloc, site, stage, bytes);
         }
-        self.stage = match stage {
-            Stage::Http(connection) => read_http(self.alloc, site, connection, bytes),
-            Stage::Socket(mut socket) => {
-                socket.take(bytes);
-                Stage::Socket(socket)
-            }
-            Stage::Over => Stage::Over,
-        };
     }
 
     /// What came next: that the socket is open, or a text message. None where nothing more came that is whole, or it is over.
@@ -204,16 +229,6 @@ impl Browser {
         ensures { Writes site.now count self.old.stage self.new.stage }
     {
         let stage = mem::replace(&mut self.stage, Stage::Over);
-        self.stage = match stage {
-            Stage::Http(mut connection) => {
-                connection.sent(count);
-                answered(self.alloc, site, connection)
-            }
-            Stage::Socket(mut socket) => {
-                socket.written(count);
-                Stage::Socket(socket)
-            }
-            Stage::Over => Stage::Over,
-        };
+        self.stage = lightened(self.alloc, site, stage, count);
     }
 }
