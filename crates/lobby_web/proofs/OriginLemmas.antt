@@ -12,8 +12,8 @@ drop-front [] back = refl
 drop-front (byte ∷ front) back = drop-front front back
 
 false-unless : (b : Bool) → (b ≡ true → ⊥) → b ≡ false
-false-unless true no = absurd (no refl)
-false-unless false no = refl
+false-unless true never = absurd (never refl)
+false-unless false never = refl
 
 same-test : (a b : Bool) → (a ≡ true → b ≡ true) → (b ≡ true → a ≡ true) → a ≡ b
 same-test true b there back = sym (there refl)

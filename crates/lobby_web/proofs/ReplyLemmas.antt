@@ -19,7 +19,7 @@ use Rattle.websocket.specs.declared.protocol.frame.coding.CloseCode.TheVariants 
 use Rattle.websocket.specs.declared.protocol.frame.codec.FrameStatus.TheVariants.{Complete}
 use Rattle.websocket.specs.Frame.{after_check, Checked}
 use Rattle.websocket.specs.Content.{Content}
-use Rattle.websocket.specs.Connection.{Connection, Effect, on_frame, on_opcode, on_control, on_short_control, on_close, close_effect, on_data, on_data_after, on_message_bytes, deliver, read_step, decode_close, check_so_far, can_write}
+use Rattle.websocket.specs.Connection.{Connection, Effect, on_frame, on_opcode, on_control, on_short_control, on_close, close_effect, has_allowed_code, on_data, on_data_after, on_message_bytes, deliver, read_step, decode_close, check_so_far, can_write}
 use Rattle.websocket.proofs.StreamLemmas.{TookFrame_from_read}
 use Rattle.lobby_web.specs.Frames.{outgoing, texts_sent}
 
@@ -47,8 +47,10 @@ reply-close-effect conn f (Some p) s = refl
 reply-close : (conn : Connection) (p : List ℕ) (r : Result (Option (CloseCode × List ℕ)) Error) → HasNoText conn (on_close conn p r)
 reply-close conn p (Err e) = tt
 reply-close conn p (Ok f) =
-    reply-ok-cond conn _ _ _ (reply-close-effect conn f None CloseAcknowledged)
-    (reply-ok-cond conn _ _ _ (reply-close-effect conn f (Some p) ClosedByPeer)
+    reply-ok-cond conn (not (can_write conn.state)) (close_effect conn f None CloseAcknowledged)
+    (cond (has_allowed_code f) (close_effect conn f (Some p) ClosedByPeer) (close_effect conn (Some (Code.Protocol, [])) (Some (3 ∷ 234 ∷ codes "Protocol violation")) ClosedByPeer))
+    (reply-close-effect conn f None CloseAcknowledged)
+    (reply-ok-cond conn (has_allowed_code f) (close_effect conn f (Some p) ClosedByPeer) (close_effect conn (Some (Code.Protocol, [])) (Some (3 ∷ 234 ∷ codes "Protocol violation")) ClosedByPeer) (reply-close-effect conn f (Some p) ClosedByPeer)
     (reply-close-effect conn (Some (Code.Protocol, [])) (Some (3 ∷ 234 ∷ codes "Protocol violation")) ClosedByPeer))
 
 reply-deliver : (conn : Connection) (r : Result Content Error) → HasNoText conn (deliver conn r)

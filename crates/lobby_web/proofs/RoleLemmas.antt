@@ -19,7 +19,7 @@ use Rattle.websocket.specs.declared.protocol.frame.coding.CloseCode.TheVariants 
 use Rattle.websocket.specs.declared.protocol.frame.codec.FrameStatus.TheVariants.{Complete}
 use Rattle.websocket.specs.Frame.{after_check, Checked}
 use Rattle.websocket.specs.Content.{Content}
-use Rattle.websocket.specs.Connection.{Connection, Effect, on_frame, on_opcode, on_control, on_short_control, on_close, close_effect, on_data, on_data_after, on_message_bytes, deliver, read_step, decode_close, check_so_far}
+use Rattle.websocket.specs.Connection.{Connection, Effect, on_frame, on_opcode, on_control, on_short_control, on_close, close_effect, has_allowed_code, on_data, on_data_after, on_message_bytes, deliver, read_step, decode_close, check_so_far, can_write}
 use Rattle.websocket.proofs.StreamLemmas.{TookFrame_from_read}
 
 -- what a frame does leaves the connection on its side
@@ -46,8 +46,10 @@ role-close-effect conn f (Some p) s = refl
 role-close : (conn : Connection) (p : List ℕ) (r : Result (Option (CloseCode × List ℕ)) Error) → KeepsRole conn (on_close conn p r)
 role-close conn p (Err e) = tt
 role-close conn p (Ok f) =
-    role-ok-cond conn _ _ _ (role-close-effect conn f None CloseAcknowledged)
-    (role-ok-cond conn _ _ _ (role-close-effect conn f (Some p) ClosedByPeer)
+    role-ok-cond conn (not (can_write conn.state)) (close_effect conn f None CloseAcknowledged)
+    (cond (has_allowed_code f) (close_effect conn f (Some p) ClosedByPeer) (close_effect conn (Some (Code.Protocol, [])) (Some (3 ∷ 234 ∷ codes "Protocol violation")) ClosedByPeer))
+    (role-close-effect conn f None CloseAcknowledged)
+    (role-ok-cond conn (has_allowed_code f) (close_effect conn f (Some p) ClosedByPeer) (close_effect conn (Some (Code.Protocol, [])) (Some (3 ∷ 234 ∷ codes "Protocol violation")) ClosedByPeer) (role-close-effect conn f (Some p) ClosedByPeer)
     (role-close-effect conn (Some (Code.Protocol, [])) (Some (3 ∷ 234 ∷ codes "Protocol violation")) ClosedByPeer))
 
 role-deliver : (conn : Connection) (r : Result Content Error) → KeepsRole conn (deliver conn r)

@@ -9,6 +9,7 @@ use Rattle.websocket.specs.declared.protocol.frame.coding.CloseCode.{CloseCode}
 use Rattle.websocket.specs.declared.protocol.frame.coding.OpCode.{OpCode}
 use Rattle.websocket.specs.declared.protocol.frame.coding.OpCode.TheVariants as Op
 use Rattle.websocket.specs.declared.protocol.frame.coding.Control.TheVariants as Control
+use Rattle.websocket.specs.declared.protocol.frame.coding.Data.TheVariants as Data
 use Rattle.websocket.specs.declared.protocol.frame.codec.FrameStatus.{FrameStatus}
 use Rattle.websocket.specs.declared.protocol.frame.codec.FrameStatus.TheVariants.{Partial, Complete}
 use Rattle.websocket.specs.Frame.{after_check, Checked, encode_frame}
@@ -107,8 +108,10 @@ active-state State.Terminated h = cc
 
 active-writes : (conn after : Connection) (content : Content) (old new : List ℕ) → after.role ≡ Server → can_write conn.state ≡ true
     → Leaves (write_active conn content) after old new → new ≡ old ++ frame_bytes (content_opcode content) (content_payload content)
-active-writes conn after (text bytes) old new server active leaves = sends-server after.role _ old new server leaves.1
-active-writes conn after (binary bytes) old new server active leaves = sends-server after.role _ old new server leaves.1
+active-writes conn after (text bytes) old new server active leaves =
+    sends-server after.role (Some (record { opcode = Op.Data Data.Text; payload = bytes })) old new server leaves.1
+active-writes conn after (binary bytes) old new server active leaves =
+    sends-server after.role (Some (record { opcode = Op.Data Data.Binary; payload = bytes })) old new server leaves.1
 active-writes conn after (ping bytes) old new server active leaves =
     let effect : Effect = record { message = None; reply = Some (record { opcode = Op.Control Control.Ping; payload = bytes }); next = conn } in
     let l = checked (check_control_size bytes) effect after old new leaves in

@@ -30,7 +30,7 @@ whole-at : (r : Result (FrameStatus (ℕ × Effect)) Error) (conn after : Connec
     → KeepsRest (Complete step) input unmasked → IsFrameOf (option_map (received_content unmasked) step.message) frame
     → Whole conn after input unmasked old new step frame
 whole-at (Err e) conn after input unmasked old new step frame is server returns leaves keeps says = absurd returns
-whole-at (Ok (Partial n)) conn after input unmasked old new step frame is server returns leaves keeps says = absurd returns
+whole-at (Ok (Partial n)) conn after input unmasked old new step frame is server returns leaves keeps says = cc returns
 whole-at (Ok (Complete p)) conn after input unmasked old new step frame is server returns leaves keeps says =
     let took = TookFrame_from_read conn input p is in
     let role : after.role ≡ Server = ap (λ (c : Connection). c.role) leaves.0 ∙ next-role conn input p is ∙ server in

@@ -6,7 +6,7 @@ ghost use Rattle.http_header.specs.FieldValue.{plain_value};
 ghost use Rattle.http_server.specs.Response.{IsBlank, IsResponse};
 ghost use Rattle.lobby_web.specs.Media.{media_type};
 ghost use Rattle.lobby_web.specs.Requests.{field, is_from_page, lists_upgrade, asks_upgrade, only_reads};
-ghost use Rattle.lobby_web.specs.Answering.{guarded, IsTold, IsFileAnswer, IsOtherMethodAnswer, IsSwitch, IsSocketAnswer, IsAnswer};
+ghost use Rattle.lobby_web.specs.Answering.{guarded, IsTold, IsFileAnswer, IsOtherMethodAnswer, IsSwitch, IsKeyAnswer, IsSocketAnswer, IsAnswer};
 
 use crate::site::{File, Kind, Site};
 use bytes::{BufMut, Bytes};
@@ -178,6 +178,21 @@ fn switch(alloc: Global, response: &mut Response, key: &[u8]) -> Result<(), Allo
     response.add_header(HeaderName::from_static("sec-websocket-accept"), accepted)
 }
 
+// The upgrade for this key, or that it is none.
+fn accept(alloc: Global, key: &[u8], response: &mut Response) -> Result<(), AllocError>
+    requires { IsBlank response.old }
+    ensures { OnOk result (IsKeyAnswer key.now response.new) }
+{
+    match accept_key(key) {
+        Ok(accepted) => switch(alloc, response, &accepted),
+        Err(_) => tell(
+            response,
+            StatusCode::BAD_REQUEST,
+            "The key of this WebSocket is none.",
+        ),
+    }
+}
+
 // What is answered at the page's socket.
 fn open_socket(
     alloc: Global,
@@ -201,14 +216,7 @@ fn open_socket(
             "Here is a WebSocket of version 13.",
         );
     }
-    match accept_key(field(request, "sec-websocket-key")) {
-        Ok(key) => switch(alloc, response, &key),
-        Err(_) => tell(
-            response,
-            StatusCode::BAD_REQUEST,
-            "The key of this WebSocket is none.",
-        ),
-    }
+    accept(alloc, field(request, "sec-websocket-key"), response)
 }
 
 // What is answered.

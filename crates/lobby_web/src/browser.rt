@@ -112,6 +112,15 @@ fn lightened(alloc: Global, site: &Site, stage: Stage, count: usize) -> Stage
     }
 }
 
+// Puts a stage in the place of another.
+fn put(place: &mut Stage, stage: Stage)
+    ensures { place.new ≡ stage }
+{
+    discard(mem::replace(place, stage));
+}
+
+fn discard(_stage: Stage) {}
+
 impl Browser {
     /// A connection that begins. The keys are for the names of headers, which the peer chooses.
     pub fn new(alloc: Global, keys: RandomState) -> Browser
@@ -166,7 +175,9 @@ impl Browser {
         let wanted = self.wants_read();
         let stage = mem::replace(&mut self.stage, Stage::Over);
         if wanted {
-            self.stage = taken(self.alloc, site, stage, bytes);
+            put(&mut self.stage, taken(self.alloc, site, stage, bytes));
+        } else {
+            discard(stage);
         }
     }
 
@@ -229,6 +240,6 @@ impl Browser {
         ensures { Writes site.now count self.old.stage self.new.stage }
     {
         let stage = mem::replace(&mut self.stage, Stage::Over);
-        self.stage = lightened(self.alloc, site, stage, count);
+        put(&mut self.stage, lightened(self.alloc, site, stage, count));
     }
 }
