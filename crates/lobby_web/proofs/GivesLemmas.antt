@@ -97,7 +97,7 @@ gives-text old new words was is read = record {
   texts = inl read.found;
   stands = λ still. (read.state, read.input, read.output);
   over = λ now. cc (is, now);
-  waits = λ no. cc no;
+  waits = λ none. cc none;
   ended = λ before. cc (was, before);
 }
 
@@ -112,7 +112,7 @@ gives-none old new needed was is read waits = record {
   texts = inl read.found;
   stands = λ still. (read.state, read.input, read.output);
   over = λ now. cc (is, now);
-  waits = λ no still. (needed, waits);
+  waits = λ none still. (needed, waits);
   ended = λ before. cc (was, before);
 }
 
@@ -127,22 +127,22 @@ gives-over old mid new code was is read closes = record {
   texts = inl read.found;
   stands = λ still. cc (is, still);
   over = λ now. (code, subst (λ (l : List ℕ). ClosesBy code l new.output.items) read.output closes);
-  waits = λ no still. cc (is, still);
+  waits = λ none still. cc (is, still);
   ended = λ before. cc (was, before);
 }
 
 -- it is over, and a text is lost
-pub gives-lost : (old new : Socket) (code : CloseCode) (bytes : List ℕ) → old.is_over ≡ false → new.is_over ≡ true → Read old new (bytes ∷ [])
-    → Gives old new None
-gives-lost old new code bytes was is read = record {
+pub gives-lost : (old mid new : Socket) (code : CloseCode) (bytes : List ℕ) → old.is_over ≡ false → new.is_over ≡ true → Read old mid (bytes ∷ [])
+    → new.output.items ≡ mid.output.items → Gives old new None
+gives-lost old mid new code bytes was is read same = record {
   frames = read.frames;
   conn = read.conn;
   rest = read.rest;
   runs = read.runs;
   texts = inr (is, refl, (bytes, read.found));
   stands = λ still. cc (is, still);
-  over = λ now. (code, inl read.output);
-  waits = λ no still. cc (is, still);
+  over = λ now. (code, inl (same ∙ read.output));
+  waits = λ none still. cc (is, still);
   ended = λ before. cc (was, before);
 }
 
@@ -158,7 +158,7 @@ gives-failed old mid new code frames conn rest was is runs quiet output closes =
   texts = inl quiet;
   stands = λ still. cc (is, still);
   over = λ now. (code, subst (λ (l : List ℕ). ClosesBy code l new.output.items) output closes);
-  waits = λ no still. cc (is, still);
+  waits = λ none still. cc (is, still);
   ended = λ before. cc (was, before);
 }
 
@@ -174,6 +174,6 @@ gives-nothing old new was same =
       texts = inl refl;
       stands = λ still. cc (over, still);
       over = λ now. (Code.Normal, inl (same.2 ∙ sym (append-nil old.output.items)));
-      waits = λ no still. cc (over, still);
+      waits = λ none still. cc (over, still);
       ended = λ before. (refl, same);
     }

@@ -1,15 +1,18 @@
 -- What a read of one frame says of the frame, the state and what is left.
-use Rattle.std.proofs.Common.{ℕ, ◌≡◌, ◌<◌, ◌≤◌, List, [], ◌∷◌, ◌++◌, drop, length, Option, option_map, Ok, Err, Result, refl, sym, ap, ◌∙◌, subst, arith, length-drop}
+use Rattle.std.proofs.Common.{ℕ, ◌≡◌, ◌<◌, ◌≤◌, List, [], ◌∷◌, ◌++◌, drop, length, Option, Some, None, option_map, Ok, Err, Result, refl, sym, ap, ◌∙◌, subst, arith, length-drop}
 use Rattle.websocket.specs.declared.error.Error.{Error}
 use Rattle.websocket.specs.declared.protocol.config.Role.TheVariants.{Server}
 use Rattle.websocket.specs.declared.protocol.context.Step.{Step}
 use Rattle.websocket.specs.declared.protocol.frame.codec.FrameStatus.{FrameStatus}
 use Rattle.websocket.specs.declared.protocol.frame.codec.FrameStatus.TheVariants.{Partial, Complete}
-use Rattle.websocket.specs.Content.{Content, received_content}
+use Rattle.websocket.specs.Content.{Content, text, binary, ping, pong, close, received_content}
 use Rattle.websocket.specs.Connection.{Connection, Effect, read_step}
 use Rattle.websocket.specs.View.{Returns, ReadLeaves, KeepsRest}
 use Rattle.websocket.proofs.StreamLemmas.{TookFrame_from_read}
 use Rattle.lobby_web.specs.declared.socket.Frame.{Frame}
+use Rattle.lobby_web.specs.declared.socket.Frame.TheVariants as Is
+use Rattle.lobby_web.specs.declared.socket.Socket.{Socket}
+use Rattle.lobby_web.specs.Talking.{TakesWhole, TakesFrame}
 use Rattle.lobby_web.specs.Codes.{IsFrameOf}
 use Rattle.lobby_web.specs.Frames.{reply_bytes}
 use Rattle.lobby_web.proofs.RoleLemmas.{next-role}
@@ -71,3 +74,38 @@ pub part : (conn after : Connection) (input unmasked old new : List ℕ) (needed
     → ReadLeaves (read_step conn input) conn after old new → KeepsRest (Partial needed) input unmasked → Part conn after input unmasked old new needed
 part conn after input unmasked old new needed returns leaves keeps =
     part-at (read_step conn input) conn after input unmasked old new needed refl returns leaves keeps
+
+not-waits : (message : Option Content) → IsFrameOf message Is.Waits → ⊥
+not-waits None is = cc is
+not-waits (Some (text bytes)) is = is
+not-waits (Some (binary bytes)) is = cc is
+not-waits (Some (ping bytes)) is = cc is
+not-waits (Some (pong bytes)) is = cc is
+not-waits (Some (close reason)) is = cc is
+
+not-slow : (message : Option Content) → IsFrameOf message Is.Slow → ⊥
+not-slow None is = cc is
+not-slow (Some (text bytes)) is = is
+not-slow (Some (binary bytes)) is = cc is
+not-slow (Some (ping bytes)) is = cc is
+not-slow (Some (pong bytes)) is = cc is
+not-slow (Some (close reason)) is = cc is
+
+not-bad : (message : Option Content) (error : Error) → IsFrameOf message (Is.Bad error) → ⊥
+not-bad None error is = cc is
+not-bad (Some (text bytes)) error is = is
+not-bad (Some (binary bytes)) error is = cc is
+not-bad (Some (ping bytes)) error is = cc is
+not-bad (Some (pong bytes)) error is = cc is
+not-bad (Some (close reason)) error is = cc is
+
+-- a whole frame that was taken is what the next frame was
+pub takes : (conn : Connection) (input output : List ℕ) (new : Socket) (frame : Frame) → TakesWhole conn input output new frame → TakesFrame conn input output new frame
+takes conn input output new Is.Waits whole = absurd (not-waits whole.taken.1.message whole.is)
+takes conn input output new Is.Quiet whole = whole
+takes conn input output new (Is.Text found) whole = whole
+takes conn input output new Is.Lost whole = whole
+takes conn input output new Is.Binary whole = whole
+takes conn input output new Is.Close whole = whole
+takes conn input output new Is.Slow whole = absurd (not-slow whole.taken.1.message whole.is)
+takes conn input output new (Is.Bad error) whole = absurd (not-bad whole.taken.1.message error whole.is)

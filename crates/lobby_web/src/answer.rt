@@ -126,20 +126,28 @@ fn tell(response: &mut Response, status: StatusCode, words: &str) -> Result<(), 
     response.body.put_slice(words.as_bytes())
 }
 
+// A file, with its media type.
+fn send(response: &mut Response, file: &File) -> Result<(), AllocError>
+    requires { IsBlank response.old }
+    ensures { OnOk result (IsResponse 200 (guarded (media_type file.now.kind)) file.now.bytes response.new) }
+{
+    begin(response, StatusCode::OK, media_type(file.kind))?;
+    response.body.push(file.bytes.clone()?)
+}
+
 // The file of the path, or that there is none.
 fn send_file(response: &mut Response, file: Option<&File>) -> Result<(), AllocError>
     requires { IsBlank response.old }
     ensures { OnOk result (IsFileAnswer (option_copied file.entry) response.new) }
 {
-    let Some(file) = file else {
-        return tell(
+    match file {
+        Some(file) => send(response, file),
+        None => tell(
             response,
             StatusCode::NOT_FOUND,
             "There is no such page here.",
-        );
-    };
-    begin(response, StatusCode::OK, media_type(file.kind))?;
-    response.body.push(file.bytes.clone()?)
+        ),
+    }
 }
 
 // That only reading is answered.

@@ -226,6 +226,7 @@ impl Socket {
     // over.
     fn next_frame(&mut self) -> Frame
         ensures reaches { Reaches self.old self.new result }
+        ensures heard { result ≢ Frame.Quiet }
         ensures over { self.new.is_over ≡ self.old.is_over }
     {
         loop {
@@ -260,13 +261,30 @@ impl Socket {
             return None;
         }
         match self.next_frame() {
-            Frame::Text(text) => return Some(text),
-            Frame::Waits | Frame::Quiet => {}
-            Frame::Binary => self.fail(CloseCode::Unsupported),
-            Frame::Close | Frame::Lost | Frame::Slow => self.is_over = true,
-            Frame::Bad(error) => self.fail(code_of(error)),
+            Frame::Text(text) => Some(text),
+            Frame::Waits => None,
+            Frame::Quiet => None,
+            Frame::Binary => {
+                self.fail(CloseCode::Unsupported);
+                None
+            }
+            Frame::Close => {
+                self.is_over = true;
+                None
+            }
+            Frame::Lost => {
+                self.is_over = true;
+                None
+            }
+            Frame::Slow => {
+                self.is_over = true;
+                None
+            }
+            Frame::Bad(error) => {
+                self.fail(code_of(error));
+                None
+            }
         }
-        None
     }
 
     /// What came next: first that it is open, and then each text message.
