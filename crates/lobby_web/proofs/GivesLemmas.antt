@@ -43,7 +43,7 @@ told (Some (ping bytes)) frame is kept = ap words_of (sym is)
 told (Some (pong bytes)) frame is kept = ap words_of (sym is)
 told (Some (close reason)) frame is kept = ap words_of (sym is)
 
-lost : (message : Option Content) → IsFrameOf message Is.Lost → (bytes : List ℕ) × (text_in message ≡ bytes ∷ [])
+pub lost : (message : Option Content) → IsFrameOf message Is.Lost → (bytes : List ℕ) × (text_in message ≡ bytes ∷ [])
 lost None is = absurd (cc is)
 lost (Some (text bytes)) is = (bytes, refl)
 lost (Some (binary bytes)) is = absurd (cc is)

@@ -58,3 +58,11 @@ pub refused : {E : Type 0} (result : Result (Unit {0}) E) (key : List ℕ) (erro
     → OnOk result (IsTold 400 (codes "The key of this WebSocket is none.") response) → OnOk result (IsKeyAnswer key response)
 refused (Err e) key error response answers sent = tt
 refused (Ok x) key error response answers sent = inr (answers.0, sent)
+
+-- a page of the host's own asks for an upgrade
+pub asked : {E : Type 0} (result : Result (Unit {0}) E) (r : Request (List ℕ)) (response : Response) → is_from_page r ≡ true → asks_upgrade r ≡ true
+    → OnOk result (IsKeyAnswer (field r (codes "sec-websocket-key")) response) → OnOk result (IsSocketAnswer r response)
+asked (Err e) r response page asks answer = tt
+asked (Ok x) r response page asks answer =
+    subst (λ (b : Bool). MatchBool b (MatchBool (asks_upgrade r) (IsKeyAnswer (field r (codes "sec-websocket-key")) response) (IsTold 400 (codes "Here is a WebSocket of version 13.") response)) (IsTold 403 (codes "Only this site's own page opens this socket.") response)) (sym page)
+    (subst (λ (b : Bool). MatchBool b (IsKeyAnswer (field r (codes "sec-websocket-key")) response) (IsTold 400 (codes "Here is a WebSocket of version 13.") response)) (sym asks) answer)
