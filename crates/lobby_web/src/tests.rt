@@ -1,6 +1,4 @@
 //! A browser's bytes, good and bad, in pieces of several sizes.
-ghost use Rattle.std.specs.Prelude.{◌<◌};
-
 use crate::{Browser, CloseCode, File, Heard, Kind, Site, Unsaid};
 use bytes::Bytes;
 use std::hash::RandomState;
@@ -64,9 +62,7 @@ struct Outcome {
 }
 
 /// Gives a browser an input in pieces of so many bytes.
-fn outcome_of(rt: &HostRuntime, input: &[u8], step: usize) -> Result<Outcome, Fail>
-    requires { 0 < step }
-{
+fn outcome_of(rt: &HostRuntime, input: &[u8], step: usize) -> Result<Outcome, Fail> {
     let site = club_site(rt)?;
     let mut browser = Browser::new(rt.alloc(), RandomState::new(rt)?);
     let mut told = Outcome {
@@ -75,7 +71,7 @@ fn outcome_of(rt: &HostRuntime, input: &[u8], step: usize) -> Result<Outcome, Fa
         was_opened: false,
         is_over: false,
     };
-    for piece in input.chunks(step) {
+    for piece in input.chunks(step.max(1)) {
         if !browser.wants_read() {
             break;
         }
@@ -436,10 +432,10 @@ fn what_waits_is_bounded(rt: HostRuntime) -> Result<(), Fail> {
     let text = [b'x'; 10_000];
     // Who does not read what is said.
     let mut slow = opened(&rt, &site)?;
-    let mut said = 0;
+    let mut said = 0u32;
     for _ in 0..200 {
         if slow.say(&text).is_ok() {
-            said += 1;
+            said = said.saturating_add(1);
         }
     }
     assert_eq!(rt; said, 105);
