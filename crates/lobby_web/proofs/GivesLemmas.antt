@@ -102,15 +102,16 @@ gives-text old new words was is read = record {
 }
 
 -- no whole frame is left
-pub gives-none : (old new : Socket) (needed : ℕ) → old.is_over ≡ false → new.is_over ≡ false → (read : Read old new [])
-    → read_step read.conn read.rest ≡ Ok (Partial needed) → Gives old new None
-gives-none old new needed was is read waits = record {
-  frames = read.frames;
-  conn = read.conn;
-  rest = read.rest;
-  runs = read.runs;
-  texts = inl read.found;
-  stands = λ still. (read.state, read.input, read.output);
+pub gives-waits : (old new : Socket) (needed : ℕ) (frames : Run) (conn : Connection) (rest : List ℕ) → old.is_over ≡ false → new.is_over ≡ false
+    → Runs old.context old.input.items frames conn rest → texts frames ≡ [] → TakesNothing conn rest (old.output.items ++ replies frames) new
+    → read_step conn rest ≡ Ok (Partial needed) → Gives old new None
+gives-waits old new needed frames conn rest was is runs quiet same waits = record {
+  frames = frames;
+  conn = conn;
+  rest = rest;
+  runs = runs;
+  texts = inl quiet;
+  stands = λ still. same;
   over = λ now. cc (is, now);
   waits = λ none still. (needed, waits);
   ended = λ before. cc (was, before);

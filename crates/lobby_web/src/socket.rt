@@ -217,6 +217,18 @@ impl Socket {
             Ok(FrameStatus::Partial(_)) => return Frame::Waits,
             Err(error) => return Frame::Bad(error),
         };
+        self.take_off(&step)
+    }
+
+    // Takes a frame that was read off what came.
+    fn take_off(&mut self, step: &Step) -> Frame
+        requires inside { IfSome step.now.message (IsReceivedInside self.old.input.items) }
+        requires within { step.now.consumed ≤ length self.old.input.items }
+        ensures is { IsFrameOf (option_map (received_content self.old.input.items) step.now.message) result }
+        ensures rest { self.new.input.items ≡ drop step.now.consumed self.old.input.items }
+        ensures kept { (self.new.context ≡ self.old.context) × (self.new.output.items ≡ self.old.output.items)
+            × (self.new.is_over ≡ self.old.is_over) }
+    {
         let frame = frame_of(self.alloc, &step.message, self.input.as_slice());
         self.input.advance(step.consumed);
         frame

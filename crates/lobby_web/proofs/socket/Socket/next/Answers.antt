@@ -1,7 +1,7 @@
-use Rattle.std.proofs.Common.{◌≡◌, false, inl, refl, ◌∙◌}
+use Rattle.std.proofs.Common.{ℕ, List, inl, refl, subst, ◌∙◌}
 use Rattle.websocket.specs.declared.protocol.frame.coding.CloseCode.TheVariants as Code
 use Rattle.lobby_web.specs.declared.socket.Frame.TheVariants as Is
-use Rattle.lobby_web.proofs.GivesLemmas.{one-more, one-more-told, read-none, lost, gives-text, gives-none, gives-over, gives-lost, gives-failed, gives-nothing}
+use Rattle.lobby_web.proofs.GivesLemmas.{Read, one-more, one-more-told, read-none, lost, gives-text, gives-waits, gives-over, gives-lost, gives-failed, gives-nothing}
 use Rattle.lobby_web.proofs.socket.Socket.next.Goals as goal
 
 pub returns-then-self : goal.returns-then-self
@@ -16,8 +16,8 @@ returns-in-Text c =
 pub returns-in-Waits : goal.returns-in-Waits
 returns-in-Waits c =
     let r = c.in-Waits.ensures.reaches in
-    gives-none c.args.self.now c.next_frame.new.self r.last.0.0 c.if-self.false (c.next_frame.ensures.over ∙ c.if-self.false)
-    (read-none c.args.self.now c.next_frame.new.self r.frames r.conn r.rest r.runs r.quiet r.last.1) r.last.0.1
+    gives-waits c.args.self.now c.next_frame.new.self r.last.0.0 r.frames r.conn r.rest c.if-self.false (c.next_frame.ensures.over ∙ c.if-self.false)
+    r.runs r.quiet r.last.1 r.last.0.1
 
 pub returns-in-Quiet : goal.returns-in-Quiet
 returns-in-Quiet c = absurd (c.in-Quiet.ensures.heard refl)
@@ -39,7 +39,7 @@ returns-in-Lost c =
     let r = c.in-Lost.ensures.reaches in
     let one = one-more c.args.self.now c.next_frame.new.self Is.Lost r.frames r.conn r.rest r.runs r.quiet r.last in
     let bytes = lost r.last.taken.1.message r.last.is in
-    gives-lost c.args.self.now c.next_frame.new.self _ Code.Normal bytes.0 c.if-self.false refl (rw bytes.1 at one) refl
+    gives-lost c.args.self.now c.next_frame.new.self _ Code.Normal bytes.0 c.if-self.false refl (subst (λ (l : List (List ℕ)). Read c.args.self.now c.next_frame.new.self l) bytes.1 one) refl
 
 pub returns-in-Slow : goal.returns-in-Slow
 returns-in-Slow c =
