@@ -224,7 +224,7 @@ impl Socket {
     fn take_off(&mut self, step: &Step) -> Frame
         requires inside { IfSome step.now.message (IsReceivedInside self.old.input.items) }
         requires within { step.now.consumed ≤ length self.old.input.items }
-        ensures is { IsFrameOf (option_map (received_content self.old.input.items) step.now.message) result }
+        ensures told { IsFrameOf (option_map (received_content self.old.input.items) step.now.message) result }
         ensures rest { self.new.input.items ≡ drop step.now.consumed self.old.input.items }
         ensures kept { (self.new.context ≡ self.old.context) × (self.new.output.items ≡ self.old.output.items)
             × (self.new.is_over ≡ self.old.is_over) }

@@ -11,7 +11,7 @@ returns-clause-takes c =
     let arm = c.in-Ok-Complete in
     let returns = rw arm.field-0-is at arm.ensures.returns in
     let keeps = rw arm.field-0-is at arm.ensures.keeps_rest in
-    let w = whole old.context read.context old.input.items read.input.items old.output.items read.output.items arm.step c.take_off.result old.server returns arm.ensures.leaves keeps c.take_off.ensures.is in
+    let w = whole old.context read.context old.input.items read.input.items old.output.items read.output.items arm.step c.take_off.result old.server returns arm.ensures.leaves keeps c.take_off.ensures.told in
     let rest : new.input.items ≡ drop w.taken.0 old.input.items = c.take_off.ensures.rest ∙ w.rest in
     takes old.context old.input.items old.output.items new c.take_off.result
     (record {
