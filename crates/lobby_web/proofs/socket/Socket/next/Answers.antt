@@ -50,5 +50,5 @@ returns-in-Slow c =
 pub returns-in-Bad : goal.returns-in-Bad
 returns-in-Bad c =
     let r = c.in-Bad.ensures.reaches in
-    gives-failed c.args.self.now c.next_frame.new.self c.fail.new.self c.code_of.result r.frames r.conn r.rest c.if-self.false c.fail.ensures.over
-    r.runs r.quiet r.last.2 c.fail.ensures.ends.1
+    gives-failed c.args.self.now c.next_frame.new.self c.fail-in-Bad.new.self c.code_of.result r.frames r.conn r.rest c.if-self.false c.fail-in-Bad.ensures.over
+    r.runs r.quiet r.last.2 c.fail-in-Bad.ensures.ends.1
