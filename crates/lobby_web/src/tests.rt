@@ -427,10 +427,9 @@ fn what_is_said_goes_out_in_frames(rt: HostRuntime) -> Result<(), Fail> {
 }
 
 #[test]
-fn what_waits_is_bounded(rt: HostRuntime) -> Result<(), Fail> {
+fn who_does_not_read_is_over(rt: HostRuntime) -> Result<(), Fail> {
     let site = club_site(&rt)?;
     let text = [b'x'; 10_000];
-    // Who does not read what is said.
     let mut slow = opened(&rt, &site)?;
     let mut said = 0u32;
     for _ in 0..200 {
@@ -441,7 +440,12 @@ fn what_waits_is_bounded(rt: HostRuntime) -> Result<(), Fail> {
     assert_eq!(rt; said, 105);
     assert!(rt; slow.is_over() && !slow.is_open() && !slow.wants_read());
     assert_eq!(rt; slow.say(b"x"), Err(Unsaid::NotOpen));
-    // Who pings, and does not read the pongs.
+    Ok(())
+}
+
+#[test]
+fn who_pings_and_does_not_read_is_over(rt: HostRuntime) -> Result<(), Fail> {
+    let site = club_site(&rt)?;
     let mut pinging = opened(&rt, &site)?;
     let mut pings = Vec::new(rt.alloc());
     for _ in 0..1_000 {
@@ -455,7 +459,13 @@ fn what_waits_is_bounded(rt: HostRuntime) -> Result<(), Fail> {
         }
     }
     assert!(rt; pinging.is_over());
-    // Who is not heard is not read either.
+    Ok(())
+}
+
+#[test]
+fn who_is_not_heard_is_not_read(rt: HostRuntime) -> Result<(), Fail> {
+    let site = club_site(&rt)?;
+    let text = [b'x'; 10_000];
     let mut unheard = opened(&rt, &site)?;
     unheard.take(&site, &text);
     assert!(rt; !unheard.wants_read() && !unheard.is_over());
