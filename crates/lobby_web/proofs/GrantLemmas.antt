@@ -1,0 +1,68 @@
+-- Which requests are answered by an upgrade.
+use Rattle.std.proofs.Common.{ℕ, ◌≡◌, ◌⊎◌, inl, inr, List, [], ◌∷◌, ◌++◌, Option, None, Some, Bool, true, false, MatchBool, Result, Ok, Err, OnOk, codes, refl, sym, ◌∙◌, arith, subst}
+use Rattle.http.specs.declared.request.Request.{Request}
+use Rattle.http_server.specs.declared.response.Response.{Response}
+use Rattle.http_server.specs.Exchange.{Call}
+use Rattle.http_server.specs.Response.{IsResponse}
+use Rattle.websocket.specs.declared.handshake.failure.HandshakeError.{HandshakeError}
+use Rattle.websocket.specs.Handshake.{IsValidKey, AnswersKey, accept_key_of}
+use Rattle.lobby_web.specs.declared.site.Site.{Site}
+use Rattle.lobby_web.specs.declared.site.File.{File}
+use Rattle.lobby_web.specs.Pages.{file_at}
+use Rattle.lobby_web.specs.Requests.{field, path_of, is_taken, is_from_page, asks_socket, asks_upgrade, only_reads}
+use Rattle.lobby_web.specs.Answering.{IsAnswer, IsSocketAnswer, IsPageAnswer, IsKeyAnswer, IsFileAnswer, IsOtherMethodAnswer, IsTold, IsSwitch, IsGranted}
+
+matched : (b : Bool) (P Q : Type 0) → MatchBool b P Q → ((b ≡ true) × P) ⊎ ((b ≡ false) × Q)
+matched true P Q h = inl (refl, h)
+matched false P Q h = inr (refl, h)
+
+file-status : (file : Option File) (response : Response) → IsFileAnswer file response → response.status ≡ 101 → ⊥
+file-status None response h switch = omega (arith, h.status, switch)
+file-status (Some file) response h switch = omega (arith, h.status, switch)
+
+pub granted : (site : Site) (r : Request (List ℕ)) (response : Response) → IsAnswer site r response → response.status ≡ 101 → IsGranted site r
+granted site r response answer switch =
+    elim (matched (is_taken site r) (MatchBool (asks_socket r) (IsSocketAnswer r response) (IsPageAnswer site r response)) (IsTold 403 (codes "This host is not served here.") response) answer) [
+      | inr other ↦ absurd (omega (arith, other.1.status, switch))
+      | inl taken ↦
+          elim (matched (asks_socket r) (IsSocketAnswer r response) (IsPageAnswer site r response) taken.1) [
+            | inr page ↦
+                elim (matched (only_reads r) (IsFileAnswer (file_at site (path_of r)) response) (IsOtherMethodAnswer response) page.1) [
+                  | inl file ↦ absurd (file-status (file_at site (path_of r)) response file.1 switch)
+                  | inr method ↦ absurd (omega (arith, method.1.status, switch))
+                ]
+            | inl socket ↦
+                elim (matched (is_from_page r) (MatchBool (asks_upgrade r) (IsKeyAnswer (field r (codes "sec-websocket-key")) response) (IsTold 400 (codes "Here is a WebSocket of version 13.") response)) (IsTold 403 (codes "Only this site's own page opens this socket.") response) socket.1) [
+                  | inr other ↦ absurd (omega (arith, other.1.status, switch))
+                  | inl own ↦
+                      elim (matched (asks_upgrade r) (IsKeyAnswer (field r (codes "sec-websocket-key")) response) (IsTold 400 (codes "Here is a WebSocket of version 13.") response) own.1) [
+                        | inr other ↦ absurd (omega (arith, other.1.status, switch))
+                        | inl asks ↦
+                            elim asks.1 [
+                              | inl key ↦ record { host = taken.0; socket = socket.0; page = own.0; asks = asks.0; key = key.0 }
+                              | inr other ↦ absurd (omega (arith, other.1.status, switch))
+                            ]
+                      ]
+                ]
+          ]
+    ]
+
+-- the answer to a key that is one
+pub accepted : {E : Type 0} (result : Result (Unit {0}) E) (key answer : List ℕ) (response : Response) → AnswersKey (Ok answer) key
+    → OnOk result (IsSwitch answer response) → OnOk result (IsKeyAnswer key response)
+accepted (Err e) key answer response answers sent = tt
+accepted (Ok x) key answer response answers sent = inl (answers.0, subst (λ (k : List ℕ). IsSwitch k response) answers.1 sent)
+
+-- and to one that is none
+pub refused : {E : Type 0} (result : Result (Unit {0}) E) (key : List ℕ) (error : HandshakeError) (response : Response) → AnswersKey (Err error) key
+    → OnOk result (IsTold 400 (codes "The key of this WebSocket is none.") response) → OnOk result (IsKeyAnswer key response)
+refused (Err e) key error response answers sent = tt
+refused (Ok x) key error response answers sent = inr (answers.0, sent)
+
+-- a page of the host's own asks for an upgrade
+pub asked : {E : Type 0} (result : Result (Unit {0}) E) (r : Request (List ℕ)) (response : Response) → is_from_page r ≡ true → asks_upgrade r ≡ true
+    → OnOk result (IsKeyAnswer (field r (codes "sec-websocket-key")) response) → OnOk result (IsSocketAnswer r response)
+asked (Err e) r response page asks answer = tt
+asked (Ok x) r response page asks answer =
+    subst (λ (b : Bool). MatchBool b (MatchBool (asks_upgrade r) (IsKeyAnswer (field r (codes "sec-websocket-key")) response) (IsTold 400 (codes "Here is a WebSocket of version 13.") response)) (IsTold 403 (codes "Only this site's own page opens this socket.") response)) (sym page)
+    (subst (λ (b : Bool). MatchBool b (IsKeyAnswer (field r (codes "sec-websocket-key")) response) (IsTold 400 (codes "Here is a WebSocket of version 13.") response)) (sym asks) answer)

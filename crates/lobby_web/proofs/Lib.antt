@@ -1,0 +1,13 @@
+pub mod OriginLemmas
+pub mod GrantLemmas
+pub mod ChainLemmas
+pub mod RunLemmas
+pub mod RoleLemmas
+pub mod ReplyLemmas
+pub mod SendLemmas
+pub mod TakeLemmas
+pub mod GivesLemmas
+pub mod ServeLemmas
+pub mod ReadLemmas
+pub mod LifeLemmas
+pub mod SayingLemmas

@@ -1,0 +1,86 @@
+-- What a site answers to a request.
+use Rattle.std.specs.Prelude.{ℕ, ◌≡◌, ◌⊎◌, ◌==◌, Bool, true, List, [], ◌∷◌, ◌++◌, Option, None, Some, codes, MatchBool}
+use Rattle.http.specs.declared.request.Request.{Request}
+use Rattle.http1.specs.Fields.{Header}
+use Rattle.http_server.specs.declared.response.Response.{Response}
+use Rattle.http_server.specs.Response.{IsResponse}
+use Rattle.websocket.specs.Handshake.{IsValidKey, accept_key_of}
+use Rattle.lobby_web.specs.declared.site.Site.{Site}
+use Rattle.lobby_web.specs.declared.site.File.{File}
+use Rattle.lobby_web.specs.Media.{media_type}
+use Rattle.lobby_web.specs.Pages.{file_at}
+use Rattle.lobby_web.specs.Requests.{field, path_of, is_taken, is_from_page, asks_socket, asks_upgrade, only_reads}
+
+-- The browser runs and loads only what is of the page's own host, frames it nowhere, and sends no form.
+abbrev pub policy : List ℕ
+policy = codes "default-src 'none'; script-src 'self'; style-src 'self'; img-src 'self'; connect-src 'self'; base-uri 'none'; form-action 'none'; frame-ancestors 'none'"
+
+-- the fields of an answer of this media type
+abbrev pub guarded : List ℕ → List Header
+guarded kind =
+    (codes "content-type", kind) ∷ (codes "content-security-policy", policy)
+    ∷ (codes "x-content-type-options", codes "nosniff") ∷ (codes "referrer-policy", codes "no-referrer")
+    ∷ (codes "cache-control", codes "no-cache") ∷ []
+
+abbrev pub plain_text : List ℕ
+plain_text = codes "text/plain; charset=utf-8"
+
+-- the answer has this status and these words
+abbrev pub IsTold : ℕ → List ℕ → Response → Type 0
+IsTold status words = IsResponse status (guarded plain_text) words
+
+-- 200 with the file, or 404
+abbrev pub IsFileAnswer : Option File → Response → Type 0
+IsFileAnswer None = IsTold 404 (codes "There is no such page here.")
+IsFileAnswer (Some file) = IsResponse 200 (guarded (media_type file.kind)) file.bytes
+
+-- 405 with the methods that are answered
+abbrev pub IsOtherMethodAnswer : Response → Type 0
+IsOtherMethodAnswer =
+    IsResponse 405 (guarded plain_text ++ (codes "allow", codes "GET, HEAD") ∷ []) (codes "Only GET and HEAD are answered.")
+
+-- 101 with the key that accepts the upgrade
+abbrev pub IsSwitch : List ℕ → Response → Type 0
+IsSwitch key =
+    IsResponse 101
+    ((codes "connection", codes "Upgrade") ∷ (codes "upgrade", codes "websocket") ∷ (codes "sec-websocket-accept", key) ∷ [])
+    []
+
+-- A key of sixteen bytes is answered by its accept key, and any other by 400.
+abbrev pub IsKeyAnswer : List ℕ → Response → Type 0
+IsKeyAnswer key response =
+    (IsValidKey key × IsSwitch (accept_key_of key) response)
+    ⊎ (¬ (IsValidKey key) × IsTold 400 (codes "The key of this WebSocket is none.") response)
+
+-- The upgrade, for a page of the host that the request names, and for nobody else.
+abbrev pub IsSocketAnswer : Request (List ℕ) → Response → Type 0
+IsSocketAnswer r response =
+    MatchBool (is_from_page r)
+    (MatchBool (asks_upgrade r)
+    (IsKeyAnswer (field r (codes "sec-websocket-key")) response)
+    (IsTold 400 (codes "Here is a WebSocket of version 13.") response))
+    (IsTold 403 (codes "Only this site's own page opens this socket.") response)
+
+-- A page's answer: its file, or that only reading is answered.
+abbrev pub IsPageAnswer : Site → Request (List ℕ) → Response → Type 0
+IsPageAnswer site r response =
+    MatchBool (only_reads r) (IsFileAnswer (file_at site (path_of r)) response) (IsOtherMethodAnswer response)
+
+-- What a site answers: 403 for a host that is not taken; else the socket at `/ws`, and everywhere else the page's files.
+abbrev pub IsAnswer : Site → Request (List ℕ) → Response → Type 0
+IsAnswer site r response =
+    MatchBool (is_taken site r)
+    (MatchBool (asks_socket r) (IsSocketAnswer r response) (IsPageAnswer site r response))
+    (IsTold 403 (codes "This host is not served here.") response)
+
+-- the response hands the connection over
+abbrev pub is_switch : Response → Bool
+is_switch response = response.status == 101
+
+-- The request names a host that is taken, and asks, from a page of that host, to go on as a WebSocket at `/ws`.
+pub record IsGranted (site : Site) (r : Request (List ℕ)) : Type 0 where
+  pub host : is_taken site r ≡ true
+  pub socket : asks_socket r ≡ true
+  pub page : is_from_page r ≡ true
+  pub asks : asks_upgrade r ≡ true
+  pub key : IsValidKey (field r (codes "sec-websocket-key"))

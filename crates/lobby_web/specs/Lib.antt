@@ -1,0 +1,10 @@
+pub mod Media
+pub mod Pages
+pub mod Requests
+pub mod Answering
+pub mod Asking
+pub mod Codes
+pub mod Frames
+pub mod Talking
+pub mod Browsing
+pub mod Happening

@@ -1,0 +1,52 @@
+-- What is read from a request.
+use Rattle.std.specs.Prelude.{ℕ, Bool, false, not, ◌&&◌, ◌||◌, List, [], ◌∷◌, ◌++◌, Option, None, Some, is_some, bytes_eq, codes}
+use Rattle.http.specs.declared.request.Request.{Request}
+use Rattle.http.specs.Request.{head_of}
+use Rattle.http_header.specs.FieldValue.{FieldValue}
+use Rattle.http_header.specs.HeaderMap.{get}
+use Rattle.http_uri.specs.Uri.{uri_authority, uri_path}
+use Rattle.http1.specs.Fields.{known_fields}
+use Rattle.http1.specs.Text.{eq_ignore_case}
+use Rattle.lobby_web.specs.declared.site.Site.{Site}
+use Rattle.lobby_web.specs.Pages.{has_host}
+
+abbrev pub bytes_of : Option FieldValue → List ℕ
+bytes_of None = []
+bytes_of (Some value) = value.bytes
+
+-- the value of the first field of this name, in small letters; nothing where there is none
+abbrev pub field : Request (List ℕ) → List ℕ → List ℕ
+field r name = bytes_of (get (head_of r).headers name)
+
+abbrev pub path_of : Request (List ℕ) → List ℕ
+path_of r = uri_path (head_of r).uri
+
+-- It names a host that is taken, and no other in its target.
+abbrev pub is_taken : Site → Request (List ℕ) → Bool
+is_taken site r = not (is_some (uri_authority (head_of r).uri)) && has_host site (field r (codes "host"))
+
+-- It comes from a page of the host that it names.
+abbrev pub is_from_page : Request (List ℕ) → Bool
+is_from_page r =
+    bytes_eq (field r (codes "origin")) (codes "http://" ++ field r (codes "host"))
+    || bytes_eq (field r (codes "origin")) (codes "https://" ++ field r (codes "host"))
+
+-- `Connection` lists `upgrade`
+abbrev pub lists_upgrade : List ℕ → Bool
+lists_upgrade connection = (known_fields ((codes "connection", connection) ∷ [])).connection_upgrade
+
+-- It asks to go on as a WebSocket of version 13.
+abbrev pub asks_upgrade : Request (List ℕ) → Bool
+asks_upgrade r =
+    bytes_eq (head_of r).method (codes "GET")
+    && lists_upgrade (field r (codes "connection"))
+    && eq_ignore_case (field r (codes "upgrade")) (codes "websocket")
+    && bytes_eq (field r (codes "sec-websocket-version")) (codes "13")
+
+-- It only reads.
+abbrev pub only_reads : Request (List ℕ) → Bool
+only_reads r = bytes_eq (head_of r).method (codes "GET") || bytes_eq (head_of r).method (codes "HEAD")
+
+-- It is for the page's socket.
+abbrev pub asks_socket : Request (List ℕ) → Bool
+asks_socket r = bytes_eq (path_of r) (codes "/ws")

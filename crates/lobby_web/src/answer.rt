@@ -1,0 +1,300 @@
+//! What a request is answered.
+ghost use Rattle.std.specs.Prelude.{◌≡◌, ◌++◌, [], false, OnOk, bytes_eq};
+ghost use Rattle.std.specs.Option.{option_copied};
+ghost use Rattle.http_header.specs.Token.{lowercase};
+ghost use Rattle.http_header.specs.FieldValue.{plain_value};
+ghost use Rattle.http_server.specs.Response.{IsBlank, IsResponse};
+ghost use Rattle.lobby_web.specs.Media.{media_type};
+ghost use Rattle.lobby_web.specs.Requests.{field, is_from_page, lists_upgrade, asks_upgrade, only_reads};
+ghost use Rattle.lobby_web.specs.Answering.{guarded, IsTold, IsFileAnswer, IsOtherMethodAnswer, IsSwitch, IsKeyAnswer, IsSocketAnswer, IsAnswer};
+
+use crate::site::{File, Kind, Site};
+use bytes::{BufMut, Bytes};
+use http::{HeaderName, HeaderValue, Request, StatusCode};
+use http_server::{Response, Service};
+use http1::fields::KnownFields;
+use http1::text::eq_ignore_case;
+use std::alloc::{AllocError, Global};
+use websocket::handshake::server::accept_key;
+
+// The value of the first field of this name, which is in small letters. Nothing where there is none.
+fn field<'a>(request: &'a Request<Bytes>, name: &str) -> &'a [u8]
+    ensures { result.now ≡ field request.now (lowercase name.now) }
+{
+    match request.headers().get(name) {
+        Some(value) => value.as_bytes(),
+        None => &[],
+    }
+}
+
+// Whether an origin is this scheme, `http://` or `https://`, and this host.
+fn is_origin_of(origin: &[u8], scheme: &[u8], host: &[u8]) -> bool
+    ensures { result ≡ bytes_eq origin.now (scheme.now ++ host.now) }
+{
+    match origin.strip_prefix(scheme) {
+        Some(rest) => rest == host,
+        None => false,
+    }
+}
+
+// Whether a request comes from a page of the host that it names.
+fn is_from_page(request: &Request<Bytes>) -> bool
+    ensures { result ≡ is_from_page request.now }
+{
+    let host = field(request, "host");
+    let origin = field(request, "origin");
+    is_origin_of(origin, b"http://", host) || is_origin_of(origin, b"https://", host)
+}
+
+// Whether `Connection` lists `upgrade`.
+fn lists_upgrade(connection: &[u8]) -> bool
+    ensures { result ≡ lists_upgrade connection.now }
+{
+    let mut known = KnownFields::new();
+    known.add(b"connection", connection);
+    known.connection_upgrade
+}
+
+// Whether a request asks to go on as a WebSocket.
+fn asks_upgrade(request: &Request<Bytes>) -> bool
+    ensures { result ≡ asks_upgrade request.now }
+{
+    request.method().as_str().as_bytes() == b"GET".as_slice()
+        && lists_upgrade(field(request, "connection"))
+        && eq_ignore_case(field(request, "upgrade"), b"websocket")
+        && field(request, "sec-websocket-version") == b"13".as_slice()
+}
+
+// Whether a request only reads.
+fn only_reads(request: &Request<Bytes>) -> bool
+    ensures { result ≡ only_reads request.now }
+{
+    let method = request.method().as_str().as_bytes();
+    method == b"GET".as_slice() || method == b"HEAD".as_slice()
+}
+
+fn media_type(kind: Kind) -> HeaderValue
+    ensures { result ≡ plain_value (media_type kind) }
+{
+    match kind {
+        Kind::Html => HeaderValue::from_static("text/html; charset=utf-8"),
+        Kind::Css => HeaderValue::from_static("text/css; charset=utf-8"),
+        Kind::Script => HeaderValue::from_static("text/javascript; charset=utf-8"),
+        Kind::Svg => HeaderValue::from_static("image/svg+xml"),
+    }
+}
+
+// The browser runs and loads only what is of the page's own host, frames it nowhere, and sends no form.
+const POLICY: &str =
+    "default-src 'none'; script-src 'self'; style-src 'self'; img-src 'self'; connect-src 'self'; base-uri 'none'; form-action 'none'; frame-ancestors 'none'";
+
+// The status and the fields of an answer, and no body yet.
+fn begin(response: &mut Response, status: StatusCode, kind: HeaderValue) -> Result<(), AllocError>
+    requires { IsBlank response.old }
+    ensures { OnOk result (IsResponse status (guarded kind.bytes) [] response.new) }
+{
+    response.status = status;
+    response.add_header(HeaderName::from_static("content-type"), kind)?;
+    response.add_header(
+        HeaderName::from_static("content-security-policy"),
+        HeaderValue::from_static(POLICY),
+    )?;
+    response.add_header(
+        HeaderName::from_static("x-content-type-options"),
+        HeaderValue::from_static("nosniff"),
+    )?;
+    response.add_header(
+        HeaderName::from_static("referrer-policy"),
+        HeaderValue::from_static("no-referrer"),
+    )?;
+    response.add_header(
+        HeaderName::from_static("cache-control"),
+        HeaderValue::from_static("no-cache"),
+    )
+}
+
+// An answer in words.
+fn tell(response: &mut Response, status: StatusCode, words: &str) -> Result<(), AllocError>
+    requires { IsBlank response.old }
+    ensures { OnOk result (IsTold status words.now response.new) }
+{
+    begin(
+        response,
+        status,
+        HeaderValue::from_static("text/plain; charset=utf-8"),
+    )?;
+    response.body.put_slice(words.as_bytes())
+}
+
+// A file, with its media type.
+fn send(response: &mut Response, file: &File) -> Result<(), AllocError>
+    requires { IsBlank response.old }
+    ensures { OnOk result (IsResponse 200 (guarded (media_type file.now.kind)) file.now.bytes response.new) }
+{
+    begin(response, StatusCode::OK, media_type(file.kind))?;
+    response.body.push(file.bytes.clone()?)
+}
+
+// The file of the path, or that there is none.
+fn send_file(response: &mut Response, file: Option<&File>) -> Result<(), AllocError>
+    requires { IsBlank response.old }
+    ensures { OnOk result (IsFileAnswer (option_copied file.entry) response.new) }
+{
+    match file {
+        Some(file) => send(response, file),
+        None => tell(
+            response,
+            StatusCode::NOT_FOUND,
+            "There is no such page here.",
+        ),
+    }
+}
+
+// That only reading is answered.
+fn refuse_method(response: &mut Response) -> Result<(), AllocError>
+    requires { IsBlank response.old }
+    ensures { OnOk result (IsOtherMethodAnswer response.new) }
+{
+    tell(
+        response,
+        StatusCode::METHOD_NOT_ALLOWED,
+        "Only GET and HEAD are answered.",
+    )?;
+    response.add_header(
+        HeaderName::from_static("allow"),
+        HeaderValue::from_static("GET, HEAD"),
+    )
+}
+
+// The upgrade, with the key that accepts it.
+fn switch(alloc: Global, response: &mut Response, key: &[u8]) -> Result<(), AllocError>
+    requires { IsBlank response.old }
+    ensures { OnOk result (IsSwitch key.now response.new) }
+{
+    let Ok(accepted) = HeaderValue::from_bytes(alloc, key) else {
+        return Err(AllocError);
+    };
+    response.status = StatusCode::SWITCHING_PROTOCOLS;
+    response.add_header(
+        HeaderName::from_static("connection"),
+        HeaderValue::from_static("Upgrade"),
+    )?;
+    response.add_header(
+        HeaderName::from_static("upgrade"),
+        HeaderValue::from_static("websocket"),
+    )?;
+    response.add_header(HeaderName::from_static("sec-websocket-accept"), accepted)
+}
+
+// The upgrade for this key, or that it is none.
+fn accept(alloc: Global, key: &[u8], response: &mut Response) -> Result<(), AllocError>
+    requires { IsBlank response.old }
+    ensures { OnOk result (IsKeyAnswer key.now response.new) }
+{
+    match accept_key(key) {
+        Ok(accepted) => switch(alloc, response, &accepted),
+        Err(_) => tell(
+            response,
+            StatusCode::BAD_REQUEST,
+            "The key of this WebSocket is none.",
+        ),
+    }
+}
+
+// What is answered at the page's socket.
+fn open_socket(
+    alloc: Global,
+    request: &Request<Bytes>,
+    response: &mut Response,
+) -> Result<(), AllocError>
+    requires { IsBlank response.old }
+    ensures { OnOk result (IsSocketAnswer request.now response.new) }
+{
+    if !is_from_page(request) {
+        return tell(
+            response,
+            StatusCode::FORBIDDEN,
+            "Only this site's own page opens this socket.",
+        );
+    }
+    if !asks_upgrade(request) {
+        return tell(
+            response,
+            StatusCode::BAD_REQUEST,
+            "Here is a WebSocket of version 13.",
+        );
+    }
+    accept(alloc, field(request, "sec-websocket-key"), response)
+}
+
+// What is answered.
+fn answer(
+    alloc: Global,
+    site: &Site,
+    request: &Request<Bytes>,
+    response: &mut Response,
+) -> Result<(), AllocError>
+    requires { IsBlank response.old }
+    ensures { OnOk result (IsAnswer site.now request.now response.new) }
+{
+    if request.uri().authority().is_some() || !site.has_host(field(request, "host")) {
+        return tell(
+            response,
+            StatusCode::FORBIDDEN,
+            "This host is not served here.",
+        );
+    }
+    let path = request.uri().path().as_bytes();
+    if path == b"/ws".as_slice() {
+        return open_socket(alloc, request, response);
+    }
+    if !only_reads(request) {
+        return refuse_method(response);
+    }
+    send_file(response, site.file_at(path))
+}
+
+/// The site, as it answers the requests of one connection, and whether the last answer was an upgrade.
+#[derive(Drop)]
+pub struct Asked<'a> {
+    alloc: Global,
+    site: &'a Site,
+    has_switched: bool,
+}
+
+impl<'a> Asked<'a> {
+    /// Nothing was asked.
+    pub fn new(alloc: Global, site: &'a Site) -> Asked<'a>
+        ensures site { result.site.now ≡ site.now }
+        ensures asked { result.has_switched ≡ false }
+    {
+        Asked {
+            alloc,
+            site,
+            has_switched: false,
+        }
+    }
+
+    /// Whether the last answer was an upgrade.
+    pub fn has_switched(&self) -> bool
+        ensures { result ≡ self.now.has_switched }
+    {
+        self.has_switched
+    }
+}
+
+impl Service for Asked<'_> {
+    ghost use Rattle.lobby_web.specs.Asking.{Replies};
+
+    ghost answers = { Replies };
+
+    fn call(
+        &mut self,
+        request: &Request<Bytes>,
+        response: &mut Response,
+    ) -> Result<(), AllocError> {
+        answer(self.alloc, self.site, request, response)?;
+        self.has_switched = response.status.as_u16() == 101;
+        Ok(())
+    }
+}

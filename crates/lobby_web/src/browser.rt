@@ -1,0 +1,245 @@
+//! One browser's connection: HTTP, and after an upgrade a socket.
+ghost use Rattle.std.specs.Prelude.{◌≡◌, ◌≢◌, ◌≤◌, ◌↔◌, [], true, IsTrue, IsUtf8, Ok, Err, length};
+ghost use Rattle.bytes.specs.Unread.{IsChunkOf};
+ghost use Rattle.http_server.specs.Connection.{config_of, history};
+ghost use Rattle.http_server.specs.History.{after_read};
+ghost use Rattle.websocket.specs.CloseCode.{is_allowed};
+ghost use Rattle.websocket.specs.Content.{text as Text, ping as Ping, close as Close};
+ghost use Rattle.lobby_web.specs.Browsing.{web_config, pending, Answers, WantsBytes, IsOver, is_open, Takes, TakesBytes, Writes, HearsNext, SaysTo, IsNew};
+
+use crate::answer::Asked;
+use crate::site::Site;
+use crate::socket::{Heard, Socket, Unsaid};
+use http_server::{Config, Connection, State};
+use http1::Limits;
+use std::alloc::Global;
+use std::hash::RandomState;
+use std::mem;
+use websocket::protocol::CloseCode;
+
+/// So many bytes are taken at once.
+pub const MOST_AT_ONCE: usize = 16_384;
+
+/// Where a connection stands.
+#[derive(Drop)]
+pub enum Stage {
+    Http(Connection),
+    Socket(Socket),
+    Over,
+}
+
+/// One browser's connection. Its bytes are given to it, and what it has to write is taken from it.
+#[derive(Drop)]
+pub struct Browser {
+    alloc: Global,
+    stage: Stage,
+}
+
+// The limits of HTTP: heads of 16,384 bytes, and requests without a body.
+fn web_config() -> Config
+    ensures { result ≡ web_config }
+{
+    Config {
+        limits: Limits {
+            max_head_len: 16_384,
+            max_extensions_len: 0,
+            max_trailers_len: 1_024,
+        },
+        max_body_len: 0,
+        max_pending: 65_536,
+        read_size: MOST_AT_ONCE,
+    }
+}
+
+// The connection once the site has answered what came: on as HTTP, or handed over to a socket.
+fn answered(alloc: Global, site: &Site, mut connection: Connection) -> Stage
+    ensures { Answers (config_of connection) site.now (history connection) result }
+{
+    let mut asked = Asked::new(alloc, site);
+    connection.advance(&mut asked);
+    match connection.state() {
+        State::Upgraded => {}
+        _ => return Stage::Http(connection),
+    }
+    if !asked.has_switched() {
+        return Stage::Over;
+    }
+    let (input, output) = connection.into_buffers();
+    Stage::Socket(Socket::new(alloc, input, output))
+}
+
+// The connection once these bytes came by HTTP.
+fn read_http(alloc: Global, site: &Site, mut connection: Connection, bytes: &[u8]) -> Stage
+    ensures { Answers (config_of connection) site.now (after_read (history connection) bytes.now) result }
+{
+    let mut left = bytes;
+    match connection.read_from(&mut left) {
+        Ok(count) if count == bytes.len() => answered(alloc, site, connection),
+        _ => Stage::Over,
+    }
+}
+
+// The connection once these bytes came, where bytes are wanted.
+fn taken(alloc: Global, site: &Site, stage: Stage, bytes: &[u8]) -> Stage
+    requires { WantsBytes stage }
+    ensures { TakesBytes site.now bytes.now stage result }
+{
+    match stage {
+        Stage::Http(connection) => read_http(alloc, site, connection, bytes),
+        Stage::Socket(mut socket) => {
+            socket.take(bytes);
+            Stage::Socket(socket)
+        }
+        Stage::Over => Stage::Over,
+    }
+}
+
+// The connection once so many of the bytes that waited were written.
+fn lightened(alloc: Global, site: &Site, stage: Stage, count: usize) -> Stage
+    requires { count ≤ length (pending stage) }
+    ensures { Writes site.now count stage result }
+{
+    match stage {
+        Stage::Http(mut connection) => {
+            connection.sent(count);
+            answered(alloc, site, connection)
+        }
+        Stage::Socket(mut socket) => {
+            socket.written(count);
+            Stage::Socket(socket)
+        }
+        Stage::Over => Stage::Over,
+    }
+}
+
+// Puts a stage in the place of another.
+fn put(place: &mut Stage, stage: Stage)
+    ensures { place.new ≡ stage }
+{
+    discard(mem::replace(place, stage));
+}
+
+fn discard(_stage: Stage) {}
+
+impl Browser {
+    /// A connection that begins. The keys are for the names of headers, which the peer chooses.
+    pub fn new(alloc: Global, keys: RandomState) -> Browser
+        ensures { IsNew result.stage }
+    {
+        Browser {
+            alloc,
+            stage: Stage::Http(Connection::new(alloc, keys, web_config())),
+        }
+    }
+
+    /// Whether bytes are taken. Else the socket is not to be read.
+    pub fn wants_read(&self) -> bool
+        ensures { IsTrue result ↔ WantsBytes self.now.stage }
+    {
+        match &self.stage {
+            Stage::Http(connection) => connection.wants_read(),
+            Stage::Socket(socket) => socket.wants_read(),
+            Stage::Over => false,
+        }
+    }
+
+    /// Whether something may be said.
+    pub fn is_open(&self) -> bool
+        ensures { result ≡ is_open self.now.stage }
+    {
+        match &self.stage {
+            Stage::Socket(socket) => socket.is_open(),
+            _ => false,
+        }
+    }
+
+    /// Whether the connection is to be closed, once what waits is written and `next` gives nothing.
+    pub fn is_over(&self) -> bool
+        ensures { IsTrue result ↔ IsOver self.now.stage }
+    {
+        match &self.stage {
+            Stage::Http(connection) => match connection.state() {
+                State::Open => false,
+                _ => true,
+            },
+            Stage::Socket(socket) => socket.is_over(),
+            Stage::Over => true,
+        }
+    }
+
+    /// Bytes came, at most `MOST_AT_ONCE`; none says that the peer sends no more. Where no bytes are wanted, or there are more,
+    /// or memory is refused, the connection is over.
+    pub fn take(&mut self, site: &Site, bytes: &[u8])
+        ensures { Takes site.now bytes.now self.old.stage self.new.stage }
+    {
+        let wanted = self.wants_read();
+        let stage = mem::replace(&mut self.stage, Stage::Over);
+        if wanted {
+            put(&mut self.stage, taken(self.alloc, site, stage, bytes));
+        } else {
+            discard(stage);
+        }
+    }
+
+    /// What came next: that the socket is open, or a text message. None where nothing more came that is whole, or it is over.
+    pub fn next(&mut self) -> Option<Heard>
+        ensures { HearsNext self.old.stage self.new.stage result }
+    {
+        match &mut self.stage {
+            Stage::Socket(socket) => socket.hear(),
+            _ => None,
+        }
+    }
+
+    /// Says a text message, as one frame behind what waits.
+    pub fn say(&mut self, text: &[u8]) -> Result<(), Unsaid>
+        ensures said { result ≢ Err Unsaid.NotText → SaysTo (Text text.now) self.old.stage self.new.stage result }
+        ensures not_text { result ≡ Err Unsaid.NotText → ¬ (IsUtf8 text.now) × (self.new ≡ self.old) }
+    {
+        match &mut self.stage {
+            Stage::Socket(socket) => socket.say(text),
+            _ => Err(Unsaid::NotOpen),
+        }
+    }
+
+    /// Asks the browser whether it is there. Its answer comes as bytes, and is no message.
+    pub fn ping(&mut self) -> Result<(), Unsaid>
+        ensures { SaysTo (Ping []) self.old.stage self.new.stage result }
+    {
+        match &mut self.stage {
+            Stage::Socket(socket) => socket.ping(),
+            _ => Err(Unsaid::NotOpen),
+        }
+    }
+
+    /// Begins to close the socket. It is over once the browser's close has come.
+    pub fn close(&mut self, code: CloseCode) -> Result<(), Unsaid>
+        requires { is_allowed code ≡ true }
+        ensures { SaysTo (Close (Some (code, []))) self.old.stage self.new.stage result }
+    {
+        match &mut self.stage {
+            Stage::Socket(socket) => socket.close(code),
+            _ => Err(Unsaid::NotOpen),
+        }
+    }
+
+    /// The next bytes to write. None where nothing waits.
+    pub fn out(&self) -> &[u8]
+        ensures { IsChunkOf result.now (pending self.now.stage) }
+    {
+        match &self.stage {
+            Stage::Http(connection) => connection.output(),
+            Stage::Socket(socket) => socket.out(),
+            Stage::Over => &[],
+        }
+    }
+
+    /// So many of the bytes that wait were written. HTTP may go on then, where it had waited for that.
+    pub fn written(&mut self, site: &Site, count: usize)
+        requires { count ≤ length (pending self.old.stage) }
+        ensures { Writes site.now count self.old.stage self.new.stage }
+    {
+        let stage = mem::replace(&mut self.stage, Stage::Over);
+        put(&mut self.stage, lightened(self.alloc, site, stage, count));
+    }
+}

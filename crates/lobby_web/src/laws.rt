@@ -1,0 +1,14 @@
+//! What holds over a socket's whole life.
+ghost use Rattle.lobby_web.specs.Happening.{MessagesAreHeeded, SayingsGoOut};
+
+/// Whatever happens to a socket that the lobby does not close, and in whatever pieces its bytes come: it gives the text
+/// messages of the frames in front of all bytes that came, each once, whole and in their order.
+pub fn law_of_messages()
+    ensures { MessagesAreHeeded }
+{}
+
+/// Whatever happens to a socket: what was written and what waits are whole frames behind what waited before, and the texts
+/// among them are those that were said, each once and in their order.
+pub fn law_of_sayings()
+    ensures { SayingsGoOut }
+{}
