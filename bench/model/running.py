@@ -53,5 +53,10 @@ class Running:
 
     def end(self):
         """Its status and its fault, once nothing more comes."""
-        error = self.program.communicate(timeout=PATIENCE)[1]
-        return self.program.returncode, fault_of(error)
+        status, told = self.told()
+        return status, fault_of(told)
+
+    def told(self):
+        """Its status and all that it told, once nothing more comes."""
+        told = self.program.communicate(timeout=PATIENCE)[1]
+        return self.program.returncode, told
