@@ -11,12 +11,12 @@ use Rattle.chess_board.specs.Position.{Position, IsValid}
 use Rattle.chess_board.specs.Initial.{initial}
 use Rattle.chess_board.specs.Next.{next}
 use Rattle.chess_board.specs.Legal.{IsLegal}
-use Rattle.chess_san.specs.Coordinate.{IsCoordinateOf}
+use Rattle.chess_notation.specs.Coordinate.{IsCoordinateOf}
 use Rattle.chess_san.proofs.OneMove.{coordinate_one}
 use Rattle.chess_board.proofs.Deciding.{Decides-is_valid}
 use Rattle.chess_board.proofs.ValidNext.{IsValid-next}
-use Rattle.chess_text.specs.Fen.{IsFenOf, fen_of}
-use Rattle.chess_text.proofs.Positions.{IsFenOf-fen_of, fen_of-IsFenOf}
+use Rattle.chess_notation.specs.Fen.{IsFenOf, fen_of}
+use Rattle.chess_fen.proofs.Positions.{IsFenOf-fen_of, fen_of-IsFenOf}
 use Rattle.board_session.specs.Field.{AsksMove}
 use Rattle.board_session.specs.Answer.{IsMoveText, IsAtLimit, MakesMove, StopsAtLimit, RefusesMove, AnswersText, IsAnswer, as_line}
 use Rattle.board_session.proofs.FieldLemmas.{Asks, asks, asked_text}

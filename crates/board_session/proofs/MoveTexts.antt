@@ -16,8 +16,8 @@ use Rattle.chess_board.specs.Legal.{IsLegal}
 use Rattle.chess_board.specs.Computing.{legal_moves_of}
 use Rattle.chess_board.proofs.Deciding.{man_at-on_board}
 use Rattle.chess_board.proofs.LegalMoves.{legal_moves_of-legal, legal_moves_of-each}
-use Rattle.chess_san.specs.Name.{square_name}
-use Rattle.chess_san.specs.Coordinate.{IsPromotionText, IsCoordinateOf}
+use Rattle.chess_notation.specs.Name.{square_name}
+use Rattle.chess_notation.specs.Coordinate.{IsPromotionText, IsCoordinateOf}
 use Rattle.board_session.specs.Answer.{IsMoveText}
 
 -- the letter of what a pawn becomes, and whether it can become that

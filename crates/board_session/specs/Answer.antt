@@ -4,8 +4,8 @@ use Rattle.chess_board.specs.declared.moves.Move.{Move}
 use Rattle.chess_board.specs.Position.{Position}
 use Rattle.chess_board.specs.Next.{next}
 use Rattle.chess_board.specs.Legal.{IsLegal}
-use Rattle.chess_san.specs.Coordinate.{IsCoordinateOf}
-use Rattle.chess_text.specs.Fen.{IsFenOf}
+use Rattle.chess_notation.specs.Coordinate.{IsCoordinateOf}
+use Rattle.chess_notation.specs.Fen.{IsFenOf}
 use Rattle.board_session.specs.Field.{AsksMove}
 
 -- a text and its line feed

@@ -1,14 +1,15 @@
 //! The answer to one line.
 ghost use Rattle.std.specs.Prelude.{◌≡◌, ◌≤◌, ℕ, List, [], length, codes};
-ghost use Rattle.chess_san.specs.Coordinate.{IsCoordinateOf};
-ghost use Rattle.chess_text.specs.Fen.{IsFenOf};
+ghost use Rattle.chess_notation.specs.Coordinate.{IsCoordinateOf};
+ghost use Rattle.chess_notation.specs.Fen.{IsFenOf};
 ghost use Rattle.board_session.specs.Answer.{AnswersText, IsAnswer, IsAtLimit, as_line};
 
 use crate::line::{Command, parse};
 use arrayvec::ArrayString;
 use chess_board::{Board, Move};
+use chess_fen::ShownBoard;
 use chess_moves::{after_legal, legal};
-use chess_text::{ShownBoard, coordinate};
+use chess_notation::coordinate;
 
 /// Room for an answer, without its line feed. The longest is a FEN, which has at most 93 bytes.
 pub type AnswerLine = ArrayString<160>;

@@ -6,7 +6,7 @@ ghost use Rattle.board_session.specs.Run.{IsBoardText, AppendsText, AppendsFront
 
 use crate::answer::answer;
 use chess_board::Board;
-use chess_text::ShownBoard;
+use chess_fen::ShownBoard;
 use line_loop::{Answer, Answerer, LineSource, LoopFault, answer_lines};
 use session_lines::without_return;
 use std::convert::Infallible;

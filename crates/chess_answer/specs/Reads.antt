@@ -4,7 +4,7 @@ use Rattle.std.specs.List.{flat_map}
 use Rattle.chess_bits.specs.declared.men.Colour.{Colour}
 use Rattle.chess_bits.specs.declared.men.Colour.TheVariants.{White, Black}
 use Rattle.chess_end.specs.declared.ending.Ending.{Ending}
-use Rattle.chess_text.specs.Fen.{IsFenOf, side_letter, letter_if, or_dash}
+use Rattle.chess_notation.specs.Fen.{IsFenOf, side_letter, letter_if, or_dash}
 use Rattle.chess_text.specs.Game.{IsGameText}
 use Rattle.chess_text.specs.Pgn.{heading, result_text, article_text}
 use Rattle.chess_entry.specs.declared.commands.Act.{Act}

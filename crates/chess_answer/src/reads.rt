@@ -2,7 +2,7 @@ ghost use Rattle.std.specs.Prelude.{◌≡◌, ◌≤◌, ◌+◌, [], ◌∷◌
 ghost use Rattle.std.specs.Option.{option_copied};
 ghost use Rattle.std.specs.String.{string_bytes};
 ghost use Rattle.arrayvec.specs.ArrayString.{array_string_len};
-ghost use Rattle.chess_text.specs.Fen.{side_letter};
+ghost use Rattle.chess_notation.specs.Fen.{side_letter};
 ghost use Rattle.chess_text.specs.Game.{IsGameText};
 ghost use Rattle.chess_text.specs.Pgn.{heading, result_text};
 ghost use Rattle.chess_entry.specs.State.{position_of};
@@ -11,8 +11,9 @@ ghost use Rattle.chess_answer.specs.Reads.{time_shown, offer_text, article_or_da
 use crate::fields::{AnswerLine, accepted, begun, push_field, push_number, push_seat};
 use chess_bits::Colour;
 use chess_end::Ending;
+use chess_fen::fen_write;
 use chess_game::Game;
-use chess_text::{GameText, article_code, fen_write, pgn, result_code};
+use chess_text::{GameText, article_code, pgn, result_code};
 use itoa::Buffer;
 use rec_codec::Name;
 use std::alloc::{AllocError, Global};

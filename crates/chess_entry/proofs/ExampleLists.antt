@@ -8,7 +8,7 @@ use Rattle.chess_board.specs.declared.moves.Move.{Move}
 use Rattle.chess_board.specs.Initial.{initial}
 use Rattle.chess_board.specs.Next.{placement_after, rights_after, target_after, halfmove_after}
 use Rattle.chess_board.proofs.Deciding.{Decides-is_legal}
-use Rattle.chess_san.specs.Reading.{Names}
+use Rattle.chess_notation.specs.Naming.{Names}
 use Rattle.arrayvec.specs.ArrayString.{ArrayString}
 use Rattle.rec_codec.specs.declared.limits.Limits.{Limits}
 use Rattle.rec_codec.specs.declared.record.Event.TheVariants as event

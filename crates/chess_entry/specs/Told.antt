@@ -3,8 +3,8 @@ use Rattle.std.specs.Prelude.{ℕ, ◌≡◌, List, Option, Some, None}
 use Rattle.chess_board.specs.declared.moves.Move.{Move}
 use Rattle.chess_board.specs.Position.{Position, IsValid}
 use Rattle.chess_board.specs.Initial.{initial}
-use Rattle.chess_san.specs.Reading.{Names}
-use Rattle.chess_text.specs.Fen.{IsFenOf}
+use Rattle.chess_notation.specs.Naming.{Names}
+use Rattle.chess_notation.specs.Fen.{IsFenOf}
 use Rattle.arrayvec.specs.ArrayString.{ArrayString}
 use Rattle.chess_entry.specs.State.{GameState, position_of}
 

@@ -18,8 +18,8 @@ use Rattle.chess_sessions.specs.Delivery.{Answered, AllAnswered, HasAnswered, ow
 use Rattle.chess_store.specs.declared.fault.StoreFault.{StoreFault}
 use Rattle.chess_store.specs.Batch.{IsAnswered}
 use Rattle.chess_store.specs.Faults as faults
-use Rattle.chess_store.specs.Means.{MeansEither, AllMean, IsKept}
-use Rattle.chess_store.proofs.MeansLemmas.{kept_means}
+use Rattle.table_commits.specs.Means.{MeansEither, AllMean, IsKept}
+use Rattle.table_commits.proofs.MeansLemmas.{kept_means}
 use Rattle.chess_store.proofs.RunLemmas.{same_leaves, same_either}
 use Rattle.chess_store.proofs.CallLemmas.{ok_was}
 use Rattle.chess_hub.specs.declared.fault.HubFault.{HubFault}

@@ -2,18 +2,32 @@
 use crate::{Hub, HubFault, Sid};
 use chess_entry::Limits;
 use chess_store::{Store, StoreFault};
+use chess_table::Table;
 use sector_dev::{CrashDevice, MemoryDevice};
+use sector_journal::format;
 use std::alloc::Global;
 use std::process::Abort;
 
-// A store on a device in memory.
-fn store(alloc: Global) -> Option<Store<MemoryDevice>> {
-    let device = MemoryDevice::new(alloc, 212).ok()?;
+// A store of the empty table on a new device in memory, which fails after so many calls, if a number is given: those that
+// make it a journal are among them.
+fn store(alloc: Global, calls: Option<u64>) -> Option<Store<MemoryDevice>> {
+    let mut device = MemoryDevice::new(alloc, 212).ok()?;
+    if let Some(calls) = calls {
+        device.arm(calls);
+    }
     let limits = Limits {
         games: 4,
         plies: 60,
     };
-    Store::create(alloc, device, limits).ok()
+    let Ok(journal) = format(alloc, device, limits) else {
+        return None;
+    };
+    Some(Store {
+        alloc,
+        journal,
+        table: Table::new(alloc, limits),
+        failed: false,
+    })
 }
 
 // Feeds a session; false where it is not open or is refused.
@@ -35,7 +49,7 @@ fn is_given(hub: &mut Hub<MemoryDevice>, sid: Sid, line: &str) -> bool {
 #[test]
 fn two_players(rt: HostRuntime) {
     let alloc = rt.alloc();
-    let Some(store) = store(alloc) else {
+    let Some(store) = store(alloc, None) else {
         assert!(rt; false);
         return;
     };
@@ -55,17 +69,10 @@ fn two_players(rt: HostRuntime) {
     assert!(rt; is_given(&mut hub, b, "ok join 1 black"));
 }
 
-// A store whose device fails after so many calls, those of its opening among them.
-fn failing(alloc: Global, calls: u64) -> Option<Store<MemoryDevice>> {
-    let mut device = store(alloc)?.into_device();
-    device.arm(calls);
-    Store::open(alloc, device).ok()
-}
-
 #[test]
 fn a_device_that_fails(rt: HostRuntime) {
     let alloc = rt.alloc();
-    let Some(store) = failing(alloc, 6) else {
+    let Some(store) = store(alloc, Some(7)) else {
         assert!(rt; false);
         return;
     };

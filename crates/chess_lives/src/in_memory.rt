@@ -7,7 +7,6 @@ ghost use Rattle.chess_lives.specs.Drill.{IsLivedInMemory};
 
 use crate::living::lives;
 use crate::plan::{Lived, Plan};
-use chess_store::Store;
 use rec_codec::{Limits, need};
 use sector_dev::MemoryDevice;
 use std::alloc::{AllocError, Global};
@@ -27,7 +26,7 @@ pub fn lives_in_memory(
     ensures { IfOk result (λ lived. IsLivedInMemory limits plan.now.lives.items lived) }
 {
     let device = MemoryDevice::new(alloc, need(limits))?;
-    match Store::create(alloc, device, limits) {
+    match store_opening::create(alloc, device, limits) {
         Ok(store) => Ok(lives(alloc, store.into_device(), plan)),
         Err(refused) => Ok(Lived {
             device: refused.device,

@@ -7,7 +7,7 @@ ghost use Rattle.sector_dev.specs.Device.{HasRisen};
 ghost use Rattle.sector_dev.specs.Image.{Sectors};
 ghost use Rattle.chess_entry.specs.State.{TableState};
 ghost use Rattle.chess_entry.specs.Table.{IsTable};
-ghost use Rattle.chess_store.specs.Means.{AllMean};
+ghost use Rattle.table_commits.specs.Means.{AllMean};
 ghost use Rattle.chess_store.specs.Faults.{IsDevice, CountsFault};
 ghost use Rattle.chess_lives.specs.Courses.{IsBatch};
 ghost use Rattle.chess_lives.specs.Lives.{AreSubmittable, IsBegun, IsLifeThen, IsReport, batches_of};
@@ -16,7 +16,7 @@ ghost use Rattle.chess_lives.specs.Serving.{IsShown, EndsUnopened, returned};
 
 use crate::plan::{Life, LifeReport, Lived, Plan, Report};
 use crate::serving::{Served, serve};
-use chess_store::{Parts, Store, StoreFault};
+use chess_store::{Parts, StoreFault};
 use sector_dev::{CrashDevice, Device};
 use std::alloc::Global;
 
@@ -108,7 +108,7 @@ fn show<D: Device>(alloc: Global, device: D, reports: Vec<LifeReport>) -> Lived<
     ensures model { (D.state result.device).keeps_model ↔ (D.state device).keeps_model }
     ensures sectors { D.sector_count result.device ≡ D.sector_count device }
 {
-    match Store::open(alloc, device) {
+    match store_opening::open(alloc, device) {
         Ok(store) => {
             // With it, the table is known to be one that there may be.
             let _limits = store.limits();

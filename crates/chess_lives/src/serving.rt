@@ -2,7 +2,7 @@
 ghost use Rattle.std.specs.Prelude.{◌≡◌, ◌≤◌, ◌+◌, ◌-◌, ◌↔◌, false, map, count_by, IfSome};
 ghost use Rattle.chess_board.specs.Legal.{EachOf};
 ghost use Rattle.chess_entry.specs.State.{TableState};
-ghost use Rattle.chess_store.specs.Means.{AllMean, IsKept};
+ghost use Rattle.table_commits.specs.Means.{AllMean, IsKept};
 ghost use Rattle.chess_lives.specs.Courses.{IsBatch, is_unsent};
 ghost use Rattle.chess_lives.specs.Stops.{IsLivesFault};
 ghost use Rattle.chess_lives.specs.Serving.{IsTallied, HasRoomForPending, IsServed, CountsEnd, pending_of};
@@ -133,7 +133,7 @@ pub(crate) fn serve<D: CrashDevice>(alloc: Global, device: D, batches: &[Vec<Com
     ensures model { (D.state result.device).keeps_model ↔ (D.state device).keeps_model }
     ensures sectors { D.sector_count result.device ≡ D.sector_count device }
 {
-    match Store::open(alloc, device) {
+    match store_opening::open(alloc, device) {
         Ok(opened) => {
             let mut store = opened;
             // With it, the table is known to be one that there may be.

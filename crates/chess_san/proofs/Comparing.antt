@@ -15,14 +15,14 @@ use Rattle.chess_board.specs.declared.moves.Move.{Move}
 use Rattle.chess_board.specs.Position.{Position, man_at}
 use Rattle.chess_board.specs.Legal.{IsLegal}
 use Rattle.chess_moves.proofs.Parts.{candidate_kind}
-use Rattle.chess_san.specs.declared.origin.Origin.{Origin}
-use Rattle.chess_san.specs.declared.origin.Origin.TheVariants as origin
-use Rattle.chess_san.specs.declared.threat.Threat.{Threat}
+use Rattle.chess_notation.specs.declared.telling.Origin.{Origin}
+use Rattle.chess_notation.specs.declared.telling.Origin.TheVariants as origin
+use Rattle.chess_notation.specs.declared.telling.Threat.{Threat}
 use Rattle.chess_san.specs.declared.parsing.Asked.{Asked}
-use Rattle.chess_san.specs.Name.{square_name, capital_of}
-use Rattle.chess_san.specs.San.{IsBody, IsSan, Threatens, threat_text, origin_text, capture_text, is_capture, pawn_origin}
-use Rattle.chess_san.specs.Coordinate.{IsCoordinateOf}
-use Rattle.chess_san.specs.Reading.{IsSanOrBody, Names}
+use Rattle.chess_notation.specs.Name.{square_name, capital_of}
+use Rattle.chess_notation.specs.San.{IsBody, IsSan, Threatens, threat_text, origin_text, capture_text, is_capture, pawn_origin}
+use Rattle.chess_notation.specs.Coordinate.{IsCoordinateOf}
+use Rattle.chess_notation.specs.Naming.{IsSanOrBody, Names}
 use Rattle.chess_san.specs.Asked.{may_leave, is_second, asked_of}
 use Rattle.chess_san.proofs.OneText.{IsBody-one, IsSan-one}
 use Rattle.chess_san.proofs.Shapes.{IsSpelled-from, IsPawnShape, IsShape, IsShape-spelled}

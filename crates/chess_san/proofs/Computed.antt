@@ -19,9 +19,9 @@ use Rattle.chess_board.specs.Computing.{legal_moves_of}
 use Rattle.chess_board.proofs.Deciding.{Decides-is_in_check}
 use Rattle.chess_board.proofs.LegalMoves.{legal_moves_of-legal, legal_moves_of-each}
 use Rattle.chess_moves.specs.Moves.{HasLegal}
-use Rattle.chess_san.specs.declared.origin.Line.{Line}
-use Rattle.chess_san.specs.declared.origin.Line.TheVariants as line
-use Rattle.chess_san.specs.San.{IsOn, HasRival, Tells, IsKingText, IsManText, GivesCheck, Threatens, IsSan, threat_text, castled_wing}
+use Rattle.chess_notation.specs.declared.telling.Line.{Line}
+use Rattle.chess_notation.specs.declared.telling.Line.TheVariants as line
+use Rattle.chess_notation.specs.San.{IsOn, HasRival, Tells, IsKingText, IsManText, GivesCheck, Threatens, IsSan, threat_text, castled_wing}
 use Rattle.chess_san.specs.Computing.{is_on, is_rival, has_rival, origin_by, origin_told, king_text, man_text, body_of, has_some, threat_by, threat_told, san_of}
 
 Decides-is_on : (along : Line) (a b : Square) → Decides (is_on along a b) (IsOn along a b)

@@ -18,10 +18,10 @@ use Rattle.chess_board.proofs.PlacementAfter.{castles_to-true}
 use Rattle.chess_board.proofs.Candidates.{IsOnBoard-from_man}
 use Rattle.chess_moves.proofs.Parts.{candidate_kind, becomes_of_move}
 use Rattle.chess_san.specs.declared.parsing.Asked.{Asked}
-use Rattle.chess_san.specs.declared.threat.Threat.{Threat}
-use Rattle.chess_san.specs.declared.threat.Threat.TheVariants as threat
-use Rattle.chess_san.specs.Name.{square_name, square_named, capital_of, promotion_text}
-use Rattle.chess_san.specs.San.{threat_text, origin_text, capture_text, is_capture, pawn_origin, castling_text}
+use Rattle.chess_notation.specs.declared.telling.Threat.{Threat}
+use Rattle.chess_notation.specs.declared.telling.Threat.TheVariants as threat
+use Rattle.chess_notation.specs.Name.{square_name, square_named, capital_of, promotion_text}
+use Rattle.chess_notation.specs.San.{threat_text, origin_text, capture_text, is_capture, pawn_origin, castling_text}
 use Rattle.chess_san.specs.Asked.{piece_named, suffix_len, ended, promoted_ending, plain_ending, ending_of, asked_castling, asked_of}
 use Rattle.chess_san.proofs.SourceLemmas.{no_promotion}
 use Rattle.chess_san.proofs.Shapes.{IsCastlingShape, IsPieceShape, IsPawnShape, IsShape}

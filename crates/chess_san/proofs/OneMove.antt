@@ -20,15 +20,15 @@ use Rattle.chess_board.specs.Legal.{IsPawnMove, Advances, AdvancesTwo}
 use Rattle.chess_board.proofs.PlacementAfter.{castles_to-true}
 use Rattle.chess_board.proofs.Candidates.{IsOnBoard-from_man, attacks_from, straight_is_plain, moves_kind-own}
 use Rattle.chess_moves.proofs.Parts.{candidate_kind}
-use Rattle.chess_san.specs.declared.origin.Origin.{Origin}
-use Rattle.chess_san.specs.declared.origin.Origin.TheVariants as origin
+use Rattle.chess_notation.specs.declared.telling.Origin.{Origin}
+use Rattle.chess_notation.specs.declared.telling.Origin.TheVariants as origin
 use Rattle.chess_san.specs.declared.parsing.Asked.{Asked}
-use Rattle.chess_san.specs.declared.threat.Threat.{Threat}
-use Rattle.chess_san.specs.declared.threat.Threat.TheVariants as threat
-use Rattle.chess_san.specs.Name.{square_name, capital_of, promotion_text}
-use Rattle.chess_san.specs.San.{IsRival, Tells, origin_text, is_capture, pawn_origin, castling_text, threat_text}
-use Rattle.chess_san.specs.Coordinate.{IsPromotionText, IsCoordinateOf}
-use Rattle.chess_san.specs.Reading.{IsSanOrBody, Names}
+use Rattle.chess_notation.specs.declared.telling.Threat.{Threat}
+use Rattle.chess_notation.specs.declared.telling.Threat.TheVariants as threat
+use Rattle.chess_notation.specs.Name.{square_name, capital_of, promotion_text}
+use Rattle.chess_notation.specs.San.{IsRival, Tells, origin_text, is_capture, pawn_origin, castling_text, threat_text}
+use Rattle.chess_notation.specs.Coordinate.{IsPromotionText, IsCoordinateOf}
+use Rattle.chess_notation.specs.Naming.{IsSanOrBody, Names}
 use Rattle.chess_san.proofs.SourceLemmas.{same_move}
 use Rattle.chess_san.proofs.Shapes.{IsSpelled-from, IsCastlingShape, IsPieceShape, IsPawnShape, IsShape, IsShape-spelled}
 use Rattle.chess_san.proofs.Endings.{capital_no_stroke, asked_for, kind_of, asked-shape}

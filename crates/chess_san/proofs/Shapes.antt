@@ -10,11 +10,11 @@ use Rattle.chess_board.specs.declared.moves.Move.{Move}
 use Rattle.chess_board.specs.Position.{Position, man_at}
 use Rattle.chess_board.specs.Next.{castles_to}
 use Rattle.chess_board.specs.Legal.{IsLegal}
-use Rattle.chess_san.specs.declared.origin.Origin.{Origin}
-use Rattle.chess_san.specs.declared.threat.Threat.{Threat}
-use Rattle.chess_san.specs.declared.threat.Threat.TheVariants as threat
-use Rattle.chess_san.specs.Name.{square_name, capital_of, promotion_text}
-use Rattle.chess_san.specs.San.{Tells, IsPieceText, IsKingText, IsManText, IsBody, IsSan, threat_text, origin_text, capture_text, is_capture, pawn_origin, castling_text, castled_wing}
+use Rattle.chess_notation.specs.declared.telling.Origin.{Origin}
+use Rattle.chess_notation.specs.declared.telling.Threat.{Threat}
+use Rattle.chess_notation.specs.declared.telling.Threat.TheVariants as threat
+use Rattle.chess_notation.specs.Name.{square_name, capital_of, promotion_text}
+use Rattle.chess_notation.specs.San.{Tells, IsPieceText, IsKingText, IsManText, IsBody, IsSan, threat_text, origin_text, capture_text, is_capture, pawn_origin, castling_text, castled_wing}
 
 -- a legal move's text, with some suffix or none
 pub record IsSpelled (p : Position) (m : Move) (text : List ℕ) : Type 0 where

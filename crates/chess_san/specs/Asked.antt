@@ -7,7 +7,7 @@ use Rattle.chess_bits.specs.Square.{Square}
 use Rattle.chess_board.specs.declared.castling.Wing.TheVariants as wing
 use Rattle.chess_board.specs.declared.moves.Move.{Move}
 use Rattle.chess_board.specs.Next.{castled_king}
-use Rattle.chess_san.specs.Name.{square_named}
+use Rattle.chess_notation.specs.Name.{square_named}
 use Rattle.chess_san.specs.declared.parsing.Asked.{Asked}
 use Rattle.chess_san.specs.declared.parsing.Ending.{Ending}
 

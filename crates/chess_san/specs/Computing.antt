@@ -9,13 +9,13 @@ use Rattle.chess_board.specs.declared.moves.Move.{Move}
 use Rattle.chess_board.specs.Position.{Position, man_at, is_in_check}
 use Rattle.chess_board.specs.Next.{next}
 use Rattle.chess_board.specs.Computing.{legal_moves_of}
-use Rattle.chess_san.specs.declared.origin.Line.{Line}
-use Rattle.chess_san.specs.declared.origin.Line.TheVariants as line
-use Rattle.chess_san.specs.declared.origin.Origin.{Origin}
-use Rattle.chess_san.specs.declared.origin.Origin.TheVariants as origin
-use Rattle.chess_san.specs.declared.threat.Threat.{Threat}
-use Rattle.chess_san.specs.declared.threat.Threat.TheVariants as threat
-use Rattle.chess_san.specs.San.{piece_text, pawn_text, castling_text, castled_wing, threat_text}
+use Rattle.chess_notation.specs.declared.telling.Line.{Line}
+use Rattle.chess_notation.specs.declared.telling.Line.TheVariants as line
+use Rattle.chess_notation.specs.declared.telling.Origin.{Origin}
+use Rattle.chess_notation.specs.declared.telling.Origin.TheVariants as origin
+use Rattle.chess_notation.specs.declared.telling.Threat.{Threat}
+use Rattle.chess_notation.specs.declared.telling.Threat.TheVariants as threat
+use Rattle.chess_notation.specs.San.{piece_text, pawn_text, castling_text, castled_wing, threat_text}
 
 -- The relations of `San` as tests over the list of legal moves, and the SAN as a function, which compute.
 

@@ -1,14 +1,12 @@
-//! Moves in standard algebraic notation (PGN Standard, section 8.2.3), both ways, and by their coordinates.
+//! Moves in standard algebraic notation (PGN Standard, section 8.2.3), both ways.
 #![tactic(auto)]
 
-mod coordinates;
 mod origin;
 mod parsing;
 mod reading;
 mod threat;
 mod writing;
 
-pub use coordinates::{coordinate, square_named};
 pub use reading::read;
 pub use threat::rewound;
 pub use writing::write;

@@ -6,29 +6,13 @@ ghost use Rattle.chess_board.specs.declared.moves.Move.{Move};
 ghost use Rattle.chess_board.specs.Position.{man_at};
 ghost use Rattle.chess_board.specs.Legal.{IsLegal};
 ghost use Rattle.chess_moves.specs.Targets.{plain};
-ghost use Rattle.chess_san.specs.San.{IsRival, IsOn, HasRival, Tells};
+ghost use Rattle.chess_notation.specs.San.{IsRival, IsOn, HasRival, Tells};
 
 use chess_attacks::{bishop, knight, queen, rook};
 use chess_bits::{Bits, Kind, Square};
 use chess_board::{Board, Move};
 use chess_moves::legal;
-
-/// Where a man that may go to the same square is looked for: on the board, or on the file or the rank of another man.
-#[derive(Clone, Copy, Debug, PartialEq, Eq)]
-pub enum Line {
-    Board,
-    File,
-    Rank,
-}
-
-/// What a text tells of the square that a piece leaves (PGN Standard, section 8.2.3.4).
-#[derive(Clone, Copy, Debug, PartialEq, Eq)]
-pub enum Origin {
-    Nothing,
-    File,
-    Rank,
-    Square,
-}
+use chess_notation::{Line, Origin};
 
 /// Squares with men of the side to move and the kind, among them all from which a legal move goes to the square. It looks
 /// outward from that square: a piece attacks it from where a piece of that kind on it would attack.

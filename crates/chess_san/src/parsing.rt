@@ -1,9 +1,9 @@
 ghost use Rattle.std.specs.Prelude.{◌≡◌, ◌<◌, reverse, slice_index};
 ghost use Rattle.chess_san.specs.Asked as asks;
 
-use crate::coordinates::square_named;
 use chess_bits::{Colour, Kind, Square};
 use chess_board::{Move, Wing, castled_king};
+use chess_notation::square_named;
 
 /// What a text asks for: a man of the kind to the square, which becomes that.
 #[derive(Clone, Copy, Debug)]

@@ -2,10 +2,9 @@ ghost use Rattle.std.specs.Prelude.{◌≡◌, ◌≢◌, ◌↔◌, IsTrue, Som
 ghost use Rattle.chess_board.specs.declared.moves.Move.{Move};
 ghost use Rattle.chess_board.specs.Position.{Position, man_at};
 ghost use Rattle.chess_board.specs.Legal.{IsLegal};
-ghost use Rattle.chess_san.specs.Coordinate.{IsCoordinateOf};
-ghost use Rattle.chess_san.specs.Reading.{IsSanOrBody, Names};
+ghost use Rattle.chess_notation.specs.Coordinate.{IsCoordinateOf};
+ghost use Rattle.chess_notation.specs.Naming.{IsSanOrBody, Names};
 
-use crate::coordinates::coordinate;
 use crate::origin::sources;
 use crate::parsing::{Asked, asked_of, may_leave};
 use crate::threat::threat_of;
@@ -13,6 +12,7 @@ use crate::writing::{body, push_threat};
 use chess_bits::Kind;
 use chess_board::{Board, Move};
 use chess_moves::legal;
+use chess_notation::coordinate;
 
 // Whether a move is legal.
 fn is_legal(board: &Board, mv: &Move) -> bool

@@ -1,6 +1,6 @@
 //! Texts of moves as the PGN Standard and played games give them.
 
-use crate::{coordinate, read, write};
+use crate::{read, write};
 use chess_bits::{Colour, Kind, Square};
 use chess_board::{Board, CastlingRights, Move, Parts};
 use chess_moves::legal;
@@ -254,53 +254,4 @@ fn other_texts_name_nothing(rt: HostRuntime) {
     });
     assert_eq!(rt; read(&board, "Nf3"), knight);
     assert_eq!(rt; read(&board, "g1f3"), knight);
-}
-
-#[test]
-fn coordinates_name_squares(rt: HostRuntime) {
-    for (text, from, to, promotion) in [
-        ("e2e4", Square::at(5, 2), Square::at(5, 4), None),
-        ("e1g1", Square::at(5, 1), Square::at(7, 1), None),
-        (
-            "e7e8q",
-            Square::at(5, 7),
-            Square::at(5, 8),
-            Some(Kind::Queen),
-        ),
-        (
-            "a1h8n",
-            Square::at(1, 1),
-            Square::at(8, 8),
-            Some(Kind::Knight),
-        ),
-        (
-            "h2h1r",
-            Square::at(8, 2),
-            Square::at(8, 1),
-            Some(Kind::Rook),
-        ),
-        (
-            "b7a8b",
-            Square::at(2, 7),
-            Square::at(1, 8),
-            Some(Kind::Bishop),
-        ),
-    ] {
-        let named = Move {
-            from,
-            to,
-            promotion,
-        };
-        assert_eq!(rt; coordinate(text), Some(named), "at {text}");
-    }
-}
-
-#[test]
-fn no_other_text_has_coordinates(rt: HostRuntime) {
-    for text in [
-        "", "e2", "e2e", "e2e9", "e0e4", "i2i4", "E2E4", "e7e8k", "e7e8p", "e7e8Q", "e2e4 ",
-        " e2e4", "e7e8qq", "e2-e4", "0000", "é2e4", "O-O",
-    ] {
-        assert_eq!(rt; coordinate(text), None, "at {text}");
-    }
 }

@@ -1,20 +1,13 @@
 ghost use Rattle.std.specs.Prelude.{◌≡◌};
 ghost use Rattle.chess_board.specs.Next.{next};
 ghost use Rattle.chess_board.specs.Legal.{IsLegal};
-ghost use Rattle.chess_san.specs.San.{Threatens};
+ghost use Rattle.chess_notation.specs.San.{Threatens};
 ghost use Rattle.chess_san.specs.Boards.{DiffersInCounters, rewound};
 
 use chess_bits::Square;
 use chess_board::{Board, Move, Parts};
 use chess_moves::has_legal;
-
-/// What a move threatens: nothing, check or mate (PGN Standard, section 8.2.3.5).
-#[derive(Clone, Copy, Debug, PartialEq, Eq)]
-pub enum Threat {
-    Nothing,
-    Check,
-    Mate,
-}
+use chess_notation::Threat;
 
 /// The board with its counters at their start, 0 and 1. It has the same legal moves: no rule asks for the counters.
 pub fn rewound(board: &Board) -> Board

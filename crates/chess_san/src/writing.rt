@@ -6,14 +6,15 @@ ghost use Rattle.chess_board.specs.Position.{man_at};
 ghost use Rattle.chess_board.specs.Legal.{IsLegal};
 ghost use Rattle.chess_board.specs.Next as after;
 ghost use Rattle.chess_bits.specs.Square.{is_square};
-ghost use Rattle.chess_san.specs.Name.{file_letter, rank_digit, square_name, capital_of, promotion_text};
-ghost use Rattle.chess_san.specs.San as san;
+ghost use Rattle.chess_notation.specs.Name.{file_letter, rank_digit, square_name, capital_of, promotion_text};
+ghost use Rattle.chess_notation.specs.San as san;
 
-use crate::origin::{Origin, origin_of};
-use crate::threat::{Threat, threat_of};
+use crate::origin::origin_of;
+use crate::threat::threat_of;
 use arrayvec::ArrayString;
 use chess_bits::{Kind, Square};
 use chess_board::{Board, Move, Wing, castled_king, king_home};
+use chess_notation::{Origin, Threat};
 
 /// Room for a SAN: the longest have 7 bytes, as `Qh4xe1+` and `bxa8=Q+`.
 pub type Text = ArrayString<8>;

@@ -1,7 +1,7 @@
 //! The server.
 ghost use Rattle.std.specs.Prelude.{◌≡◌, ◌+◌, ◌↔◌, true, false, [], Some, None, Ok, IsTrue, IsSomeAnd, IfOk, IfErr, OnOk, length};
 ghost use Rattle.std.specs.Bool.{OnTrue, OnFalse};
-ghost use Rattle.chess_store.specs.Means.{IsKept};
+ghost use Rattle.table_commits.specs.Means.{IsKept};
 ghost use Rattle.chess_hub.specs.Faults.{CountsFault, refusals_after};
 ghost use Rattle.chess_sessions.specs.Session.{Changes};
 ghost use Rattle.chess_hub.specs.Turning.{MayBeAsked, Lasts, IsTried};

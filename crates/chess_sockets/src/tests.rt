@@ -6,8 +6,10 @@ use crate::client::Client;
 use crate::server::{Reading, serve_clients};
 use chess_hub::Hub;
 use chess_store::Store;
+use chess_table::Table;
 use rec_codec::Limits;
 use sector_dev::MemoryDevice;
+use sector_journal::format;
 use std::alloc::Global;
 use std::io;
 use std::io::{Error, ErrorKind, Read, Write};
@@ -147,7 +149,15 @@ fn hub(alloc: Global) -> Option<Hub<MemoryDevice>> {
         plies: 60,
     };
     let device = MemoryDevice::new(alloc, 212).ok()?;
-    let store = Store::create(alloc, device, limits).ok()?;
+    let Ok(journal) = format(alloc, device, limits) else {
+        return None;
+    };
+    let store = Store {
+        alloc,
+        journal,
+        table: Table::new(alloc, limits),
+        failed: false,
+    };
     Some(Hub::new(alloc, store))
 }
 

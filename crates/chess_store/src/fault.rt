@@ -68,10 +68,3 @@ impl From<AllocError> for StoreFault {
         StoreFault::NoMemory
     }
 }
-
-/// A device that `create` or `open` hands back, and why.
-#[derive(Drop)]
-pub struct Refused<D> {
-    pub device: D,
-    pub fault: StoreFault,
-}

@@ -3,15 +3,9 @@
 #![tactic(auto)]
 
 mod batch;
-mod commits;
-mod creating;
 mod fault;
-mod laws;
-mod opening;
 mod store;
 mod submitting;
-mod widening;
 
-pub use fault::{Refused, StoreFault};
-pub use laws::law_of_images;
+pub use fault::StoreFault;
 pub use store::{Parts, Store};

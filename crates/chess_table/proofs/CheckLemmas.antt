@@ -10,7 +10,7 @@ use Rattle.chess_bits.specs.Square.{Square}
 use Rattle.chess_board.specs.declared.moves.Move.{Move}
 use Rattle.chess_board.specs.Position.{Position}
 use Rattle.chess_board.specs.Legal.{IsLegal, IsMoveOf, IsPromotion, IsPromotionKind}
-use Rattle.chess_san.specs.Reading.{Names}
+use Rattle.chess_notation.specs.Naming.{Names}
 use Rattle.rec_codec.specs.Moves.{CanBecome}
 use Rattle.chess_entry.specs.declared.verdicts.Verdict.{Verdict}
 use Rattle.chess_entry.specs.State.{GameState, position_of}

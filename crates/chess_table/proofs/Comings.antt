@@ -16,11 +16,11 @@ use Rattle.chess_board.specs.Position.{Position}
 use Rattle.chess_board.specs.Legal.{IsLegal}
 use Rattle.chess_board.proofs.Candidates.{IsOnBoard-from_man}
 use Rattle.chess_clock.specs.TimeControl.{IsTimeControl, IsPeriod, time_control}
-use Rattle.chess_text.specs.Fen.{fen_of}
-use Rattle.chess_text.proofs.Positions.{fen_of-IsFenOf}
-use Rattle.chess_san.specs.Name.{square_name}
-use Rattle.chess_san.specs.Coordinate.{IsPromotionText}
-use Rattle.chess_san.specs.Reading.{Names}
+use Rattle.chess_notation.specs.Fen.{fen_of}
+use Rattle.chess_fen.proofs.Positions.{fen_of-IsFenOf}
+use Rattle.chess_notation.specs.Name.{square_name}
+use Rattle.chess_notation.specs.Coordinate.{IsPromotionText}
+use Rattle.chess_notation.specs.Naming.{Names}
 use Rattle.rec_codec.specs.Name.{IsName}
 use Rattle.rec_codec.specs.Moves.{CanBecome}
 use Rattle.rec_codec.specs.declared.record.Claim.{Claim}

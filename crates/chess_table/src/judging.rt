@@ -23,9 +23,9 @@ use chess_clock::is_time_control;
 use chess_entry::{
     Act, Claim, Command, Entry, Event, GameNumber, Made, Name, Opening, Refusal, Text, Verdict,
 };
+use chess_fen::fen_read;
 use chess_game::{Game, Times, is_finished};
 use chess_san::read;
-use chess_text::fen_read;
 use rec_codec::StoredMove;
 
 // The greatest moment of a command.

@@ -6,7 +6,7 @@ use Rattle.chess_board.specs.Position.{Position}
 use Rattle.chess_board.specs.Next.{next}
 use Rattle.chess_board.specs.Legal.{IsLegal}
 use Rattle.chess_board.specs.Line.{IsLegalLine}
-use Rattle.chess_san.specs.San.{IsSan}
+use Rattle.chess_notation.specs.San.{IsSan}
 use Rattle.chess_san.proofs.OneText.{IsSan-one}
 use Rattle.chess_text.specs.Game.{numbers_before, AreMoveTokens, HasRoom, IsGameText}
 use Rattle.chess_text.specs.Pgn.{Heading}

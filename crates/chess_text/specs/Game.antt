@@ -4,7 +4,7 @@ use Rattle.chess_bits.specs.declared.men.Colour.TheVariants.{White, Black}
 use Rattle.chess_board.specs.declared.moves.Move.{Move}
 use Rattle.chess_board.specs.Position.{Position}
 use Rattle.chess_board.specs.Next.{next}
-use Rattle.chess_san.specs.San.{IsSan}
+use Rattle.chess_notation.specs.San.{IsSan}
 use Rattle.chess_text.specs.Movetext.{IsMovetext, IsUnderWay}
 use Rattle.chess_text.specs.Pgn.{Heading, IsPgnOf}
 

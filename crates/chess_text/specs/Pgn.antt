@@ -6,7 +6,7 @@ use Rattle.chess_end.specs.declared.ending.Article.{Article}
 use Rattle.chess_end.specs.declared.ending.Article.TheVariants as articles
 use Rattle.chess_end.specs.declared.ending.GameResult.{GameResult}
 use Rattle.chess_end.specs.declared.ending.GameResult.TheVariants as results
-use Rattle.chess_text.specs.Fen.{fen_of}
+use Rattle.chess_notation.specs.Fen.{fen_of}
 use Rattle.chess_text.specs.Movetext.{IsMovetext}
 
 -- a tag pair (PGN Standard, section 8.1)

@@ -6,11 +6,11 @@ ghost use Rattle.chess_board.specs.Line.{IsLegalLine};
 ghost use Rattle.chess_text.specs.Movetext.{IsToken, IsUnderWay};
 ghost use Rattle.chess_text.specs.Game.{numbers_before, HasRoom, AddsMove, AddsMoves};
 
-use crate::fen::Text;
 use crate::movetext::push_token;
 use arrayvec::ArrayString;
 use chess_bits::Colour;
 use chess_board::{Board, Move};
+use chess_fen::Text;
 use chess_moves::legal;
 use chess_san::write;
 use itoa::Buffer;

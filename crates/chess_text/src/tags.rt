@@ -3,10 +3,10 @@ ghost use Rattle.std.specs.String.{string_bytes};
 ghost use Rattle.arrayvec.specs.ArrayString.{array_string_len};
 ghost use Rattle.chess_text.specs.Pgn.{Tag, tag, tag_text, tags_text, result_text, article_text, article_tags, termination_text, increment_text, time_control_text, PutsSetUp};
 
-use crate::fen::{Text, fen_write, push};
 use arrayvec::ArrayString;
 use chess_board::Board;
 use chess_end::{Article, Ending, GameResult};
+use chess_fen::{Text, fen_write, push};
 use itoa::Buffer;
 use std::alloc::AllocError;
 

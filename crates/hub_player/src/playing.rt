@@ -61,7 +61,7 @@ fn store_on(alloc: Global, ground: &Ground) -> Result<Store<MemoryDevice>, Fault
         return Err(Fault::Input);
     }
     let device = MemoryDevice::new(alloc, ground.sectors)?;
-    let Ok(store) = Store::create(alloc, device, ground.limits) else {
+    let Ok(store) = store_opening::create(alloc, device, ground.limits) else {
         return Err(Fault::Input);
     };
     let Some(calls) = ground.calls else {
@@ -70,7 +70,7 @@ fn store_on(alloc: Global, ground: &Ground) -> Result<Store<MemoryDevice>, Fault
     // Of an empty store an opening takes three calls.
     let mut device = store.into_device();
     device.arm(calls.saturating_add(3));
-    match Store::open(alloc, device) {
+    match store_opening::open(alloc, device) {
         Ok(store) => Ok(store),
         Err(_) => Err(Fault::Input),
     }

@@ -3,7 +3,6 @@ use crate::fault::Fault;
 use crate::lines::{InputLine, Size, fate_of, read_line};
 use chess_entry::Command;
 use chess_lives::{Life, Plan, Report, lives};
-use chess_store::Store;
 use rec_codec::{Limits, Version};
 use sector_dev::{Fate, MemoryDevice};
 use std::alloc::Global;
@@ -105,7 +104,7 @@ impl Player {
             return Err(Fault::Input);
         }
         let device = MemoryDevice::new(self.alloc, self.size.sectors)?;
-        match Store::create(self.alloc, device, self.size.limits) {
+        match store_opening::create(self.alloc, device, self.size.limits) {
             Ok(store) => Ok(lives(self.alloc, store.into_device(), &self.plan).report?),
             Err(refused) => Err(Fault::Store(refused.fault)),
         }

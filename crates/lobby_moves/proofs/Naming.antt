@@ -10,7 +10,7 @@ use Rattle.chess_board.specs.declared.moves.Move.{Move}
 use Rattle.chess_board.specs.Position.{Position, IsInCheck}
 use Rattle.chess_board.specs.Legal.{IsLegal, IsMoveOf, IsPromotion, IsPromotionKind}
 use Rattle.chess_moves.specs.Moves.{IsListOfLegalMoves}
-use Rattle.chess_san.specs.Coordinate.{IsPromotionText, IsCoordinateOf}
+use Rattle.chess_notation.specs.Coordinate.{IsPromotionText, IsCoordinateOf}
 use Rattle.std.proofs.lemmas.List.{take_more, map-append}
 use Rattle.lobby_moves.specs.Telling.{spaced, check_sign, TellsMoves, promotion_letter, small_letter, coordinate_of, IsBetweenSquares}
 

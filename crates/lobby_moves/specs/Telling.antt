@@ -7,8 +7,8 @@ use Rattle.chess_bits.specs.Square.{IsOnBoard}
 use Rattle.chess_board.specs.declared.moves.Move.{Move}
 use Rattle.chess_board.specs.Position.{Position, IsInCheck}
 use Rattle.chess_moves.specs.Moves.{IsListOfLegalMoves}
-use Rattle.chess_san.specs.Name.{square_name}
-use Rattle.chess_san.specs.Coordinate.{IsCoordinateOf}
+use Rattle.chess_notation.specs.Name.{square_name}
+use Rattle.chess_notation.specs.Coordinate.{IsCoordinateOf}
 
 -- texts with a space before each
 abbrev pub spaced : List (List ℕ) → List ℕ

@@ -3,14 +3,14 @@ ghost use Rattle.std.specs.Prelude.{◌≡◌, ◌++◌, [], ◌∷◌, Some, ma
 ghost use Rattle.std.specs.String.{string_bytes};
 ghost use Rattle.chess_bits.specs.Square.{IsOnBoard};
 ghost use Rattle.chess_board.specs.Position.{Position, IsValid};
-ghost use Rattle.chess_san.specs.Name.{square_name};
-ghost use Rattle.chess_text.specs.Fen.{IsFenOf};
+ghost use Rattle.chess_notation.specs.Name.{square_name};
+ghost use Rattle.chess_notation.specs.Fen.{IsFenOf};
 ghost use Rattle.lobby_moves.specs.Telling.{check_sign, promotion_letter, coordinate_of, spaced, IsBetweenSquares, TellsMoves};
 
 use chess_bits::{Kind, Square};
 use chess_board::{Board, Move};
+use chess_fen::fen_read;
 use chess_moves::legal_moves;
-use chess_text::fen_read;
 use std::alloc::{AllocError, Global};
 
 // Appends a square's name.

@@ -1,8 +1,8 @@
 -- What a line asks for, and what follows where that has a fault.
 use Rattle.std.specs.Prelude.{ℕ, ◌≢◌, ◌<◌, ◌≤◌, List, [], ◌∷◌, length, decimal, get_or}
 use Rattle.std.proofs.Common.{arith, zero, suc}
-use Rattle.chess_text.proofs.Joined.{AllAbove}
-use Rattle.chess_text.proofs.OnePosition.{decimal-above}
+use Rattle.chess_fen.proofs.Joined.{AllAbove}
+use Rattle.chess_fen.proofs.OnePosition.{decimal-above}
 use Rattle.perft.specs.declared.answers.Fault.{Fault}
 use Rattle.perft.specs.declared.answers.Fault.TheVariants.{Line, Fen}
 use Rattle.perft.specs.Answers.{Asks, IsFault, IsRefusal}

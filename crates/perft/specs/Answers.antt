@@ -3,10 +3,10 @@ use Rattle.std.specs.Prelude.{ℕ, ◌≡◌, ◌≤◌, List, ◌∷◌, ◌++�
 use Rattle.chess_board.specs.declared.parts.BadBoard.{BadBoard}
 use Rattle.chess_board.specs.declared.parts.BadBoard.TheVariants as broken
 use Rattle.chess_board.specs.Position.{Position, IsValid}
-use Rattle.chess_text.specs.declared.fields.FenError.{FenError}
-use Rattle.chess_text.specs.declared.fields.FenError.TheVariants as faults
-use Rattle.chess_text.specs.Fen.{IsFenOf}
-use Rattle.chess_text.specs.Reading.{IsFenFault}
+use Rattle.chess_fen.specs.declared.fields.FenError.{FenError}
+use Rattle.chess_fen.specs.declared.fields.FenError.TheVariants as faults
+use Rattle.chess_notation.specs.Fen.{IsFenOf}
+use Rattle.chess_fen.specs.Reading.{IsFenFault}
 use Rattle.perft.specs.declared.answers.Fault.{Fault}
 use Rattle.perft.specs.declared.answers.Fault.TheVariants.{Line, Fen}
 use Rattle.perft.specs.Lines.{IsCount}

@@ -4,8 +4,8 @@ ghost use Rattle.perft.specs.Answers.{IsCountFrom, IsFault, IsAnswer, IsRefusal,
 
 use crate::lines::count_lines;
 use chess_board::BadBoard;
+use chess_fen::{FenError, fen_read};
 use chess_san::rewound;
-use chess_text::{FenError, fen_read};
 use itoa::Buffer;
 
 /// Why there is no count.

@@ -1,7 +1,7 @@
 //! Tests of what no clause says: the names of faults, and counts that are known from elsewhere.
 use crate::answers::{Fault, answer, name};
 use chess_board::BadBoard;
-use chess_text::FenError;
+use chess_fen::FenError;
 
 const INITIAL: &str = "rnbqkbnr/pppppppp/8/8/8/8/PPPPPPPP/RNBQKBNR w KQkq - 0 1";
 

@@ -98,7 +98,7 @@ impl StoredMove {
     }
 
     /// The move of a number; `None` of a number that is no move's.
-    pub(crate) fn from_code(code: u16) -> Option<StoredMove>
+    pub fn from_code(code: u16) -> Option<StoredMove>
         ensures { (m : Move) → IsStorable m → code ≡ move_code m → result ≡ Some m }
     {
         if code < 20_480 {
@@ -109,7 +109,7 @@ impl StoredMove {
     }
 
     /// The move's number.
-    pub(crate) fn code(self) -> u16
+    pub fn code(self) -> u16
         ensures code { result ≡ move_code self }
         ensures storable { IsStorable self }
     {
@@ -214,7 +214,7 @@ impl MoveList {
     }
 
     /// The list of so many moves that a field's 120 bytes hold, if they hold one.
-    pub(crate) fn from_field(count: u8, field: &[u8]) -> Option<MoveList>
+    pub fn from_field(count: u8, field: &[u8]) -> Option<MoveList>
         requires { length field.now ≡ 120 }
         ensures { (list : List Move) → IsMoveList list → count ≡ length list →
             field.now ≡ flat_map (little_bytes 2) (codes_of list) → result ≡ Some list }
@@ -229,7 +229,7 @@ impl MoveList {
     }
 
     /// Writes the field's 120 bytes.
-    pub(crate) fn write(&self, field: &mut [u8])
+    pub fn write(&self, field: &mut [u8])
         requires { length field.old ≡ 120 }
         ensures bytes { field.new ≡ flat_map (little_bytes 2) (codes_of self.now) }
         ensures list { IsMoveList self.now }

@@ -83,7 +83,7 @@ impl Name {
     }
 
     /// The name that a field's 17 bytes hold, if they hold one: after the length the text.
-    pub(crate) fn from_field(field: &[u8]) -> Option<Name>
+    pub fn from_field(field: &[u8]) -> Option<Name>
         requires { length field.now ≡ 17 }
         ensures name { (text : List ℕ) → IsName text → field.now ≡ name_bytes (Some text) → result ≡ Some text }
         ensures none { field.now ≡ name_bytes None → result ≡ None }
@@ -96,7 +96,7 @@ impl Name {
     }
 
     /// The 16 bytes of the name's text and the zeros after it.
-    pub(crate) fn padded(self) -> [u8; 16]
+    pub fn padded(self) -> [u8; 16]
         ensures padded { result ≡ padded self }
         ensures named { IsName self }
     {
@@ -104,7 +104,7 @@ impl Name {
     }
 
     /// How many bytes the name's text has, 1 to 16.
-    pub(crate) fn len(self) -> u8
+    pub fn len(self) -> u8
         ensures { result ≡ length self }
     {
         self.len

@@ -59,7 +59,7 @@ pub(crate) fn make_file<R: Files<File = File> + Eprint>(
 pub(crate) fn open_on<D: Device + Drop>(alloc: Global, device: D) -> Result<Store<D>, Fault>
     ensures { IfErr result IsOpenFault }
 {
-    match Store::open(alloc, device) {
+    match store_opening::open(alloc, device) {
         Ok(store) => Ok(store),
         Err(refused) => Err(Fault::Store(refused.fault)),
     }
@@ -70,7 +70,7 @@ fn create_on<D: Device + Drop>(alloc: Global, device: D, limits: Limits) -> Resu
     requires { IsInRange Two limits }
     ensures { IfErr result IsFormatFault }
 {
-    match Store::create(alloc, device, limits) {
+    match store_opening::create(alloc, device, limits) {
         Ok(_) => Ok(()),
         Err(refused) => Err(Fault::Store(refused.fault)),
     }
@@ -273,7 +273,7 @@ fn widen_store<D: Device>(store: &mut Store<D>, limits: Limits) -> Result<(), Fa
     if !may_widen(store.limits(), limits) {
         return Err(Fault::Limits);
     }
-    match store.widen(limits) {
+    match store_opening::widen(store, limits) {
         Ok(()) => Ok(()),
         Err(fault) => Err(Fault::Store(fault)),
     }

@@ -16,7 +16,6 @@ mod clients;
 
 use chess_hub::Hub;
 use chess_sockets::{Server, Turned};
-use chess_store::Store;
 use clients::Clients;
 use rec_codec::Limits;
 use sector_dev::MemoryDevice;
@@ -55,7 +54,7 @@ fn main(rt: HostRuntime) -> ExitCode {
 fn start(rt: &HostRuntime, silence: Option<u64>) -> Option<Server<MemoryDevice>> {
     let alloc = rt.alloc();
     let device = MemoryDevice::new(alloc, SECTORS).ok()?;
-    match Store::create(alloc, device, LIMITS) {
+    match store_opening::create(alloc, device, LIMITS) {
         Ok(store) => Server::bind(rt, alloc, 0, silence, Hub::new(alloc, store)).ok(),
         Err(_) => None,
     }

@@ -50,10 +50,10 @@ fn store_on(rt: &HostRuntime, file: &str, limits: Limits) -> Result<Store<FileDe
         return Err(Fault::Usage);
     }
     let device = FileDevice::create(rt, file, need(limits))?;
-    match Store::create(rt.alloc(), device, limits) {
+    match store_opening::create(rt.alloc(), device, limits) {
         Ok(store) => Ok(store),
         Err(refused) if refused.fault == StoreFault::Exists => {
-            match Store::open(rt.alloc(), refused.device) {
+            match store_opening::open(rt.alloc(), refused.device) {
                 Ok(store) => Ok(store),
                 Err(refused) => Err(Fault::Store(refused.fault)),
             }

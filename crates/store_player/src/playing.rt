@@ -4,11 +4,12 @@ use crate::lines::InputLine;
 use crate::sectors::{device_of, digits, lose, put, sectors_of};
 use crate::texts::{fault_text, journal_text, replies_text};
 use chess_entry::Command;
-use chess_store::{Refused, Store};
+use chess_store::Store;
 use rec_codec::{Limits, Version};
 use sector_dev::{CrashDevice, Fate, MemoryDevice, OnceDevice};
 use sector_journal::{Opened, open};
 use std::alloc::{AllocError, Global};
+use store_opening::Refused;
 
 /// A device in memory, alone or with the store that is open on it, the sectors that were noted, and the commands of the
 /// next batch.
@@ -167,7 +168,7 @@ impl Player {
             return Err(Fault::Input);
         }
         let device = self.armed(calls)?;
-        match Store::create(self.alloc, device, limits) {
+        match store_opening::create(self.alloc, device, limits) {
             Ok(store) => {
                 self.store = Some(store);
                 Ok(format!(in self.alloc; "created\n")?)
@@ -184,7 +185,7 @@ impl Player {
 
     // The store that a device holds.
     fn open_on(&mut self, device: OnceDevice<MemoryDevice>) -> Result<String, Fault> {
-        match Store::open(self.alloc, device) {
+        match store_opening::open(self.alloc, device) {
             Ok(store) => {
                 self.store = Some(store);
                 Ok(format!(in self.alloc; "opened\n")?)
@@ -244,7 +245,7 @@ impl Player {
         {
             return Err(Fault::Input);
         }
-        match store.widen(limits) {
+        match store_opening::widen(store, limits) {
             Ok(()) => Ok(format!(in self.alloc; "widened\n")?),
             Err(fault) => fault_text(self.alloc, fault),
         }

@@ -14,7 +14,8 @@ mod stored;
 use fault::Fault;
 use lines::{InputLine, read_line};
 use playing::Player;
-use rec_codec::{Record, write_record};
+use rec_bytes::write_record;
+use rec_codec::Record;
 use std::io::{BufRead, BufReader};
 use std::process::ExitCode;
 

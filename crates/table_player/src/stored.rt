@@ -3,7 +3,8 @@ use crate::fault::Fault;
 use crate::lines::Change;
 use chess_entry::Entry;
 use chess_table::{Table, entry_record};
-use rec_codec::{Limits, Record, Version, read_record, write_record};
+use rec_bytes::{read_record, write_record};
+use rec_codec::{Limits, Record, Version};
 use std::alloc::Global;
 
 /// The records of a table's snapshot, and those of the entries since.

@@ -47,7 +47,7 @@ fn submit(alloc: Global, store: &mut Store<MemoryDevice>, who: &str, act: Act) -
 // A device with a journal of two games, of which one is over and one that nobody has joined.
 fn played(alloc: Global) -> Option<MemoryDevice> {
     let device = MemoryDevice::new(alloc, 212).ok()?;
-    let mut store = Store::create(alloc, device, LIMITS).ok()?;
+    let mut store = store_opening::create(alloc, device, LIMITS).ok()?;
     submit(alloc, &mut store, "ann", opening(Colour::White))?;
     submit(alloc, &mut store, "bob", JOIN)?;
     submit(alloc, &mut store, "bob", opening(Colour::Black))?;

@@ -3,7 +3,7 @@ use Rattle.std.proofs.lemmas.List.{take_all}
 use Rattle.chess_entry.specs.State.{TableState}
 use Rattle.chess_entry.specs.Games.{table_of}
 use Rattle.chess_store.specs.declared.fault.StoreFault.{StoreFault}
-use Rattle.chess_store.specs.Means.{Means, AllMean}
+use Rattle.table_commits.specs.Means.{Means, AllMean}
 use Rattle.chess_store.specs.Faults.{IsDevice, CountsFault}
 use Rattle.sector_dev.specs.Device.{HasRisen}
 use Rattle.chess_lives.specs.declared.plan.Life.{Life}

@@ -1,7 +1,7 @@
 use Rattle.std.proofs.Common.{◌∙◌, ◌↔◌, ap, ◌≡◌, ℕ, sym, subst, arith, map}
 use Rattle.chess_entry.specs.State.{TableState}
-use Rattle.chess_store.proofs.MeansLemmas.{one_table}
-use Rattle.chess_store.specs.Means.{IsKept}
+use Rattle.table_commits.proofs.MeansLemmas.{one_table}
+use Rattle.table_commits.specs.Means.{IsKept}
 use Rattle.chess_lives.specs.Serving.{IsServed}
 use Rattle.chess_lives.proofs.ServingLemmas.{judged-entries, served-opened, served-refused, unopened, opening_fault}
 use Rattle.chess_lives.specs.Serving.{CountsEnd}

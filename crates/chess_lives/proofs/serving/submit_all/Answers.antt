@@ -5,8 +5,8 @@ use Rattle.chess_answer.specs.declared.reads.Reply.{Reply}
 use Rattle.chess_store.specs.declared.fault.StoreFault.{StoreFault}
 use Rattle.chess_store.specs.Batch.{IsAnswered, IsWornOut, act_count}
 use Rattle.chess_store.specs.Faults.{UnlessDevice, CountsFault, MayLast}
-use Rattle.chess_store.specs.Means.{IsKept}
-use Rattle.chess_store.proofs.MeansLemmas.{kept_means}
+use Rattle.table_commits.specs.Means.{IsKept}
+use Rattle.table_commits.proofs.MeansLemmas.{kept_means}
 use Rattle.chess_lives.specs.Courses.{IsBatch, is_unsent}
 use Rattle.chess_lives.specs.Serving.{IsTallied}
 use Rattle.chess_lives.proofs.ServingLemmas.{SoFar, so_far-none, so_far-more, EachOf-at, take_map-more, around-at, tallied-all, tallied-err, room-err, worn_before, batch_fault}

@@ -1,5 +1,5 @@
 use Rattle.std.proofs.Common.{◌≡◌, ◌↔◌, false, map, take}
-use Rattle.chess_store.specs.Means.{IsKept}
+use Rattle.table_commits.specs.Means.{IsKept}
 use Rattle.chess_lives.proofs.ServingLemmas.{SoFar}
 use Rattle.chess_lives.proofs.serving.submit_all.Given as goal
 

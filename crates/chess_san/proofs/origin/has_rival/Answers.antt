@@ -9,7 +9,7 @@ use Rattle.chess_board.specs.Position.{man_at}
 use Rattle.chess_board.specs.Legal.{EachOf, IsLegal}
 use Rattle.chess_board.proofs.Candidates.{IsOnBoard-from_man}
 use Rattle.chess_moves.specs.Targets.{plain}
-use Rattle.chess_san.specs.San.{IsRival, IsOn}
+use Rattle.chess_notation.specs.San.{IsRival, IsOn}
 use Rattle.chess_san.proofs.SourceLemmas.{EachOf-passes, no_promotion, plain_move}
 use Rattle.chess_san.proofs.origin.has_rival.Goals as goal
 

@@ -4,7 +4,7 @@ use Rattle.chess_bits.specs.SquaresOf.{squares_left}
 use Rattle.chess_board.specs.Position.{man_at}
 use Rattle.chess_board.specs.Legal.{EachOf}
 use Rattle.chess_moves.specs.Targets.{plain}
-use Rattle.chess_san.specs.San.{IsRival, IsOn, HasRival}
+use Rattle.chess_notation.specs.San.{IsRival, IsOn, HasRival}
 use Rattle.chess_san.proofs.origin.has_rival.Given as goal
 
 -- if there is a rival, one of the squares that are left has one; and only men of the kind are left

@@ -8,7 +8,7 @@ use Rattle.chess_board.specs.declared.moves.Move.{Move}
 use Rattle.chess_board.specs.Position.{man_at}
 use Rattle.chess_board.specs.Legal.{EachOf}
 use Rattle.chess_board.proofs.Candidates.{IsOnBoard-from_man}
-use Rattle.chess_san.specs.Reading.{IsSanOrBody}
+use Rattle.chess_notation.specs.Naming.{IsSanOrBody}
 use Rattle.chess_san.proofs.SourceLemmas.{EachOf-passes, same_move}
 use Rattle.chess_san.proofs.Comparing.{legal_of}
 use Rattle.chess_san.proofs.reading.found.Goals as goal

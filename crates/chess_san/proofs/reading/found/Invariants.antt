@@ -4,7 +4,7 @@ use Rattle.chess_bits.specs.SquaresOf.{squares_left}
 use Rattle.chess_board.specs.declared.moves.Move.{Move}
 use Rattle.chess_board.specs.Position.{man_at}
 use Rattle.chess_board.specs.Legal.{EachOf}
-use Rattle.chess_san.specs.Reading.{IsSanOrBody}
+use Rattle.chess_notation.specs.Naming.{IsSanOrBody}
 use Rattle.chess_san.proofs.reading.found.Given as goal
 
 -- if a move that does what is asked for has the text, one from a square that is left has; and only men of the kind are left

@@ -1,6 +1,6 @@
 use Rattle.std.proofs.Common.{ℕ, List, subst}
 use Rattle.chess_board.specs.declared.moves.Move.{Move}
-use Rattle.chess_san.specs.Reading.{IsSanOrBody, Names}
+use Rattle.chess_notation.specs.Naming.{IsSanOrBody, Names}
 use Rattle.chess_san.proofs.OneMove.{Names-one}
 use Rattle.chess_san.proofs.Comparing.{IfNone-map, IfSome-map, names_none}
 use Rattle.chess_san.proofs.reading.read.Goals as goal

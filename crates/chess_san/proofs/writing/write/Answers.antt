@@ -1,5 +1,5 @@
 use Rattle.std.proofs.Common.{inl}
-use Rattle.chess_san.specs.San.{IsSan}
+use Rattle.chess_notation.specs.San.{IsSan}
 use Rattle.chess_san.proofs.OneText.{IsSan-one}
 use Rattle.chess_san.proofs.OneMove.{spelled_one}
 use Rattle.chess_san.proofs.writing.write.Goals as goal

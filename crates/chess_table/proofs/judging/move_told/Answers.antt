@@ -1,7 +1,7 @@
 use Rattle.std.proofs.Common.{Some, List, ℕ, sym, subst}
 use Rattle.chess_board.specs.declared.moves.Move.{Move}
 use Rattle.chess_entry.specs.State.{find_game}
-use Rattle.chess_san.specs.Reading.{Names}
+use Rattle.chess_notation.specs.Naming.{Names}
 use Rattle.chess_table.specs.Telling.{IsTheMove}
 use Rattle.chess_table.proofs.CheckLemmas.{CanBecome-legal, move-named, move-unnamed}
 use Rattle.chess_table.proofs.judging.move_told.Goals as goal

@@ -4,9 +4,9 @@ use Rattle.std.specs.String.{string_bytes}
 use Rattle.std.proofs.lemmas.Bool.{false≢true}
 use Rattle.std.proofs.lemmas.Slice.Eq.{bytes_eq-Decides}
 use Rattle.chess_board.specs.Initial.{initial}
-use Rattle.chess_text.specs.Fen.{fen_of}
+use Rattle.chess_notation.specs.Fen.{fen_of}
 use Rattle.chess_text.specs.Pgn.{tag, tag_text}
-use Rattle.chess_text.proofs.Faults.{fen_of-injective}
+use Rattle.chess_fen.proofs.Faults.{fen_of-injective}
 use Rattle.chess_text.proofs.tags.push_set_up.Goals as goal
 
 pub returns-then-eq : goal.returns-then-eq

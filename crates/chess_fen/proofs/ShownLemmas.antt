@@ -1,0 +1,230 @@
+-- What changes between two boards, and the texts of their ranks.
+use Rattle.std.proofs.Common.{ℕ, ◌≡◌, ◌≢◌, ◌≤◌, ◌<◌, Bool, true, false, not, ◌||◌, ◌&&◌, List, [], ◌∷◌, ◌++◌, length, get_or, set, Option, Some, None, refl, ap, sym, ◌∙◌, inl, inr, arith, append_assoc, length-append, take, replicate, ◌+◌, ◌-◌}
+use Rattle.std.specs.List.{list_any, join_with_byte}
+use Rattle.std.specs.Prelude.{slice_index_or, ◌==◌}
+use Rattle.std.proofs.lemmas.Bool.{cases_Bool, false≢true}
+use Rattle.std.proofs.lemmas.Bool.Decides.{Decides-eqb}
+use Rattle.std.proofs.lemmas.List.{get_or-set_same, get_or-set_other, get_or-replicate, get_or-take, length-take-le}
+use Rattle.std.proofs.Math.Seq.{take-append-add, take-append_seam, get_or-append_right}
+use Rattle.chess_bits.specs.declared.men.Colour.TheVariants.{White, Black}
+use Rattle.chess_bits.specs.declared.men.Kind.{Kind}
+use Rattle.chess_bits.specs.declared.men.Kind.TheVariants as kinds
+use Rattle.chess_bits.specs.Square.{Square, IsOnBoard, is_square, number_of, square}
+use Rattle.chess_bits.specs.Man.{Man, is_of, holds}
+use Rattle.chess_bits.specs.Table.{has, empty, union, without}
+use Rattle.chess_bits.proofs.ManLemmas.{is_kind-true, is_kind-same}
+use Rattle.chess_bits.proofs.SetLemmas.{has-union, has-without, length-union, length-without}
+use Rattle.chess_bits.proofs.TableLemmas.{is_square-true, is_square-false, number_of-below}
+use Rattle.chess_board.specs.Occupancy.{squares_with, is_a}
+use Rattle.chess_board.specs.Position.{Placement, man_at}
+use Rattle.chess_board.proofs.AttackLemmas.{has-squares_with}
+use Rattle.chess_notation.specs.Fen.{rank_of, ranks_of, row_text, placement_text, letter_or_zero}
+use Rattle.chess_fen.specs.Shown.{HasChanges, TellsRanks, IsRankText, filled_up}
+use Rattle.chess_fen.specs.declared.shown.RankText.{RankText}
+use Rattle.chess_fen.proofs.LetterLemmas.{other_place}
+
+-- ---- sets that differ
+
+neither : (x y : Bool) → (x || y) ≡ false → (x ≡ false) × (y ≡ false)
+neither true y e = absurd (false≢true (sym e))
+neither false y e = (refl, e)
+
+same_bits : (x y : Bool) → (x && not y) ≡ false → (y && not x) ≡ false → x ≡ y
+same_bits true true e f = refl
+same_bits true false e f = absurd (false≢true (sym e))
+same_bits false true e f = absurd (false≢true (sym f))
+same_bits false false e f = refl
+
+module _ (before a b : List Bool) (whole : length before ≡ 64) (whole_a : length a ≡ 64) (whole_b : length b ≡ 64) where
+  abbrev apart : List Bool
+  apart = union (without a b) (without b a)
+
+  parts : length (without a b) ≡ length (without b a)
+  parts = length-without a b (whole_a ∙ sym whole_b) ∙ whole_a ∙ sym whole_b
+      ∙ sym (length-without b a (whole_b ∙ sym whole_a))
+
+  whole_apart : length before ≡ length apart
+  whole_apart = whole ∙ sym (length-union (without a b) (without b a) parts
+      ∙ length-without a b (whole_a ∙ sym whole_b) ∙ whole_a)
+
+  pub differing-whole : length (union before apart) ≡ 64
+  differing-whole = length-union before apart whole_apart ∙ whole
+
+  pub differing-none : (s : Square) → has (union before apart) s ≡ false →
+      (has before s ≡ false) × (has a s ≡ has b s)
+  differing-none s none =
+      let (first, rest) = neither (has before s) (has apart s) (sym (has-union before apart s whole_apart) ∙ none) in
+      let (left, right) = neither (has (without a b) s) (has (without b a) s)
+      (sym (has-union (without a b) (without b a) s parts) ∙ rest) in (
+        first,
+        same_bits (has a s) (has b s) (sym (has-without a b s (whole_a ∙ sym whole_b)) ∙ left)
+            (sym (has-without b a s (whole_b ∙ sym whole_a)) ∙ right),
+      )
+
+-- ---- men that all sets tell alike
+
+same_man : (m n : Option Man) → holds (is_of White) m ≡ holds (is_of White) n →
+    holds (is_of Black) m ≡ holds (is_of Black) n → ((k : Kind) → holds (is_a k) m ≡ holds (is_a k) n) → m ≡ n
+same_man None None w b k = refl
+same_man None (Some (White, kind)) w b k = absurd (false≢true w)
+same_man None (Some (Black, kind)) w b k = absurd (false≢true b)
+same_man (Some (White, kind)) None w b k = absurd (false≢true (sym w))
+same_man (Some (Black, kind)) None w b k = absurd (false≢true (sym b))
+same_man (Some (White, one)) (Some (White, other)) w b k =
+    ap (λ (x : Kind). Some (White, x)) (is_kind-true one other (sym (k one) ∙ is_kind-same one))
+same_man (Some (White, one)) (Some (Black, other)) w b k = absurd (false≢true (sym w))
+same_man (Some (Black, one)) (Some (White, other)) w b k = absurd (false≢true w)
+same_man (Some (Black, one)) (Some (Black, other)) w b k =
+    ap (λ (x : Kind). Some (Black, x)) (is_kind-true one other (sym (k one) ∙ is_kind-same one))
+
+told-same : (is : Man → Bool) (old new : Placement) (s : Square) →
+    has (squares_with is old) s ≡ has (squares_with is new) s → holds is (man_at old s) ≡ holds is (man_at new s)
+told-same is old new s e = sym (has-squares_with is old s) ∙ e ∙ has-squares_with is new s
+
+pub same_there : (old new : Placement) (s : Square) →
+    has (squares_with (is_of White) old) s ≡ has (squares_with (is_of White) new) s →
+    has (squares_with (is_of Black) old) s ≡ has (squares_with (is_of Black) new) s →
+    ((k : Kind) → has (squares_with (is_a k) old) s ≡ has (squares_with (is_a k) new) s) → man_at old s ≡ man_at new s
+same_there old new s w b k = same_man (man_at old s) (man_at new s) (told-same (is_of White) old new s w)
+    (told-same (is_of Black) old new s b) (λ kind. told-same (is_a kind) old new s (k kind))
+
+-- ---- letters and ranks, square by square
+
+-- a square that is left neither before nor now has its man's letter
+pub relettered : (letters : List ℕ) (men : Placement) (q s : Square) (rest : List Square) → length letters ≡ 64 →
+    IsOnBoard q → IsOnBoard s → list_any (is_square s) rest ≡ false →
+    (list_any (is_square s) (q ∷ rest) ≡ false → get_or letters (number_of s) 0 ≡ letter_or_zero (man_at men s)) →
+    get_or (set letters (number_of q) (letter_or_zero (man_at men q))) (number_of s) 0 ≡ letter_or_zero (man_at men s)
+relettered letters men q s rest whole on_q on_s gone before = elim (cases_Bool (is_square s q)) [
+  | inl same ↦
+      let below : number_of q < length letters = omega (arith, number_of-below q on_q) in
+      ap (λ (x : Square). get_or (set letters (number_of q) (letter_or_zero (man_at men q))) (number_of x) 0)
+      (is_square-true s q same)
+      ∙ get_or-set_same letters (number_of q) (letter_or_zero (man_at men q)) 0 below
+      ∙ ap (λ (x : Square). letter_or_zero (man_at men x)) (sym (is_square-true s q same))
+  | inr apart ↦
+      other_place letters q s (letter_or_zero (man_at men q)) on_q on_s (is_square-false s q apart)
+      ∙ before (ap (λ (b : Bool). b || list_any (is_square s) rest) apart ∙ gone)
+]
+
+-- and its rank is told
+pub touched_rank : (touched : List Bool) (q s : Square) (rest : List Square) → length touched ≡ 9 → q.rank ≤ 8 →
+    list_any (is_square s) rest ≡ false →
+    (list_any (is_square s) (q ∷ rest) ≡ false → get_or touched s.rank false ≡ true) →
+    get_or (set touched q.rank true) s.rank false ≡ true
+touched_rank touched q s rest whole high gone before = elim (cases_Bool (q.rank == s.rank)) [
+  | inl same ↦
+      let e : q.rank ≡ s.rank = (Decides-eqb q.rank s.rank).0 same in
+      let below : q.rank < length touched = omega (arith, whole, high) in
+      ap (λ (n : ℕ). get_or (set touched q.rank true) n false) (sym e)
+      ∙ get_or-set_same touched q.rank true false below
+  | inr other ↦
+      let ne : s.rank ≢ q.rank = λ (e : s.rank ≡ q.rank). false≢true (sym other ∙ (Decides-eqb q.rank s.rank).1 (sym e)) in
+      let apart : is_square s q ≡ false = elsewhere s q ne in
+      get_or-set_other touched q.rank s.rank true false ne
+      ∙ before (ap (λ (b : Bool). b || list_any (is_square s) rest) apart ∙ gone)
+]
+  where
+    elsewhere : (s q : Square) → s.rank ≢ q.rank → is_square s q ≡ false
+    elsewhere s q ne = elim (cases_Bool (is_square s q)) [
+      | inl same ↦ absurd (ne (ap (λ (x : Square). x.rank) (is_square-true s q same)))
+      | inr apart ↦ apart
+    ]
+
+cons-same : {A : Type 0} (a b : A) (xs ys : List A) → a ≡ b → xs ≡ ys → a ∷ xs ≡ b ∷ ys
+cons-same {A = A} a b xs ys e f = ap (λ (x : A). x ∷ xs) e ∙ ap (λ (t : List A). b ∷ t) f
+
+-- a rank on which all squares are as they were
+pub same_rank : (old new : Placement) (rank : ℕ) →
+    ((file : ℕ) → 1 ≤ file → file ≤ 8 → man_at old (square file rank) ≡ man_at new (square file rank)) →
+    rank_of old rank ≡ rank_of new rank
+unfolding rank_of
+same_rank old new rank h =
+    cons-same _ _ _ _ (h 1 (omega arith) (omega arith)) (cons-same _ _ _ _ (h 2 (omega arith) (omega arith))
+    (cons-same _ _ _ _ (h 3 (omega arith) (omega arith)) (cons-same _ _ _ _ (h 4 (omega arith) (omega arith))
+    (cons-same _ _ _ _ (h 5 (omega arith) (omega arith)) (cons-same _ _ _ _ (h 6 (omega arith) (omega arith))
+    (cons-same _ _ _ _ (h 7 (omega arith) (omega arith)) (cons-same _ _ _ _ (h 8 (omega arith) (omega arith)) refl)))))))
+
+-- ---- the ranks together
+
+pub join_eight : (placement : Placement) →
+    ((((((((((((((row_text (rank_of placement 8) ++ (47 ∷ [])) ++ row_text (rank_of placement 7)) ++ (47 ∷ []))
+    ++ row_text (rank_of placement 6)) ++ (47 ∷ [])) ++ row_text (rank_of placement 5)) ++ (47 ∷ []))
+    ++ row_text (rank_of placement 4)) ++ (47 ∷ [])) ++ row_text (rank_of placement 3)) ++ (47 ∷ []))
+    ++ row_text (rank_of placement 2)) ++ (47 ∷ [])) ++ row_text (rank_of placement 1)) ≡ placement_text placement
+unfolding placement_text ranks_of
+join_eight placement = eight (row_text (rank_of placement 8)) (row_text (rank_of placement 7))
+    (row_text (rank_of placement 6)) (row_text (rank_of placement 5)) (row_text (rank_of placement 4))
+    (row_text (rank_of placement 3)) (row_text (rank_of placement 2)) (row_text (rank_of placement 1))
+  where
+    eight : (a b c d e f g h : List ℕ) →
+        ((((((((((((((a ++ (47 ∷ [])) ++ b) ++ (47 ∷ [])) ++ c) ++ (47 ∷ [])) ++ d) ++ (47 ∷ [])) ++ e) ++ (47 ∷ []))
+        ++ f) ++ (47 ∷ [])) ++ g) ++ (47 ∷ [])) ++ h) ≡
+        join_with_byte 47 (a ∷ b ∷ c ∷ d ∷ e ∷ f ∷ g ∷ h ∷ [])
+    eight a b c d e f g h = simp append_assoc
+
+-- ---- for the calls
+
+pub whole-empty : length empty ≡ 64
+unfolding empty
+whole-empty = refl
+
+pub by_sets : (a b x y : List Bool) (s : Square) → a ≡ x → b ≡ y → has a s ≡ has b s → has x s ≡ has y s
+by_sets a b x y s e f h = ap (λ (bs : List Bool). has bs s) (sym e) ∙ h ∙ ap (λ (bs : List Bool). has bs s) f
+
+pub each_kind : (P : Kind → Type 0) → P kinds.Pawn → P kinds.Knight → P kinds.Bishop → P kinds.Rook → P kinds.Queen →
+    P kinds.King → (k : Kind) → P k
+each_kind P pawn knight bishop rook queen king kinds.Pawn = pawn
+each_kind P pawn knight bishop rook queen king kinds.Knight = knight
+each_kind P pawn knight bishop rook queen king kinds.Bishop = bishop
+each_kind P pawn knight bishop rook queen king kinds.Rook = rook
+each_kind P pawn knight bishop rook queen king kinds.Queen = queen
+each_kind P pawn knight bishop rook queen king kinds.King = king
+
+pub ranks_told : (old new : Placement) (changed touched : List Bool) → HasChanges old new changed →
+    ((s : Square) → IsOnBoard s → has changed s ≡ true → slice_index_or touched s.rank false ≡ true) →
+    TellsRanks old new touched
+ranks_told old new changed touched same told = λ rank low high none. same_rank old new rank
+    (λ file from to. elim (cases_Bool (has changed (square file rank))) [
+      | inl here ↦ absurd (false≢true (sym none ∙ told (square file rank)
+          (record { file_from = from; file_to = to; rank_from = low; rank_to = high }) here))
+      | inr away ↦ same (square file rank) away
+    ])
+
+-- ---- a text that is filled up
+
+strokes_behind : (text : List ℕ) → length text ≤ 8 → filled_up text ≡ text ++ take (8 - length text) (replicate 8 47)
+strokes_behind text short =
+    let e : 8 ≡ length text + (8 - length text) = omega arith in
+    ap (λ (n : ℕ). take n (text ++ replicate 8 47)) e ∙ take-append-add text (replicate 8 47) (8 - length text)
+
+pub filled-shown : (text : List ℕ) → length text ≤ 8 → take (length text) (filled_up text) ≡ text
+filled-shown text short =
+    ap (take (length text)) (strokes_behind text short) ∙ take-append_seam text (take (8 - length text) (replicate 8 47))
+
+pub filled-whole : (text : List ℕ) → length (filled_up text) ≡ 8
+filled-whole text = length-take-le 8 (text ++ replicate 8 47)
+    (omega (arith, length-append text (replicate 8 47)))
+
+pub stroke-at : (text : List ℕ) (n : ℕ) → length text ≤ n → n < length text + 8 →
+    get_or (text ++ replicate 8 47) n 0 ≡ 47
+stroke-at text n from to = get_or-append_right text (replicate 8 47) n 0 from
+    ∙ get_or-replicate 8 (n - length text) 47 0 (omega arith)
+
+pub filled-cut : (text : List ℕ) → length text < 8 → get_or (filled_up text) (length text) 0 ≡ 47
+filled-cut text short = get_or-take 8 (text ++ replicate 8 47) (length text) 0 short
+    ∙ stroke-at text (length text) (omega arith) (omega arith)
+
+pub rank_filled : (written : List ℕ) (text : RankText) (placement : Placement) (rank : ℕ) →
+    written ≡ row_text (rank_of placement rank) → length written ≤ 8 → text.end ≡ length written →
+    text.filled.bytes ≡ filled_up written → IsRankText text placement rank
+rank_filled written text placement rank row short end filled = record {
+  is = ap (λ (n : ℕ). take n text.filled.bytes) end ∙ ap (take (length written)) filled ∙ filled-shown written short ∙ row;
+  filled = record {
+    whole = ap length filled ∙ filled-whole written;
+    within = omega (arith, end, short);
+    cut = λ less. ap (λ (n : ℕ). get_or text.filled.bytes n 0) end
+        ∙ ap (λ (bytes : List ℕ). get_or bytes (length written) 0) filled
+        ∙ filled-cut written (omega (arith, end, less));
+  };
+}

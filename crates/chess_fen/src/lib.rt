@@ -1,0 +1,16 @@
+//! Positions as text: FEN (PGN Standard, section 16.1), both ways.
+#![tactic(auto)]
+
+mod fen;
+mod fields;
+mod letters;
+mod reading;
+mod shown;
+mod squares;
+#[cfg(test)]
+mod tests;
+
+pub use fen::{Text, fen_write, push};
+pub use fields::FenError;
+pub use reading::fen_read;
+pub use shown::ShownBoard;

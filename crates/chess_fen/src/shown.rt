@@ -1,0 +1,289 @@
+//! A board with its FEN at hand.
+ghost use Rattle.std.specs.Prelude.{◌≡◌, ◌≤◌, ◌+◌, ◌++◌, ◌∷◌, ℕ, false, [], length};
+ghost use Rattle.arrayvec.specs.ArrayString.{array_string_len};
+ghost use Rattle.chess_bits.specs.Square.{Square, IsOnBoard};
+ghost use Rattle.chess_bits.specs.Table.{has};
+ghost use Rattle.chess_notation.specs.Fen.{rank_of, placement_text, fen_of, IsFenOf, AreLetters};
+ghost use Rattle.chess_fen.specs.Shown.{IsFilled, filled_up, shown_part, IsRankText, AreRankTexts, HasChanges, TellsRanks};
+
+use crate::fen::{Text, push, push_fields, push_rank};
+use crate::letters::{letter_at, letters_of};
+use chess_bits::{Bits, Colour, Kind};
+use chess_board::{Board, Men};
+use std::marker::Model;
+
+// The text of a rank, filled up to eight bytes. So many are copied at once, and then cut.
+#[derive(Drop)]
+struct RankText {
+    filled: Text,
+    end: usize,
+}
+
+// The texts of the ranks.
+#[derive(Drop)]
+struct RankTexts {
+    eighth: RankText,
+    seventh: RankText,
+    sixth: RankText,
+    fifth: RankText,
+    fourth: RankText,
+    third: RankText,
+    second: RankText,
+    first: RankText,
+}
+
+/// A board and its FEN. It keeps the texts of its ranks, so that after a move only those are written anew on which a man
+/// came or went.
+#[derive(Drop)]
+pub struct ShownBoard {
+    board: Board,
+    letters: [u8; 64],
+    ranks: RankTexts,
+    shown: Text,
+}
+
+impl Model for ShownBoard {
+    ghost use Rattle.chess_board.specs.Position.{Position};
+    ghost use Rattle.std.specs.Prelude.{◌≡◌};
+    ghost use Rattle.chess_notation.specs.Fen.{AreLetters, fen_of};
+    ghost use Rattle.chess_fen.specs.Shown.{AreRankTexts};
+
+    ghost Value = { Position };
+
+    ghost view = { λ b. b.board };
+
+    ghost invariant = { λ b. AreLetters b.letters b.board.placement × AreRankTexts b.ranks b.board.placement × (b.shown.bytes ≡ fen_of b.board) };
+}
+
+impl ShownBoard {
+    /// The board, with the texts of its ranks.
+    pub fn new(board: Board) -> ShownBoard
+        ensures { result ≡ board }
+    {
+        let letters = letters_of(board.men());
+        let ranks = rank_texts(board.men(), &letters);
+        let mut shown = Text::new();
+        write_fen(&mut shown, &board, &ranks);
+        ShownBoard {
+            board,
+            letters,
+            ranks,
+            shown,
+        }
+    }
+
+    /// The board.
+    pub fn board(&self) -> &Board
+        ensures { result.now ≡ self.now }
+    {
+        &self.board
+    }
+
+    /// Takes another board in place of this one.
+    pub fn set(&mut self, board: Board)
+        ensures { self.new ≡ board }
+    {
+        let _whole = (self.board.rights(), board.rights());
+        let changed = changes(self.board.men(), board.men());
+        let touched = reletter(&mut self.letters, self.board.men(), board.men(), changed);
+        renew_all(
+            &mut self.ranks,
+            self.board.men(),
+            board.men(),
+            &self.letters,
+            &touched,
+        );
+        write_fen(&mut self.shown, &board, &self.ranks);
+        self.board = board;
+    }
+
+    /// Its position in Forsyth-Edwards notation, as `fen_write` writes it.
+    pub fn fen(&self) -> &str
+        ensures fen { IsFenOf result.now self.now }
+        ensures text { result.now ≡ fen_of self.now }
+        ensures short { length result.now ≤ 96 }
+    {
+        self.shown.as_str()
+    }
+}
+
+// Fills the text of a rank up, and tells where it ended.
+fn fill(text: &mut Text) -> usize
+    requires { array_string_len text.old ≤ 8 }
+    ensures end { result ≡ array_string_len text.old }
+    ensures filled { text.new.bytes ≡ filled_up text.old.bytes }
+{
+    let end = text.len();
+    text.push_str("////////");
+    text.truncate(8);
+    end
+}
+
+// The text of a rank.
+fn rank_text(men: &Men, letters: &[u8; 64], rank: u8) -> RankText
+    requires letters { AreLetters letters.now men.now }
+    requires from { 1 ≤ rank }
+    requires to { rank ≤ 8 }
+    ensures { IsRankText result men.now rank }
+{
+    let mut filled = Text::new();
+    push_rank(&mut filled, men, letters, rank);
+    let end = fill(&mut filled);
+    RankText { filled, end }
+}
+
+// The texts of all ranks.
+fn rank_texts(men: &Men, letters: &[u8; 64]) -> RankTexts
+    requires { AreLetters letters.now men.now }
+    ensures { AreRankTexts result men.now }
+{
+    RankTexts {
+        eighth: rank_text(men, letters, 8),
+        seventh: rank_text(men, letters, 7),
+        sixth: rank_text(men, letters, 6),
+        fifth: rank_text(men, letters, 5),
+        fourth: rank_text(men, letters, 4),
+        third: rank_text(men, letters, 3),
+        second: rank_text(men, letters, 2),
+        first: rank_text(men, letters, 1),
+    }
+}
+
+// Adds the squares that one of two sets has alone.
+fn with_differing(so_far: Bits, a: Bits, b: Bits) -> Bits
+    requires so_far { length so_far ≡ 64 }
+    requires a { length a ≡ 64 }
+    requires b { length b ≡ 64 }
+    ensures whole { length result ≡ 64 }
+    ensures before { (s : Square) → has result s ≡ false → has so_far s ≡ false }
+    ensures same { (s : Square) → has result s ≡ false → has a s ≡ has b s }
+{
+    so_far.union(a.without(b).union(b.without(a)))
+}
+
+// The squares on which something else stands than before.
+fn changes(old: &Men, new: &Men) -> Bits
+    requires old { length old.now ≡ 64 }
+    requires new { length new.now ≡ 64 }
+    ensures { HasChanges old.now new.now result }
+{
+    let white = with_differing(Bits::new(), old.of(Colour::White), new.of(Colour::White));
+    let colours = with_differing(white, old.of(Colour::Black), new.of(Colour::Black));
+    let pawns = with_differing(colours, old.of_kind(Kind::Pawn), new.of_kind(Kind::Pawn));
+    let knights = with_differing(pawns, old.of_kind(Kind::Knight), new.of_kind(Kind::Knight));
+    let bishops = with_differing(
+        knights,
+        old.of_kind(Kind::Bishop),
+        new.of_kind(Kind::Bishop),
+    );
+    let rooks = with_differing(bishops, old.of_kind(Kind::Rook), new.of_kind(Kind::Rook));
+    let queens = with_differing(rooks, old.of_kind(Kind::Queen), new.of_kind(Kind::Queen));
+    with_differing(queens, old.of_kind(Kind::King), new.of_kind(Kind::King))
+}
+
+// Writes the letters on the squares that changed, and tells the ranks of these. The men before stand in the contract
+// alone.
+fn reletter(letters: &mut [u8; 64], _old: &Men, men: &Men, changed: Bits) -> [bool; 9]
+    requires letters { AreLetters letters.old _old.now }
+    requires changed { HasChanges _old.now men.now changed }
+    ensures letters { AreLetters letters.new men.now }
+    ensures touched { TellsRanks _old.now men.now result }
+{
+    let mut touched = [false; 9];
+    for square in changed.iter() {
+        letters[usize::from(square.number())] = letter_at(men, square);
+        touched[usize::from(square.rank())] = true;
+    }
+    touched
+}
+
+// Writes the text of a rank anew, if something changed on it.
+fn renew(
+    text: &mut RankText,
+    _old: &Men,
+    men: &Men,
+    letters: &[u8; 64],
+    touched: &[bool; 9],
+    rank: u8,
+)
+    requires text { IsRankText text.old _old.now rank }
+    requires letters { AreLetters letters.now men.now }
+    requires touched { TellsRanks _old.now men.now touched.now }
+    requires from { 1 ≤ rank }
+    requires to { rank ≤ 8 }
+    ensures { IsRankText text.new men.now rank }
+{
+    if touched[usize::from(rank)] {
+        text.filled.clear();
+        push_rank(&mut text.filled, men, letters, rank);
+        text.end = fill(&mut text.filled);
+    }
+}
+
+// The same of all ranks.
+fn renew_all(texts: &mut RankTexts, old: &Men, men: &Men, letters: &[u8; 64], touched: &[bool; 9])
+    requires texts { AreRankTexts texts.old old.now }
+    requires letters { AreLetters letters.now men.now }
+    requires touched { TellsRanks old.now men.now touched.now }
+    ensures { AreRankTexts texts.new men.now }
+{
+    renew(&mut texts.eighth, old, men, letters, touched, 8);
+    renew(&mut texts.seventh, old, men, letters, touched, 7);
+    renew(&mut texts.sixth, old, men, letters, touched, 6);
+    renew(&mut texts.fifth, old, men, letters, touched, 5);
+    renew(&mut texts.fourth, old, men, letters, touched, 4);
+    renew(&mut texts.third, old, men, letters, touched, 3);
+    renew(&mut texts.second, old, men, letters, touched, 2);
+    renew(&mut texts.first, old, men, letters, touched, 1);
+}
+
+// Appends the text of a rank.
+fn push_filled(text: &mut Text, rank: &RankText)
+    requires filled { IsFilled rank.now }
+    requires room { array_string_len text.old + 8 ≤ 96 }
+    ensures bytes { text.new.bytes ≡ text.old.bytes ++ shown_part rank.now }
+    ensures len { array_string_len text.new ≤ array_string_len text.old + 8 }
+{
+    let end = text.len() + rank.end;
+    // So many bytes are one word for the compiler.
+    text.push_str(&rank.filled.as_str()[..8]);
+    text.truncate(end);
+}
+
+// Appends the text of a rank, and what parts it from the next.
+fn push_one(text: &mut Text, rank: &RankText)
+    requires filled { IsFilled rank.now }
+    requires room { array_string_len text.old + 9 ≤ 96 }
+    ensures bytes { text.new.bytes ≡ (text.old.bytes ++ shown_part rank.now) ++ 47 ∷ [] }
+    ensures len { array_string_len text.new ≤ array_string_len text.old + 9 }
+{
+    push_filled(text, rank);
+    push(text, '/');
+}
+
+// Writes the texts of the ranks, where nothing was.
+fn push_ranks(text: &mut Text, _men: &Men, texts: &RankTexts)
+    requires nothing { text.old.bytes ≡ [] }
+    requires texts { AreRankTexts texts.now _men.now }
+    ensures bytes { text.new.bytes ≡ placement_text _men.now }
+    ensures len { array_string_len text.new ≤ 71 }
+{
+    push_one(text, &texts.eighth);
+    push_one(text, &texts.seventh);
+    push_one(text, &texts.sixth);
+    push_one(text, &texts.fifth);
+    push_one(text, &texts.fourth);
+    push_one(text, &texts.third);
+    push_one(text, &texts.second);
+    push_filled(text, &texts.first);
+}
+
+// Writes the FEN in place of what was.
+fn write_fen(text: &mut Text, board: &Board, ranks: &RankTexts)
+    requires { AreRankTexts ranks.now board.now.placement }
+    ensures { text.new.bytes ≡ fen_of board.now }
+{
+    text.clear();
+    push_ranks(text, board.men(), ranks);
+    push_fields(text, board);
+}

@@ -1,0 +1,2 @@
+pub mod OpenLemmas
+pub mod WidenLemmas

@@ -1,0 +1,26 @@
+use Rattle.std.proofs.Common.{[], length, refl}
+use Rattle.sector_journal.specs.Switches.{switched_header}
+use Rattle.table_commits.proofs.CommitLemmas.{switch_lasts, tried_by, limits_of}
+use Rattle.store_opening.proofs.WidenLemmas.{empty_batch}
+use Rattle.store_opening.proofs.widening.switch_halves.Goals as goal
+
+pub returns-clause-lasts : goal.returns-clause-lasts
+returns-clause-lasts g c = λ table sound taken kept.
+    let state = g.D.Device.state in
+    let j = c.args.journal.now in
+    let n = c.switch.new.self in
+    switch_lasts c.switch.result (state j.device) (state n.device) j.header n.header j.compaction n.compaction
+    c.args.snapshot.now [] c.switch.ensures.any_moment c.switch.ensures.either c.switch.ensures.ok
+    c.switch.ensures.header c.switch.ensures.compaction table table taken
+    (empty_batch (state j.device) j.header j.compaction [] table refl sound kept)
+
+pub returns-clause-tried : goal.returns-clause-tried
+returns-clause-tried g c =
+    let j = c.args.journal.now in
+    let n = c.switch.new.self in
+    tried_by g.D.Device.state g.D.Device.sector_count g.D.Device.failures j.device n.device j.header n.header j.failed
+    n.failed c.switch.result c.switch.ensures.model c.switch.ensures.sectors c.requires.works c.requires.number
+    c.switch.ensures.failed c.switch.ensures.worn c.switch.ensures.memory c.switch.ensures.fault c.switch.ensures.works
+    c.switch.ensures.fails c.switch.ensures.cause
+    (limits_of c.switch.result j.header n.header (switched_header j.header (length c.args.snapshot.now) 0) refl
+    c.switch.ensures.header) c.switch.ensures.header_err

@@ -1,0 +1,35 @@
+use Rattle.std.proofs.Common.{length, arith}
+use Rattle.sector_journal.specs.Switches.{widened_header}
+use Rattle.store_opening.proofs.WidenLemmas.{records_within, widen_lasts, widened_by}
+use Rattle.store_opening.proofs.widening.widen_once.Goals as goal
+
+pub widen-requires-clause-can : goal.widen-requires-clause-can
+widen-requires-clause-can g c =
+    let can = c.requires.can in
+    record {
+      half = c.requires.half;
+      range = can.range;
+      games = can.games;
+      plies = can.plies;
+      few = omega (arith, can.few, records_within c.args.journal.now.header.limits c.args.limits can.games can.plies);
+    }
+
+pub returns-clause-lasts : goal.returns-clause-lasts
+returns-clause-lasts g c =
+    let state = g.D.Device.state in
+    let j = c.args.journal.now in
+    let n = c.widen.new.self in
+    let can = c.requires.can in
+    widen_lasts c.widen.result (state j.device) (state n.device) j.header n.header j.compaction n.compaction c.args.limits
+    c.args.snapshot.now can.range can.games can.plies c.widen.ensures.any_moment c.widen.ensures.either
+    c.widen.ensures.ok c.widen.ensures.header c.widen.ensures.compaction
+
+pub returns-clause-tried : goal.returns-clause-tried
+returns-clause-tried g c =
+    let j = c.args.journal.now in
+    let n = c.widen.new.self in
+    widened_by g.D.Device.state g.D.Device.sector_count g.D.Device.failures j.device n.device j.header n.header
+    (widened_header j.header c.args.limits (length c.args.snapshot.now)) j.failed n.failed c.widen.result
+    c.widen.ensures.model c.widen.ensures.sectors c.requires.works c.requires.number c.widen.ensures.failed
+    c.widen.ensures.worn c.widen.ensures.memory c.widen.ensures.fault c.widen.ensures.works c.widen.ensures.fails
+    c.widen.ensures.cause c.widen.ensures.header c.widen.ensures.header_err

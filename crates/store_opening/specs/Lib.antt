@@ -1,0 +1,3 @@
+pub mod Creating
+pub mod Opening
+pub mod Widening

@@ -1,0 +1,2 @@
+pub mod MeansLemmas
+pub mod CommitLemmas

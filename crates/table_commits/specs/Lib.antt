@@ -1,0 +1,2 @@
+pub mod Means
+pub mod Committing
