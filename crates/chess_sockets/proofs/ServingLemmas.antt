@@ -56,13 +56,13 @@ module _ (Of : Call → Type 0) where
 
   -- Calls lead on where calls are made for each client.
   module _ {S A : Type 0} (to : A → HubState) (Same : A → A → Type 0) (Done : Client S → Client S → A → A → Type 0)
-    (stay : (a b : A) → Same a b → Stays (to a) (to b))
-    (led : (client after : Client S) (a b : A) → Done client after a b → IsLedBy Of (to a) (to b)) where
-      each_led : (clients after : List (Client S)) (a b : A) → AreEach Same Done clients after a b →
-          IsLedBy Of (to a) (to b)
-      each_led [] after a b (none, same) = led_by_none (to a) (to b) (stay a b same)
-      each_led (client ∷ clients) after a b (next, rest, between, whole, done, are) =
-          led_on (to a) (to between) (to b) (led client next a between done) (each_led clients rest between b are)
+      (stay : (a b : A) → Same a b → Stays (to a) (to b))
+      (led : (client after : Client S) (a b : A) → Done client after a b → IsLedBy Of (to a) (to b)) where
+    each_led : (clients after : List (Client S)) (a b : A) → AreEach Same Done clients after a b →
+        IsLedBy Of (to a) (to b)
+    each_led [] after a b (none, same) = led_by_none (to a) (to b) (stay a b same)
+    each_led (client ∷ clients) after a b (next, rest, between, whole, done, are) =
+        led_on (to a) (to between) (to b) (led client next a between done) (each_led clients rest between b are)
 
 -- sessions over one table
 module _ (table : TableState) where

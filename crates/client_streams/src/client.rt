@@ -138,11 +138,7 @@ fn push(outgoing: &mut Outgoing, reply: &Reply) -> Result<(), AllocError>
 
 // Puts the answers of a session behind what waits to be written, and tells whether there were any. Where memory is refused
 // an answer may be lost, and then the session is to be closed.
-fn gather(
-    sessions: &mut Sessions,
-    sid: Sid,
-    outgoing: &mut Outgoing,
-) -> Result<bool, AllocError>
+fn gather(sessions: &mut Sessions, sid: Sid, outgoing: &mut Outgoing) -> Result<bool, AllocError>
     requires { IsOpen sessions.old sid }
     ensures open { IsOpen sessions.new sid }
     ensures same { OnOk result (to_go (session_at sessions.new sid) (waiting outgoing.new)

@@ -123,10 +123,7 @@ fn write_for<S: Read + Write>(client: &mut Client<S>, sessions: &mut Sessions) -
 
 /// Writes for each client what can be written, closes the sessions that are over, and tells whether there was anything to
 /// do.
-pub fn hand_out_all<S: Read + Write>(
-    clients: &mut Vec<Client<S>>,
-    sessions: &mut Sessions,
-) -> bool
+pub fn hand_out_all<S: Read + Write>(clients: &mut Vec<Client<S>>, sessions: &mut Sessions) -> bool
     ensures { AreWritten S.contents clients.old.items clients.new.items sessions.old sessions.new }
 {
     let mut any = false;

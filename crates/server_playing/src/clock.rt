@@ -1,5 +1,5 @@
 //! The moments of what is played.
-ghost use Rattle.std.specs.Prelude.{◌≡◌, ◌≤◌, ◌+◌, ◌-◌, ◌/◌, ◌^◌, min};
+ghost use Rattle.std.specs.Prelude.{◌≡◌, ◌+◌, ◌-◌, ◌/◌, ◌^◌, min};
 ghost use Rattle.std.specs.Duration.{as_nanos};
 
 use chess_run::Moments;
@@ -18,13 +18,6 @@ fn moment_after(start: u64, passed: u64) -> u64
     ensures { result ≡ min (start + passed) (2 ^ 64 - 1) }
 {
     start.saturating_add(passed)
-}
-
-/// By how many milliseconds one moment is before another.
-pub(crate) fn behind(moment: u64, other: u64) -> u64
-    ensures { result ≡ other - moment }
-{
-    other.saturating_sub(moment)
 }
 
 /// The milliseconds since a reading of the monotonic clock; 0 where there is none, or no second one.

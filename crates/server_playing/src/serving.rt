@@ -1,88 +1,20 @@
-//! The words that play in a journal.
+//! The word that serves players on a port.
 ghost use Rattle.std.specs.Prelude.{IfErr};
-ghost use Rattle.server_work.specs.Faults.{IsRunFault, IsServeFault};
+ghost use Rattle.server_playing.specs.Faults.{IsServeFault};
 
 use crate::clock::{SteadyClock, milliseconds_since};
-use crate::device::TellingDevice;
-use crate::ends::{Fault, fault_of_run};
-use crate::journals::{open_file, open_on};
-use crate::streams::{INPUT, TellingReader, TellingWriter};
-use crate::telling::{Found, Teller, TurnedAway};
 use chess_hub::Hub;
-use chess_run::{LineSource, Moments, ReaderSource, run};
+use chess_run::Moments;
 use chess_sockets::{Server, Turned};
 use chess_store::Store;
 use sector_dev::Device;
 use server_words::Serving;
+use server_work::{Fault, Found, Teller, TellingDevice, TurnedAway, open_file, open_on};
 use std::alloc::Global;
 use std::fs::File;
-use std::io::{Read, Write};
 use std::net::{Net, TcpListener, TcpStream};
 use std::rt::{Clock, Files};
 use std::time::Instant;
-
-// Answers the lines of a source on a writer, over the games of the journal on a device.
-fn play_on<D: Device + Drop, S: LineSource, W: Write, M: Moments + Drop>(
-    alloc: Global,
-    device: D,
-    source: &mut S,
-    writer: &mut W,
-    moments: M,
-) -> Result<(), Fault>
-    ensures { IfErr result IsRunFault }
-{
-    let store = open_on(alloc, device)?;
-    match run(alloc, source, writer, store, moments) {
-        Ok(()) => Ok(()),
-        Err(fault) => Err(fault_of_run(fault)),
-    }
-}
-
-// The same of the journal in a file.
-fn play_journal<R, S: LineSource, W: Write>(
-    rt: &R,
-    alloc: Global,
-    teller: &Teller<'_, R>,
-    journal: &str,
-    source: &mut S,
-    writer: &mut W,
-) -> Result<(), Fault>
-where
-    R: Files<File = File> + Clock + Eprint,
-    ensures { IfErr result IsRunFault }
-{
-    let file = open_file(rt, teller, journal)?;
-    let device = TellingDevice::new(file, teller, journal);
-    play_on(alloc, device, source, writer, SteadyClock::new(rt))
-}
-
-// What is at fault where a run breaks off.
-fn at_fault<'a>(journal: &'a str, played: Result<(), Fault>) -> &'a str {
-    match played {
-        Err(Fault::LineTooLong) => INPUT,
-        _ => journal,
-    }
-}
-
-/// Answers the lines of a reader on a writer, over the games of a journal's file, at the moments of the system's clock as
-/// it was at the start, which goes on evenly.
-pub fn run_journal<R, I: Read, O: Write>(
-    rt: &R,
-    alloc: Global,
-    journal: &str,
-    input: &mut I,
-    output: &mut O,
-) -> Result<(), Fault>
-where
-    R: Files<File = File> + Clock + Eprint,
-    ensures { IfErr result IsRunFault }
-{
-    let teller = Teller::new(rt, false);
-    let mut source = ReaderSource::new(TellingReader::new(input, &teller));
-    let mut writer = TellingWriter::new(output, &teller);
-    let played = play_journal(rt, alloc, &teller, journal, &mut source, &mut writer);
-    teller.told(at_fault(journal, played), played)
-}
 
 // Takes the turns of a server: so many, or as many as 64 bits count.
 fn take_turns<R: Clock + Eprint, D: Device>(
