@@ -1,5 +1,5 @@
 -- Calls one after the other, and what is done for clients as calls of the hub.
-use Rattle.std.proofs.Common.{◌≡◌, ℕ, List, [], ◌∷◌, ◌++◌, Option, None, refl, sym, ◌∙◌, subst, append-nil}
+use Rattle.std.proofs.Common.{◌≡◌, ℕ, List, [], ◌∷◌, ◌++◌, Option, None, refl, sym, ◌∙◌, subst, inl, inr, append-nil}
 use Rattle.std.proofs.lemmas.List.Elements.{All-nil, All-cons, All-append}
 use Rattle.chess_entry.specs.State.{TableState}
 use Rattle.chess_sessions.specs.declared.sessions.Sessions.{Sessions}
@@ -66,7 +66,7 @@ module _ (Of : Call → Type 0) where
 
 -- sessions over one table
 module _ (table : TableState) where
-  over : Sessions → HubState
+  abbrev over : Sessions → HubState
   over sessions = state_of sessions table
 
   stays_over : (a b : Sessions) → IsUnchanged a b → Stays (over a) (over b)
