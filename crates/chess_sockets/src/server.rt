@@ -7,10 +7,11 @@ ghost use Rattle.chess_hub.specs.Turning.{MayBeAsked, Lasts, IsTried};
 ghost use Rattle.chess_sockets.specs.Serving.{state_of, unknown, Welcomes, HasServed, HasGoneRound, open_in};
 ghost use Rattle.chess_sockets.specs.Turns.{EndsServing, IsCounted, IsRefusal, IsTurnRefusal};
 
-use crate::door::{Door, Found, Listens, may_wait, next_connection};
-use crate::watch::Watch;
 use chess_hub::{Hub, HubFault};
-use client_streams::{Client, Reading, hand_out_all, take_in_all};
+use client_streams::{
+    Client, Door, Found, Listens, Reading, Watch, hand_out_all, may_wait, next_connection,
+    take_in_all,
+};
 use sector_dev::Device;
 use std::alloc::Global;
 use std::io;

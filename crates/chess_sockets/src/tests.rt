@@ -1,5 +1,4 @@
 //! Clients over connections that give and take little, or fail.
-mod doors;
 mod memory;
 
 use crate::server::serve_clients;

@@ -158,7 +158,7 @@ fn gather(sessions: &mut Sessions, sid: Sid, outgoing: &mut Outgoing) -> Result<
 }
 
 /// What a connection wrote.
-#[derive(Clone, Copy, Debug)]
+#[derive(Clone, Copy)]
 struct Wrote {
     /// Whether answers came to it.
     any: bool,

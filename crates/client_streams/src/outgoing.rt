@@ -17,7 +17,7 @@ pub enum Sent {
 }
 
 /// How many bytes were written, and whether that was all.
-#[derive(Clone, Copy, Debug)]
+#[derive(Clone, Copy)]
 struct Written {
     count: usize,
     sent: Sent,

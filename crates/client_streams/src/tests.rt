@@ -1,4 +1,6 @@
 //! Streams that give and take little, and sessions that no hub answers.
+mod doors;
+
 use crate::client::Client;
 use crate::incoming::Incoming;
 use crate::outgoing::{Outgoing, Sent};

@@ -48,7 +48,7 @@ pub fn may_wait(found: Found) -> bool
 /// Where connections are accepted.
 pub trait Listens {
     ghost use Rattle.std.specs.Prelude.{◌≡◌, ◌↔◌, IsSome};
-    ghost use Rattle.chess_sockets.specs.declared.door.Found.{Found};
+    ghost use Rattle.client_streams.specs.declared.door.Found.{Found};
 
     type Stream: Drop;
 
