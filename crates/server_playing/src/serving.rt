@@ -40,12 +40,6 @@ fn take_turns<R: Clock + Eprint, D: Device>(
     Ok(())
 }
 
-// What a store had when it was opened.
-fn found_in<D: Device>(store: &Store<D>, took: u64) -> Option<Found> {
-    let table = store.table().ok()?;
-    Some(Found::of(table, took))
-}
-
 // Serves players on a port, over the games of a store.
 fn serve_store<R, D: Device + Drop>(
     rt: &R,
@@ -59,7 +53,7 @@ where
     R: Clock + Print + Eprint + Net<Listener = TcpListener, Stream = TcpStream>,
     ensures { IfErr result IsServeFault }
 {
-    let found = found_in(&store, took);
+    let found = Found::in_store(&store, took);
     let hub = Hub::new(alloc, store);
     let mut server = match Server::bind(rt, alloc, serving.port, serving.silence, hub) {
         Ok(server) => server,

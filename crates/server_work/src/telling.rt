@@ -1,12 +1,14 @@
 //! What an operator is told on standard error, a line for each: as the system's journal and a human read it, and without
 //! a time, which the journal puts before it.
-ghost use Rattle.std.specs.Prelude.{ℕ, ◌≡◌, ◌<◌, ◌+◌, ◌-◌, None, Some, IsSome, IfErr, IfSome, IfNone, length};
+ghost use Rattle.std.specs.Prelude.{ℕ, ◌≡◌, ◌<◌, ◌+◌, ◌-◌, ◌↔◌, true, None, Some, IsSome, IsNone, IfErr, IfSome, IfNone, length};
 
 use crate::causes::reason;
 use crate::ends::Fault;
 use crate::streams::OUTPUT;
 use chess_entry::Limits;
+use chess_store::Store;
 use chess_table::Table;
+use sector_dev::Device;
 use std::io;
 use std::io::ErrorKind;
 
@@ -23,8 +25,21 @@ pub struct Found {
 }
 
 impl Found {
-    /// What a table has, whose opening took so long.
-    pub fn of(table: &Table, took: u64) -> Found
+    /// What the table of a store has, whose opening took so long; `None` exactly after a call that the device failed.
+    pub fn in_store<D: Device>(store: &Store<D>, took: u64) -> Option<Found>
+        ensures none { IsNone result ↔ (store.now.failed ≡ true) }
+        ensures found { IfSome result (λ found. (found.games ≡ length store.now.table.games)
+            × (found.most ≡ store.now.table.limits.games) × (found.entries ≡ store.now.table.entries)
+            × (found.moment ≡ store.now.table.moment) × (found.took ≡ took)) }
+    {
+        match store.table() {
+            Ok(table) => Some(Found::of(table, took)),
+            Err(_) => None,
+        }
+    }
+
+    // What a table has.
+    fn of(table: &Table, took: u64) -> Found
         ensures games { result.games ≡ length table.now.games }
         ensures most { result.most ≡ table.now.limits.games }
         ensures entries { result.entries ≡ table.now.entries }
