@@ -76,8 +76,8 @@ is fault Limits, and the file is untouched.
 
 Exit status: 0; 1 with fault NAME on standard error: File (the file isn't there, or
 another program has it open), NotOurs (no journal stands in it), Damaged, TooSmall,
-Limits, Device (a read, a write or a sync of the file failed), Worn, NoMemory, Write;
-2 for words that the program does not know.
+Limits, Device (a read, a write or a sync of the file failed), Failed (a call after
+that), Worn, NoMemory, Write; 2 for words that the program does not know.
 
 Example:
   chess_server widen --journal club.journal --games 8 --plies 60
@@ -106,8 +106,9 @@ the last line feed is no line.
 
 Exit status: 0 where the input has ended; 1 with fault NAME on standard error: File
 (the file isn't there, or another program has it open), NotOurs (no journal stands in
-it), Damaged, TooSmall, Device (a read, a write or a sync of the file failed), Worn,
-NoMemory, LineTooLong, Read, Write; 2 for words that the program does not know.
+it), Damaged, TooSmall, Device (a read, a write or a sync of the file failed), Failed
+(a call after that), Worn, NoMemory, LineTooLong, Read, Write; 2 for words that the
+program does not know.
 
 Example:
   printf 'name ann\\nopen white 300 0\\n' | chess_server run --journal club.journal
@@ -127,8 +128,9 @@ written, and one that finds nothing to do takes 10 ms.
 
 On standard error it tells what an operator wants to know, a line for each: how many
 games and entries the journal has and how long the opening took; by how much the clock
-is behind the last entry, where it is; and what the system said of a fault. With
---quiet it tells none of these, but fault NAME.
+is behind the last entry, where it is; how many connections were turned away, once a
+minute at most; and what the system said of a fault. With --quiet it tells none of
+these, but fault NAME.
 
 A line has at most 255 bytes before its line feed, a carriage return among them. A
 longer one is answered by bye LineTooLong, which closes the connection. Where a client
@@ -144,8 +146,8 @@ Limits: P 0 to 65535, where 0 leaves the choice to the system; N and S 1 to 4294
 Exit status: 0 after N turns; 1 with fault NAME on standard error: File (the file
 isn't there, or another program has it open), NotOurs (no journal stands in it),
 Damaged, TooSmall, Socket (the port cannot be bound), Device (a read, a write or a
-sync of the file failed), Worn, NoMemory, Write; 2 for words that the program does not
-know.
+sync of the file failed), Failed (a call after that), Worn, NoMemory, Write; 2 for
+words that the program does not know.
 
 Example:
   chess_server serve --journal club.journal --port 5001

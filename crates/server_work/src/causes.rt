@@ -51,7 +51,7 @@ pub(crate) fn reason(fault: Fault) -> Option<&'static str>
         Fault::Limits => Some("a limit of its journal is above the one asked for"),
         Fault::LineTooLong => Some("a line has more than 255 bytes"),
         Fault::Changing => Some("it changed too fast to be read"),
-        Fault::NoMemory => Some("memory was refused for a text"),
+        Fault::NoMemory => Some("memory was refused for what it has to hold"),
         Fault::Store(fault) => store_reason(fault),
         Fault::Hub(fault) => hub_reason(fault),
     }
