@@ -7,3 +7,4 @@ pub mod Listed
 pub mod Taken
 pub mod Bound
 pub mod Risks
+pub mod Ways

@@ -1,0 +1,84 @@
+use Rattle.std.specs.Prelude.{ℕ, ◌≡◌, ◌≢◌, ◌%◌, ◌<◌, ◌≤◌, ◌⊎◌, Bool, false, List, Some}
+use Rattle.chess_bits.specs.declared.men.Colour.{Colour}
+use Rattle.chess_bits.specs.declared.men.Kind.{Kind}
+use Rattle.chess_bits.specs.declared.men.Kind.TheVariants.{Pawn, Knight, Bishop, Rook, Queen, King}
+use Rattle.chess_bits.specs.declared.steps.Step.{Step}
+use Rattle.chess_bits.specs.Square.{Square}
+use Rattle.chess_bits.specs.Man.{other}
+use Rattle.chess_bits.specs.Table.{has, put}
+use Rattle.chess_bits.specs.Attack.{along, adjoining, knight_steps, pawn_attacks, Reaches, SlidesAlong, Attacks}
+use Rattle.chess_attacks.specs.Ways.{way_step}
+use Rattle.chess_board.specs.Position.{Position, man_at, occupied_of}
+
+-- What a man of the side to move may do while its king stands on k: checks that it has to end, and pins.
+
+-- The ways of a kind's slides: even ways are those of ranks and files, odd ones those of diagonals (FIDE articles 3.2 to
+-- 3.4).
+abbrev pub SlidesIn : Kind → ℕ → Type 0
+SlidesIn Pawn way = ⊥
+SlidesIn Knight way = ⊥
+SlidesIn Bishop way = way % 2 ≡ 1
+SlidesIn Rook way = way % 2 ≡ 0
+SlidesIn Queen way = Unit {0}
+SlidesIn King way = ⊥
+
+-- a man of the opponent that slides in the way
+abbrev pub IsSlider : Position → ℕ → Square → Type 0
+IsSlider p way c = (kind : Kind) × (man_at p.placement c ≡ Some (other p.side, kind)) × SlidesIn kind way
+
+-- the kinds that attack whatever stands between
+abbrev pub Leaps : Colour → Kind → Square → Square → Type 0
+Leaps side Pawn a b = Reaches (pawn_attacks side) a b
+Leaps side Knight a b = Reaches knight_steps a b
+Leaps side Bishop a b = ⊥
+Leaps side Rook a b = ⊥
+Leaps side Queen a b = ⊥
+Leaps side King a b = Reaches adjoining a b
+
+-- a man of the opponent that gives check from where nothing stands between
+abbrev pub IsLeaper : Position → Square → Square → Type 0
+IsLeaper p k c =
+    (kind : Kind) × (man_at p.placement c ≡ Some (other p.side, kind)) × Leaps (other p.side) kind c k
+
+-- q lies in the direction from k, nearer than c
+pub record IsBetween (k c q : Square) (direction : Step) : Type 0 where
+  pub near : ℕ
+  pub far : ℕ
+  pub positive : 1 ≤ near
+  pub nearer : near < far
+  pub there : c ≡ along far direction k
+  pub here : q ≡ along near direction k
+
+-- the squares from k to c, c with them: a man on one of them has taken the man on c or stands in its way
+abbrev pub Stops : Square → Square → Step → Square → Type 0
+Stops k c direction q = (q ≡ c) ⊎ IsBetween k c q direction
+
+-- the man on `from` stands between k and c, and no other does
+pub record IsAloneBetween (occupied : List Bool) (k c from : Square) (direction : Step) : Type 0 where
+  pub near : ℕ
+  pub far : ℕ
+  pub positive : 1 ≤ near
+  pub nearer : near < far
+  pub there : c ≡ along far direction k
+  pub here : from ≡ along near direction k
+  pub alone : (j : ℕ) → 1 ≤ j → j < far → j ≢ near → has occupied (along j direction k) ≡ false
+
+-- A man that reaches q ends every check: it takes a man that leaps, and takes a slider or stands in its way. Of two men
+-- that give check no square ends both.
+pub record EndsChecks (p : Position) (k q : Square) : Type 0 where
+  pub leaps : (c : Square) → IsLeaper p k c → q ≡ c
+  pub slides : (way : ℕ) (c : Square) → way < 8 → IsSlider p way c →
+      SlidesAlong (occupied_of p.placement) k c (way_step way) → Stops k c (way_step way) q
+
+-- Where a slider pins the man on `from`, as the one man between it and the king, the man stays on that line as far as the
+-- slider.
+abbrev pub KeepsLine : Position → Square → Square → Square → Type 0
+KeepsLine p k from q =
+    (way : ℕ) (c : Square) → way < 8 → IsSlider p way c →
+    IsAloneBetween (occupied_of p.placement) k c from (way_step way) → Stops k c (way_step way) q
+
+-- a man of the opponent attacks the square once the king is taken off k
+abbrev pub IsAttackedWithout : Position → Square → Square → Type 0
+IsAttackedWithout p k q =
+    (a : Square) × (kind : Kind) × (man_at p.placement a ≡ Some (other p.side, kind)) ×
+    Attacks (put (occupied_of p.placement) k false) (other p.side) kind a q
