@@ -8,3 +8,5 @@ pub mod Taken
 pub mod Bound
 pub mod Risks
 pub mod Ways
+pub mod Lines
+pub mod Exact
