@@ -10,3 +10,4 @@ pub mod Risks
 pub mod Ways
 pub mod Lines
 pub mod Exact
+pub mod Paths
