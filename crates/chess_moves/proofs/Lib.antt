@@ -11,3 +11,5 @@ pub mod Ways
 pub mod Lines
 pub mod Exact
 pub mod Paths
+pub mod Foes
+pub mod Watching

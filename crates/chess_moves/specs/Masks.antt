@@ -1,4 +1,4 @@
-use Rattle.std.specs.Prelude.{ℕ, ◌≡◌, ◌≢◌, ◌%◌, ◌<◌, ◌≤◌, ◌⊎◌, Bool, true, false, List, Some}
+use Rattle.std.specs.Prelude.{ℕ, ◌≡◌, ◌≢◌, ◌%◌, ◌<◌, ◌≤◌, ◌⊎◌, Bool, true, false, List, length, Some}
 use Rattle.chess_bits.specs.declared.men.Colour.{Colour}
 use Rattle.chess_bits.specs.declared.men.Kind.{Kind}
 use Rattle.chess_bits.specs.declared.men.Kind.TheVariants.{Pawn, Knight, Bishop, Rook, Queen, King}
@@ -126,6 +126,7 @@ pub record HoldsMasksBelow (p : Position) (n : ℕ) (masks : Masks) : Type 0 whe
   pub diagonal : (way : ℕ) → way % 2 ≡ 1 → IsSetOf masks.diagonal (IsSlider p way)
   pub ends : IsSetOf masks.ends (EndsBelow p masks.king n)
   pub pinned : HoldsPinsBelow p masks.king n masks.pinned
+  pub pinned_whole : length masks.pinned ≡ 64
 
 abbrev pub HoldsMasks : Position → Masks → Type 0
 HoldsMasks p masks = HoldsMasksBelow p 8 masks

@@ -96,7 +96,10 @@ fn unwatched(board: &Board) -> Masks
 }
 
 // The opponent's men that slide in the way.
-fn sliders_in(masks: &Masks, way: u8) -> Bits {
+fn sliders_in(masks: &Masks, way: u8) -> Bits
+    ensures even { way % 2 ≡ 0 → result ≡ masks.now.straight }
+    ensures odd { way % 2 ≡ 1 → result ≡ masks.now.diagonal }
+{
     if way % 2 == 0 {
         masks.straight
     } else {

@@ -53,8 +53,10 @@ fn path_to(king: Square, way: u8, sliders: Bits) -> Option<Bits>
     ensures none { IfNone result (NoneAhead sliders king (way_step way)) }
 {
     let whole = ray(king, way);
-    let slider = nearest(whole.meet(sliders), way)?;
-    Some(whole.without(ray(slider, way)))
+    match nearest(whole.meet(sliders), way) {
+        None => None,
+        Some(slider) => Some(whole.without(ray(slider, way))),
+    }
 }
 
 /// What is seen from the king in a way, if one of the sliders is in it.
@@ -63,7 +65,11 @@ pub fn watch_in(board: &Board, king: Square, way: u8, sliders: Bits) -> Option<W
     ensures some { IfSome result (IsWatch board.now sliders king way) }
     ensures none { IfNone result (NoneAhead sliders king (way_step way)) }
 {
-    let path = path_to(king, way, sliders)?;
-    let between = path.meet(board.men().occupied()).without(sliders);
-    Some(Watch { path, between })
+    match path_to(king, way, sliders) {
+        None => None,
+        Some(path) => {
+            let between = path.meet(board.men().occupied()).without(sliders);
+            Some(Watch { path, between })
+        }
+    }
 }
