@@ -11,5 +11,6 @@ pub mod Ways
 pub mod Lines
 pub mod Exact
 pub mod Paths
+pub mod Singles
 pub mod Foes
 pub mod Watching

@@ -36,13 +36,13 @@ sliders_set p masks n way sliders holds even odd =
       | inr e ↦ subst Set' (sym (odd e)) (holds.diagonal way e)
     ]
 
-length-occupied : (p : Position) → IsValid p → length (occupied_of p.placement) ≡ 64
+pub length-occupied : (p : Position) → IsValid p → length (occupied_of p.placement) ≡ 64
 length-occupied p valid = length-map p.placement is_some ∙ valid.whole
 
 slider_on : (p : Position) (way : ℕ) (c : Square) → IsSlider p way c → IsOnBoard c
 slider_on p way c slider = IsOnBoard-from_man p.placement c (other p.side, slider.0) slider.1
 
-own_on : (p : Position) (from : Square) → HoldsColour p from p.side → IsOnBoard from
+pub own_on : (p : Position) (from : Square) → HoldsColour p from p.side → IsOnBoard from
 own_on p from own = IsOnBoard-from_man p.placement from (p.side, own.0) own.1
 
 own_stands : (p : Position) (from : Square) → HoldsColour p from p.side → has (occupied_of p.placement) from ≡ true
@@ -166,6 +166,7 @@ none_watched p masks way sliders valid below of none holds =
     let k : Square = masks.king in
     let w : Watched p k way sliders = record { valid = valid; king = holds.king; below = below; of = of } in
     record {
+      valid = holds.valid;
       king = holds.king;
       straight = holds.straight;
       diagonal = holds.diagonal;
@@ -203,6 +204,7 @@ check_watched p masks way sliders path valid below of seen none holds =
     of.whole seen none in
     let Stops' : Square → Square → Type 0 = λ q x. Stops k x (way_step way) q in
     record {
+      valid = holds.valid;
       king = holds.king;
       straight = holds.straight;
       diagonal = holds.diagonal;
@@ -255,6 +257,7 @@ pin_watched p masks way sliders path valid below of seen some holds =
         either_false (has masks.pinned from) (has between from) (sym (has-union masks.pinned between from len) ∙ outside)
     in
     record {
+      valid = holds.valid;
       king = holds.king;
       straight = holds.straight;
       diagonal = holds.diagonal;
@@ -280,6 +283,7 @@ crowd_watched p masks way sliders path valid below of seen some many holds =
     let k : Square = masks.king in
     let w : Watched p k way sliders = record { valid = valid; king = holds.king; below = below; of = of } in
     record {
+      valid = holds.valid;
       king = holds.king;
       straight = holds.straight;
       diagonal = holds.diagonal;

@@ -8,7 +8,7 @@ use Rattle.chess_bits.specs.Man.{other}
 use Rattle.chess_bits.specs.Table.{has, put, empty, meet, without, IsSetOf}
 use Rattle.chess_bits.specs.Attack.{along, adjoining, knight_steps, pawn_attacks, Reaches, SlidesAlong, Attacks}
 use Rattle.chess_attacks.specs.Ways.{way_step}
-use Rattle.chess_board.specs.Position.{Position, man_at, occupied_of}
+use Rattle.chess_board.specs.Position.{Position, man_at, occupied_of, IsValid}
 use Rattle.chess_board.specs.Legal.{HoldsColour}
 use Rattle.chess_moves.specs.declared.watch.Watch.{Watch}
 use Rattle.chess_moves.specs.declared.masks.Masks.{Masks}
@@ -121,6 +121,7 @@ HoldsPinsBelow p k n pinned =
 
 -- the masks of a position, where the ways below n have been watched
 pub record HoldsMasksBelow (p : Position) (n : ℕ) (masks : Masks) : Type 0 where
+  pub valid : IsValid p
   pub king : man_at p.placement masks.king ≡ Some (p.side, King)
   pub straight : (way : ℕ) → way % 2 ≡ 0 → IsSetOf masks.straight (IsSlider p way)
   pub diagonal : (way : ℕ) → way % 2 ≡ 1 → IsSetOf masks.diagonal (IsSlider p way)

@@ -3,9 +3,9 @@ ghost use Rattle.std.specs.Prelude.{ℕ, ◌≡◌, ◌+◌, ◌%◌, ◌<◌, �
 ghost use Rattle.chess_bits.specs.declared.men.Kind.TheVariants as kinds;
 ghost use Rattle.chess_bits.specs.Square.{Square as Geometric, IsOnBoard};
 ghost use Rattle.chess_bits.specs.Table.{IsSetOf};
-ghost use Rattle.chess_board.specs.Position.{man_at};
+ghost use Rattle.chess_board.specs.Position.{man_at, IsValid};
 ghost use Rattle.chess_board.specs.Legal.{HoldsColour};
-ghost use Rattle.chess_moves.specs.Masks.{IsSlider, IsLeaper, EndsChecks, KeepsLine, HoldsMasksBelow, HoldsMasks};
+ghost use Rattle.chess_moves.specs.Masks.{IsSlider, IsLeaper, EndsChecks, KeepsBelow, KeepsLine, HoldsMasksBelow, HoldsMasks};
 
 use crate::squares::{men_of, only};
 use crate::watch::{is_single, watch_in};
@@ -30,7 +30,8 @@ pub struct Masks {
 
 // Where the king of the side to move stands.
 fn king_of(board: &Board) -> Square
-    ensures { man_at board.now.placement result ≡ Some (board.now.side, kinds.King) }
+    ensures king { man_at board.now.placement result ≡ Some (board.now.side, kinds.King) }
+    ensures valid { IsValid board.now }
 {
     let own = men_of(board, board.side());
     match own.meet(board.men().of_kind(Kind::King)).first() {
@@ -61,6 +62,7 @@ fn diagonal_sliders(board: &Board) -> Bits
 pub fn leapers(board: &Board, square: Square) -> Bits
     ensures { IsSetOf result (IsLeaper board.now square) }
 {
+    let _on_board = square.number();
     let side = board.side();
     let theirs = men_of(board, side.other());
     let men = board.men();
@@ -144,6 +146,28 @@ pub fn masks_of(board: &Board) -> Masks
     masks
 }
 
+// The squares that are left of a man's line once the way is looked at: a pinned man stays on the path to the slider.
+fn narrowed(board: &Board, masks: &Masks, from: Square, way: u8, line: Bits) -> Bits
+    requires way { way < 8 }
+    requires own { HoldsColour board.now from board.now.side }
+    requires masks { HoldsMasks board.now masks.now }
+    requires line { IsSetOf line (KeepsBelow board.now masks.now.king from way) }
+    ensures { IsSetOf result (KeepsBelow board.now masks.now.king from (way + 1)) }
+{
+    match watch_in(board, masks.king, way, sliders_in(masks, way)) {
+        None => line,
+        Some(seen) => {
+            if !seen.between.contains(from) {
+                line
+            } else if is_single(seen.between) {
+                line.meet(seen.path)
+            } else {
+                line
+            }
+        }
+    }
+}
+
 // The squares of the lines on which a man is pinned, all squares where it is not.
 fn line_of(board: &Board, masks: &Masks, from: Square) -> Bits
     requires own { HoldsColour board.now from board.now.side }
@@ -152,11 +176,7 @@ fn line_of(board: &Board, masks: &Masks, from: Square) -> Bits
 {
     let mut line = Bits::from_word(u64::MAX);
     for way in 0..8 {
-        if let Some(seen) = watch_in(board, masks.king, way, sliders_in(masks, way)) {
-            if seen.between.contains(from) && is_single(seen.between) {
-                line = line.meet(seen.path);
-            }
-        }
+        line = narrowed(board, masks, from, way, line);
     }
     line
 }

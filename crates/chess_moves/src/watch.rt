@@ -1,5 +1,5 @@
 //! The way from the king to the nearest slider of the opponent, and what stands on it.
-ghost use Rattle.std.specs.Prelude.{◌≡◌, ◌<◌, ◌↔◌, IsTrue, IfSome, IfNone, Some, []};
+ghost use Rattle.std.specs.Prelude.{◌≡◌, ◌<◌, ◌↔◌, IsTrue, IfSome, IfNone, Some, [], length};
 ghost use Rattle.chess_bits.specs.Square.{Square as Geometric, IsOnBoard};
 ghost use Rattle.chess_bits.specs.Table.{members, head_of, IsSetOf, IsGreatest};
 ghost use Rattle.chess_attacks.specs.Ways.{way_step, IsRising, IsFalling};
@@ -20,6 +20,7 @@ pub struct Watch {
 
 // Whether there is one square in the set.
 pub fn is_single(set: Bits) -> bool
+    requires { length set ≡ 64 }
     ensures { IsTrue result ↔ ((s : Geometric) × IsOnBoard s × IsSetOf set (λ q. q ≡ s)) }
 {
     match set.first() {
