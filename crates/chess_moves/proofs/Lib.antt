@@ -6,7 +6,6 @@ pub mod Promoting
 pub mod Listed
 pub mod Taken
 pub mod Bound
-pub mod Risks
 pub mod Ways
 pub mod Lines
 pub mod Exact
@@ -14,3 +13,4 @@ pub mod Paths
 pub mod Singles
 pub mod Foes
 pub mod Watching
+pub mod Safe

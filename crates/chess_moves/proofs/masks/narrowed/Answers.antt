@@ -40,7 +40,7 @@ returns-then-not-contains c =
     c.sliders_in.ensures.even c.sliders_in.ensures.odd in
     line_free p c.args.masks.now c.args.way c.sliders_in.result c.in-Some.seen.path c.args.line c.args.from
     c.requires.masks.valid c.requires.way sliders seen.path c.requires.own
-    (λ alone. false≢true (c.contains.ensures.member ∙ ap (λ (set : List Bool). has set c.args.from) seen.between
+    (λ alone. false≢true (c.if-not-contains.ensures.member ∙ ap (λ (set : List Bool). has set c.args.from) seen.between
     ∙ (alone.exact c.args.from (own_on p c.args.from c.requires.own)).1 refl))
     c.requires.masks.king c.requires.line
 
@@ -56,7 +56,7 @@ returns-then-is_single c =
     c.requires.masks.valid c.requires.way sliders seen.path c.requires.own
     (subst Alone' seen.between
     (one_of c.in-Some.seen.between c.args.from (own_on p c.args.from c.requires.own)
-    (sym c.contains.ensures.member) (c.if-is_single.ensures.0 refl)))
+    (sym c.if-not-contains.ensures.member) (c.if-is_single.ensures.0 refl)))
     c.requires.masks.king c.requires.line)
 
 pub returns-else-is_single : goal.returns-else-is_single
