@@ -14,3 +14,5 @@ pub mod Singles
 pub mod Foes
 pub mod Watching
 pub mod Safe
+pub mod Counted
+pub mod LastSquares

@@ -196,34 +196,6 @@ on_board-squares s here =
     (sym (get_or-map-range_with_len square_at 0 64 here.0 here.0 s below (omega arith)) ∙ here.2)
     (IsOnBoard-square_at here.0 below)
 
-pub legal_from-targets : (p : Position) (from : Square) (kind : Kind) (set : List Bool) → length p.placement ≡ 64 →
-    man_at p.placement from ≡ Some (p.side, kind) → IsSetOf set (GoesTo p kind from) →
-    legal_from p from ≡ flat_map (safe_choices p kind from) (members set)
-unfolding legal_from members
-legal_from-targets p from kind set whole own of =
-    let Listed : Square → List Move = λ to. filter (is_legal p) (moves_between from to) in
-    let listed : (to : Square) → Contains squares to → Listed to ≡ cond (has set to) (safe_choices p kind from to) [] =
-    λ to here.
-    let on = on_board-squares to here in
-    between_choices p from to kind (has set to) whole on own (of.exact to on) in
-    filter-flat_map (is_legal p) (moves_between from) squares
-    ∙ sym (flat_map-filter (has set) (safe_choices p kind from) Listed squares
-    (λ to here goes. sym (listed to here ∙ ap (λ (b : Bool). cond b (safe_choices p kind from to) []) goes))
-    (λ to here stays. listed to here ∙ ap (λ (b : Bool). cond b (safe_choices p kind from to) []) stays))
-
-pub safe_choices-safe : (p : Position) (kind : Kind) (from to : Square) → LeavesKingSafe p from to →
-    safe_choices p kind from to ≡ choices p.side kind from to
-unfolding safe_choices
-safe_choices-safe p kind from to safe =
-    ap (λ (b : Bool). cond b (choices p.side kind from to) []) ((Decides-leaves_king_safe p from to).1 safe)
-
-pub safe_choices-exposed : (p : Position) (kind : Kind) (from to : Square) → ¬ LeavesKingSafe p from to →
-    safe_choices p kind from to ≡ []
-unfolding safe_choices
-safe_choices-exposed p kind from to exposed =
-    ap (λ (b : Bool). cond b (choices p.side kind from to) [])
-    (false_from_ne_true (leaves_king_safe p from to) (λ e. exposed ((Decides-leaves_king_safe p from to).0 e)))
-
 -- ---- whether there is one
 
 becomes_something : (side : Colour) (kind : Kind) (to : Square) →

@@ -1,7 +1,10 @@
-use Rattle.std.proofs.Common.{◌≡◌, ◌∙◌, ap, sym, refl}
-use Rattle.std.proofs.lemmas.Grind.{common_steps}
+use Rattle.std.proofs.Common.{◌≡◌, ◌∙◌, ap, sym, refl, true}
+use Rattle.std.specs.Prelude.{◌↔◌}
 use Rattle.chess_bits.specs.Table.{empty}
 use Rattle.chess_bits.specs.Attack.{adjoining, Reaches}
+use Rattle.chess_board.specs.Position.{IsInCheck}
+use Rattle.chess_board.specs.Next.{placement_after}
+use Rattle.chess_moves.specs.Targets.{plain}
 use Rattle.chess_moves.proofs.Exact.{king_exact}
 use Rattle.chess_moves.proofs.Safe.{not_told}
 use Rattle.chess_moves.proofs.safe.is_king_safe.Goals as goal
@@ -17,4 +20,7 @@ returns-then-contains c =
 
 pub returns-else-contains : goal.returns-else-contains
 returns-else-contains c =
-    ?
+    let p = c.args.board.now in
+    let told : (c.exposes_king.result ≡ true) ↔ IsInCheck (placement_after p (plain c.args.from c.args.to)) p.side =
+    rw c.plain.ensures at c.exposes_king.ensures in
+    not_told c.exposes_king.result told (λ safe. safe, λ safe. safe)
