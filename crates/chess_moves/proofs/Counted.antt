@@ -23,7 +23,7 @@ use Rattle.chess_moves.specs.Listing.{legal_from, promotions, choices}
 use Rattle.chess_moves.proofs.ListLemmas.{filter-flat_map, flat_map-filter, filter-same}
 use Rattle.chess_moves.proofs.Listed.{same_test, leaves_king_safe, Decides-leaves_king_safe, safe_choices, between_choices, on_board-squares, IsListOfLegalMoves-computed}
 use Rattle.chess_moves.proofs.Bound.{goes, Decides-goes}
-use Rattle.chess_moves.proofs.Safe.{some_square}
+use Rattle.chess_moves.proofs.Safely.{some_square}
 
 -- ---- the moves from a square
 

@@ -13,6 +13,6 @@ pub mod Paths
 pub mod Singles
 pub mod Foes
 pub mod Watching
-pub mod Safe
+pub mod Safely
 pub mod Counted
 pub mod LastSquares

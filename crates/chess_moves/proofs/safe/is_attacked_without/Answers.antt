@@ -2,7 +2,7 @@ use Rattle.std.proofs.Common.{◌≡◌, ◌∙◌, ap, sym, subst, refl, List, 
 use Rattle.chess_bits.specs.Table.{put, union, meet, IsSetOf}
 use Rattle.chess_bits.specs.Attack.{Slides, straight, diagonal}
 use Rattle.chess_board.specs.Position.{occupied_of}
-use Rattle.chess_moves.proofs.Safe.{IsSeenAttacker, seen_set, attacked_told}
+use Rattle.chess_moves.proofs.Safely.{IsSeenAttacker, seen_set, attacked_told}
 use Rattle.chess_moves.proofs.safe.is_attacked_without.Goals as goal
 
 pub returns : goal.returns

@@ -6,7 +6,7 @@ use Rattle.chess_board.specs.Position.{IsInCheck}
 use Rattle.chess_board.specs.Next.{placement_after}
 use Rattle.chess_moves.specs.Targets.{plain}
 use Rattle.chess_moves.proofs.Exact.{king_exact}
-use Rattle.chess_moves.proofs.Safe.{not_told}
+use Rattle.chess_moves.proofs.Safely.{not_told}
 use Rattle.chess_moves.proofs.safe.is_king_safe.Goals as goal
 
 pub returns-then-contains : goal.returns-then-contains

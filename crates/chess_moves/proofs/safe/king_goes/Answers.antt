@@ -4,7 +4,7 @@ use Rattle.chess_bits.specs.declared.men.Kind.TheVariants.{King}
 use Rattle.chess_bits.specs.Table.{members}
 use Rattle.chess_bits.specs.SquaresOf.{squares_left}
 use Rattle.chess_moves.specs.Targets.{GoesTo, LeavesKingSafe}
-use Rattle.chess_moves.proofs.Safe.{KeepsSafe, keeps_start, keeps_safe, keeps_exposed, keeps_end}
+use Rattle.chess_moves.proofs.Safely.{KeepsSafe, keeps_start, keeps_safe, keeps_exposed, keeps_end}
 use Rattle.chess_moves.proofs.safe.king_goes.Goals as goal
 
 pub loop-to-init : goal.loop-to-init

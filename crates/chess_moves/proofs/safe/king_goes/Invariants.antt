@@ -1,7 +1,7 @@
 use Rattle.chess_bits.specs.declared.men.Kind.TheVariants.{King}
 use Rattle.chess_bits.specs.SquaresOf.{squares_left}
 use Rattle.chess_moves.specs.Targets.{GoesTo, LeavesKingSafe}
-use Rattle.chess_moves.proofs.Safe.{KeepsSafe}
+use Rattle.chess_moves.proofs.Safely.{KeepsSafe}
 use Rattle.chess_moves.proofs.safe.king_goes.Given as goal
 
 -- what is left of the targets, while those that are left are still to be judged

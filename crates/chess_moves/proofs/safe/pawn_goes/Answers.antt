@@ -3,7 +3,7 @@ use Rattle.std.specs.Prelude.{◌↔◌}
 use Rattle.chess_board.specs.Position.{IsInCheck}
 use Rattle.chess_board.specs.Next.{placement_after}
 use Rattle.chess_moves.specs.Targets.{plain}
-use Rattle.chess_moves.proofs.Safe.{not_told, pawn_set_none, pawn_set_away, pawn_set_target}
+use Rattle.chess_moves.proofs.Safely.{not_told, pawn_set_none, pawn_set_away, pawn_set_target}
 use Rattle.chess_moves.proofs.safe.pawn_goes.Goals as goal
 
 pub returns-in-None : goal.returns-in-None

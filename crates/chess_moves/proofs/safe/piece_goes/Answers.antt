@@ -1,4 +1,4 @@
-use Rattle.chess_moves.proofs.Safe.{piece_goes_set}
+use Rattle.chess_moves.proofs.Safely.{piece_goes_set}
 use Rattle.chess_moves.proofs.safe.piece_goes.Goals as goal
 
 pub returns : goal.returns
