@@ -1,6 +1,6 @@
 -- The legal moves from a square, as the squares where its man goes safely tell them, and how many they are.
-use Rattle.std.specs.Prelude.{ℕ, ◌≡◌, ◌≢◌, ◌+◌, ◌*◌, Bool, true, false, cond, ◌&&◌, ◌==◌, List, [], ◌∷◌, ◌++◌, length, filter, flat_map, Contains, Some}
-use Rattle.std.proofs.Common.{arith, refl, sym, ap, ◌∙◌, inl, inr, length-append}
+use Rattle.std.specs.Prelude.{ℕ, ◌≡◌, ◌≢◌, ◌+◌, ◌*◌, ◌≤◌, Bool, true, false, cond, ◌&&◌, ◌==◌, List, [], ◌∷◌, ◌++◌, length, filter, flat_map, Contains, Some}
+use Rattle.std.proofs.Common.{arith, refl, sym, ap, subst, ◌∙◌, inl, inr, length-append}
 use Rattle.std.proofs.lemmas.Bool.{false≢true, cases_Bool}
 use Rattle.std.proofs.lemmas.Bool.Decides.{Decides-eqb}
 use Rattle.chess_bits.specs.declared.men.Colour.{Colour}
@@ -11,6 +11,7 @@ use Rattle.chess_bits.specs.Table.{has, meet, members, IsSetOf}
 use Rattle.chess_bits.proofs.Deciding.{and_decides}
 use Rattle.chess_bits.proofs.SetLemmas.{has-meet, has-none}
 use Rattle.chess_bits.proofs.MemberLemmas.{filter-here, filter-not_here}
+use Rattle.chess_bits.proofs.AlongLemmas.{length-all_squares}
 use Rattle.chess_board.specs.declared.moves.Move.{Move}
 use Rattle.chess_board.specs.Position.{Position, man_at}
 use Rattle.chess_board.specs.Legal.{last_rank}
@@ -20,7 +21,7 @@ use Rattle.chess_board.proofs.DistinctMoves.{Contains-here, Contains-later, Cont
 use Rattle.chess_moves.specs.Targets.{plain, GoesTo, LeavesKingSafe, GoesSafely, HasSafeTarget}
 use Rattle.chess_moves.specs.Moves.{IsNumberOfLegalMoves}
 use Rattle.chess_moves.specs.Listing.{legal_from, promotions, choices}
-use Rattle.chess_moves.proofs.ListLemmas.{filter-flat_map, flat_map-filter, filter-same}
+use Rattle.chess_moves.proofs.ListLemmas.{filter-flat_map, flat_map-filter, filter-same, length-filter_most}
 use Rattle.chess_moves.proofs.Listed.{same_test, leaves_king_safe, Decides-leaves_king_safe, safe_choices, between_choices, on_board-squares, IsListOfLegalMoves-computed}
 use Rattle.chess_moves.proofs.Bound.{goes, Decides-goes}
 use Rattle.chess_moves.proofs.Safely.{some_square}
@@ -58,7 +59,7 @@ legal_from-safe p from kind set whole own of =
 length-flat : {A B : Type 0} (f : A → List B) (test : A → Bool) (xs : List A) →
     ((x : A) → Contains xs x → length (f x) ≡ cond (test x) 4 1) →
     length (flat_map f xs) ≡ length xs + 3 * length (filter test xs)
-length-flat f test [] each = refl
+length-flat f test [] each = omega arith
 length-flat f test (x ∷ xs) each =
     let rest : length (flat_map f xs) ≡ length xs + 3 * length (filter test xs) =
     length-flat f test xs (λ z here. each z (Contains-later z x xs here)) in
@@ -103,12 +104,18 @@ pawn_choices side from to last is not_last =
     same_test (to.rank == last_rank side) last (Decides-eqb to.rank (last_rank side)) (is, not_last) in
     ap (λ (b : Bool). length (cond b (promotions from to) (plain from to ∷ []))) same ∙ four_or_one last from to
 
-pub length-pawn : (p : Position) (from : Square) (set last : List Bool) → length p.placement ≡ 64 →
-    man_at p.placement from ≡ Some (p.side, Pawn) → IsSetOf set (GoesSafely p Pawn from) →
+pub members_most : (set : List Bool) → length (members set) ≤ 64
+unfolding members
+members_most set = omega (arith, length-filter_most (has set) squares, length-all_squares)
+
+pub length-pawn : (p : Position) (from : Square) (kind : Kind) (set last : List Bool) → length p.placement ≡ 64 →
+    man_at p.placement from ≡ Some (p.side, kind) → kind ≡ Pawn → IsSetOf set (GoesSafely p kind from) →
     IsSetOf last (λ q. q.rank ≡ last_rank p.side) →
     length (legal_from p from) ≡ length (members set) + 3 * length (members (meet set last))
-length-pawn p from set last whole own of of_last =
-    rw (legal_from-safe p from Pawn set whole own of, members-meet set last)
+length-pawn p from kind set last whole own pawn of of_last =
+    let own' : man_at p.placement from ≡ Some (p.side, Pawn) = own ∙ ap (λ (k : Kind). Some (p.side, k)) pawn in
+    let Safely' : Kind → Type 0 = λ k. IsSetOf set (GoesSafely p k from) in
+    rw (legal_from-safe p from Pawn set whole own' (subst Safely' pawn of), members-meet set last)
     (length-flat (choices p.side Pawn from) (has last) (members set)
     (λ to here.
     let on = member_on set to here in
@@ -116,7 +123,7 @@ length-pawn p from set last whole own of of_last =
 
 length-each_one : {A B : Type 0} (f : A → List B) (xs : List A) → ((x : A) → length (f x) ≡ 1) →
     length (flat_map f xs) ≡ length xs
-length-each_one f [] each = refl
+length-each_one f [] each = omega arith
 length-each_one f (x ∷ xs) each =
     rw (length-append (f x) (flat_map f xs)) (omega (arith, each x, length-each_one f xs each))
 

@@ -249,9 +249,6 @@ pawn_set_none p masks from reached allowed holds own of_reached of_allowed none 
 one_target : (target : Option Square) (t q : Square) → target ≡ Some t → target ≡ Some q → q ≡ t
 one_target target t q e f = cc
 
-and_no : (a b : Bool) → a ≡ false → (a ≡ true) → b ≡ true
-and_no a b e f = absurd (false≢true (sym e ∙ f))
-
 pub pawn_set_away : (p : Position) (masks : Masks) (from t : Square) (reached allowed : List Bool) → HoldsMasks p masks →
     man_at p.placement from ≡ Some (p.side, Pawn) → IsSetOf reached (GoesTo p Pawn from) →
     IsSetOf allowed (λ s. EndsChecks p masks.king s × KeepsLine p masks.king from s) → p.target ≡ Some t →

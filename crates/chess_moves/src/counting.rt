@@ -1,5 +1,5 @@
 //! How many legal moves there are, without a list of them.
-ghost use Rattle.std.specs.Prelude.{◌≡◌, length, Some};
+ghost use Rattle.std.specs.Prelude.{◌≡◌, ◌↔◌, IsTrue, length, Some};
 ghost use Rattle.chess_bits.specs.declared.men.Kind.TheVariants as kinds;
 ghost use Rattle.chess_bits.specs.Table.{IsSetOf};
 ghost use Rattle.chess_board.specs.Position.{man_at};
@@ -24,16 +24,25 @@ fn last_squares(side: Colour) -> Bits
     }
 }
 
+// Whether a man is a pawn.
+fn is_pawn(kind: Kind) -> bool
+    ensures { IsTrue result ↔ (kind ≡ kinds.Pawn) }
+{
+    kind == Kind::Pawn
+}
+
 // How many legal moves a man of the side to move has: four for each square on which a pawn becomes another piece.
+#[tactic(auto, using(crate::proofs::Counted::members_most))]
 fn count_of(board: &Board, masks: &Masks, from: Square, kind: Kind) -> u32
     requires masks { HoldsMasks board.now masks.now }
     requires own { man_at board.now.placement from ≡ Some (board.now.side, kind) }
     ensures { result ≡ length (legal_from board.now from) }
 {
     let safe = safe_targets(board, masks, from, kind);
-    match kind {
-        Kind::Pawn => safe.count() + 3 * safe.meet(last_squares(board.side())).count(),
-        Kind::Knight | Kind::Bishop | Kind::Rook | Kind::Queen | Kind::King => safe.count(),
+    if is_pawn(kind) {
+        safe.count() + 3 * safe.meet(last_squares(board.side())).count()
+    } else {
+        safe.count()
     }
 }
 
