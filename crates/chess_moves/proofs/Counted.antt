@@ -46,7 +46,7 @@ legal_from-safe p from kind set whole own of =
     let same : has set to ≡ (goes p kind from to && leaves_king_safe p from to) =
     same_test (has set to) (goes p kind from to && leaves_king_safe p from to) (of.exact to on)
     (and_decides decides (Decides-leaves_king_safe p from to)) in
-    between_choices p from to kind (goes p kind from to) whole own on decides
+    between_choices p from to kind (goes p kind from to) whole on own decides
     ∙ both_cond (goes p kind from to) (leaves_king_safe p from to) (choices p.side kind from to) []
     ∙ ap (λ (b : Bool). cond b (choices p.side kind from to) []) (sym same) in
     filter-flat_map (is_legal p) (moves_between from) squares

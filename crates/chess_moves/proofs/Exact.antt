@@ -148,13 +148,20 @@ ends_from_safe p k from to kind valid g king not_there not_king safe =
     (is_square-other k to (λ e. not_there (sym e))) (is_square-other k from (λ e. not_king (sym e))) ∙ king in
     let is = after_squares p from to kind after g in
     let shut = λ (c : Square) (foe : Kind) (apart : c ≢ to)
-        (stands : man_at p.placement c ≡ Some (other p.side, foe))
-        (attack : Attacks after_squares' (other p.side) foe c k).
-    safe (k, king_after, (c, record {
-      kind = foe;
-      stands = foe_after p from to kind foe after c g apart stands;
-      attacks = attack;
-    })) in (
+    (stands : man_at p.placement c ≡ Some (other p.side, foe))
+    (attack : Attacks after_squares' (other p.side) foe c k).
+    safe (
+      k,
+      king_after,
+      (
+        c,
+        record {
+          kind = foe;
+          stands = foe_after p from to kind foe after c g apart stands;
+          attacks = attack;
+        },
+      ),
+    ) in (
       record {
         leaps = λ c leaper. elim (cases_Bool (is_square to c)) [
           | inl same ↦ is_square-true to c same
@@ -325,12 +332,19 @@ king_exact p k to valid king on near =
           let Self : Square → Type 0 = λ x. Attacks before_squares (other p.side) foe x to in
           let apart : a ≢ to = λ e.
           no_self before_squares (other p.side) foe to on (subst Self e attack) in
-          safe (to, king_there, (a, record {
-            kind = foe;
-            stands = foe_after p k to King foe after a g apart stands;
-            attacks = alike before_squares (occupied_of after) (other p.side) foe a to on_a on
-                (λ q other_square free. same q other_square ∙ free) attack;
-          }))),
+          safe (
+            to,
+            king_there,
+            (
+              a,
+              record {
+                kind = foe;
+                stands = foe_after p k to King foe after a g apart stands;
+                attacks = alike before_squares (occupied_of after) (other p.side) foe a to on_a on
+                    (λ q other_square free. same q other_square ∙ free) attack;
+              },
+            ),
+          )),
       (λ unattacked (k', king', (a, attacker)).
           let at_to : k' ≡ to = elim (cases_Bool (is_square k' to)) [
             | inl here ↦ is_square-true k' to here
@@ -339,9 +353,13 @@ king_exact p k to valid king on near =
           let foe = foe_before p k to King attacker.kind after a g attacker.stands in
           let on_a = IsOnBoard-from_man p.placement a (other p.side, attacker.kind) foe.1 in
           let Attacks' : Square → Type 0 = λ x. Attacks (occupied_of after) (other p.side) attacker.kind a x in
-          unattacked (a, attacker.kind, foe.1,
-          alike (occupied_of after) before_squares (other p.side) attacker.kind a to on_a on
-          (λ q other_square free. sym (same q other_square) ∙ free) (subst Attacks' at_to attacker.attacks))),
+          unattacked (
+            a,
+            attacker.kind,
+            foe.1,
+            alike (occupied_of after) before_squares (other p.side) attacker.kind a to on_a on
+                (λ q other_square free. sym (same q other_square) ∙ free) (subst Attacks' at_to attacker.attacks),
+          )),
     )
   where
     none_is_not : (man : Man) → None ≡ Some man → ⊥

@@ -191,8 +191,12 @@ leaper_set p k pawns knights kings theirs whole on of_pawns of_knights of_kings 
 
 pub king_there : (p : Position) → IsValid p → ¬ (members (squares_with (is_man (p.side, King)) p.placement) ≡ [])
 king_there p valid none =
-    absurd (omega (arith, ap length none,
-    length-members_map (holds (is_man (p.side, King))) p.placement valid.whole, valid.kings p.side))
+    absurd (omega (
+      arith,
+      ap length none,
+      length-members_map (holds (is_man (p.side, King))) p.placement valid.whole,
+      valid.kings p.side,
+    ))
 
 pub leaper_on : (p : Position) (k c : Square) → IsLeaper p k c → IsOnBoard c
 leaper_on p k c leaper = IsOnBoard-from_man p.placement c (other p.side, leaper.0) leaper.1

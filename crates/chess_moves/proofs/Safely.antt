@@ -88,19 +88,28 @@ seen_set p q squares leapers rooks bishops straights diagonals of_leapers of_roo
 
 attacked_from : (p : Position) (k q c : Square) → IsOnBoard c →
     IsSeenAttacker p (put (occupied_of p.placement) k false) q c → IsAttackedWithout p k q
-attacked_from p k q c on (inl leaper) =
-    (c, leaper.0, leaper.1,
-    attack_leap (put (occupied_of p.placement) k false) (other p.side) leaper.0 c q leaper.2)
+attacked_from p k q c on (inl leaper) = (
+  c,
+  leaper.0,
+  leaper.1,
+  attack_leap (put (occupied_of p.placement) k false) (other p.side) leaper.0 c q leaper.2,
+)
 attacked_from p k q c on (inr (inl both)) =
     let squares : List Bool = put (occupied_of p.placement) k false in
-    let w = straight_way (SlidesAlong squares q c) both.0 in
-    (c, both.1.0, both.1.1,
-    seen_attack squares (other p.side) both.1.0 c q w.0 on w.1 (even_slides both.1.0 w.0 both.1.2 w.2) w.3)
+    let w = straight_way (SlidesAlong squares q c) both.0 in (
+      c,
+      both.1.0,
+      both.1.1,
+      seen_attack squares (other p.side) both.1.0 c q w.0 on w.1 (even_slides both.1.0 w.0 both.1.2 w.2) w.3,
+    )
 attacked_from p k q c on (inr (inr both)) =
     let squares : List Bool = put (occupied_of p.placement) k false in
-    let w = diagonal_way (SlidesAlong squares q c) both.0 in
-    (c, both.1.0, both.1.1,
-    seen_attack squares (other p.side) both.1.0 c q w.0 on w.1 (odd_slides both.1.0 w.0 both.1.2 w.2) w.3)
+    let w = diagonal_way (SlidesAlong squares q c) both.0 in (
+      c,
+      both.1.0,
+      both.1.1,
+      seen_attack squares (other p.side) both.1.0 c q w.0 on w.1 (odd_slides both.1.0 w.0 both.1.2 w.2) w.3,
+    )
 
 attacker_seen : (p : Position) (k q : Square) → IsOnBoard q → (attacked : IsAttackedWithout p k q) →
     IsSeenAttacker p (put (occupied_of p.placement) k false) q attacked.0
@@ -224,9 +233,11 @@ pawn_told p masks from q reached allowed holds own of_reached of_allowed on apar
     let Allowed : Square → Type 0 = λ s. EndsChecks p masks.king s × KeepsLine p masks.king from s in
     let both = both_set reached allowed (GoesTo p Pawn from) Allowed of_reached of_allowed in (
       (λ here.
-          let parts = (both.exact q on).0 here in
-          (parts.0, (masks_tell p masks Pawn from q holds on own pawn_no_king (no_pawn_taken p from q apart)
-          parts.0).1 parts.1)),
+          let parts = (both.exact q on).0 here in (
+            parts.0,
+            (masks_tell p masks Pawn from q holds on own pawn_no_king (no_pawn_taken p from q apart)
+                parts.0).1 parts.1,
+          )),
       (λ safely. (both.exact q on).1 (
         safely.0,
         (masks_tell p masks Pawn from q holds on own pawn_no_king (no_pawn_taken p from q apart) safely.0).0 safely.1,
@@ -257,7 +268,7 @@ pawn_set_away p masks from t reached allowed holds own of_reached of_allowed is 
     let both = both_set reached allowed (GoesTo p Pawn from)
     (λ s. EndsChecks p masks.king s × KeepsLine p masks.king from s) of_reached of_allowed in
     let apart = λ (q : Square) (on : IsOnBoard q) (goes : GoesTo p Pawn from q) (e : p.target ≡ Some q).
-        false≢true (sym away ∙ ap (has reached) (sym (one_target p.target t q is e)) ∙ (of_reached.exact q on).1 goes) in
+    false≢true (sym away ∙ ap (has reached) (sym (one_target p.target t q is e)) ∙ (of_reached.exact q on).1 goes) in
     record {
       whole = both.whole;
       exact = λ q on. (

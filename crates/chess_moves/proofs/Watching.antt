@@ -254,7 +254,7 @@ pin_watched p masks way sliders path valid below of seen some holds =
     let len : length masks.pinned ≡ length between =
     holds.pinned_whole ∙ sym (length-between path occupied sliders seen.squares.whole (length-occupied p valid) of.whole) in
     let parts = λ (from : Square) (outside : has (union masks.pinned between) from ≡ false).
-        either_false (has masks.pinned from) (has between from) (sym (has-union masks.pinned between from len) ∙ outside)
+    either_false (has masks.pinned from) (has between from) (sym (has-union masks.pinned between from len) ∙ outside)
     in
     record {
       valid = holds.valid;

@@ -46,7 +46,9 @@ fn straight_sliders(board: &Board) -> Bits
 {
     let theirs = men_of(board, board.side().other());
     let men = board.men();
-    men.of_kind(Kind::Rook).union(men.of_kind(Kind::Queen)).meet(theirs)
+    men.of_kind(Kind::Rook)
+        .union(men.of_kind(Kind::Queen))
+        .meet(theirs)
 }
 
 // The opponent's bishops and queens.
@@ -55,7 +57,9 @@ fn diagonal_sliders(board: &Board) -> Bits
 {
     let theirs = men_of(board, board.side().other());
     let men = board.men();
-    men.of_kind(Kind::Bishop).union(men.of_kind(Kind::Queen)).meet(theirs)
+    men.of_kind(Kind::Bishop)
+        .union(men.of_kind(Kind::Queen))
+        .meet(theirs)
 }
 
 /// The opponent's pawns, knights and king that attack a square.

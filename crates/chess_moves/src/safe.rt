@@ -23,7 +23,9 @@ fn is_attacked_without(board: &Board, masks: &Masks, from: Square, to: Square) -
     occupied.remove(from);
     let straight = rook(to, occupied).meet(masks.straight);
     let diagonal = bishop(to, occupied).meet(masks.diagonal);
-    !leapers(board, to).union(straight.union(diagonal)).is_empty()
+    !leapers(board, to)
+        .union(straight.union(diagonal))
+        .is_empty()
 }
 
 // Whether the king is safe once it has gone to the square: in castling, which moves the rook too, the men are placed.

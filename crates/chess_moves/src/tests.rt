@@ -147,7 +147,9 @@ fn mate_and_stalemate_leave_no_move(rt: HostRuntime) {
     for (diagram, is_mate) in [(&MATE, true), (&STALEMATE, false)] {
         let board = board_of(&rt, diagram, no_rights(), None);
         assert_eq!(rt; board.in_check(), is_mate);
-        assert!(rt; !has_legal(&board) && legal_moves(&board).len() == 0 && count_moves(&board) == 0);
+        assert!(rt;
+            !has_legal(&board) && legal_moves(&board).len() == 0 && count_moves(&board) == 0
+        );
     }
 }
 

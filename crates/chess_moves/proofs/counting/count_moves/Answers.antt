@@ -31,7 +31,7 @@ overflow_add-count c =
     let more = count_room (legal_from p) c.loop-from.count (length (legal_moves_of p)) c.in-Some.from
     (squares_left c.next.new.self) (squares_left c.loop-from.from-iterator) c.loop-from.invariant
     c.in-Some.ensures.steps in
-    omega (arith, more, c.count_from.ensures, length-legal_moves_of p c.men_of.ensures.valid)
+    omega (arith, more, c.count_from-count.ensures, length-legal_moves_of p c.men_of.ensures.valid)
 
 pub loop-from-preserved : goal.loop-from-preserved
 loop-from-preserved c =
@@ -39,7 +39,7 @@ loop-from-preserved c =
     let more = count_room (legal_from p) c.loop-from.count (length (legal_moves_of p)) c.in-Some.from
     (squares_left c.next.new.self) (squares_left c.loop-from.from-iterator) c.loop-from.invariant
     c.in-Some.ensures.steps in
-    rw c.count_from.ensures more
+    rw c.count_from-count.ensures more
 
 pub returns : goal.returns
 returns c =

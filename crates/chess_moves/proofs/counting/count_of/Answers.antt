@@ -10,7 +10,7 @@ pub returns-then-is_pawn : goal.returns-then-is_pawn
 returns-then-is_pawn c =
     let p = c.args.board.now in
     let Last' : Colour → Type 0 = λ side. IsSetOf c.last_squares.result (λ q. q.rank ≡ last_rank side) in
-    rw (c.count.ensures, c.count-2.ensures, c.meet.ensures)
+    rw (c.count.ensures, c.count-then-is_pawn.ensures, c.meet.ensures)
     (sym (length-pawn p c.args.from c.args.kind c.safe_targets-safe.result c.last_squares.result
     c.requires.masks.valid.whole c.requires.own (c.if-is_pawn.ensures.0 refl) c.safe_targets-safe.ensures
     (subst Last' c.side.ensures c.last_squares.ensures)))

@@ -5,4 +5,4 @@ pub returns-in-White : goal.returns-in-White
 returns-in-White c = rw (c.in-White.is, c.from_word.ensures) white_last
 
 pub returns-in-Black : goal.returns-in-Black
-returns-in-Black c = rw (c.in-Black.is, c.from_word.ensures) black_last
+returns-in-Black c = rw (c.in-Black.is, c.from_word-in-Black.ensures) black_last

@@ -38,11 +38,15 @@ returns-in-Some c =
     (λ q on ends.
     let same : q ≡ first = ends first is_leaper in (
       same,
-      c.is_single.ensures.1 (q, on, record {
-        whole = of.whole;
-        exact = λ r on_r. (
-          (λ here. sym (ends r ((of.exact r on_r).0 here))),
-          (λ e. ap (has set) (e ∙ same) ∙ least.member),
-        );
-      }),
+      c.is_single.ensures.1 (
+        q,
+        on,
+        record {
+          whole = of.whole;
+          exact = λ r on_r. (
+            (λ here. sym (ends r ((of.exact r on_r).0 here))),
+            (λ e. ap (has set) (e ∙ same) ∙ least.member),
+          );
+        },
+      ),
     ))

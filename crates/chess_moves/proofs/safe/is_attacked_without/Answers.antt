@@ -1,4 +1,4 @@
-use Rattle.std.proofs.Common.{◌≡◌, ◌∙◌, ap, sym, subst, refl, List, Bool}
+use Rattle.std.proofs.Common.{◌≡◌, ◌∙◌, ap, sym, subst, refl, List, Bool, false}
 use Rattle.chess_bits.specs.Table.{put, union, meet, IsSetOf}
 use Rattle.chess_bits.specs.Attack.{Slides, straight, diagonal}
 use Rattle.chess_board.specs.Position.{occupied_of}
@@ -16,7 +16,7 @@ returns c =
     let Bishops' : List Bool → Type 0 = λ set. IsSetOf c.bishop.result (Slides set diagonal c.args.to) in
     let Seen' : List Bool → Type 0 = λ set. IsSetOf set (IsSeenAttacker p squares c.args.to) in
     let masks = c.args.masks.now in
-    attacked_told p c.args.from c.args.to c.union-2.result c.is_empty.result c.number-_on_board.ensures.on_board
+    attacked_told p c.args.from c.args.to c.union-2.result c.is_empty.result c.number-on_board.ensures.on_board
     (rw (c.union-2.ensures, c.union.ensures, c.meet-straight.ensures, c.meet-diagonal.ensures)
     (seen_set p c.args.to squares c.leapers.result c.rook.result c.bishop.result masks.straight masks.diagonal
     c.leapers.ensures (subst Rooks' is (c.rook.ensures p.side)) (subst Bishops' is (c.bishop.ensures p.side))
