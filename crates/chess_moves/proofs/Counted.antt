@@ -1,5 +1,5 @@
 -- The legal moves from a square, as the squares where its man goes safely tell them, and how many they are.
-use Rattle.std.specs.Prelude.{ℕ, ◌≡◌, ◌≢◌, ◌+◌, ◌*◌, ◌≤◌, Bool, true, false, cond, ◌&&◌, ◌==◌, List, [], ◌∷◌, ◌++◌, length, filter, flat_map, Contains, Some}
+use Rattle.std.specs.Prelude.{ℕ, ◌≡◌, ◌≢◌, ◌+◌, ◌*◌, ◌≤◌, Bool, true, false, cond, ◌&&◌, ◌==◌, List, [], ◌∷◌, length, filter, flat_map, Contains, Some}
 use Rattle.std.proofs.Common.{arith, refl, sym, ap, subst, ◌∙◌, inl, inr, length-append}
 use Rattle.std.proofs.lemmas.Bool.{false≢true, cases_Bool}
 use Rattle.std.proofs.lemmas.Bool.Decides.{Decides-eqb}
@@ -18,7 +18,7 @@ use Rattle.chess_board.specs.Legal.{last_rank}
 use Rattle.chess_board.specs.Computing.{is_legal, moves_between, legal_moves_of}
 use Rattle.chess_board.proofs.Candidates.{IsOnBoard-from_man}
 use Rattle.chess_board.proofs.DistinctMoves.{Contains-here, Contains-later, Contains-filter_from}
-use Rattle.chess_moves.specs.Targets.{plain, GoesTo, LeavesKingSafe, GoesSafely, HasSafeTarget}
+use Rattle.chess_moves.specs.Targets.{plain, GoesSafely, HasSafeTarget}
 use Rattle.chess_moves.specs.Moves.{IsNumberOfLegalMoves}
 use Rattle.chess_moves.specs.Listing.{legal_from, promotions, choices}
 use Rattle.chess_moves.proofs.ListLemmas.{filter-flat_map, flat_map-filter, filter-same, length-filter_most}

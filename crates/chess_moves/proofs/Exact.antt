@@ -1,6 +1,6 @@
 -- The masks are exact: a move of a man that is not the king leaves the king safe where it ends every check and keeps to the
 -- line of its pins; and a step of the king is safe where no man attacks the square with the king taken off.
-use Rattle.std.specs.Prelude.{ℕ, ◌≡◌, ◌≢◌, ◌⊎◌, ◌↔◌, ◌-◌, ◌<◌, ◌≤◌, Bool, true, false, cond, not, ◌&&◌, ◌==◌, List, [], ◌∷◌, length, Option, Some, None, is_some}
+use Rattle.std.specs.Prelude.{ℕ, ◌≡◌, ◌≢◌, ◌↔◌, Bool, true, false, cond, not, ◌&&◌, ◌==◌, List, [], ◌∷◌, Option, Some, None, is_some}
 use Rattle.std.proofs.Common.{arith, refl, sym, ap, subst, ◌∙◌, inl, inr}
 use Rattle.std.proofs.lemmas.Bool.{false≢true, cases_Bool, cases_eq, and_parts, eq-eqb}
 use Rattle.std.specs.List.{list_all}
@@ -12,22 +12,22 @@ use Rattle.chess_bits.specs.declared.men.Kind.{Kind}
 use Rattle.chess_bits.specs.declared.men.Kind.TheVariants.{Pawn, Knight, Bishop, Rook, Queen, King}
 use Rattle.chess_bits.specs.declared.steps.Step.{Step}
 use Rattle.chess_bits.specs.Square.{Square, IsOnBoard, is_square}
-use Rattle.chess_bits.specs.Man.{Man, other, is_man, is_of, is_kind, holds}
+use Rattle.chess_bits.specs.Man.{Man, other, is_man, is_kind, holds}
 use Rattle.chess_bits.specs.Table.{has, put}
-use Rattle.chess_bits.specs.Attack.{along, adjoining, knight_steps, pawn_attacks, Reaches, SlidesAlong, Attacks}
-use Rattle.chess_bits.proofs.TableLemmas.{at-map, at-put, is_square-true, is_square-other, is_square-same, is_square-false, Decides-is_square, same_from_count_by}
+use Rattle.chess_bits.specs.Attack.{along, adjoining, knight_steps, pawn_attacks, Reaches, Attacks}
+use Rattle.chess_bits.proofs.TableLemmas.{at-map, at-put, is_square-true, is_square-other, is_square-same, is_square-false, same_from_count_by}
 use Rattle.chess_bits.proofs.ManLemmas.{other-differs, holds-is_man_same}
 use Rattle.chess_bits.proofs.AlongLemmas.{along-between, along-zero}
 use Rattle.chess_attacks.specs.Ways.{way_step}
 use Rattle.chess_board.specs.declared.castling.Wing.TheVariants as wing
-use Rattle.chess_board.specs.Position.{Position, man_at, occupied_of, IsInCheck, IsValid}
-use Rattle.chess_board.specs.Next.{is_target, is_en_passant, placement_after}
+use Rattle.chess_board.specs.Position.{Position, man_at, occupied_of, IsValid}
+use Rattle.chess_board.specs.Next.{is_en_passant, placement_after}
 use Rattle.chess_board.proofs.ManAfter.{man_at-after_plain}
 use Rattle.chess_board.proofs.Candidates.{IsOnBoard-from_man, no_castling, no_castling-near, no_en_passant}
 use Rattle.chess_moves.specs.Targets.{plain, LeavesKingSafe}
-use Rattle.chess_moves.specs.Masks.{SlidesIn, IsSlider, Leaps, IsLeaper, IsBetween, Stops, IsAloneBetween, EndsChecks, KeepsLine, IsAttackedWithout}
-use Rattle.chess_moves.proofs.Ways.{Differs, way-differs, SlidesBy, attack_parts, attack_leap, attack_slide, attack_seen, seen_attack}
-use Rattle.chess_moves.proofs.Lines.{IsAfter, IsOpen, stopped, reaches_after}
+use Rattle.chess_moves.specs.Masks.{Leaps, EndsChecks, KeepsLine, IsAttackedWithout}
+use Rattle.chess_moves.proofs.Ways.{way-differs, attack_parts, attack_leap, attack_slide, attack_seen, seen_attack}
+use Rattle.chess_moves.proofs.Lines.{IsAfter, stopped, reaches_after}
 
 -- ---- the placement after a man has gone
 

@@ -1,5 +1,5 @@
 -- The sets of the opponent's men that slide and leap.
-use Rattle.std.specs.Prelude.{ℕ, ◌≡◌, ◌⊎◌, ◌↔◌, ◌%◌, Bool, true, false, List, [], length, Option, Some, None}
+use Rattle.std.specs.Prelude.{ℕ, ◌≡◌, ◌⊎◌, ◌%◌, Bool, true, List, [], length, Option, Some, None}
 use Rattle.std.proofs.Common.{arith, refl, sym, ap, subst, ◌∙◌, inl, inr}
 use Rattle.std.proofs.lemmas.Bool.{false≢true}
 use Rattle.std.proofs.lemmas.List.{length-map}
@@ -7,8 +7,8 @@ use Rattle.chess_bits.specs.declared.men.Colour.{Colour}
 use Rattle.chess_bits.specs.declared.men.Kind.{Kind}
 use Rattle.chess_bits.specs.declared.men.Kind.TheVariants.{Pawn, Knight, Bishop, Rook, Queen, King}
 use Rattle.chess_bits.specs.Square.{Square, IsOnBoard}
-use Rattle.chess_bits.specs.Man.{Man, other, is_of, is_man, is_kind, holds}
-use Rattle.chess_bits.specs.Table.{has, union, meet, empty, members, IsSetOf}
+use Rattle.chess_bits.specs.Man.{Man, other, is_man, holds}
+use Rattle.chess_bits.specs.Table.{union, meet, empty, members, IsSetOf}
 use Rattle.chess_bits.specs.Attack.{pawn_attacks, knight_steps, adjoining, Reaches}
 use Rattle.chess_bits.proofs.ManLemmas.{is_kind-true, is_kind-same, same_kind}
 use Rattle.chess_bits.proofs.SetLemmas.{IsSetOf-union, IsSetOf-like}

@@ -1,10 +1,10 @@
 -- The words of the first and the last rank.
-use Rattle.std.specs.Prelude.{ℕ, ◌≡◌, ◌↔◌, Bool, true, false, ◌==◌, not, cond, List}
+use Rattle.std.specs.Prelude.{ℕ, ◌≡◌, Bool, true, false, ◌==◌, not, cond, List}
 use Rattle.std.specs.List.{list_all}
 use Rattle.std.proofs.Common.{refl, sym, ◌∙◌}
 use Rattle.std.proofs.lemmas.Bool.{false≢true}
 use Rattle.std.proofs.lemmas.Bool.Decides.{Decides-eqb}
-use Rattle.chess_bits.specs.Square.{Square, IsOnBoard, squares}
+use Rattle.chess_bits.specs.Square.{squares}
 use Rattle.chess_bits.specs.Table.{at, has, IsSetOf}
 use Rattle.chess_bits.specs.Word.{bools_of}
 use Rattle.chess_bits.proofs.WordLemmas.{length-bools_of}

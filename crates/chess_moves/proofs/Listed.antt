@@ -8,7 +8,7 @@ use Rattle.chess_bits.specs.declared.men.Colour.{Colour}
 use Rattle.chess_bits.specs.declared.men.Kind.{Kind}
 use Rattle.chess_bits.specs.declared.men.Kind.TheVariants.{Pawn, Knight, Bishop, Rook, Queen, King}
 use Rattle.chess_bits.specs.Square.{Square, IsOnBoard, square_at, squares}
-use Rattle.chess_bits.specs.Table.{has, members, IsSetOf}
+use Rattle.chess_bits.specs.Table.{has, members}
 use Rattle.chess_bits.specs.Man.{is_of}
 use Rattle.chess_bits.proofs.ManLemmas.{same_colour, none_is_no_man}
 use Rattle.chess_bits.proofs.TableLemmas.{IsOnBoard-square_at}
@@ -27,7 +27,7 @@ use Rattle.chess_board.proofs.DistinctMoves.{from_of_moves, legal_moves_of-disti
 use Rattle.chess_moves.specs.Targets.{plain, GoesTo, Becomes, LeavesKingSafe, HasSafeTarget}
 use Rattle.chess_moves.specs.Moves.{IsListOfLegalMoves, HasLegalFrom}
 use Rattle.chess_moves.specs.Listing.{legal_from, promoted, promotions, choices}
-use Rattle.chess_moves.proofs.ListLemmas.{filter-flat_map, flat_map-filter, filter-none, filter-same}
+use Rattle.chess_moves.proofs.ListLemmas.{filter-flat_map, filter-none, filter-same}
 use Rattle.chess_moves.proofs.Parts.{move_of_parts, goes_of_move, becomes_of_move, candidate_kind}
 use Rattle.chess_moves.proofs.Promoting.{promoted_check, plain_check}
 

@@ -1,21 +1,19 @@
 -- The sets of squares to which a man may go.
-use Rattle.std.specs.Prelude.{ℕ, ◌≡◌, ◌≢◌, ◌⊎◌, ◌↔◌, ◌%◌, ◌<◌, Bool, true, false, cond, not, List, [], ◌∷◌, length, Option, Some, None, IsTrue}
+use Rattle.std.specs.Prelude.{ℕ, ◌≡◌, ◌≢◌, ◌⊎◌, ◌↔◌, ◌%◌, Bool, true, false, cond, not, List, [], ◌∷◌, length, Option, Some, None, IsTrue}
 use Rattle.std.proofs.Common.{arith, refl, sym, ap, subst, ◌∙◌, inl, inr}
 use Rattle.std.proofs.lemmas.Bool.{false≢true, cases_Bool, false_from_ne_true}
-use Rattle.chess_bits.specs.declared.men.Colour.{Colour}
 use Rattle.chess_bits.specs.declared.men.Kind.{Kind}
 use Rattle.chess_bits.specs.declared.men.Kind.TheVariants.{Pawn, Knight, Bishop, Rook, Queen, King}
 use Rattle.chess_bits.specs.Square.{Square, IsOnBoard, is_square}
 use Rattle.chess_bits.specs.Man.{other, is_kind}
 use Rattle.chess_bits.specs.Table.{has, put, union, meet, members, IsSetOf}
 use Rattle.chess_bits.specs.Attack.{SomeOf, Slides, SlidesAlong, straight, diagonal}
-use Rattle.chess_bits.proofs.TableLemmas.{at-put, length-put, is_square-true, is_square-other, is_square-same, is_square-false, on_board-from_at}
+use Rattle.chess_bits.proofs.TableLemmas.{at-put, length-put, is_square-true, is_square-other, is_square-false, on_board-from_at}
 use Rattle.chess_bits.proofs.ManLemmas.{none_is_no_man, not_of_both}
 use Rattle.chess_bits.proofs.AlongLemmas.{SomeOf-members, PassesEach, PassesEach-members}
-use Rattle.chess_bits.proofs.SetLemmas.{has-none, has-union, IsSetOf-union, IsSetOf-like}
+use Rattle.chess_bits.proofs.SetLemmas.{has-none, IsSetOf-union, IsSetOf-like}
 use Rattle.chess_board.specs.Position.{Position, man_at, occupied_of, IsValid}
 use Rattle.chess_board.specs.Next.{is_target, is_en_passant}
-use Rattle.chess_board.specs.Legal.{HoldsColour}
 use Rattle.chess_board.proofs.Candidates.{IsOnBoard-from_man, no_en_passant, no_target_is_plain, is_target-true}
 use Rattle.chess_moves.specs.declared.masks.Masks.{Masks}
 use Rattle.chess_moves.specs.Targets.{plain, GoesTo, LeavesKingSafe, GoesSafely, IsPiece}

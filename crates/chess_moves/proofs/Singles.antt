@@ -1,14 +1,14 @@
 -- Sets of one square, and of all squares.
-use Rattle.std.specs.Prelude.{ℕ, ◌≡◌, ◌⊎◌, ◌↔◌, ◌-◌, ◌^◌, ◌<◌, Bool, true, false, cond, List, [], ◌∷◌, length, Option, Some, None}
+use Rattle.std.specs.Prelude.{◌≡◌, ◌-◌, ◌^◌, Bool, true, false, cond, List, [], ◌∷◌, length, Some, None}
 use Rattle.std.specs.List.{list_all}
-use Rattle.std.proofs.Common.{arith, refl, sym, ap, subst, ◌∙◌, inl, inr}
-use Rattle.std.proofs.lemmas.Bool.{false≢true, cases_Bool, false_from_ne_true}
+use Rattle.std.proofs.Common.{refl, sym, ap, ◌∙◌, inl, inr}
+use Rattle.std.proofs.lemmas.Bool.{false≢true, cases_Bool}
 use Rattle.chess_bits.specs.Square.{Square, IsOnBoard, is_square, squares}
 use Rattle.chess_bits.specs.Table.{at, has, put, members, head_of, IsSetOf}
 use Rattle.chess_bits.specs.Word.{bools_of}
-use Rattle.chess_bits.proofs.TableLemmas.{at-put, is_square-true, is_square-other, is_square-same}
+use Rattle.chess_bits.proofs.TableLemmas.{at-put, is_square-true, is_square-same}
 use Rattle.chess_bits.proofs.WordLemmas.{length-bools_of}
-use Rattle.chess_bits.proofs.SetLemmas.{IsLeast-first, has-none, IsSetOf-like}
+use Rattle.chess_bits.proofs.SetLemmas.{IsLeast-first, has-none}
 use Rattle.chess_bits.proofs.Deciding.{Decides-each_square}
 use Rattle.chess_moves.proofs.Paths.{no_members}
 

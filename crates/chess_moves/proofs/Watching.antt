@@ -1,13 +1,12 @@
 -- What a watch in one way more adds to the masks.
-use Rattle.std.specs.Prelude.{ℕ, ◌≡◌, ◌≢◌, ◌⊎◌, ◌↔◌, ◌+◌, ◌%◌, ◌<◌, ◌≤◌, Bool, true, false, ◌||◌, List, [], length, Some, is_some}
+use Rattle.std.specs.Prelude.{ℕ, ◌≡◌, ◌+◌, ◌%◌, ◌<◌, ◌≤◌, Bool, true, false, ◌||◌, List, [], length, Some, is_some}
 use Rattle.std.proofs.Common.{arith, refl, sym, ap, subst, ◌∙◌, inl, inr, below_more}
 use Rattle.std.proofs.lemmas.Bool.{false≢true, cases_Bool, cases_eq}
 use Rattle.std.proofs.lemmas.List.{length-map}
 use Rattle.chess_bits.specs.declared.men.Kind.TheVariants.{King}
-use Rattle.chess_bits.specs.declared.steps.Step.{Step}
 use Rattle.chess_bits.specs.Square.{Square, IsOnBoard}
 use Rattle.chess_bits.specs.Man.{other}
-use Rattle.chess_bits.specs.Table.{has, meet, union, without, members, IsSetOf}
+use Rattle.chess_bits.specs.Table.{has, meet, union, members, IsSetOf}
 use Rattle.chess_bits.specs.Attack.{along, SlidesAlong}
 use Rattle.chess_bits.proofs.ManLemmas.{other-differs, same_colour}
 use Rattle.chess_bits.proofs.TableLemmas.{on_board-from_at}
@@ -17,8 +16,7 @@ use Rattle.chess_board.specs.Position.{Position, man_at, occupied_of, IsValid}
 use Rattle.chess_board.specs.Legal.{HoldsColour}
 use Rattle.chess_board.proofs.Candidates.{IsOnBoard-from_man}
 use Rattle.chess_moves.specs.declared.masks.Masks.{Masks}
-use Rattle.chess_moves.specs.declared.watch.Watch.{Watch}
-use Rattle.chess_moves.specs.Masks.{IsSlider, IsLeaper, Stops, IsAloneBetween, EndsBelow, KeepsBelow, IsPathTo, NoneAhead, IsWatch, HoldsPinsBelow, HoldsMasksBelow}
+use Rattle.chess_moves.specs.Masks.{IsSlider, Stops, IsAloneBetween, EndsBelow, KeepsBelow, IsPathTo, NoneAhead, HoldsPinsBelow, HoldsMasksBelow}
 use Rattle.chess_moves.proofs.Ways.{way-differs, odd_or_even}
 use Rattle.chess_moves.proofs.SetForms.{both_set}
 use Rattle.chess_moves.proofs.Exact.{has-occupied}

@@ -1,6 +1,5 @@
-use Rattle.std.proofs.Common.{◌≡◌, ◌∙◌, List, length, ap, sym, rules}
+use Rattle.std.proofs.Common.{◌≡◌, ◌∙◌, length, ap, sym, rules}
 use Rattle.std.proofs.lemmas.Grind.{common_steps}
-use Rattle.chess_moves.specs.Listing.{legal_from}
 use Rattle.chess_moves.proofs.Listed.{legal_from-empty, some_of_legal, own_of_legal}
 use Rattle.chess_moves.proofs.counting.count_from.Goals as goal
 

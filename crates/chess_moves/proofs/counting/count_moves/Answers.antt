@@ -1,10 +1,9 @@
-use Rattle.std.proofs.Common.{◌≡◌, ◌∙◌, ◌+◌, ◌≤◌, List, length, arith, ap, sym}
+use Rattle.std.proofs.Common.{◌≡◌, ◌∙◌, length, arith, ap, sym}
 use Rattle.std.specs.Prelude.{flat_map}
 use Rattle.chess_bits.specs.declared.men.Colour.{Colour}
 use Rattle.chess_bits.specs.Man.{is_of}
 use Rattle.chess_bits.specs.Table.{members}
 use Rattle.chess_bits.specs.SquaresOf.{squares_left}
-use Rattle.chess_board.specs.declared.moves.Move.{Move}
 use Rattle.chess_board.specs.Occupancy.{squares_with}
 use Rattle.chess_board.specs.Computing.{legal_moves_of}
 use Rattle.chess_moves.specs.Listing.{legal_from}

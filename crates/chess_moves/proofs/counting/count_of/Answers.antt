@@ -1,7 +1,7 @@
-use Rattle.std.proofs.Common.{◌≡◌, ◌∙◌, sym, ap, subst, refl, List, Bool, length}
+use Rattle.std.proofs.Common.{◌≡◌, ◌∙◌, sym, subst, refl}
 use Rattle.std.proofs.lemmas.Bool.{false≢true}
 use Rattle.chess_bits.specs.declared.men.Colour.{Colour}
-use Rattle.chess_bits.specs.Table.{members, IsSetOf}
+use Rattle.chess_bits.specs.Table.{IsSetOf}
 use Rattle.chess_board.specs.Legal.{last_rank}
 use Rattle.chess_moves.proofs.Counted.{length-pawn, length-other}
 use Rattle.chess_moves.proofs.counting.count_of.Goals as goal

@@ -1,4 +1,3 @@
-use Rattle.std.proofs.Common.{◌≡◌}
 use Rattle.chess_moves.proofs.Counted.{safe_told, told_safe}
 use Rattle.chess_moves.proofs.Safely.{not_told}
 use Rattle.chess_moves.proofs.listing.has_safe_target.Goals as goal

@@ -1,7 +1,7 @@
 use denote.Enum.Bare.{same_true}
 use Rattle.chess_bits.specs.contracts.men.Colour.{the_type}
 use Rattle.chess_bits.specs.declared.men.Colour.{Colour}
-use Rattle.std.proofs.Common.{Some, ◌≡◌, ◌∙◌, ◌++◌, List, [], ap, sym, rules, arith}
+use Rattle.std.proofs.Common.{Some, ◌≡◌, ◌∙◌, ◌++◌, List, [], ap, sym, rules}
 use Rattle.std.proofs.lemmas.Grind.{common_steps}
 use Rattle.std.proofs.lemmas.List.{append-nil}
 use Rattle.chess_board.specs.declared.moves.Move.{Move}

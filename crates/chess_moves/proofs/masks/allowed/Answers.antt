@@ -1,4 +1,4 @@
-use Rattle.std.proofs.Common.{◌≡◌, ◌∙◌, ap, sym, refl, List, Bool, false}
+use Rattle.std.proofs.Common.{◌≡◌, sym, false}
 use Rattle.chess_bits.specs.Table.{has}
 use Rattle.chess_bits.proofs.SetLemmas.{IsSetOf-like}
 use Rattle.chess_moves.specs.Masks.{EndsChecks, KeepsLine}

@@ -1,7 +1,7 @@
-use Rattle.std.proofs.Common.{◌≡◌, ◌∙◌, sym, ap, subst, refl, List, Bool, true, false}
+use Rattle.std.proofs.Common.{◌≡◌, ◌∙◌, sym, ap, true}
 use Rattle.std.proofs.lemmas.Bool.{false≢true}
-use Rattle.chess_bits.specs.Square.{Square, IsOnBoard}
-use Rattle.chess_bits.specs.Table.{has, members, IsSetOf}
+use Rattle.chess_bits.specs.Square.{Square}
+use Rattle.chess_bits.specs.Table.{has}
 use Rattle.chess_bits.proofs.SetLemmas.{IsLeast-first, has-none, IsSetOf-like}
 use Rattle.chess_moves.specs.Masks.{IsLeaper}
 use Rattle.chess_moves.proofs.Foes.{leaper_on}

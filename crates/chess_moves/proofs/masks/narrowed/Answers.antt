@@ -1,4 +1,4 @@
-use Rattle.std.proofs.Common.{◌≡◌, ◌∙◌, ap, sym, subst, refl, List, Bool, length, true, false}
+use Rattle.std.proofs.Common.{◌≡◌, ◌∙◌, ap, sym, subst, refl, List, Bool, length, true}
 use Rattle.std.proofs.lemmas.Bool.{false≢true}
 use Rattle.chess_bits.specs.Square.{Square, IsOnBoard}
 use Rattle.chess_bits.specs.Table.{has, IsSetOf}

@@ -1,5 +1,4 @@
-use Rattle.std.proofs.Common.{◌≡◌, ◌∙◌, arith, ap, sym, subst, List, Bool, length}
-use Rattle.chess_bits.specs.Table.{IsSetOf}
+use Rattle.std.proofs.Common.{◌≡◌, ◌∙◌, arith, ap, length}
 use Rattle.chess_bits.proofs.SetLemmas.{IsSetOf-like}
 use Rattle.chess_attacks.proofs.Listed.{length-empty}
 use Rattle.chess_bits.specs.Square.{Square}

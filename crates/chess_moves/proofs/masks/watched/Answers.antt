@@ -1,12 +1,9 @@
-use Rattle.std.proofs.Common.{◌≡◌, ◌∙◌, ap, sym, subst, refl, List, Bool, [], length, true, false}
+use Rattle.std.proofs.Common.{◌∙◌, ap, sym, subst, refl, List, Bool, length}
 use Rattle.std.proofs.lemmas.Bool.{false≢true}
-use Rattle.chess_bits.specs.Square.{Square}
-use Rattle.chess_bits.specs.Table.{members, union, IsSetOf}
+use Rattle.chess_bits.specs.Table.{members}
 use Rattle.chess_board.specs.Position.{occupied_of}
-use Rattle.chess_moves.specs.Masks.{IsSlider, HoldsMasksBelow}
-use Rattle.chess_moves.specs.declared.masks.Masks.{Masks}
 use Rattle.chess_moves.proofs.Singles.{IsOne}
-use Rattle.chess_moves.proofs.Paths.{between_of, length-between}
+use Rattle.chess_moves.proofs.Paths.{length-between}
 use Rattle.chess_moves.proofs.Watching.{sliders_set, length-occupied, none_watched, check_watched, pin_watched, crowd_watched}
 use Rattle.chess_moves.proofs.masks.watched.Goals as goal
 

@@ -1,5 +1,5 @@
-use Rattle.std.proofs.Common.{◌≡◌, ◌∙◌, ap, sym, subst, refl, List, Bool, false}
-use Rattle.chess_bits.specs.Table.{put, union, meet, IsSetOf}
+use Rattle.std.proofs.Common.{◌≡◌, ◌∙◌, ap, subst, refl, List, Bool, false}
+use Rattle.chess_bits.specs.Table.{put, IsSetOf}
 use Rattle.chess_bits.specs.Attack.{Slides, straight, diagonal}
 use Rattle.chess_board.specs.Position.{occupied_of}
 use Rattle.chess_moves.proofs.Safely.{IsSeenAttacker, seen_set, attacked_told}

@@ -1,4 +1,4 @@
-use Rattle.std.proofs.Common.{◌≡◌, ◌∙◌, ap, sym, refl, true}
+use Rattle.std.proofs.Common.{◌≡◌, sym, true}
 use Rattle.std.specs.Prelude.{◌↔◌}
 use Rattle.chess_bits.specs.Table.{empty}
 use Rattle.chess_bits.specs.Attack.{adjoining, Reaches}

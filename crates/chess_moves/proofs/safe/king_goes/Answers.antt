@@ -1,7 +1,6 @@
-use Rattle.std.proofs.Common.{◌≡◌, ◌∙◌, ap, sym, subst, refl, List, Bool}
+use Rattle.std.proofs.Common.{◌∙◌, ap, sym, subst, refl, List, Bool}
 use Rattle.std.proofs.lemmas.Bool.{false≢true}
 use Rattle.chess_bits.specs.declared.men.Kind.TheVariants.{King}
-use Rattle.chess_bits.specs.Table.{members}
 use Rattle.chess_bits.specs.SquaresOf.{squares_left}
 use Rattle.chess_moves.specs.Targets.{GoesTo, LeavesKingSafe}
 use Rattle.chess_moves.proofs.Safely.{KeepsSafe, keeps_start, keeps_safe, keeps_exposed, keeps_end}

@@ -1,4 +1,4 @@
-use Rattle.std.proofs.Common.{◌≡◌, ◌∙◌, ap, sym, refl, true, not}
+use Rattle.std.proofs.Common.{◌≡◌, sym, true, not}
 use Rattle.std.specs.Prelude.{◌↔◌}
 use Rattle.chess_board.specs.Position.{IsInCheck}
 use Rattle.chess_board.specs.Next.{placement_after}

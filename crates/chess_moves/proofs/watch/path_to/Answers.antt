@@ -1,4 +1,4 @@
-use Rattle.std.proofs.Common.{◌≡◌, ◌∙◌, ap, sym, subst, arith, List, Bool, [], inl, inr, ◌<◌}
+use Rattle.std.proofs.Common.{◌≡◌, ◌∙◌, ap, sym, subst, arith, List, Bool, inl, inr, ◌<◌}
 use Rattle.std.specs.Prelude.{◌⊎◌, Some, ℕ}
 use Rattle.std.proofs.lemmas.Bool.{cases_lt, cases_eq}
 use Rattle.chess_bits.specs.Table.{members, head_of, IsGreatest}
