@@ -213,7 +213,7 @@ length-safe_choices p kind from to = elim (cases_Bool (leaves_king_safe p from t
 ]
 
 -- the way of a man as a test
-abbrev goes : Position → Kind → Square → Square → Bool
+abbrev pub goes : Position → Kind → Square → Square → Bool
 goes p Pawn from to =
     advances p (plain from to) || (advances_two p (plain from to) || (pawn_takes p (plain from to) ||
     takes_en_passant p (plain from to)))
@@ -225,7 +225,7 @@ goes p King from to =
     is_piece_move p (plain from to) King || (castles p (plain from to) wing.King ||
     castles p (plain from to) wing.Queen)
 
-Decides-goes : (p : Position) (kind : Kind) (from to : Square) → IsOnBoard from → IsOnBoard to →
+pub Decides-goes : (p : Position) (kind : Kind) (from to : Square) → IsOnBoard from → IsOnBoard to →
     Decides (goes p kind from to) (GoesTo p kind from to)
 Decides-goes p Pawn from to on_from on =
     or_decides (Decides-advances p (plain from to)) (or_decides (Decides-advances_two p (plain from to))

@@ -6,4 +6,13 @@ pub mod Promoting
 pub mod Listed
 pub mod Taken
 pub mod Bound
-pub mod Risks
+pub mod Ways
+pub mod Lines
+pub mod Exact
+pub mod Paths
+pub mod Singles
+pub mod Foes
+pub mod Watching
+pub mod Safely
+pub mod Counted
+pub mod LastSquares

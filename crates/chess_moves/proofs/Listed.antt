@@ -8,7 +8,7 @@ use Rattle.chess_bits.specs.declared.men.Colour.{Colour}
 use Rattle.chess_bits.specs.declared.men.Kind.{Kind}
 use Rattle.chess_bits.specs.declared.men.Kind.TheVariants.{Pawn, Knight, Bishop, Rook, Queen, King}
 use Rattle.chess_bits.specs.Square.{Square, IsOnBoard, square_at, squares}
-use Rattle.chess_bits.specs.Table.{has, members, IsSetOf}
+use Rattle.chess_bits.specs.Table.{has, members}
 use Rattle.chess_bits.specs.Man.{is_of}
 use Rattle.chess_bits.proofs.ManLemmas.{same_colour, none_is_no_man}
 use Rattle.chess_bits.proofs.TableLemmas.{IsOnBoard-square_at}
@@ -27,7 +27,7 @@ use Rattle.chess_board.proofs.DistinctMoves.{from_of_moves, legal_moves_of-disti
 use Rattle.chess_moves.specs.Targets.{plain, GoesTo, Becomes, LeavesKingSafe, HasSafeTarget}
 use Rattle.chess_moves.specs.Moves.{IsListOfLegalMoves, HasLegalFrom}
 use Rattle.chess_moves.specs.Listing.{legal_from, promoted, promotions, choices}
-use Rattle.chess_moves.proofs.ListLemmas.{filter-flat_map, flat_map-filter, filter-none, filter-same}
+use Rattle.chess_moves.proofs.ListLemmas.{filter-flat_map, filter-none, filter-same}
 use Rattle.chess_moves.proofs.Parts.{move_of_parts, goes_of_move, becomes_of_move, candidate_kind}
 use Rattle.chess_moves.proofs.Promoting.{promoted_check, plain_check}
 
@@ -195,34 +195,6 @@ on_board-squares s here =
     subst IsOnBoard
     (sym (get_or-map-range_with_len square_at 0 64 here.0 here.0 s below (omega arith)) ∙ here.2)
     (IsOnBoard-square_at here.0 below)
-
-pub legal_from-targets : (p : Position) (from : Square) (kind : Kind) (set : List Bool) → length p.placement ≡ 64 →
-    man_at p.placement from ≡ Some (p.side, kind) → IsSetOf set (GoesTo p kind from) →
-    legal_from p from ≡ flat_map (safe_choices p kind from) (members set)
-unfolding legal_from members
-legal_from-targets p from kind set whole own of =
-    let Listed : Square → List Move = λ to. filter (is_legal p) (moves_between from to) in
-    let listed : (to : Square) → Contains squares to → Listed to ≡ cond (has set to) (safe_choices p kind from to) [] =
-    λ to here.
-    let on = on_board-squares to here in
-    between_choices p from to kind (has set to) whole on own (of.exact to on) in
-    filter-flat_map (is_legal p) (moves_between from) squares
-    ∙ sym (flat_map-filter (has set) (safe_choices p kind from) Listed squares
-    (λ to here goes. sym (listed to here ∙ ap (λ (b : Bool). cond b (safe_choices p kind from to) []) goes))
-    (λ to here stays. listed to here ∙ ap (λ (b : Bool). cond b (safe_choices p kind from to) []) stays))
-
-pub safe_choices-safe : (p : Position) (kind : Kind) (from to : Square) → LeavesKingSafe p from to →
-    safe_choices p kind from to ≡ choices p.side kind from to
-unfolding safe_choices
-safe_choices-safe p kind from to safe =
-    ap (λ (b : Bool). cond b (choices p.side kind from to) []) ((Decides-leaves_king_safe p from to).1 safe)
-
-pub safe_choices-exposed : (p : Position) (kind : Kind) (from to : Square) → ¬ LeavesKingSafe p from to →
-    safe_choices p kind from to ≡ []
-unfolding safe_choices
-safe_choices-exposed p kind from to exposed =
-    ap (λ (b : Bool). cond b (choices p.side kind from to) [])
-    (false_from_ne_true (leaves_king_safe p from to) (λ e. exposed ((Decides-leaves_king_safe p from to).0 e)))
 
 -- ---- whether there is one
 

@@ -164,7 +164,7 @@ takable_set_none p theirs of e =
     (λ s on held. inl held)
     (λ s on some. elim some [ inl held ↦ held | inr is ↦ absurd (no_target p.target s e is) ])
 
-length-meet : (a b : List Bool) → length a ≡ length b → length (meet a b) ≡ length a
+pub length-meet : (a b : List Bool) → length a ≡ length b → length (meet a b) ≡ length a
 unfolding meet
 length-meet a b len = length-each (λ x y. x && y) a b len
 

@@ -1,3 +1,4 @@
 pub mod Targets
 pub mod Moves
 pub mod Listing
+pub mod Masks

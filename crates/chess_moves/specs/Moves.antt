@@ -1,4 +1,4 @@
-use Rattle.std.specs.Prelude.{◌≡◌, ◌≢◌, ◌↔◌, List, Contains}
+use Rattle.std.specs.Prelude.{ℕ, ◌≡◌, ◌≢◌, ◌↔◌, List, length, Contains}
 use Rattle.std.specs.List.{AllPairs}
 use Rattle.chess_bits.specs.Square.{Square}
 use Rattle.chess_board.specs.declared.moves.Move.{Move}
@@ -17,3 +17,9 @@ HasLegal p = (m : Move) × IsLegal p m
 -- the man on a square has one
 abbrev pub HasLegalFrom : Position → Square → Type 0
 HasLegalFrom p from = (m : Move) × (m.from ≡ from) × IsLegal p m
+
+-- how many legal moves there are: the length of a list of exactly these
+pub record IsNumberOfLegalMoves (p : Position) (n : ℕ) : Type 0 where
+  pub moves : List Move
+  pub listed : IsListOfLegalMoves p moves
+  pub number : length moves ≡ n

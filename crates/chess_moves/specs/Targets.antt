@@ -1,12 +1,11 @@
-use Rattle.std.specs.Prelude.{◌≡◌, ◌≢◌, ◌⊎◌, Bool, false, List, Option, Some, None}
+use Rattle.std.specs.Prelude.{◌≡◌, ◌⊎◌, Option, None}
 use Rattle.chess_bits.specs.declared.men.Colour.{Colour}
 use Rattle.chess_bits.specs.declared.men.Kind.{Kind}
 use Rattle.chess_bits.specs.declared.men.Kind.TheVariants.{Pawn, Knight, Bishop, Rook, Queen, King}
 use Rattle.chess_bits.specs.Square.{Square, IsOnBoard}
-use Rattle.chess_bits.specs.Table.{has}
 use Rattle.chess_board.specs.declared.castling.Wing.TheVariants as wing
 use Rattle.chess_board.specs.declared.moves.Move.{Move}
-use Rattle.chess_board.specs.Position.{Position, man_at, IsInCheck}
+use Rattle.chess_board.specs.Position.{Position, IsInCheck}
 use Rattle.chess_board.specs.Next.{placement_after}
 use Rattle.chess_board.specs.Legal.{IsPromotion, Advances, AdvancesTwo, PawnTakes, TakesEnPassant, IsPieceMove, Castles}
 
@@ -46,8 +45,15 @@ LeavesKingSafe p from to = ¬ IsInCheck (placement_after p (plain from to)) p.si
 abbrev pub HasSafeTarget : Position → Kind → Square → Type 0
 HasSafeTarget p kind from = (to : Square) × IsOnBoard to × GoesTo p kind from to × LeavesKingSafe p from to
 
--- From each square that is not in the set, a man of the side to move leaves its king safe wherever it goes, but for the
--- square on which a pawn may be taken en passant.
-abbrev pub HoldsRisks : Position → List Bool → Type 0
-HoldsRisks p set = (from to : Square) (kind : Kind) → IsOnBoard to → has set from ≡ false →
-    man_at p.placement from ≡ Some (p.side, kind) → p.target ≢ Some to → LeavesKingSafe p from to
+-- a man of the kind goes from a square to another, and its king is safe
+abbrev pub GoesSafely : Position → Kind → Square → Square → Type 0
+GoesSafely p kind from to = GoesTo p kind from to × LeavesKingSafe p from to
+
+-- neither a pawn nor the king
+abbrev pub IsPiece : Kind → Type 0
+IsPiece Pawn = ⊥
+IsPiece Knight = Unit {0}
+IsPiece Bishop = Unit {0}
+IsPiece Rook = Unit {0}
+IsPiece Queen = Unit {0}
+IsPiece King = ⊥

@@ -2,14 +2,18 @@
 #![tactic(auto)]
 
 mod castling;
+mod counting;
 mod legality;
 mod listing;
+mod masks;
 mod pawns;
 mod promotions;
-mod safety;
+mod safe;
 mod squares;
 mod targets;
+mod watch;
 
+pub use counting::count_moves;
 pub use legality::{after_legal, legal};
 pub use listing::{has_legal, legal_moves};
 

@@ -1,4 +1,4 @@
-use crate::{has_legal, legal, legal_moves};
+use crate::{count_moves, has_legal, legal, legal_moves};
 use chess_bits::{Colour, Kind, Square};
 use chess_board::{Board, CastlingRights, Move, Parts};
 use std::process::Abort;
@@ -76,7 +76,7 @@ fn lines(board: &Board, moves: u8) -> u64 {
 #[test]
 fn a_game_starts_with_20_moves(rt: HostRuntime) {
     let board = Board::initial();
-    assert!(rt; legal_moves(&board).len() == 20 && has_legal(&board));
+    assert!(rt; legal_moves(&board).len() == 20 && count_moves(&board) == 20 && has_legal(&board));
     for (moves, count) in [(1, 20), (2, 400), (3, 8_902)] {
         assert_eq!(rt; lines(&board, moves), count);
     }
@@ -98,6 +98,7 @@ fn both_sides_may_castle(rt: HostRuntime) {
     let rights = CastlingRights::of(true, true, true, true);
     let board = board_of(&rt, &BOTH_MAY_CASTLE, rights, None);
     assert_eq!(rt; legal_moves(&board).len(), 48);
+    assert_eq!(rt; count_moves(&board), 48);
     assert_eq!(rt; lines(&board, 2), 2_039);
 }
 
@@ -116,6 +117,7 @@ const NINE_QUEENS: Diagram = *b"\
 fn nine_queens_have_218_moves(rt: HostRuntime) {
     let board = board_of(&rt, &NINE_QUEENS, no_rights(), None);
     assert_eq!(rt; legal_moves(&board).len(), 218);
+    assert_eq!(rt; count_moves(&board), 218);
 }
 
 // 8/8/8/8/8/6k1/6q1/6K1 w - - 0 1
@@ -145,7 +147,9 @@ fn mate_and_stalemate_leave_no_move(rt: HostRuntime) {
     for (diagram, is_mate) in [(&MATE, true), (&STALEMATE, false)] {
         let board = board_of(&rt, diagram, no_rights(), None);
         assert_eq!(rt; board.in_check(), is_mate);
-        assert!(rt; !has_legal(&board) && legal_moves(&board).len() == 0);
+        assert!(rt;
+            !has_legal(&board) && legal_moves(&board).len() == 0 && count_moves(&board) == 0
+        );
     }
 }
 
@@ -207,6 +211,7 @@ const PAWN_TAKES: Diagram = *b"\
 #[test]
 fn pawn_on_the_last_rank_becomes_a_piece(rt: HostRuntime) {
     let board = board_of(&rt, &PAWN_TAKES, no_rights(), None);
+    assert_eq!(rt; count_moves(&board), 14);
     for (promotion, is_legal) in [
         (None, false),
         (Some(Kind::Queen), true),
@@ -217,4 +222,59 @@ fn pawn_on_the_last_rank_becomes_a_piece(rt: HostRuntime) {
         let takes = move_of(Square::at(1, 7), Square::at(2, 8), promotion);
         assert_eq!(rt; legal(&board, takes), is_legal);
     }
+}
+
+// 4k3/8/8/8/4r3/5n2/6P1/2B1K2R w - - 0 1: rook and knight give check.
+const DOUBLE_CHECK: Diagram = *b"\
+    ....k...\
+    ........\
+    ........\
+    ........\
+    ....r...\
+    .....n..\
+    ......P.\
+    ..B.K..R";
+
+// Neither taking the knight nor a bishop on e3 ends both checks: Kd1, Kf1 and Kf2.
+#[test]
+fn only_the_king_answers_a_double_check(rt: HostRuntime) {
+    let board = board_of(&rt, &DOUBLE_CHECK, no_rights(), None);
+    assert!(rt; count_moves(&board) == 3 && legal_moves(&board).len() == 3);
+    assert!(rt; !legal(&board, move_of(Square::at(7, 2), Square::at(6, 3), None)));
+}
+
+// 4r2k/8/8/b7/7b/8/3BRN2/4K3 w - - 0 1
+const THREE_PINS: Diagram = *b"\
+    ....r..k\
+    ........\
+    ........\
+    b.......\
+    .......b\
+    ........\
+    ...BRN..\
+    ....K...";
+
+// The rook has six moves along its pin and the bishop three, the knight none: and Kd1, Kf1.
+#[test]
+fn pinned_men_stay_on_their_lines(rt: HostRuntime) {
+    let board = board_of(&rt, &THREE_PINS, no_rights(), None);
+    assert!(rt; count_moves(&board) == 11 && legal_moves(&board).len() == 11);
+}
+
+// k3r3/8/8/8/4K3/8/8/8 w - - 0 1
+const CHECK_ON_A_FILE: Diagram = *b"\
+    k...r...\
+    ........\
+    ........\
+    ........\
+    ....K...\
+    ........\
+    ........\
+    ........";
+
+// The king stands no safer on e3, behind the square that it left.
+#[test]
+fn a_king_does_not_step_back_along_the_ray(rt: HostRuntime) {
+    let board = board_of(&rt, &CHECK_ON_A_FILE, no_rights(), None);
+    assert!(rt; count_moves(&board) == 6 && legal_moves(&board).len() == 6);
 }

@@ -1,4 +1,7 @@
-use Rattle.std.proofs.Common.{◌≡◌, ◌∙◌, ◌++◌, List, [], ap, sym, rules}
+use denote.Enum.Bare.{same_true}
+use Rattle.chess_bits.specs.contracts.men.Colour.{the_type}
+use Rattle.chess_bits.specs.declared.men.Colour.{Colour}
+use Rattle.std.proofs.Common.{Some, ◌≡◌, ◌∙◌, ◌++◌, List, [], ap, sym, rules}
 use Rattle.std.proofs.lemmas.Grind.{common_steps}
 use Rattle.std.proofs.lemmas.List.{append-nil}
 use Rattle.chess_board.specs.declared.moves.Move.{Move}
@@ -23,3 +26,9 @@ returns-else-eq c =
     (legal_from-empty p c.args.from
     (λ legal. apart
     (own_of_legal p c.args.from (c.in-Some.colour, c.in-Some.kind) (sym c.in-Some.ensures) legal ∙ sym c.side.ensures)))
+
+pub push_moves_of-requires-clause-own : goal.push_moves_of-requires-clause-own
+push_moves_of-requires-clause-own c =
+    let same : c.in-Some.colour ≡ c.side.result =
+    same_true the_type (search rules) c.in-Some.colour c.side.result (sym c.eq.ensures ∙ c.if-eq.true) in
+    sym c.in-Some.ensures ∙ ap (λ (colour : Colour). Some (colour, c.in-Some.kind)) (same ∙ c.side.ensures)

@@ -17,10 +17,10 @@ returns-then-depth-eq0 t c =
 pub returns-then-depth-eq1 : goal.returns-then-depth-eq1
 returns-then-depth-eq1 t c =
     let one = c.if-depth-eq1.true in
-    let items = c.legal_moves-moves.result.items in (
-      length items,
-      rw one (moves_alone c.args.board.now items c.legal_moves-moves.ensures),
-      omega (arith, c.len.ensures.value, c.len.ensures.fits),
+    let n = c.count_moves.ensures in (
+      length n.moves,
+      rw one (moves_alone c.args.board.now n.moves n.listed),
+      omega (arith, n.number, c.from.ensures),
     )
 
 pub apply-requires-clause-legal : goal.apply-requires-clause-legal

@@ -1,0 +1,345 @@
+-- What a watch in one way more adds to the masks.
+use Rattle.std.specs.Prelude.{ℕ, ◌≡◌, ◌+◌, ◌%◌, ◌<◌, ◌≤◌, Bool, true, false, ◌||◌, List, [], length, Some, is_some}
+use Rattle.std.proofs.Common.{arith, refl, sym, ap, subst, ◌∙◌, inl, inr, below_more}
+use Rattle.std.proofs.lemmas.Bool.{false≢true, cases_Bool, cases_eq}
+use Rattle.std.proofs.lemmas.List.{length-map}
+use Rattle.chess_bits.specs.declared.men.Kind.TheVariants.{King}
+use Rattle.chess_bits.specs.Square.{Square, IsOnBoard}
+use Rattle.chess_bits.specs.Man.{other}
+use Rattle.chess_bits.specs.Table.{has, meet, union, members, IsSetOf}
+use Rattle.chess_bits.specs.Attack.{along, SlidesAlong}
+use Rattle.chess_bits.proofs.ManLemmas.{other-differs, same_colour}
+use Rattle.chess_bits.proofs.TableLemmas.{on_board-from_at}
+use Rattle.chess_bits.proofs.SetLemmas.{has-union, has-none, length-union, IsSetOf-like}
+use Rattle.chess_attacks.specs.Ways.{way_step}
+use Rattle.chess_board.specs.Position.{Position, man_at, occupied_of, IsValid}
+use Rattle.chess_board.specs.Legal.{HoldsColour}
+use Rattle.chess_board.proofs.Candidates.{IsOnBoard-from_man}
+use Rattle.chess_moves.specs.declared.masks.Masks.{Masks}
+use Rattle.chess_moves.specs.Masks.{IsSlider, Stops, IsAloneBetween, EndsBelow, KeepsBelow, IsPathTo, NoneAhead, HoldsPinsBelow, HoldsMasksBelow}
+use Rattle.chess_moves.proofs.Ways.{way-differs, odd_or_even}
+use Rattle.chess_moves.proofs.SetForms.{both_set}
+use Rattle.chess_moves.proofs.Exact.{has-occupied}
+use Rattle.chess_moves.proofs.Paths.{empty_slide, between_of, same_slider, seen_slide, none_between, alone_set, set_alone, length-between}
+
+-- ---- the men
+
+pub sliders_set : (p : Position) (masks : Masks) (n way : ℕ) (sliders : List Bool) → HoldsMasksBelow p n masks →
+    (way % 2 ≡ 0 → sliders ≡ masks.straight) → (way % 2 ≡ 1 → sliders ≡ masks.diagonal) →
+    IsSetOf sliders (IsSlider p way)
+sliders_set p masks n way sliders holds even odd =
+    let Set' : List Bool → Type 0 = λ set. IsSetOf set (IsSlider p way) in
+    elim (odd_or_even way) [
+      | inl e ↦ subst Set' (sym (even e)) (holds.straight way e)
+      | inr e ↦ subst Set' (sym (odd e)) (holds.diagonal way e)
+    ]
+
+pub length-occupied : (p : Position) → IsValid p → length (occupied_of p.placement) ≡ 64
+length-occupied p valid = length-map p.placement is_some ∙ valid.whole
+
+slider_on : (p : Position) (way : ℕ) (c : Square) → IsSlider p way c → IsOnBoard c
+slider_on p way c slider = IsOnBoard-from_man p.placement c (other p.side, slider.0) slider.1
+
+pub own_on : (p : Position) (from : Square) → HoldsColour p from p.side → IsOnBoard from
+own_on p from own = IsOnBoard-from_man p.placement from (p.side, own.0) own.1
+
+own_stands : (p : Position) (from : Square) → HoldsColour p from p.side → has (occupied_of p.placement) from ≡ true
+own_stands p from own = has-occupied p.placement from ∙ ap is_some own.1
+
+-- sliders stand, and no own man is one
+sliders_stand : (p : Position) (way : ℕ) (sliders : List Bool) → IsSetOf sliders (IsSlider p way) → (q : Square) →
+    has sliders q ≡ true → has (occupied_of p.placement) q ≡ true
+sliders_stand p way sliders of q here =
+    let on : IsOnBoard q = on_board-from_at false sliders q (λ none. false≢true (sym none ∙ here)) in
+    let slider = (of.exact q on).0 here in
+    has-occupied p.placement q ∙ ap is_some slider.1
+
+own_no_slider : (p : Position) (way : ℕ) (sliders : List Bool) (from : Square) → IsSetOf sliders (IsSlider p way) →
+    HoldsColour p from p.side → has sliders from ≡ false
+own_no_slider p way sliders from of own = elim (cases_Bool (has sliders from)) [
+  | inr away ↦ away
+  | inl here ↦
+      let slider = (of.exact from (own_on p from own)).0 here in
+      absurd (other-differs p.side (same_colour (man_at p.placement from) (other p.side, slider.0) (p.side, own.0)
+      slider.1 own.1))
+]
+
+-- ---- one way more
+
+-- what a watch knows of a way
+record Watched (p : Position) (k : Square) (way : ℕ) (sliders : List Bool) : Type 0 where
+  valid : IsValid p
+  king : man_at p.placement k ≡ Some (p.side, King)
+  below : way < 8
+  of : IsSetOf sliders (IsSlider p way)
+
+king_on : (p : Position) (k : Square) (way : ℕ) (sliders : List Bool) → Watched p k way sliders → IsOnBoard k
+king_on p k way sliders w = IsOnBoard-from_man p.placement k (p.side, King) w.king
+
+-- a slider of the way that gives check is the nearest
+check_is_nearest : (p : Position) (k c : Square) (way : ℕ) (sliders path : List Bool) → Watched p k way sliders →
+    (seen : IsPathTo sliders k (way_step way) path) → IsSlider p way c →
+    SlidesAlong (occupied_of p.placement) k c (way_step way) → c ≡ seen.slider
+check_is_nearest p k c way sliders path w seen slider slide =
+    let on_c = slider_on p way c slider in
+    same_slider (occupied_of p.placement) sliders path k c k (way_step way) slide.distance (way-differs way w.below) on_c
+    seen ((w.of.exact c on_c).1 slider) slide.positive slide.there (sliders_stand p way sliders w.of)
+    (own_no_slider p way sliders k w.of (King, w.king)) (λ j one less. inr (slide.between_empty j one less))
+
+pin_is_nearest : (p : Position) (k c from : Square) (way : ℕ) (sliders path : List Bool) → Watched p k way sliders →
+    (seen : IsPathTo sliders k (way_step way) path) → IsSlider p way c → HoldsColour p from p.side →
+    IsAloneBetween (occupied_of p.placement) k c from (way_step way) → c ≡ seen.slider
+pin_is_nearest p k c from way sliders path w seen slider own pin =
+    let on_c = slider_on p way c slider in
+    same_slider (occupied_of p.placement) sliders path k c from (way_step way) pin.far (way-differs way w.below) on_c
+    seen ((w.of.exact c on_c).1 slider) (omega (arith, pin.positive, pin.nearer)) pin.there
+    (sliders_stand p way sliders w.of) (own_no_slider p way sliders from w.of own)
+    (λ j one less. elim (cases_eq j pin.near) [
+      | inl e ↦ inl (ap (λ (i : ℕ). along i (way_step way) k) e ∙ sym pin.here)
+      | inr other_place ↦ inr (pin.alone j one less other_place)
+    ])
+
+abbrev EndsIn : Position → Square → Square → ℕ → Type 0
+EndsIn p k q way = (c : Square) → IsSlider p way c → SlidesAlong (occupied_of p.placement) k c (way_step way) →
+    Stops k c (way_step way) q
+
+abbrev NoPinIn : Position → Square → Square → ℕ → Type 0
+NoPinIn p k from way = (c : Square) → IsSlider p way c →
+    ¬ IsAloneBetween (occupied_of p.placement) k c from (way_step way)
+
+abbrev KeepsIn : Position → Square → Square → Square → ℕ → Type 0
+KeepsIn p k from q way = (c : Square) → IsSlider p way c →
+    IsAloneBetween (occupied_of p.placement) k c from (way_step way) → Stops k c (way_step way) q
+
+pub ends_more : (p : Position) (k q : Square) (way : ℕ) → EndsBelow p k way q → EndsIn p k q way →
+    EndsBelow p k (way + 1) q
+ends_more p k q way ends here = record {
+  leaps = ends.leaps;
+  slides = λ w c less slider slide.
+      below_more (EndsIn p k q) way (λ w' less' c' slider' slide'. ends.slides w' c' less' slider' slide') here w less c
+      slider slide;
+}
+
+pub ends_less : (p : Position) (k q : Square) (way : ℕ) → EndsBelow p k (way + 1) q →
+    EndsBelow p k way q × EndsIn p k q way
+ends_less p k q way ends = (
+  record { leaps = ends.leaps; slides = λ w c less slider slide. ends.slides w c (omega arith) slider slide },
+  λ c slider slide. ends.slides way c (omega arith) slider slide,
+)
+
+pins_more : (p : Position) (k : Square) (way : ℕ) (before after : List Bool) → HoldsPinsBelow p k way before →
+    ((from : Square) → has after from ≡ false → has before from ≡ false) →
+    ((from : Square) → HoldsColour p from p.side → has after from ≡ false → NoPinIn p k from way) →
+    HoldsPinsBelow p k (way + 1) after
+pins_more p k way before after pins fewer here from w c own outside less slider =
+    below_more (NoPinIn p k from) way
+    (λ w' less' c' slider'. pins from w' c' own (fewer from outside) less' slider') (here from own outside) w less c slider
+
+pub keeps_more : (p : Position) (k from q : Square) (way : ℕ) → KeepsBelow p k from way q → KeepsIn p k from q way →
+    KeepsBelow p k from (way + 1) q
+keeps_more p k from q way keeps here w c less slider pin =
+    below_more (KeepsIn p k from q) way (λ w' less' c' slider' pin'. keeps w' c' less' slider' pin') here w less c slider
+    pin
+
+pub keeps_less : (p : Position) (k from q : Square) (way : ℕ) → KeepsBelow p k from (way + 1) q →
+    KeepsBelow p k from way q × KeepsIn p k from q way
+keeps_less p k from q way keeps = (
+  λ w c less slider pin. keeps w c (omega arith) slider pin,
+  λ c slider pin. keeps way c (omega arith) slider pin,
+)
+
+-- ---- the four answers of a watch
+
+check_ahead : (p : Position) (k c : Square) (way : ℕ) (sliders : List Bool) → Watched p k way sliders →
+    NoneAhead sliders k (way_step way) → IsSlider p way c → (n : ℕ) → 1 ≤ n → c ≡ along n (way_step way) k → ⊥
+check_ahead p k c way sliders w none slider n positive there =
+    let on_c = slider_on p way c slider in
+    none c on_c ((w.of.exact c on_c).1 slider)
+    (empty_slide k c (way_step way) n (king_on p k way sliders w) on_c positive there)
+
+pub none_watched : (p : Position) (masks : Masks) (way : ℕ) (sliders : List Bool) → IsValid p → way < 8 →
+    IsSetOf sliders (IsSlider p way) → NoneAhead sliders masks.king (way_step way) → HoldsMasksBelow p way masks →
+    HoldsMasksBelow p (way + 1) masks
+none_watched p masks way sliders valid below of none holds =
+    let k : Square = masks.king in
+    let w : Watched p k way sliders = record { valid = valid; king = holds.king; below = below; of = of } in
+    record {
+      valid = holds.valid;
+      king = holds.king;
+      straight = holds.straight;
+      diagonal = holds.diagonal;
+      ends = IsSetOf-like masks.ends (EndsBelow p k way) (EndsBelow p k (way + 1)) holds.ends
+          (λ q on ends. ends_more p k q way ends (λ c slider slide.
+          absurd (check_ahead p k c way sliders w none slider slide.distance slide.positive slide.there)))
+          (λ q on ends. (ends_less p k q way ends).0);
+      pinned_whole = holds.pinned_whole;
+      pinned = pins_more p k way masks.pinned masks.pinned holds.pinned (λ from outside. outside)
+          (λ from own outside c slider pin.
+          check_ahead p k c way sliders w none slider pin.far (omega (arith, pin.positive, pin.nearer)) pin.there);
+    }
+
+-- a man alone between is all that stands there
+alone_there : (p : Position) (k c from : Square) (way : ℕ) (sliders path : List Bool) → Watched p k way sliders →
+    (seen : IsPathTo sliders k (way_step way) path) → IsSlider p way c → HoldsColour p from p.side →
+    IsAloneBetween (occupied_of p.placement) k c from (way_step way) →
+    IsSetOf (between_of path (occupied_of p.placement) sliders) (λ q. q ≡ from)
+alone_there p k c from way sliders path w seen slider own pin =
+    let Alone' : Square → Type 0 = λ x. IsAloneBetween (occupied_of p.placement) k x from (way_step way) in
+    alone_set (occupied_of p.placement) sliders path k from (way_step way) (way-differs way w.below)
+    (king_on p k way sliders w) (own_on p from own) (length-occupied p w.valid) w.of.whole seen (own_stands p from own)
+    (subst Alone' (pin_is_nearest p k c from way sliders path w seen slider own pin) pin)
+
+-- nothing stands between: it gives check, and pins no man
+pub check_watched : (p : Position) (masks : Masks) (way : ℕ) (sliders path : List Bool) → IsValid p → way < 8 →
+    IsSetOf sliders (IsSlider p way) → IsPathTo sliders masks.king (way_step way) path →
+    members (between_of path (occupied_of p.placement) sliders) ≡ [] → HoldsMasksBelow p way masks →
+    HoldsMasksBelow p (way + 1) (record masks { ends = meet masks.ends path })
+check_watched p masks way sliders path valid below of seen none holds =
+    let k : Square = masks.king in
+    let occupied : List Bool = occupied_of p.placement in
+    let w : Watched p k way sliders = record { valid = valid; king = holds.king; below = below; of = of } in
+    let slide = seen_slide occupied sliders path k (way_step way) (king_on p k way sliders w) (length-occupied p valid)
+    of.whole seen none in
+    let Stops' : Square → Square → Type 0 = λ q x. Stops k x (way_step way) q in
+    record {
+      valid = holds.valid;
+      king = holds.king;
+      straight = holds.straight;
+      diagonal = holds.diagonal;
+      ends = IsSetOf-like (meet masks.ends path) (λ q. EndsBelow p k way q × Stops k seen.slider (way_step way) q)
+          (EndsBelow p k (way + 1))
+          (both_set masks.ends path (EndsBelow p k way) (Stops k seen.slider (way_step way)) holds.ends seen.squares)
+          (λ q on both. ends_more p k q way both.0 (λ c slider slide'.
+          subst (Stops' q) (sym (check_is_nearest p k c way sliders path w seen slider slide')) both.1))
+          (λ q on ends.
+          let less = ends_less p k q way ends in
+          (less.0, less.1 seen.slider ((of.exact seen.slider seen.on_board).0 seen.member) slide));
+      pinned_whole = holds.pinned_whole;
+      pinned = pins_more p k way masks.pinned masks.pinned holds.pinned (λ from outside. outside)
+          (λ from own outside c slider pin.
+          let on_from = own_on p from own in
+          let alone = alone_there p k c from way sliders path w seen slider own pin in
+          false≢true (sym (has-none (between_of path occupied sliders) from on_from none)
+          ∙ (alone.exact from on_from).1 refl));
+    }
+
+-- something stands between: no check comes from there
+no_check : (p : Position) (k c : Square) (way : ℕ) (sliders path : List Bool) → Watched p k way sliders →
+    IsPathTo sliders k (way_step way) path →
+    ¬ (members (between_of path (occupied_of p.placement) sliders) ≡ []) → IsSlider p way c →
+    ¬ SlidesAlong (occupied_of p.placement) k c (way_step way)
+no_check p k c way sliders path w seen some slider slide =
+    let Slides' : Square → Type 0 = λ x. SlidesAlong (occupied_of p.placement) k x (way_step way) in
+    some (none_between (occupied_of p.placement) sliders path k (way_step way) (way-differs way w.below)
+    (length-occupied p w.valid) w.of.whole seen
+    (subst Slides' (check_is_nearest p k c way sliders path w seen slider slide) slide))
+
+either_false : (a b : Bool) → (a || b) ≡ false → (a ≡ false) × (b ≡ false)
+either_false true b e = absurd (false≢true (sym e))
+either_false false b e = (refl, e)
+
+-- one man stands between
+pub pin_watched : (p : Position) (masks : Masks) (way : ℕ) (sliders path : List Bool) → IsValid p → way < 8 →
+    IsSetOf sliders (IsSlider p way) → IsPathTo sliders masks.king (way_step way) path →
+    ¬ (members (between_of path (occupied_of p.placement) sliders) ≡ []) → HoldsMasksBelow p way masks →
+    HoldsMasksBelow p (way + 1)
+    (record masks { pinned = union masks.pinned (between_of path (occupied_of p.placement) sliders) })
+pin_watched p masks way sliders path valid below of seen some holds =
+    let k : Square = masks.king in
+    let occupied : List Bool = occupied_of p.placement in
+    let between : List Bool = between_of path occupied sliders in
+    let w : Watched p k way sliders = record { valid = valid; king = holds.king; below = below; of = of } in
+    let len : length masks.pinned ≡ length between =
+    holds.pinned_whole ∙ sym (length-between path occupied sliders seen.squares.whole (length-occupied p valid) of.whole) in
+    let parts = λ (from : Square) (outside : has (union masks.pinned between) from ≡ false).
+    either_false (has masks.pinned from) (has between from) (sym (has-union masks.pinned between from len) ∙ outside)
+    in
+    record {
+      valid = holds.valid;
+      king = holds.king;
+      straight = holds.straight;
+      diagonal = holds.diagonal;
+      ends = IsSetOf-like masks.ends (EndsBelow p k way) (EndsBelow p k (way + 1)) holds.ends
+          (λ q on ends. ends_more p k q way ends (λ c slider slide.
+          absurd (no_check p k c way sliders path w seen some slider slide)))
+          (λ q on ends. (ends_less p k q way ends).0);
+      pinned_whole = length-union masks.pinned between len ∙ holds.pinned_whole;
+      pinned = pins_more p k way masks.pinned (union masks.pinned between) holds.pinned
+          (λ from outside. (parts from outside).0)
+          (λ from own outside c slider pin.
+          false≢true (sym (parts from outside).1
+          ∙ ((alone_there p k c from way sliders path w seen slider own pin).exact from (own_on p from own)).1 refl));
+    }
+
+-- more men stand between
+pub crowd_watched : (p : Position) (masks : Masks) (way : ℕ) (sliders path : List Bool) → IsValid p → way < 8 →
+    IsSetOf sliders (IsSlider p way) → IsPathTo sliders masks.king (way_step way) path →
+    ¬ (members (between_of path (occupied_of p.placement) sliders) ≡ []) →
+    ¬ ((s : Square) × IsOnBoard s × IsSetOf (between_of path (occupied_of p.placement) sliders) (λ q. q ≡ s)) →
+    HoldsMasksBelow p way masks → HoldsMasksBelow p (way + 1) masks
+crowd_watched p masks way sliders path valid below of seen some many holds =
+    let k : Square = masks.king in
+    let w : Watched p k way sliders = record { valid = valid; king = holds.king; below = below; of = of } in
+    record {
+      valid = holds.valid;
+      king = holds.king;
+      straight = holds.straight;
+      diagonal = holds.diagonal;
+      ends = IsSetOf-like masks.ends (EndsBelow p k way) (EndsBelow p k (way + 1)) holds.ends
+          (λ q on ends. ends_more p k q way ends (λ c slider slide.
+          absurd (no_check p k c way sliders path w seen some slider slide)))
+          (λ q on ends. (ends_less p k q way ends).0);
+      pinned_whole = holds.pinned_whole;
+      pinned = pins_more p k way masks.pinned masks.pinned holds.pinned (λ from outside. outside)
+          (λ from own outside c slider pin.
+          many (from, own_on p from own, alone_there p k c from way sliders path w seen slider own pin));
+    }
+
+-- ---- the line of a man
+
+pub line_none : (p : Position) (masks : Masks) (way : ℕ) (sliders line : List Bool) (from : Square) → IsValid p →
+    way < 8 → IsSetOf sliders (IsSlider p way) → NoneAhead sliders masks.king (way_step way) →
+    man_at p.placement masks.king ≡ Some (p.side, King) → IsSetOf line (KeepsBelow p masks.king from way) →
+    IsSetOf line (KeepsBelow p masks.king from (way + 1))
+line_none p masks way sliders line from valid below of none king of_line =
+    let k : Square = masks.king in
+    let w : Watched p k way sliders = record { valid = valid; king = king; below = below; of = of } in
+    IsSetOf-like line (KeepsBelow p k from way) (KeepsBelow p k from (way + 1)) of_line
+    (λ q on keeps. keeps_more p k from q way keeps (λ c slider pin.
+    absurd (check_ahead p k c way sliders w none slider pin.far (omega (arith, pin.positive, pin.nearer)) pin.there)))
+    (λ q on keeps. (keeps_less p k from q way keeps).0)
+
+pub line_free : (p : Position) (masks : Masks) (way : ℕ) (sliders path line : List Bool) (from : Square) → IsValid p →
+    way < 8 → IsSetOf sliders (IsSlider p way) → IsPathTo sliders masks.king (way_step way) path →
+    HoldsColour p from p.side →
+    ¬ IsSetOf (between_of path (occupied_of p.placement) sliders) (λ q. q ≡ from) →
+    man_at p.placement masks.king ≡ Some (p.side, King) → IsSetOf line (KeepsBelow p masks.king from way) →
+    IsSetOf line (KeepsBelow p masks.king from (way + 1))
+line_free p masks way sliders path line from valid below of seen own many king of_line =
+    let k : Square = masks.king in
+    let w : Watched p k way sliders = record { valid = valid; king = king; below = below; of = of } in
+    IsSetOf-like line (KeepsBelow p k from way) (KeepsBelow p k from (way + 1)) of_line
+    (λ q on keeps. keeps_more p k from q way keeps (λ c slider pin.
+    absurd (many (alone_there p k c from way sliders path w seen slider own pin))))
+    (λ q on keeps. (keeps_less p k from q way keeps).0)
+
+pub line_pinned : (p : Position) (masks : Masks) (way : ℕ) (sliders path line : List Bool) (from : Square) → IsValid p →
+    way < 8 → IsSetOf sliders (IsSlider p way) → IsPathTo sliders masks.king (way_step way) path →
+    HoldsColour p from p.side →
+    IsSetOf (between_of path (occupied_of p.placement) sliders) (λ q. q ≡ from) →
+    man_at p.placement masks.king ≡ Some (p.side, King) → IsSetOf line (KeepsBelow p masks.king from way) →
+    IsSetOf (meet line path) (KeepsBelow p masks.king from (way + 1))
+line_pinned p masks way sliders path line from valid below of seen own alone king of_line =
+    let k : Square = masks.king in
+    let w : Watched p k way sliders = record { valid = valid; king = king; below = below; of = of } in
+    let pin = set_alone (occupied_of p.placement) sliders path k from (way_step way) (way-differs way below)
+    (king_on p k way sliders w) (own_on p from own) (length-occupied p valid) of.whole seen alone in
+    let Stops' : Square → Square → Type 0 = λ q x. Stops k x (way_step way) q in
+    IsSetOf-like (meet line path) (λ q. KeepsBelow p k from way q × Stops k seen.slider (way_step way) q)
+    (KeepsBelow p k from (way + 1))
+    (both_set line path (KeepsBelow p k from way) (Stops k seen.slider (way_step way)) of_line seen.squares)
+    (λ q on both. keeps_more p k from q way both.0 (λ c slider pin'.
+    subst (Stops' q) (sym (pin_is_nearest p k c from way sliders path w seen slider own pin')) both.1))
+    (λ q on keeps.
+    let less = keeps_less p k from q way keeps in
+    (less.0, less.1 seen.slider ((of.exact seen.slider seen.on_board).0 seen.member) pin))

@@ -1,0 +1,200 @@
+//! What the moves of a position are judged by, found once.
+ghost use Rattle.std.specs.Prelude.{ℕ, ◌≡◌, ◌+◌, ◌%◌, ◌<◌, ◌↔◌, IsTrue, Some};
+ghost use Rattle.chess_bits.specs.declared.men.Kind.TheVariants as kinds;
+ghost use Rattle.chess_bits.specs.Square.{Square as Geometric, IsOnBoard};
+ghost use Rattle.chess_bits.specs.Table.{IsSetOf};
+ghost use Rattle.chess_board.specs.Position.{man_at, IsValid};
+ghost use Rattle.chess_board.specs.Legal.{HoldsColour};
+ghost use Rattle.chess_moves.specs.Masks.{IsSlider, IsLeaper, EndsChecks, KeepsBelow, KeepsLine, HoldsMasksBelow, HoldsMasks};
+
+use crate::squares::{men_of, only};
+use crate::watch::{is_single, watch_in};
+use chess_attacks::{king, knight, pawn};
+use chess_bits::{Bits, Kind, Square};
+use chess_board::Board;
+
+/// The king of the side to move, and what its men may do while it stands there.
+#[derive(Clone, Copy, Debug)]
+pub struct Masks {
+    /// Where the king stands.
+    pub king: Square,
+    /// The opponent's men that slide on ranks and files.
+    pub straight: Bits,
+    /// Those that slide on diagonals.
+    pub diagonal: Bits,
+    /// The squares on which a man ends every check, all squares where there is none.
+    pub ends: Bits,
+    /// The men that stand alone between the king and a slider: the own ones are pinned.
+    pub pinned: Bits,
+}
+
+// Where the king of the side to move stands.
+fn king_of(board: &Board) -> Square
+    ensures king { man_at board.now.placement result ≡ Some (board.now.side, kinds.King) }
+    ensures valid { IsValid board.now }
+{
+    let own = men_of(board, board.side());
+    match own.meet(board.men().of_kind(Kind::King)).first() {
+        None => unreachable!(),
+        Some(square) => square,
+    }
+}
+
+// The opponent's rooks and queens.
+fn straight_sliders(board: &Board) -> Bits
+    ensures { (way : ℕ) → way % 2 ≡ 0 → IsSetOf result (IsSlider board.now way) }
+{
+    let theirs = men_of(board, board.side().other());
+    let men = board.men();
+    men.of_kind(Kind::Rook)
+        .union(men.of_kind(Kind::Queen))
+        .meet(theirs)
+}
+
+// The opponent's bishops and queens.
+fn diagonal_sliders(board: &Board) -> Bits
+    ensures { (way : ℕ) → way % 2 ≡ 1 → IsSetOf result (IsSlider board.now way) }
+{
+    let theirs = men_of(board, board.side().other());
+    let men = board.men();
+    men.of_kind(Kind::Bishop)
+        .union(men.of_kind(Kind::Queen))
+        .meet(theirs)
+}
+
+/// The opponent's pawns, knights and king that attack a square.
+pub fn leapers(board: &Board, square: Square) -> Bits
+    ensures { IsSetOf result (IsLeaper board.now square) }
+{
+    let _on_board = square.number();
+    let side = board.side();
+    let theirs = men_of(board, side.other());
+    let men = board.men();
+    let pawns = pawn(side, square).meet(men.of_kind(Kind::Pawn));
+    let knights = knight(square).meet(men.of_kind(Kind::Knight));
+    let kings = king(square).meet(men.of_kind(Kind::King));
+    pawns.union(knights.union(kings)).meet(theirs)
+}
+
+// The squares on which the checks of men that leap end: all without one, its own with one, none with two.
+fn ends_of_leaps(board: &Board, square: Square) -> Bits
+    ensures { IsSetOf result (λ q. (c : Geometric) → IsLeaper board.now square c → q ≡ c) }
+{
+    let leapers = leapers(board, square);
+    match leapers.first() {
+        None => Bits::from_word(u64::MAX),
+        Some(leaper) => only(leaper, is_single(leapers)),
+    }
+}
+
+// The masks before any way is watched.
+fn unwatched(board: &Board) -> Masks
+    ensures { HoldsMasksBelow board.now 0 result }
+{
+    let king = king_of(board);
+    Masks {
+        king,
+        straight: straight_sliders(board),
+        diagonal: diagonal_sliders(board),
+        ends: ends_of_leaps(board, king),
+        pinned: Bits::new(),
+    }
+}
+
+// The opponent's men that slide in the way.
+fn sliders_in(masks: &Masks, way: u8) -> Bits
+    ensures even { way % 2 ≡ 0 → result ≡ masks.now.straight }
+    ensures odd { way % 2 ≡ 1 → result ≡ masks.now.diagonal }
+{
+    if way % 2 == 0 {
+        masks.straight
+    } else {
+        masks.diagonal
+    }
+}
+
+// The masks once the way is watched: a slider that nothing stands before gives check, and pins the one man before it.
+fn watched(board: &Board, masks: Masks, way: u8) -> Masks
+    requires way { way < 8 }
+    requires masks { HoldsMasksBelow board.now way masks }
+    ensures { HoldsMasksBelow board.now (way + 1) result }
+{
+    match watch_in(board, masks.king, way, sliders_in(&masks, way)) {
+        None => masks,
+        Some(seen) => {
+            if seen.between.is_empty() {
+                Masks {
+                    ends: masks.ends.meet(seen.path),
+                    ..masks
+                }
+            } else if is_single(seen.between) {
+                Masks {
+                    pinned: masks.pinned.union(seen.between),
+                    ..masks
+                }
+            } else {
+                masks
+            }
+        }
+    }
+}
+
+/// The masks of the side to move.
+pub fn masks_of(board: &Board) -> Masks
+    ensures { HoldsMasks board.now result }
+{
+    let mut masks = unwatched(board);
+    for way in 0..8 {
+        masks = watched(board, masks, way);
+    }
+    masks
+}
+
+// The squares that are left of a man's line once the way is looked at: a pinned man stays on the path to the slider.
+fn narrowed(board: &Board, masks: &Masks, from: Square, way: u8, line: Bits) -> Bits
+    requires way { way < 8 }
+    requires own { HoldsColour board.now from board.now.side }
+    requires masks { HoldsMasks board.now masks.now }
+    requires line { IsSetOf line (KeepsBelow board.now masks.now.king from way) }
+    ensures { IsSetOf result (KeepsBelow board.now masks.now.king from (way + 1)) }
+{
+    match watch_in(board, masks.king, way, sliders_in(masks, way)) {
+        None => line,
+        Some(seen) => {
+            if !seen.between.contains(from) {
+                line
+            } else if is_single(seen.between) {
+                line.meet(seen.path)
+            } else {
+                line
+            }
+        }
+    }
+}
+
+// The squares of the lines on which a man is pinned, all squares where it is not.
+fn line_of(board: &Board, masks: &Masks, from: Square) -> Bits
+    requires own { HoldsColour board.now from board.now.side }
+    requires masks { HoldsMasks board.now masks.now }
+    ensures { IsSetOf result (KeepsLine board.now masks.now.king from) }
+{
+    let mut line = Bits::from_word(u64::MAX);
+    for way in 0..8 {
+        line = narrowed(board, masks, from, way, line);
+    }
+    line
+}
+
+/// The squares on which a man that is not the king leaves the king safe.
+pub fn allowed(board: &Board, masks: &Masks, from: Square) -> Bits
+    requires own { HoldsColour board.now from board.now.side }
+    requires masks { HoldsMasks board.now masks.now }
+    ensures { IsSetOf result
+        (λ q. EndsChecks board.now masks.now.king q × KeepsLine board.now masks.now.king from q) }
+{
+    if masks.pinned.contains(from) {
+        masks.ends.meet(line_of(board, masks, from))
+    } else {
+        masks.ends
+    }
+}

@@ -1,0 +1,103 @@
+//! Where a man may go so that its king is safe.
+ghost use Rattle.std.specs.Prelude.{◌≡◌, ◌↔◌, IsTrue, Some};
+ghost use Rattle.chess_bits.specs.declared.men.Kind.TheVariants as kinds;
+ghost use Rattle.chess_bits.specs.Table.{IsSetOf};
+ghost use Rattle.chess_board.specs.Position.{man_at};
+ghost use Rattle.chess_moves.specs.Targets.{GoesTo, LeavesKingSafe, GoesSafely, IsPiece};
+ghost use Rattle.chess_moves.specs.Masks.{IsAttackedWithout, HoldsMasks};
+
+use crate::masks::{Masks, allowed, leapers};
+use crate::squares::plain;
+use crate::targets::targets;
+use chess_attacks::{bishop, king, rook};
+use chess_bits::{Bits, Kind, Square};
+use chess_board::Board;
+
+// Whether a man of the opponent attacks the square once the king is taken off its own.
+fn is_attacked_without(board: &Board, masks: &Masks, from: Square, to: Square) -> bool
+    requires { HoldsMasks board.now masks.now }
+    ensures { IsTrue result ↔ IsAttackedWithout board.now from to }
+{
+    let _on_board = to.number();
+    let mut occupied = board.men().occupied();
+    occupied.remove(from);
+    let straight = rook(to, occupied).meet(masks.straight);
+    let diagonal = bishop(to, occupied).meet(masks.diagonal);
+    !leapers(board, to)
+        .union(straight.union(diagonal))
+        .is_empty()
+}
+
+// Whether the king is safe once it has gone to the square: in castling, which moves the rook too, the men are placed.
+fn is_king_safe(board: &Board, masks: &Masks, from: Square, to: Square) -> bool
+    requires own { man_at board.now.placement from ≡ Some (board.now.side, kinds.King) }
+    requires masks { HoldsMasks board.now masks.now }
+    ensures { IsTrue result ↔ LeavesKingSafe board.now from to }
+{
+    if king(from).contains(to) {
+        !is_attacked_without(board, masks, from, to)
+    } else {
+        !board.exposes_king(plain(from, to))
+    }
+}
+
+// Where the king may go.
+fn king_goes(board: &Board, masks: &Masks, from: Square) -> Bits
+    requires own { man_at board.now.placement from ≡ Some (board.now.side, kinds.King) }
+    requires masks { HoldsMasks board.now masks.now }
+    ensures { IsSetOf result (GoesSafely board.now kinds.King from) }
+{
+    let mut safe = targets(board, from, Kind::King);
+    for to in safe.iter() {
+        if !is_king_safe(board, masks, from, to) {
+            safe.remove(to);
+        }
+    }
+    safe
+}
+
+// Where a pawn may go: en passant, which takes two men off a line, the men are placed.
+fn pawn_goes(board: &Board, masks: &Masks, from: Square) -> Bits
+    requires own { man_at board.now.placement from ≡ Some (board.now.side, kinds.Pawn) }
+    requires masks { HoldsMasks board.now masks.now }
+    ensures { IsSetOf result (GoesSafely board.now kinds.Pawn from) }
+{
+    let reached = targets(board, from, Kind::Pawn);
+    let mut safe = reached.meet(allowed(board, masks, from));
+    match board.target() {
+        None => safe,
+        Some(target) => {
+            if reached.contains(target) {
+                safe.assign(target, !board.exposes_king(plain(from, target)));
+                safe
+            } else {
+                safe
+            }
+        }
+    }
+}
+
+// Where another man may go.
+fn piece_goes(board: &Board, masks: &Masks, from: Square, kind: Kind) -> Bits
+    requires own { man_at board.now.placement from ≡ Some (board.now.side, kind) }
+    requires piece { IsPiece kind }
+    requires masks { HoldsMasks board.now masks.now }
+    ensures { IsSetOf result (GoesSafely board.now kind from) }
+{
+    targets(board, from, kind).meet(allowed(board, masks, from))
+}
+
+/// The squares to which a man of the kind may go so that its king is safe.
+pub fn safe_targets(board: &Board, masks: &Masks, from: Square, kind: Kind) -> Bits
+    requires own { man_at board.now.placement from ≡ Some (board.now.side, kind) }
+    requires masks { HoldsMasks board.now masks.now }
+    ensures { IsSetOf result (GoesSafely board.now kind from) }
+{
+    match kind {
+        Kind::Pawn => pawn_goes(board, masks, from),
+        Kind::King => king_goes(board, masks, from),
+        Kind::Knight | Kind::Bishop | Kind::Rook | Kind::Queen => {
+            piece_goes(board, masks, from, kind)
+        }
+    }
+}
