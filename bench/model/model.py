@@ -418,7 +418,7 @@ def texts(p):
     if known.texts is None:
         found = {}
         for m in legal_moves(p):
-            for text in {san(p, m), bare_san(p, m), coordinate(m)}:
+            for text in dict.fromkeys((san(p, m), bare_san(p, m), coordinate(m))):
                 assert text not in found, (fen_write(p), text)
                 found[text] = m
         known.texts = found

@@ -5,6 +5,7 @@ before the C library's `clock_gettime` gives the first another value, and stops 
 the one that is served. So each answer, the times of `show` and fallen flags among them, can be told to the last byte.
 """
 
+import fcntl
 import multiprocessing
 import os
 import shutil
@@ -16,6 +17,7 @@ import time
 
 TOP = os.path.dirname(os.path.dirname(os.path.dirname(os.path.realpath(__file__))))
 PATIENCE = 120                  # seconds after which a run hangs
+SET_PIPE_SIZE, PAGE = 1031, 4096        # F_SETPIPE_SZ of Linux, which Python before 3.10 does not name
 SHIM = r'''
 #define _GNU_SOURCE
 #include <stdlib.h>
@@ -96,14 +98,19 @@ class Program:
             raise Wrong('it hangs: no end of the run in %d seconds' % PATIENCE)
         return process.returncode, out, last_line(error)
 
-    def run_in_pieces(self, journal, moment, pieces, kill_after=None, kill_in=PATIENCE):
-        """The same, the input in pieces. It is killed once it has written so many bytes, or after so many seconds."""
+    def run_in_pieces(self, journal, moment, pieces, kill_after=None, kill_in=PATIENCE, reads=True):
+        """The same, the input in pieces. It is killed once it has written so many bytes, or after so many seconds.
+        Unless `reads`, nothing is read before it has ended, and what it may write until then is a page."""
         process = self.start(journal, moment)
+        if not reads:
+            fcntl.fcntl(process.stdout, SET_PIPE_SIZE, PAGE)
         alarm = threading.Timer(kill_in, process.kill)
         feeder = threading.Thread(target=feed, args=(process.stdin, pieces), daemon=True)
         begun = time.monotonic()
         alarm.start()
         feeder.start()
+        if not reads:
+            process.wait()
         out = bytearray()
         while True:
             if kill_after is not None and len(out) >= kill_after:
