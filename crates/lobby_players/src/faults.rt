@@ -1,56 +1,66 @@
 //! What is wrong with a players' file, or with what is put into it.
+ghost use Rattle.lobby_players.specs.declared.faults.PlayersFault.TheVariants as faults;
+ghost use Rattle.lobby_players.specs.declared.faults.AddFault.TheVariants as add_faults;
 
 use std::alloc::AllocError;
 use thiserror::Error;
 
-/// Why a players' file is not read. Lines are numbered from 1.
-#[derive(Clone, Copy, Debug, Drop, PartialEq, Eq, Error)]
+/// What is wrong with a line.
+#[derive(Clone, Copy, Debug, PartialEq, Eq, Error)]
+pub enum LineFault {
+    /// It is no player's: NAME ROLE SUM FULL NAME.
+    #[error("is not NAME ROLE SUM FULL NAME")]
+    NotPlayer,
+    /// A line before it has the name.
+    #[error("has a name that a line before it has")]
+    NameTwice,
+    /// A line before it has the token's sum.
+    #[error("has a token that a line before it has")]
+    TokenTwice,
+}
+
+/// Why a text is not read as a players' file. Lines are numbered from 1.
+#[derive(Clone, Copy, Debug, PartialEq, Eq, Error)]
 pub enum PlayersFault {
-    /// The file is no text: in this line stands the first byte that is no UTF-8.
+    /// The first byte that is no UTF-8 stands in this line.
     #[error("line {0} of the players' file is no UTF-8")]
     NotText(usize),
-    /// This line is no player's.
-    #[error("line {0} of the players' file is not NAME ROLE SUM FULL NAME")]
-    NotPlayer(usize),
-    /// This line has the name of a line before it.
-    #[error("line {0} of the players' file has the name of a line before it")]
-    NameTwice(usize),
-    /// This line has the token's sum of a line before it.
-    #[error("line {0} of the players' file has the token of a line before it")]
-    TokenTwice(usize),
-    /// Memory was refused.
+    /// The first line with a fault.
+    #[error("line {0} of the players' file {1}")]
+    Line(usize, LineFault),
     #[error("memory was refused")]
     NoMemory,
 }
 
 impl From<AllocError> for PlayersFault {
-    fn from(_: AllocError) -> PlayersFault {
+    ghost from_gives = { λ _ fault. fault ≡ faults.NoMemory };
+
+    fn from(_fault: AllocError) -> PlayersFault {
         PlayersFault::NoMemory
     }
 }
 
 /// Why a player is not put into a players' file.
-#[derive(Clone, Copy, Debug, Drop, PartialEq, Eq, Error)]
+#[derive(Clone, Copy, Debug, PartialEq, Eq, Error)]
 pub enum AddFault {
     /// The file is none.
     #[error("{0}")]
     File(PlayersFault),
-    /// The name is none.
     #[error("a name is 1 to 16 of the letters A to Z and a to z, the digits, and _")]
     BadName,
-    /// The full name is none.
-    #[error("a full name is 1 to 100 bytes without a control character, and neither begins nor ends with a space")]
+    #[error("a full name is 1 to 100 bytes, has no control character, and no space at either end")]
     BadFullName,
     /// Another player has the token.
     #[error("another player has this token")]
     TokenTaken,
-    /// Memory was refused.
     #[error("memory was refused")]
     NoMemory,
 }
 
 impl From<AllocError> for AddFault {
-    fn from(_: AllocError) -> AddFault {
+    ghost from_gives = { λ _ fault. fault ≡ add_faults.NoMemory };
+
+    fn from(_fault: AllocError) -> AddFault {
         AddFault::NoMemory
     }
 }

@@ -11,6 +11,6 @@ mod tests;
 mod token;
 
 pub use adding::{Addition, added};
-pub use faults::{AddFault, PlayersFault};
+pub use faults::{AddFault, LineFault, PlayersFault};
 pub use reading::read;
 pub use token::{link_text, new_token, token_text};

@@ -1,0 +1,1 @@
+//! Files, lines and links as texts.
