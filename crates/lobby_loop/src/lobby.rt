@@ -13,13 +13,14 @@ use std::io;
 use std::io::ErrorKind;
 use std::net::{Net, SocketAddr};
 use std::time::Duration;
+use thiserror::Error;
 
 /// Why a lobby ends.
-#[derive(Clone, Copy, Debug, PartialEq, Eq)]
+#[derive(Clone, Copy, Debug, PartialEq, Eq, Error)]
 pub enum Fault {
-    /// Memory was refused.
+    #[error("memory was refused")]
     NoMemory,
-    /// The system does not tell any more which sockets are ready.
+    #[error("the system does not tell any more which sockets are ready")]
     NoEvents,
 }
 
