@@ -79,19 +79,47 @@ pub struct Adding<'a> {
 }
 
 // An argument `--NAME VALUE`.
-fn option<'a>(alloc: Global, name: &'static str, value: &'static str, help: &'static str) -> Arg<'a> {
-    Arg::new(alloc, name).long(name).value_name(value).help(help)
+fn option<'a>(
+    alloc: Global,
+    name: &'static str,
+    value: &'static str,
+    help: &'static str,
+) -> Arg<'a> {
+    Arg::new(alloc, name)
+        .long(name)
+        .value_name(value)
+        .help(help)
 }
 
 fn serve_command<'a>(alloc: Global) -> Result<Command<'a>, AllocError> {
     let players = option(alloc, "players", "FILE", "The players' file").required(true);
     let server = option(alloc, "server", "A:P", "Where the game server listens").required(true);
-    let port = option(alloc, "port", "P", "The port, 0 to 65535, 8080 without it; 0 leaves the choice to the system")
-        .value_parser(ValueParser::Unsigned(0, 65_535));
-    let address = option(alloc, "address", "A", "The address of this machine, 127.0.0.1 without it");
-    let page = option(alloc, "page", "FOLDER", "The folder of the page's files, page without it");
-    let host = option(alloc, "host", "NAME", "A name by which browsers reach it; it may be given several times")
-        .action(ArgAction::Append);
+    let port = option(
+        alloc,
+        "port",
+        "P",
+        "The port, 0 to 65535, 8080 without it; 0 leaves the choice to the system",
+    )
+    .value_parser(ValueParser::Unsigned(0, 65_535));
+    let address = option(
+        alloc,
+        "address",
+        "A",
+        "The address of this machine, 127.0.0.1 without it",
+    );
+    let page = option(
+        alloc,
+        "page",
+        "FOLDER",
+        "The folder of the page's files, page without it",
+    );
+    let host = option(
+        alloc,
+        "host",
+        "NAME",
+        "A name by which browsers reach it; it may be given several times",
+    )
+    .action(ArgAction::Append);
     Command::new(alloc, "serve")
         .about("Serves the page and its players, over a game server")
         .after_help(HELP_OF_SERVE)
@@ -110,7 +138,12 @@ fn player_command<'a>(alloc: Global) -> Result<Command<'a>, AllocError> {
         .required(true);
     let full_name = option(alloc, "full-name", "TEXT", "The name as it is shown").required(true);
     let players = option(alloc, "players", "FILE", "The players' file").required(true);
-    let url = option(alloc, "url", "URL", "The page's address, http://127.0.0.1:8080/ without it");
+    let url = option(
+        alloc,
+        "url",
+        "URL",
+        "The page's address, http://127.0.0.1:8080/ without it",
+    );
     let arbiter = Arg::new(alloc, "arbiter")
         .long("arbiter")
         .help("An arbiter, who may drop games")
@@ -156,9 +189,11 @@ fn serving_of<'a>(
     alloc: Global,
     values: &ArgMatches<'a>,
 ) -> Result<Option<Serving<'a>>, AllocError> {
-    let (Some(players), Some(server), Some(address)) =
-        (values.get_str("players"), server_of(values), address_of(values))
-    else {
+    let (Some(players), Some(server), Some(address)) = (
+        values.get_str("players"),
+        server_of(values),
+        address_of(values),
+    ) else {
         return Ok(None);
     };
     Ok(Some(Serving {

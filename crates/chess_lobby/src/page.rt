@@ -64,7 +64,9 @@ pub fn site_of<R: Files + AllocGlobal + Clone + Drop>(
 ) -> Result<Site> {
     let files = files_of(rt, folder)?;
     anyhow::ensure!(
-        files.iter().any(|file| file.path.as_slice() == b"/".as_slice()),
+        files
+            .iter()
+            .any(|file| file.path.as_slice() == b"/".as_slice()),
         "there is no index.html in {folder}"
     );
     let hosts = hosts_of(rt.alloc(), address, names)?;

@@ -56,8 +56,10 @@ where
     R: Files + AllocGlobal + Clone + Drop + Clock + Print + Eprint + Net + RandomSource,
 {
     let players = players_of(rt, serving.players)?;
-    let entrance = Entrance::open(rt, serving.address)
-        .context(format_args!("listening on {}", serving.address))?;
+    let entrance = Entrance::open(rt, serving.address).context(format_args!(
+        "listening on {}",
+        serving.address
+    ))?;
     let address = entrance.address()?;
     let site = site_of(rt, serving.page, address, serving.hosts.as_slice())?;
     let keys = RandomState::new(rt)?;

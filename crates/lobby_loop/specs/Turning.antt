@@ -1,1 +1,1 @@
--- later
+-- One turn of all that are connected.

@@ -1,9 +1,9 @@
 //! A browser's connection: its socket, what it says, and what it is told.
-ghost use Rattle.std.specs.Prelude.{◌≡◌, ◌≤◌, ◌↔◌, true, None, Some, IsTrue, IfOk, OnOk, length, take};
+ghost use Rattle.std.specs.Prelude.{◌≡◌, None, Some, OnOk};
 ghost use Rattle.std.specs.String.{string_bytes};
 ghost use Rattle.lobby_web.specs.Browsing.{IsNew};
 ghost use Rattle.lobby_desk.specs.Who.{IsReady, at_table};
-ghost use Rattle.lobby_loop.specs.Guests.{IsRead, IsHeard, IsTextSaid, IsTold, AreTold, IsWritten, IsLookedAfter};
+ghost use Rattle.lobby_loop.specs.Guests.{IsRead, IsAsked, IsHeard, IsTextSaid, IsSaid, IsTold, AreTold, IsWritten, IsLookedAfter};
 
 use crate::made::Made;
 use crate::pieces::{Came, Gone, PIECE_ROOM, read_piece, write_piece};
@@ -96,12 +96,13 @@ impl<S> Guest<S> {
 
     /// Whether it is to be let go: it is lost, or over with nothing left to write or to hear.
     pub fn is_done(&self) -> bool {
-        self.is_lost
-            || self.browser.is_over() && !self.has_more && self.browser.out().is_empty()
+        self.is_lost || self.browser.is_over() && !self.has_more && self.browser.out().is_empty()
     }
 
     // Its socket is open, and the desk is told so.
-    fn welcome(&mut self, talk: &mut Talk) -> Result<bool, AllocError>
+    fn welcome(&mut self, talk: &mut Talk, at: u64) -> Result<bool, AllocError>
+        requires { self.old.number ≡ None }
+        ensures { OnOk result (IsAsked at self.old self.new talk.old talk.new) }
     {
         match self.browser.next() {
             None => {
@@ -122,7 +123,9 @@ impl<S> Guest<S> {
 
     // Its next message is said to the desk.
     fn listen(&mut self, number: u64, talk: &mut Talk, at: u64) -> Result<bool, AllocError>
-        requires { IsReady talk.old.desk number }
+        requires number { self.old.number ≡ Some number }
+        requires ready { IsReady talk.old.desk number }
+        ensures { OnOk result (IsAsked at self.old self.new talk.old talk.new) }
     {
         match self.browser.next() {
             None => {
@@ -144,12 +147,13 @@ impl<S> Guest<S> {
     /// What came next of it is said to the desk: that its socket is open, or a message, once the one before it is answered.
     /// It tells whether there was any.
     pub fn hear(&mut self, talk: &mut Talk, at: u64) -> Result<bool, AllocError>
+        ensures { OnOk result (IsHeard at self.old self.new talk.old talk.new) }
     {
         if !self.has_more || self.is_lost {
             return Ok(false);
         }
         match self.number {
-            None => self.welcome(talk),
+            None => self.welcome(talk, at),
             Some(number) => {
                 if talk.is_ready(number) {
                     self.listen(number, talk, at)
@@ -162,6 +166,9 @@ impl<S> Guest<S> {
 
     // It is told a text. Who is slow, or for whom memory is refused, is let go.
     fn be_told_text(&mut self, text: &str)
+        ensures said { IsSaid text.now self.old.browser self.new.browser }
+        ensures number { self.new.number ≡ self.old.number }
+        ensures stream { self.new.stream ≡ self.old.stream }
     {
         match self.browser.say(text.as_bytes()) {
             Ok(()) => {}
@@ -172,6 +179,7 @@ impl<S> Guest<S> {
 
     // It is told a message, if that goes to it.
     fn be_told(&mut self, made: &Made)
+        ensures { IsTold made.now self.old self.new }
     {
         match self.number {
             None => {}
@@ -185,6 +193,7 @@ impl<S> Guest<S> {
 
     /// It is told those of these messages that go to it, in their order.
     pub fn be_told_all(&mut self, made: &[Made])
+        ensures { AreTold made.now self.old self.new }
     {
         for one in made {
             self.be_told(one);
@@ -192,7 +201,9 @@ impl<S> Guest<S> {
     }
 
     // Asks a browser of which nothing came whether it is there.
-    fn ask(&mut self) {
+    fn ask(&mut self)
+        ensures { IsLookedAfter self.old self.new }
+    {
         if self.browser.ping().is_err() {
             self.is_lost = true;
         }
@@ -202,6 +213,7 @@ impl<S> Guest<S> {
     /// Asks a browser that has been silent whether it is there, and lets one go that has been for too long, or that has
     /// spoken HTTP for too long.
     pub fn look_after(&mut self, at: u64)
+        ensures { IsLookedAfter self.old self.new }
     {
         let silent = at.saturating_sub(self.heard_at);
         let is_web = self.number.is_none();
@@ -225,6 +237,7 @@ fn say_to_desk(text: &[u8], number: u64, talk: &mut Talk, at: u64) -> Result<(),
 impl<S: Read + Write> Guest<S> {
     /// Reads a piece, if bytes are wanted. It tells whether anything came.
     pub fn read_in(&mut self, site: &Site, at: u64, piece: &mut [u8; PIECE_ROOM]) -> bool
+        ensures { IsRead S.remaining site.now self.old self.new }
     {
         if !self.can_read || self.is_lost || !self.browser.wants_read() {
             return false;
@@ -257,6 +270,7 @@ impl<S: Read + Write> Guest<S> {
 
     /// Writes what the socket takes at once of what waits. It tells whether that was anything.
     pub fn write_out(&mut self, site: &Site) -> bool
+        ensures { IsWritten S.contents site.now self.old self.new }
     {
         if !self.can_write || self.is_lost || self.browser.out().is_empty() {
             return false;

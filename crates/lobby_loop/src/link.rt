@@ -1,7 +1,10 @@
 //! The one connection to the server: bytes to it, and lines from it.
-ghost use Rattle.std.specs.Prelude.{◌≡◌, ◌≤◌, ◌++◌, ◌↔◌, ◌⊎◌, [], true, false, IsTrue, IfOk, OnOk, length, take, drop};
-ghost use Rattle.lobby_loop.specs.Lines.{HearsLines, HandsOn, IsServed};
-ghost use Rattle.lobby_loop.specs.Pieces.{HasCome};
+ghost use Rattle.std.specs.Prelude.{ℕ, List, ◌≡◌, ◌≤◌, ◌++◌, [], true, IfOk, OnOk, length, take, drop};
+ghost use Rattle.std.specs.Bool.{OnTrue, OnFalse};
+ghost use Rattle.std.specs.Io.KnownBytes.{Consumes};
+ghost use Rattle.lobby_desk.specs.Events.{Heard};
+ghost use Rattle.lobby_loop.specs.Talking.{Moves};
+ghost use Rattle.lobby_loop.specs.Lines.{AreTaken, TakesIn, HandsOn};
 
 use crate::pieces::{Came, Gone, PIECE_ROOM, read_piece, write_piece};
 use crate::talk::Talk;
@@ -36,6 +39,8 @@ fn give_up(held: &mut Vec<u8>, count: usize)
 
 // Tells the desk a line. False where it is no text, and then nothing was told.
 fn hear_line(talk: &mut Talk, line: &[u8]) -> Result<bool, AllocError>
+    ensures told { IfOk result (λ is_text. OnTrue is_text (Moves talk.old (Heard line.now) talk.new)) }
+    ensures none { IfOk result (λ is_text. OnFalse is_text (talk.new ≡ talk.old)) }
 {
     match str::from_utf8(line) {
         Ok(line) => {
@@ -49,6 +54,8 @@ fn hear_line(talk: &mut Talk, line: &[u8]) -> Result<bool, AllocError>
 // Tells the desk each whole line, up to the first that is no text; so many bytes were told, and whether there was none that is
 // no text.
 fn hear_lines(talk: &mut Talk, held: &[u8]) -> Result<(usize, bool), AllocError>
+    ensures within { IfOk result (λ told. told.0 ≤ length held.now) }
+    ensures told { IfOk result (λ told. AreTaken held.now (drop told.0 held.now) talk.old talk.new) }
 {
     let mut from = 0;
     while let Some(at) = first_feed(&held[from..]) {
@@ -88,7 +95,10 @@ impl<S> Link<S> {
 
 impl<S: Read + Write> Link<S> {
     // Reads a piece behind what is held.
-    fn read_more(&mut self, piece: &mut [u8; PIECE_ROOM]) -> Result<bool, AllocError> {
+    fn read_more(&mut self, piece: &mut [u8; PIECE_ROOM]) -> Result<bool, AllocError>
+        ensures { OnOk result ((taken : List ℕ) × Consumes (S.remaining self.old.stream) (S.remaining self.new.stream) taken
+            × (self.new.held.items ≡ self.old.held.items ++ taken)) }
+    {
         match read_piece(&mut self.stream, piece) {
             Came::Nothing => {
                 self.can_read = false;
@@ -112,6 +122,7 @@ impl<S: Read + Write> Link<S> {
         talk: &mut Talk,
         piece: &mut [u8; PIECE_ROOM],
     ) -> Result<bool, AllocError>
+        ensures { OnOk result (TakesIn S.remaining self.old self.new talk.old talk.new) }
     {
         if !self.can_read || self.is_lost {
             return Ok(false);
@@ -127,6 +138,7 @@ impl<S: Read + Write> Link<S> {
 
     /// Writes what it takes of what is to go there. It tells whether that was anything.
     pub fn write_out(&mut self, wire: &mut Vec<u8>) -> bool
+        ensures { HandsOn (S.contents self.old.stream) (S.contents self.new.stream) wire.old.items wire.new.items }
     {
         if !self.can_write || self.is_lost || wire.is_empty() {
             return false;

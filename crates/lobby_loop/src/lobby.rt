@@ -106,8 +106,7 @@ impl Lobby {
         players: Vec<Player>,
     ) -> io::Result<Lobby> {
         let poll = Poll::new(net)?;
-        poll.registry()
-            .register(&mut entrance.listener, Token(ENTRANCE), Interest::READABLE)?;
+        poll.registry().register(&mut entrance.listener, Token(ENTRANCE), Interest::READABLE)?;
         Ok(Lobby {
             entrance,
             has_more: true,
@@ -214,7 +213,11 @@ impl Lobby {
         } else {
             Some(self.call_at)
         };
-        let ask = if self.has_more { Some(self.ask_at) } else { None };
+        let ask = if self.has_more {
+            Some(self.ask_at)
+        } else {
+            None
+        };
         earlier(earlier(call, ask), self.hall.look_at())
     }
 
@@ -226,9 +229,7 @@ impl Lobby {
         if has_reached | has_welcomed | has_turned {
             return Ok(Turned::Worked);
         }
-        Ok(Turned::Idle(
-            self.next_moment().map(|moment| moment.saturating_sub(at)),
-        ))
+        Ok(Turned::Idle(self.next_moment().map(|moment| moment.saturating_sub(at))))
     }
 
     // The sockets that were ready are looked at in the next turn.

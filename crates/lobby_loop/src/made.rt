@@ -1,8 +1,8 @@
 //! Messages as browsers get them: what the desk told, with what the positions say.
-ghost use Rattle.std.specs.Prelude.{◌≡◌, ◌++◌, ◌∷◌, [], IfOk, OnOk};
+ghost use Rattle.std.specs.Prelude.{ℕ, ◌≡◌, ◌<◌, ◌^◌, decimal, IfOk};
 ghost use Rattle.std.specs.List.{AllZip};
 ghost use Rattle.std.specs.String.{string_bytes};
-ghost use Rattle.lobby_loop.specs.Making.{IsWithMoves, IsLineAnswer, IsFinished, IsMadeOf};
+ghost use Rattle.lobby_loop.specs.Making.{IsWithMoves, IsOfLine, IsFinished, IsMadeOf};
 ghost use Rattle.lobby_loop.specs.Making as making;
 
 use lobby_desk::{Kind, Told};
@@ -30,6 +30,26 @@ fn last_line(text: &str) -> &str
                 last_line(rest)
             }
         }
+    }
+}
+
+// What stands behind the first line.
+fn lines_behind(text: &str) -> &str
+    ensures { result.now ≡ making.lines_behind text.now }
+{
+    match text.split_once('\n') {
+        Some((_, rest)) => rest,
+        None => "",
+    }
+}
+
+// What stands before the first space.
+fn word_of(text: &str) -> &str
+    ensures { result.now ≡ making.word_of text.now }
+{
+    match text.split_once(' ') {
+        Some((word, _)) => word,
+        None => text,
     }
 }
 
@@ -66,19 +86,20 @@ fn with_moves(alloc: Global, mut text: String) -> Result<String, AllocError>
 }
 
 // The number of the game in `ok pgn G K`; 0 where there is none.
-fn game_in(text: &str) -> u32 {
-    let mut words = text.split_whitespace();
-    match words.nth(2) {
-        Some(word) => word.parse::<u32>().unwrap_or(0),
-        None => 0,
+fn game_in(text: &str) -> u32
+    ensures { (n : ℕ) → n < 2 ^ 32 → making.word_of (making.rest_of (making.rest_of text.now)) ≡ decimal n → result ≡ n }
+{
+    match word_of(rest_of(rest_of(text))).parse::<u32>() {
+        Ok(number) => number,
+        Err(_) => 0,
     }
 }
 
 // The answer to `line G`, of the server's answer to `pgn G`; `lost` where that has no game.
-fn as_positions(alloc: Global, text: String) -> Result<String, AllocError>
-    ensures { IfOk result (λ made. IsLineAnswer (string_bytes text) (string_bytes made)) }
+fn as_positions(alloc: Global, text: &str) -> Result<String, AllocError>
+    ensures { IfOk result (λ made. IsOfLine text.now (string_bytes made)) }
 {
-    match line_answer(alloc, game_in(text.as_str()), text.as_str())? {
+    match line_answer(alloc, game_in(text), lines_behind(text))? {
         Some(answer) => Ok(answer),
         None => String::from_str(alloc, "lost\n"),
     }
@@ -91,7 +112,7 @@ fn finished(alloc: Global, kind: Kind, text: String) -> Result<String, AllocErro
     match kind {
         Kind::Whole => Ok(text),
         Kind::Position => with_moves(alloc, text),
-        Kind::Line => as_positions(alloc, text),
+        Kind::Line => as_positions(alloc, text.as_str()),
     }
 }
 
