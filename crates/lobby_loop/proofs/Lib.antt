@@ -1,0 +1,3 @@
+pub mod Each
+pub mod Making
+pub mod Telling
