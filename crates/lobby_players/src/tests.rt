@@ -14,7 +14,8 @@ fn fault_of(alloc: Global, text: &[u8]) -> Result<usize, PlayersFault> {
 #[test]
 fn reads_players_and_names_the_first_fault(rt: HostRuntime) {
     let alloc = rt.alloc();
-    let twice = b"ann player ba7816bf8f01cfea414140de5dae2223b00361a396177a9cb410ff61f20015ad A\nbob player ba7816bf8f01cfea414140de5dae2223b00361a396177a9cb410ff61f20015ad B".as_slice();
+    let twice =
+        b"ann player ba7816bf8f01cfea414140de5dae2223b00361a396177a9cb410ff61f20015ad A\nbob player ba7816bf8f01cfea414140de5dae2223b00361a396177a9cb410ff61f20015ad B".as_slice();
     let cases: [(&[u8], Result<usize, PlayersFault>); 6] = [
         (ANN.as_bytes(), Ok(1)),
         (b"# nobody\n\n".as_slice(), Ok(0)),
@@ -56,7 +57,8 @@ fn or_none(made: Result<String, AddFault>, alloc: Global) -> String {
 #[test]
 fn adds_a_player_and_gives_a_new_token(rt: HostRuntime) -> Result<(), Fail> {
     let alloc = rt.alloc();
-    let wanted = "# club\nann arbiter d65df89f702eec58ca3c7bf2001c9ffc7cd80553ae01d42a799ba26756142d96 Ann M. Lee\n";
+    let wanted =
+        "# club\nann arbiter d65df89f702eec58ca3c7bf2001c9ffc7cd80553ae01d42a799ba26756142d96 Ann M. Lee\n";
     let mut before = String::from_str(alloc, "# club\n")?;
     before.push_str(ANN)?;
     let new = or_none(more(alloc, before.as_str(), "ann", "Ann M. Lee"), alloc);
@@ -73,6 +75,9 @@ fn a_link_has_its_token_behind_the_fragment(rt: HostRuntime) -> Result<(), Fail>
     let text = token_text(rt.alloc(), &token)?;
     assert_eq!(rt; text.as_str(), "ffffffffffffffffffffffffffffffff");
     let link = link_text(rt.alloc(), "http://club/", &token)?;
-    assert_eq!(rt; link.as_str(), "http://club/#ffffffffffffffffffffffffffffffff");
+    assert_eq!(rt;
+        link.as_str(),
+        "http://club/#ffffffffffffffffffffffffffffffff"
+    );
     Ok(())
 }
