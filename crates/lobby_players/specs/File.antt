@@ -1,15 +1,16 @@
 -- The players' file.
-use Rattle.std.specs.Prelude.{ℕ, ◌≡◌, ◌≢◌, ◌-◌, Bool, true, false, ◌&&◌, ◌==◌, not, nat_le, List, [], ◌∷◌, ◌++◌, length, codes, Ok, if◌then◌else◌, EachIndex, slice_index, map, filter}
-use Rattle.std.specs.List.{AllZip, AllPairs, list_all, onto_first}
+use Rattle.std.specs.Prelude.{ℕ, ◌≡◌, ◌≢◌, ◌-◌, Bool, true, false, ◌&&◌, ◌==◌, not, nat_le, List, [], ◌∷◌, ◌++◌, length, codes, Ok, EachIndex, slice_index, map, filter}
+use Rattle.std.specs.List.{AllZip, AllPairs, list_all}
+use Rattle.std.specs.Str.{bytes_eq}
 use Rattle.std.specs.String.{string_bytes}
+use Rattle.text_parts.specs.Parts.{parts_of}
 use Rattle.hex.specs.Hex.{decode_sized}
 use Rattle.rec_codec.specs.Name.{IsName}
 use Rattle.lobby_desk.specs.declared.players.Player.{Player}
 
--- The lines of a text. Each ends at a line feed; behind the last one none need stand.
+-- the lines of a text
 abbrev pub lines_of : List ℕ → List (List ℕ)
-lines_of [] = []
-lines_of (b ∷ bs) = if b == 10 then [] ∷ lines_of bs else onto_first b (lines_of bs)
+lines_of text = parts_of 10 text
 
 -- a line that tells of no player: an empty one, or one that begins with `#`
 abbrev pub is_silent : List ℕ → Bool
@@ -48,6 +49,15 @@ pub record HasFields (line name role sum full_name : List ℕ) : Type 0 where
   pub sum_word : IsWord sum
   pub joined : line ≡ name ++ (32 ∷ (role ++ (32 ∷ (sum ++ (32 ∷ full_name)))))
 
+-- three words and what is left tell of a player
+pub record TellsOf (name role digits full_name : List ℕ) (e : Entry) : Type 0 where
+  pub is_name : IsName e.name
+  pub name : name ≡ e.name
+  pub role : role ≡ role_text e.is_arbiter
+  pub sum : decode_sized digits 32 ≡ Ok e.sum
+  pub is_full_name : is_full_name e.full_name ≡ true
+  pub full_name : full_name ≡ e.full_name
+
 -- The line of a player: the name, the role, the token's sum as 64 hex digits, and the full name, with one space between each
 -- two.
 pub record IsLineOf (line : List ℕ) (e : Entry) : Type 0 where
@@ -56,6 +66,13 @@ pub record IsLineOf (line : List ℕ) (e : Entry) : Type 0 where
   pub sum : decode_sized digits 32 ≡ Ok e.sum
   pub full_name : is_full_name e.full_name ≡ true
   pub spelled : line ≡ e.name ++ (32 ∷ (role_text e.is_arbiter ++ (32 ∷ (digits ++ (32 ∷ e.full_name)))))
+
+-- the player has this name, or this sum
+abbrev pub has_name : List ℕ → Entry → Bool
+has_name name one = bytes_eq one.name name
+
+abbrev pub has_sum : List ℕ → Entry → Bool
+has_sum sum one = bytes_eq one.sum sum
 
 -- two players with neither one name nor one token
 pub record AreTwo (a b : Entry) : Type 0 where

@@ -1,20 +1,21 @@
 //! A player is put into a players' file.
-ghost use Rattle.std.specs.Prelude.{◌≡◌, ◌++◌, ◌∷◌, [], ℕ, List, filter, map, IfOk, IfErr, OnOk, IsTrue, ◌↔◌};
+ghost use Rattle.std.specs.Prelude.{◌≡◌, ◌++◌, ◌&&◌, filter, IfOk, IfErr, OnOk};
+ghost use Rattle.std.specs.List.{list_any};
 ghost use Rattle.std.specs.String.{string_bytes};
-ghost use Rattle.std.specs.Str.{bytes_eq};
-ghost use Rattle.lobby_desk.specs.Words.{word_of};
-ghost use Rattle.lobby_desk.specs.Lines.{bytes_of};
-ghost use Rattle.lobby_players.specs.Adding.{IsAdded, IsAddFault, entry_added, added_text, is_others, line_of};
+ghost use Rattle.lobby_desk.specs.Lines.{ended, bytes_of};
+ghost use Rattle.lobby_players.specs.Adding.{IsAdded, IsAddFault, entry_added, entry_with, is_other, is_others, line_of};
+ghost use Rattle.lobby_players.specs.File.{has_sum, entry_of, lines_of};
 
 use crate::faults::{AddFault, PlayersFault};
 use crate::line::is_full_name;
-use crate::lines::{lines, word};
+use crate::lines::word;
 use crate::reading::{read_text, text_of};
 use crate::token::token_text;
 use lobby_desk::Player;
 use rec_codec::Name;
 use sha2::{Digest, Sha256};
 use std::alloc::{AllocError, Global};
+use text_parts::parts;
 
 /// Who is put into a players' file.
 #[derive(Clone, Copy)]
@@ -25,10 +26,12 @@ pub struct Addition<'a> {
 }
 
 // Whether another player has the sum.
-fn is_taken(players: &[Player], name: &Name, sum: &[u8; 32]) -> bool {
-    players
-        .iter()
-        .any(|player| player.name != *name && player.sum == *sum)
+fn is_taken(players: &[Player], name: &Name, sum: &[u8; 32]) -> bool
+    ensures { result ≡ list_any (λ player. is_other name.now (entry_of player) && has_sum sum.now (entry_of player)) players.now }
+{
+    players.iter().any(|player| {
+        player.name.as_str() != name.as_str() && player.sum.as_slice() == sum.as_slice()
+    })
 }
 
 // Appends the line of a player, with its line feed.
@@ -37,7 +40,9 @@ fn push_player(
     alloc: Global,
     who: &Addition<'_>,
     sum: &[u8; 32],
-) -> Result<(), AllocError> {
+) -> Result<(), AllocError>
+    ensures { OnOk result (string_bytes text.new ≡ string_bytes text.old ++ ended (line_of (entry_with who.now sum.now))) }
+{
     text.push_str(who.name)?;
     let role = if who.is_arbiter {
         " arbiter "
@@ -56,7 +61,7 @@ fn push_player(
 fn others(alloc: Global, text: &str, name: &str) -> Result<String, AllocError>
     ensures { IfOk result (λ kept. string_bytes kept ≡ bytes_of (filter (is_others name.now) (lines_of text.now))) }
 {
-    let lines = lines(alloc, text)?;
+    let lines = parts(alloc, text, '\n')?;
     let mut kept = String::new(alloc);
     for line in lines.as_slice() {
         if word(line) != name {

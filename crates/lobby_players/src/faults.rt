@@ -1,4 +1,5 @@
 //! What is wrong with a players' file, or with what is put into it.
+ghost use Rattle.std.specs.Prelude.{◌≡◌};
 ghost use Rattle.lobby_players.specs.declared.faults.PlayersFault.TheVariants as faults;
 ghost use Rattle.lobby_players.specs.declared.faults.AddFault.TheVariants as add_faults;
 

@@ -1,10 +1,10 @@
 //! The line of a player.
-ghost use Rattle.std.specs.Prelude.{ℕ, List, ◌≡◌, ◌∷◌, ◌++◌, Ok, IfOk, IfSome, IfNone, length, codes};
+ghost use Rattle.std.specs.Prelude.{ℕ, Bool, List, ◌≡◌, ◌∷◌, ◌++◌, Ok, IfOk, IfSome, IfNone, length, codes};
 ghost use Rattle.std.specs.List.{list_all};
 ghost use Rattle.std.specs.String.{string_bytes};
 ghost use Rattle.hex.specs.Hex.{decode_sized, encode_lower};
 ghost use Rattle.lobby_players.specs.File as file;
-ghost use Rattle.lobby_players.specs.File.{Entry, HasFields, IsLineOf, entry_of};
+ghost use Rattle.lobby_players.specs.File.{Entry, HasFields, TellsOf, IsLineOf, entry_of};
 
 use hex::FromHex;
 use lobby_desk::Player;
@@ -87,7 +87,12 @@ pub fn is_full_name(text: &str) -> bool
 }
 
 // The player that fields tell.
-fn player_told(alloc: Global, fields: &Fields<'_>) -> Result<Option<Player>, AllocError> {
+fn player_told(alloc: Global, fields: &Fields<'_>) -> Result<Option<Player>, AllocError>
+    ensures some { IfOk result (λ found. IfSome found (λ player.
+        TellsOf fields.now.name.now fields.now.role.now fields.now.sum.now fields.now.full_name.now (entry_of player))) }
+    ensures none { IfOk result (λ found. IfNone found ((e : Entry) →
+        ¬ TellsOf fields.now.name.now fields.now.role.now fields.now.sum.now fields.now.full_name.now e)) }
+{
     let Some(name) = Name::try_new(fields.name) else {
         return Ok(None);
     };

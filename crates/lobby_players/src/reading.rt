@@ -1,28 +1,34 @@
 //! A players' file is read.
-ghost use Rattle.std.specs.Prelude.{◌≡◌, suc, List, Some, None, ◌++◌, ◌∷◌, [], IfOk, IfErr, OnOk, IfSome, IsTrue, ◌↔◌, map};
-ghost use Rattle.lobby_players.specs.File.{Entry, AreLinesOf, IsFileOf, entries_of, lines_of};
-ghost use Rattle.lobby_players.specs.Faults.{IsFault, IsLineFault, IsNotText, TakesLine};
-ghost use Rattle.std.specs.List.{Any};
+ghost use Rattle.std.specs.Prelude.{◌≡◌, ◌==◌, suc, IfOk, IfErr};
+ghost use Rattle.lobby_players.specs.File.{IsFileOf, entry_of, entries_of};
+ghost use Rattle.lobby_players.specs.Faults.{IsFault, TakesLine};
+ghost use Rattle.lobby_players.specs.File as file;
+ghost use Rattle.std.specs.List.{list_any, count_by};
 
 use crate::faults::{LineFault, PlayersFault};
 use crate::line::player_of;
-use crate::lines::{is_silent, lines};
+use crate::lines::is_silent;
 use lobby_desk::Player;
 use rec_codec::Name;
 use std::alloc::{AllocError, Global};
+use text_parts::parts;
 
 // Whether a player has the name.
 fn has_name(players: &[Player], name: &Name) -> bool
-    ensures { IsTrue result ↔ Any (λ (one : Entry). one.name ≡ name.now) (entries_of players.now) }
+    ensures { result ≡ list_any (λ player. file.has_name name.now (entry_of player)) players.now }
 {
-    players.iter().any(|player| player.name == *name)
+    players
+        .iter()
+        .any(|player| player.name.as_str() == name.as_str())
 }
 
 // Whether a player has the sum.
 fn has_sum(players: &[Player], sum: &[u8; 32]) -> bool
-    ensures { IsTrue result ↔ Any (λ (one : Entry). one.sum ≡ sum.now) (entries_of players.now) }
+    ensures { result ≡ list_any (λ player. file.has_sum sum.now (entry_of player)) players.now }
 {
-    players.iter().any(|player| player.sum == *sum)
+    players
+        .iter()
+        .any(|player| player.sum.as_slice() == sum.as_slice())
 }
 
 // Puts the player of a line behind those before, where it has one. It answers the line's fault.
@@ -50,7 +56,9 @@ fn take(
 }
 
 // The number of the line in which the first byte stands that is no UTF-8.
-fn broken_line(valid: &[u8]) -> usize {
+fn broken_line(valid: &[u8]) -> usize
+    ensures { result ≡ suc (count_by (λ b. b == 10) valid.now) }
+{
     let mut number = 1;
     for byte in valid {
         if *byte == b'\n' {
@@ -65,7 +73,7 @@ pub fn read_text(alloc: Global, text: &str) -> Result<Vec<Player>, PlayersFault>
     ensures players { IfOk result (λ players. IsFileOf text.now (entries_of players.items)) }
     ensures fault { IfErr result (IsFault text.now) }
 {
-    let lines = lines(alloc, text)?;
+    let lines = parts(alloc, text, '\n')?;
     let mut players = Vec::new(alloc);
     for (i, line) in lines.as_slice().iter().enumerate() {
         if let Some(fault) = take(alloc, &mut players, line)? {

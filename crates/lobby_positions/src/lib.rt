@@ -2,6 +2,9 @@
 #![tactic(auto)]
 
 mod answer;
+mod lines;
+mod playing;
+mod rows;
 #[cfg(test)]
 mod tests;
 

@@ -1,0 +1,65 @@
+-- What is read of a game's PGN: the start, and the words that name its moves.
+use Rattle.std.specs.Prelude.{ℕ, ◌≡◌, ◌-◌, ◌<◌, Bool, ◌==◌, ◌&&◌, not, List, [], ◌∷◌, ◌++◌, length, take, drop, codes, Option, Some, None, if◌then◌else◌, find, filter, flat_map, slice_index, option_map}
+use Rattle.std.specs.Char.{is_ascii_alphabetic}
+use Rattle.std.specs.List.{slice_split, onto_first, starts_with}
+use Rattle.chess_board.specs.declared.moves.Move.{Move}
+use Rattle.chess_board.specs.Position.{Position, IsValid}
+use Rattle.chess_board.specs.Initial.{initial}
+use Rattle.chess_board.specs.Next.{next}
+use Rattle.chess_san.specs.Reading.{Names}
+use Rattle.chess_text.specs.Fen.{IsFenOf}
+
+-- The lines of a text. Each ends at a line feed; behind the last one none need stand.
+abbrev pub lines_of : List ℕ → List (List ℕ)
+lines_of [] = []
+lines_of (b ∷ bs) = if b == 10 then [] ∷ lines_of bs else onto_first b (lines_of bs)
+
+-- a tag's line begins with `[` (PGN Standard, section 8.1.1)
+abbrev pub is_tag : List ℕ → Bool
+is_tag line = slice_index line 0 == 91
+
+-- the line `[FEN ".."]`
+abbrev pub is_fen_tag : List ℕ → Bool
+is_fen_tag line = starts_with (λ a b. a == b) line (codes "[FEN \"")
+
+-- its value, between the quotes
+abbrev pub value_of : List ℕ → List ℕ
+value_of line = take (length line - 8) (drop 6 line)
+
+abbrev pub fen_in : List (List ℕ) → Option (List ℕ)
+fen_in lines = option_map value_of (find is_fen_tag lines)
+
+-- The game starts in the position of the first tag FEN, and where there is none in the initial one (PGN Standard, section
+-- 9.7).
+abbrev pub StartsAt : Option (List ℕ) → Position → Type 0
+StartsAt None p = p ≡ initial
+StartsAt (Some fen) p = IsValid p × IsFenOf fen p
+
+-- A move's word begins with a letter; the numbers of moves and the result do not (PGN Standard, section 8.2).
+abbrev pub is_word : List ℕ → Bool
+is_word token = is_ascii_alphabetic (slice_index token 0)
+
+abbrev pub words_of_line : List ℕ → List (List ℕ)
+words_of_line line = if is_tag line then [] else filter is_word (slice_split (λ b. b == 32) line)
+
+-- the words that name moves, in their order: those of the lines that are no tags
+abbrev pub words_of : List (List ℕ) → List (List ℕ)
+words_of lines = flat_map words_of_line lines
+
+-- the word names this move, and both counters have room for it
+pub record Plays (p : Position) (word : List ℕ) (m : Move) : Type 0 where
+  pub named : Names p word m
+  pub halfmove : p.halfmove < 65535
+  pub fullmove : p.fullmove < 65535
+
+-- The words name these moves, one after another from a position on, each by the Laws.
+abbrev pub ArePlayed : Position → List (List ℕ) → List Move → Type 0
+ArePlayed p [] [] = Unit {0}
+ArePlayed p [] (m ∷ ms) = ⊥
+ArePlayed p (word ∷ words) [] = ⊥
+ArePlayed p (word ∷ words) (m ∷ ms) = Plays p word m × ArePlayed (next p m) words ms
+
+-- the text tells this game
+pub record TellsGame (text : List ℕ) (start : Position) (moves : List Move) : Type 0 where
+  pub start : StartsAt (fen_in (lines_of text)) start
+  pub played : ArePlayed start (words_of (lines_of text)) moves

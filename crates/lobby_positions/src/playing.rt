@@ -1,0 +1,1 @@
+//! The moves that words name.
