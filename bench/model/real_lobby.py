@@ -145,7 +145,7 @@ class Relay:
 class Programs:
     """Server, relay and lobby, over a players' file with lines `NAME ROLE TOKEN FULL NAME`."""
 
-    def __init__(self, folder, players):
+    def __init__(self, folder, players, has_relay=True):
         self.folder, self.port = folder, 0
         self.club = os.path.join(folder, 'club.players')
         with open(players) as file, open(self.club, 'w') as club:
@@ -154,12 +154,13 @@ class Programs:
                 club.write('%s %s %s %s\n' % (name, role, hashlib.sha256(token.encode()).hexdigest(), full))
         self.program = lobby_path()
         self.server = GameServer(folder)
-        self.relay = Relay(self.server)
+        self.relay = Relay(self.server) if has_relay else None
         self.start()
 
     def start(self):
         self.process = subprocess.Popen(
-            [self.program, 'serve', '--players', self.club, '--server', '127.0.0.1:%d' % self.relay.port,
+            [self.program, 'serve', '--players', self.club,
+             '--server', '127.0.0.1:%d' % (self.relay or self.server).port,
              '--port', str(self.port), '--page', os.path.join(TOP, 'page')],
             stdout=subprocess.PIPE, stderr=subprocess.DEVNULL, text=True)
         self.address = self.process.stdout.readline().strip()
@@ -208,5 +209,6 @@ class Programs:
 
     def stop(self):
         self.kill()
-        self.relay.hang_up()
+        if self.relay:
+            self.relay.hang_up()
         self.server.kill()

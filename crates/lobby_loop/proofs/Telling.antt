@@ -1,5 +1,5 @@
 -- Messages that a browser is told, one after the other.
-use Rattle.std.proofs.Common.{◌≡◌, ◌<◌, ◌≤◌, ◌+◌, ℕ, List, [], ◌∷◌, length, get_or, drop, refl, subst, sym, ap, ◌∙◌, arith}
+use Rattle.std.proofs.Common.{◌≡◌, ◌<◌, ◌≤◌, ◌+◌, ℕ, List, [], ◌∷◌, length, get_or, drop, refl, subst, sym, ap, ◌∙◌, add-one, arith}
 use Rattle.std.proofs.Math.Seq.{drop-cons}
 use Rattle.std.proofs.lemmas.List.{drop_all}
 use Rattle.lobby_loop.specs.declared.guest.Guest.{Guest}
@@ -14,7 +14,8 @@ module _ {S : Type 0} where
   pub told_further : (i : ℕ) (made : List Made) (d : Made) (old now next : Guest S) → i < length made →
       IsToldTo i made old now → IsTold (get_or made i d) now next → IsToldTo (i + 1) made old next
   told_further i made d old now next lt so_far one = λ new are.
-      so_far new (subst (λ (l : List Made). AreTold l now new) (sym (drop-cons made i d lt)) (next, one, are))
+      so_far new (subst (λ (l : List Made). AreTold l now new) (sym (drop-cons made i d lt))
+      (next, one, subst (λ (n : ℕ). AreTold (drop n made) next new) (add-one i) are))
 
   pub told_all : (i : ℕ) (made : List Made) (old now : Guest S) → length made ≤ i → IsToldTo i made old now →
       AreTold made old now

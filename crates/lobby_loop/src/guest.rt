@@ -79,6 +79,12 @@ impl<S> Guest<S> {
         self.key
     }
 
+    /// Its stream.
+    #[cfg(test)]
+    pub fn stream(&self) -> &S {
+        &self.stream
+    }
+
     /// Its number at the desk.
     pub fn number(&self) -> Option<u64>
         ensures { result ≡ self.now.number }

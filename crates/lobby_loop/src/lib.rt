@@ -9,6 +9,8 @@ mod lobby;
 mod made;
 mod pieces;
 mod talk;
+#[cfg(test)]
+mod tests;
 
 pub use door::Entrance;
 pub use lobby::{Fault, Lobby, Turned};

@@ -81,6 +81,12 @@ impl<S> Link<S> {
         }
     }
 
+    /// Its stream.
+    #[cfg(test)]
+    pub fn stream(&self) -> &S {
+        &self.stream
+    }
+
     /// Its socket may be ready.
     pub fn wake(&mut self) {
         self.can_read = true;

@@ -1,2 +1,0 @@
-pub mod Pgn
-pub mod Answer

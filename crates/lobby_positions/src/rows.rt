@@ -1,1 +1,0 @@
-//! The rows of an answer.
