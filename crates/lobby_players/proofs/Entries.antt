@@ -1,8 +1,9 @@
 -- Lines, one after another.
 use Rattle.std.proofs.Common.{ℕ, suc, zero, ◌≡◌, ◌≢◌, ◌<◌, ◌+◌, Bool, true, false, not, cond, ◌||◌, List, [], ◌∷◌, ◌++◌, length, get_or, map, take, drop, refl, sym, ap, ◌∙◌, arith, Option, Some, None, inl, inr, ◌⊎◌, subst, append-nil}
+use Rattle.std.specs.Borrow.{Bor}
 use Rattle.std.specs.Str.{bytes_eq}
 use Rattle.std.specs.List.{All, AllZip, AllPairs, list_any, filter}
-use Rattle.std.proofs.lemmas.List.{map-append, take_more}
+use Rattle.std.proofs.lemmas.List.{map-append, take_more, drop_more, take-append-drop, get_or-map, length-map}
 use Rattle.std.proofs.lemmas.List.Elements.{All-nil, All-cons, All-from_get_or, All-push, filter-append}
 use Rattle.std.proofs.lemmas.List.Kept.{AllPairs-cons}
 use Rattle.std.proofs.lemmas.Slice.Eq.{bytes_eq-Decides}
@@ -92,11 +93,33 @@ pub line_more : (before : List (List ℕ)) (line : List ℕ) (es after : List En
 line_more before line es after are takes =
     elim takes [
       | inl silent ↦
-        subst (λ (xs : List Entry). AreLinesOf (before ++ line ∷ []) xs) (sym silent.1) (record {
-          told = subst (λ (ls : List (List ℕ)). AllZip IsLineOf ls es) (sym (one_silent before line silent.0)) are.told;
-          apart = are.apart;
-        })
+          subst (λ (xs : List Entry). AreLinesOf (before ++ line ∷ []) xs) (sym silent.1) (record {
+            told = subst (λ (ls : List (List ℕ)). AllZip IsLineOf ls es) (sym (one_silent before line silent.0)) are.told;
+            apart = are.apart;
+          })
       | inr put ↦
-        subst (λ (xs : List Entry). AreLinesOf (before ++ line ∷ []) xs) (sym put.put)
-        (one_more before line es put.entry are put.spoken put.told put.named put.shown)
+          subst (λ (xs : List Entry). AreLinesOf (before ++ line ∷ []) xs) (sym put.put)
+          (one_more before line es put.entry are put.spoken put.told put.named put.shown)
     ]
+
+-- the lines up to one more
+pub lines_more : (items : List (Bor (List ℕ))) (i : ℕ) (d : Bor (List ℕ)) → i < length items →
+    take (i + 1) (map (λ (line : Bor (List ℕ)). line.now) items)
+    ≡ take i (map (λ (line : Bor (List ℕ)). line.now) items) ++ (get_or items i d).now ∷ []
+lines_more items i d below =
+    let now = λ (line : Bor (List ℕ)). line.now in
+    let inside : i < length (map (λ (line : Bor (List ℕ)). line.now) items) = rw (length-map items now) below in
+    take_more (map now items) i d.now inside
+    ∙ ap (λ (line : List ℕ). take i (map now items) ++ line ∷ []) (get_or-map now items i d d.now below)
+
+-- the lines in front of one, that line, and those behind it
+pub lines_around : (items : List (Bor (List ℕ))) (i : ℕ) (d : Bor (List ℕ)) → i < length items →
+    map (λ (line : Bor (List ℕ)). line.now) items ≡ take i (map (λ (line : Bor (List ℕ)). line.now) items)
+    ++ ((get_or items i d).now ∷ drop (i + 1) (map (λ (line : Bor (List ℕ)). line.now) items))
+lines_around items i d below =
+    let now = λ (line : Bor (List ℕ)). line.now in
+    let lines = map now items in
+    let inside : i < length (map (λ (line : Bor (List ℕ)). line.now) items) = rw (length-map items now) below in
+    sym (take-append-drop i lines)
+    ∙ (ap (λ (ls : List (List ℕ)). take i lines ++ ls) (drop_more lines i d.now inside)
+    ∙ ap (λ (line : List ℕ). take i lines ++ (line ∷ drop (i + 1) lines)) (get_or-map now items i d d.now below))

@@ -53,7 +53,7 @@ line_tells line a b c d e h is =
     let told = fields_told line e is in
     let role = role_text e.is_arbiter in
     let one = first_word a e.name (b ++ (32 ∷ (c ++ (32 ∷ d)))) (role ++ (32 ∷ (is.digits ++ (32 ∷ e.full_name)))) h.name_word told.name_word
-        (sym h.joined ∙ is.spelled) in
+    (sym h.joined ∙ is.spelled) in
     let two = first_word b role (c ++ (32 ∷ d)) (is.digits ++ (32 ∷ e.full_name)) h.role_word told.role_word one.rest in
     let three = first_word c is.digits d e.full_name h.sum_word told.sum_word two.rest in
     record {

@@ -35,3 +35,15 @@ pub record IsLineAnswer (game : ℕ) (start : Position) (moves : List Move) (tex
   pub are : AreRows start moves behind
   pub spelled : text ≡ codes "ok line " ++ (decimal game ++ (32 ∷ (decimal (length moves) ++
       (10 ∷ (row 0 (codes "-") (codes "-") start ++ behind)))))
+
+-- the new text is the old one with the row of a move
+pub record PutsRow (number : ℕ) (before : Position) (m : Move) (after : Position) (old new : List ℕ) : Type 0 where
+  pub san : List ℕ
+  pub is_san : IsSan before m san
+  pub put : new ≡ old ++ row number san (coordinate_of m) after
+
+-- the new text is the old one with the rows of moves
+pub record PutsRows (start : Position) (moves : List Move) (old new : List ℕ) : Type 0 where
+  pub behind : List ℕ
+  pub are : AreRows start moves behind
+  pub put : new ≡ old ++ behind

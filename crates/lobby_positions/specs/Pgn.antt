@@ -1,7 +1,10 @@
 -- What is read of a game's PGN: the start, and the words that name its moves.
-use Rattle.std.specs.Prelude.{ℕ, ◌≡◌, ◌-◌, ◌<◌, Bool, ◌==◌, ◌&&◌, not, List, [], ◌∷◌, ◌++◌, length, take, drop, codes, Option, Some, None, if◌then◌else◌, find, filter, flat_map, slice_index, option_map}
+use Rattle.std.specs.Prelude.{ℕ, ◌≡◌, ◌<◌, Bool, ◌==◌, List, [], ◌∷◌, codes, Option, Some, None, if◌then◌else◌, find, filter, flat_map, slice_index}
 use Rattle.std.specs.Char.{is_ascii_alphabetic}
-use Rattle.std.specs.List.{slice_split, onto_first, starts_with}
+use Rattle.std.specs.List.{before_first, after_first}
+use Rattle.std.specs.Str.{bytes_eq}
+use Rattle.std.specs.Option.{option_map}
+use Rattle.text_parts.specs.Parts.{parts_of}
 use Rattle.chess_board.specs.declared.moves.Move.{Move}
 use Rattle.chess_board.specs.Position.{Position, IsValid}
 use Rattle.chess_board.specs.Initial.{initial}
@@ -9,10 +12,8 @@ use Rattle.chess_board.specs.Next.{next}
 use Rattle.chess_san.specs.Reading.{Names}
 use Rattle.chess_text.specs.Fen.{IsFenOf}
 
--- The lines of a text. Each ends at a line feed; behind the last one none need stand.
 abbrev pub lines_of : List ℕ → List (List ℕ)
-lines_of [] = []
-lines_of (b ∷ bs) = if b == 10 then [] ∷ lines_of bs else onto_first b (lines_of bs)
+lines_of text = parts_of 10 text
 
 -- a tag's line begins with `[` (PGN Standard, section 8.1.1)
 abbrev pub is_tag : List ℕ → Bool
@@ -20,11 +21,11 @@ is_tag line = slice_index line 0 == 91
 
 -- the line `[FEN ".."]`
 abbrev pub is_fen_tag : List ℕ → Bool
-is_fen_tag line = starts_with (λ a b. a == b) line (codes "[FEN \"")
+is_fen_tag line = bytes_eq (before_first (λ b. b == 32) line) (codes "[FEN")
 
 -- its value, between the quotes
 abbrev pub value_of : List ℕ → List ℕ
-value_of line = take (length line - 8) (drop 6 line)
+value_of line = before_first (λ b. b == 34) (after_first (λ b. b == 34) line)
 
 abbrev pub fen_in : List (List ℕ) → Option (List ℕ)
 fen_in lines = option_map value_of (find is_fen_tag lines)
@@ -40,7 +41,7 @@ abbrev pub is_word : List ℕ → Bool
 is_word token = is_ascii_alphabetic (slice_index token 0)
 
 abbrev pub words_of_line : List ℕ → List (List ℕ)
-words_of_line line = if is_tag line then [] else filter is_word (slice_split (λ b. b == 32) line)
+words_of_line line = if is_tag line then [] else filter is_word (parts_of 32 line)
 
 -- the words that name moves, in their order: those of the lines that are no tags
 abbrev pub words_of : List (List ℕ) → List (List ℕ)

@@ -7,25 +7,29 @@ use Rattle.lobby_players.proofs.reading.take.Goals as goal
 
 pub returns-then-has_name : goal.returns-then-has_name
 returns-then-has_name c =
-    let player = c.in-Some.player in
-    (sym c.is_silent.ensures ∙ c.if-is_silent.false, record {
-      entry = entry_of player;
-      told = rw c.in-Some.is at c.in_ok-player.ensures.some;
-      again = any_of (has_name player.name) c.has_name.result true c.as_slice.result.now c.args.players.now.items c.has_name.ensures
-          c.as_slice.ensures.value c.if-has_name.true;
-    })
+    let player = c.in-Some.player in (
+      sym c.is_silent.ensures ∙ c.if-is_silent.false,
+      record {
+        entry = entry_of player;
+        told = rw c.in-Some.is at c.in_ok-player.ensures.some;
+        again = any_of (has_name player.name) c.has_name.result true c.as_slice.result.now c.args.players.now.items c.has_name.ensures
+            c.as_slice.ensures.value c.if-has_name.true;
+      },
+    )
 
 pub returns-then-has_sum : goal.returns-then-has_sum
 returns-then-has_sum c =
-    let player = c.in-Some.player in
-    (sym c.is_silent.ensures ∙ c.if-is_silent.false, record {
-      entry = entry_of player;
-      told = rw c.in-Some.is at c.in_ok-player.ensures.some;
-      named = any_of (has_name player.name) c.has_name.result false c.as_slice.result.now c.args.players.now.items c.has_name.ensures
-          c.as_slice.ensures.value c.if-has_name.false;
-      again = any_of (has_sum player.sum) c.has_sum.result true c.as_slice-2.result.now c.args.players.now.items c.has_sum.ensures
-          c.as_slice-2.ensures.value c.if-has_sum.true;
-    })
+    let player = c.in-Some.player in (
+      sym c.is_silent.ensures ∙ c.if-is_silent.false,
+      record {
+        entry = entry_of player;
+        told = rw c.in-Some.is at c.in_ok-player.ensures.some;
+        named = any_of (has_name player.name) c.has_name.result false c.as_slice.result.now c.args.players.now.items c.has_name.ensures
+            c.as_slice.ensures.value c.if-has_name.false;
+        again = any_of (has_sum player.sum) c.has_sum.result true c.as_slice-2.result.now c.args.players.now.items c.has_sum.ensures
+            c.as_slice-2.ensures.value c.if-has_sum.true;
+      },
+    )
 
 pub returns : goal.returns
 returns c =
