@@ -1,5 +1,5 @@
 //! What is read of a PGN: the tag of the start, and the words that name moves.
-ghost use Rattle.std.specs.Prelude.{◌≡◌, ◌<◌, ◌++◌, ◌==◌, ◌∷◌, [], ℕ, map, filter, flat_map, list_any, Some, IfOk, OnOk, IfSome, IfNone};
+ghost use Rattle.std.specs.Prelude.{◌≡◌, ◌<◌, ◌++◌, ◌==◌, ◌∷◌, [], map, filter, Some, IfOk, OnOk, IfSome};
 ghost use Rattle.std.specs.List.{before_first, after_first};
 ghost use Rattle.std.specs.Option.{option_map};
 ghost use Rattle.chess_board.specs.Position.{Position};

@@ -1,7 +1,9 @@
 //! The moves that words name.
-ghost use Rattle.std.specs.Prelude.{◌≡◌, List, map, IfOk, IfSome, IfNone};
+ghost use Rattle.std.specs.Prelude.{◌≡◌, ◌<◌, ◌++◌, ◌∷◌, [], List, map, IfOk, OnOk, IfSome, IfNone};
 ghost use Rattle.chess_board.specs.declared.moves.Move.{Move};
-ghost use Rattle.lobby_positions.specs.Pgn.{Plays, ArePlayed};
+ghost use Rattle.chess_board.specs.Legal.{IsLegal};
+ghost use Rattle.chess_board.specs.Next.{next};
+ghost use Rattle.lobby_positions.specs.Pgn.{Plays, ArePlayed, StepsBy};
 
 use chess_board::{Board, Move};
 use chess_san::read;
@@ -20,6 +22,33 @@ fn named(board: &Board, word: &str) -> Option<Move>
     }
 }
 
+// Makes a legal move.
+fn make(board: &mut Board, moves: &mut Vec<Move>, mv: &Move) -> Result<(), AllocError>
+    requires legal { IsLegal board.old mv.now }
+    requires halfmove { board.old.halfmove < 65535 }
+    requires fullmove { board.old.fullmove < 65535 }
+    ensures next { OnOk result (board.new ≡ next board.old mv.now) }
+    ensures put { OnOk result (moves.new.items ≡ moves.old.items ++ (mv.now ∷ [])) }
+{
+    let after = board.apply(*mv);
+    moves.push(*mv)?;
+    *board = after;
+    Ok(())
+}
+
+// Makes the move that a word names, and tells whether it names one.
+fn step(board: &mut Board, moves: &mut Vec<Move>, word: &str) -> Result<bool, AllocError>
+    ensures { IfOk result (λ moved. StepsBy moved board.old word.now moves.old.items board.new moves.new.items) }
+{
+    match named(board, word) {
+        None => Ok(false),
+        Some(mv) => {
+            make(board, moves, &mv)?;
+            Ok(true)
+        }
+    }
+}
+
 /// The moves that words name, one after another from a start; `None` just where one names none.
 pub fn played(alloc: Global, start: &Board, words: &[&str]) -> Result<Option<Vec<Move>>, AllocError>
     ensures some { IfOk result (λ found. IfSome found (λ moves. ArePlayed start.now (map (λ word. word.now) words.now) moves.items)) }
@@ -30,11 +59,9 @@ pub fn played(alloc: Global, start: &Board, words: &[&str]) -> Result<Option<Vec
     let mut board = *start;
     let mut moves = Vec::new(alloc);
     for word in words {
-        let Some(mv) = named(&board, word) else {
+        if !step(&mut board, &mut moves, word)? {
             return Ok(None);
-        };
-        moves.push(mv)?;
-        board = board.apply(mv);
+        }
     }
     Ok(Some(moves))
 }

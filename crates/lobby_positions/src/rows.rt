@@ -1,12 +1,9 @@
 //! The rows of an answer.
-ghost use Rattle.std.specs.Prelude.{◌≡◌, ◌++◌, ◌∷◌, [], List, ℕ, codes, decimal, length, IfOk, OnOk};
+ghost use Rattle.std.specs.Prelude.{◌≡◌, ◌++◌, ◌∷◌, [], codes, decimal, IfOk, OnOk};
 ghost use Rattle.std.specs.String.{string_bytes};
 ghost use Rattle.chess_board.specs.Legal.{IsLegal};
-ghost use Rattle.chess_board.specs.Line.{IsLegalLine};
-ghost use Rattle.chess_san.specs.San.{IsSan};
 ghost use Rattle.chess_text.specs.Fen.{fen_of};
-ghost use Rattle.chess_text.specs.Game.{HasRoom};
-ghost use Rattle.lobby_moves.specs.Telling.{coordinate_of};
+ghost use Rattle.lobby_positions.specs.Pgn.{IsPlayable};
 ghost use Rattle.lobby_positions.specs.Answer.{row, PutsRow, PutsRows, IsLineAnswer};
 
 use chess_board::{Board, Move};
@@ -61,8 +58,7 @@ fn push_row(
 
 // Appends the rows of moves from a start on.
 fn push_rows(text: &mut String, start: &Board, moves: &[Move]) -> Result<(), AllocError>
-    requires legal { IsLegalLine start.now moves.now }
-    requires room { HasRoom start.now moves.now }
+    requires { IsPlayable start.now moves.now }
     ensures { OnOk result (PutsRows start.now moves.now (string_bytes text.old) (string_bytes text.new)) }
 {
     let mut board = *start;
@@ -83,8 +79,7 @@ pub fn answer_text(
     start: &Board,
     moves: &[Move],
 ) -> Result<String, AllocError>
-    requires legal { IsLegalLine start.now moves.now }
-    requires room { HasRoom start.now moves.now }
+    requires { IsPlayable start.now moves.now }
     ensures { IfOk result (λ text. IsLineAnswer game start.now moves.now (string_bytes text)) }
 {
     let mut text = String::from_str(alloc, "ok line ")?;
