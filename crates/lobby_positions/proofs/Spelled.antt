@@ -66,11 +66,13 @@ rows_put start before after moves more m number old text new rows_so_far put_row
       put = put_row.put ∙ (ap (λ (t : List ℕ). t ++ here) rows_so_far.put ∙ append_assoc old rows_so_far.behind here);
     })
 
-pub start_put : (old text new : List ℕ) (p : Position) → text ≡ old ++ codes "0 - -" → new ≡ text ++ (32 ∷ (fen_of p ++ (10 ∷ []))) →
+pub start_put : (old a b new : List ℕ) (p : Position) → a ≡ old ++ decimal 0 → b ≡ a ++ codes " - -" → new ≡ b ++ (32 ∷ (fen_of p ++ (10 ∷ []))) →
     new ≡ old ++ row 0 (codes "-") (codes "-") p
-start_put old text new p front put =
-    put ∙ (ap (λ (t : List ℕ). t ++ (32 ∷ (fen_of p ++ (10 ∷ [])))) front
-    ∙ append_assoc old (codes "0 - -") (32 ∷ (fen_of p ++ (10 ∷ []))))
+start_put old a b new p one two three =
+    let fen = 32 ∷ (fen_of p ++ (10 ∷ [])) in
+    three ∙ (ap (λ (t : List ℕ). t ++ fen) two
+    ∙ (append_assoc a (codes " - -") fen
+    ∙ (ap (λ (t : List ℕ). t ++ (codes " - -" ++ fen)) one ∙ append_assoc old (decimal 0) (codes " - -" ++ fen))))
 
 pub row_put : (number : ℕ) (p q : Position) (m : Move) (old a b s c new : List ℕ) (san : List ℕ) → IsSan p m san →
     a ≡ old ++ decimal number → b ≡ a ++ (32 ∷ []) → s ≡ b ++ san → c ≡ s ++ (32 ∷ coordinate_of m) →

@@ -34,8 +34,10 @@ fn push_fen(text: &mut String, board: &Board) -> Result<(), AllocError>
 fn push_start(text: &mut String, start: &Board) -> Result<(), AllocError>
     ensures { OnOk result (string_bytes text.new ≡ string_bytes text.old ++ row 0 (codes "-") (codes "-") start.now) }
 {
-    text.push_str("0 - -")?;
-    push_fen(text, start)
+    push_number(text, 0)?;
+    text.push_str(" - -")?;
+    push_fen(text, start)?;
+    Ok(())
 }
 
 // Appends the row of a move, which has this number.
@@ -53,7 +55,8 @@ fn push_row(
     text.push(' ')?;
     text.push_str(write(before, *mv).as_str())?;
     push_move(text, mv)?;
-    push_fen(text, after)
+    push_fen(text, after)?;
+    Ok(())
 }
 
 // Appends the rows of moves from a start on.
