@@ -50,13 +50,13 @@ pub record HasFields (line name role sum full_name : List ℕ) : Type 0 where
   pub joined : line ≡ name ++ (32 ∷ (role ++ (32 ∷ (sum ++ (32 ∷ full_name)))))
 
 -- three words and what is left tell of a player
-pub record TellsOf (name role digits full_name : List ℕ) (e : Entry) : Type 0 where
+pub record TellsOf (first second digits rest : List ℕ) (e : Entry) : Type 0 where
   pub is_name : IsName e.name
-  pub name : name ≡ e.name
-  pub role : role ≡ role_text e.is_arbiter
+  pub name : first ≡ e.name
+  pub role : second ≡ role_text e.is_arbiter
   pub sum : decode_sized digits 32 ≡ Ok e.sum
   pub is_full_name : is_full_name e.full_name ≡ true
-  pub full_name : full_name ≡ e.full_name
+  pub full_name : rest ≡ e.full_name
 
 -- The line of a player: the name, the role, the token's sum as 64 hex digits, and the full name, with one space between each
 -- two.

@@ -1,7 +1,8 @@
 //! A player is put into a players' file.
-ghost use Rattle.std.specs.Prelude.{◌≡◌, ◌++◌, ◌&&◌, filter, IfOk, IfErr, OnOk};
+ghost use Rattle.std.specs.Prelude.{◌≡◌, ◌++◌, ◌∷◌, [], ◌&&◌, Ok, filter, IfOk, IfErr, OnOk};
 ghost use Rattle.std.specs.List.{list_any};
 ghost use Rattle.std.specs.String.{string_bytes};
+ghost use Rattle.hex.specs.Hex.{decode_sized, encode_lower};
 ghost use Rattle.lobby_desk.specs.Lines.{ended, bytes_of};
 ghost use Rattle.lobby_players.specs.Adding.{IsAdded, IsAddFault, entry_added, entry_with, is_other, is_others, line_of};
 ghost use Rattle.lobby_players.specs.File.{has_sum, entry_of, lines_of};
@@ -41,7 +42,8 @@ fn push_player(
     who: &Addition<'_>,
     sum: &[u8; 32],
 ) -> Result<(), AllocError>
-    ensures { OnOk result (string_bytes text.new ≡ string_bytes text.old ++ ended (line_of (entry_with who.now sum.now))) }
+    ensures put { OnOk result (string_bytes text.new ≡ string_bytes text.old ++ ended (line_of (entry_with who.now sum.now))) }
+    ensures digits { OnOk result (decode_sized (encode_lower sum.now) 32 ≡ Ok sum.now) }
 {
     text.push_str(who.name)?;
     let role = if who.is_arbiter {
@@ -57,6 +59,17 @@ fn push_player(
     Ok(())
 }
 
+// Appends a line with its line feed, where it is not of this name.
+fn push_other(text: &mut String, line: &str, name: &str) -> Result<(), AllocError>
+    ensures { OnOk result (string_bytes text.new ≡ string_bytes text.old ++ bytes_of (filter (is_others name.now) (line.now ∷ []))) }
+{
+    if word(line) != name {
+        text.push_str(line)?;
+        text.push('\n')?;
+    }
+    Ok(())
+}
+
 // The lines of a text that are not of this name, each with its line feed.
 fn others(alloc: Global, text: &str, name: &str) -> Result<String, AllocError>
     ensures { IfOk result (λ kept. string_bytes kept ≡ bytes_of (filter (is_others name.now) (lines_of text.now))) }
@@ -64,10 +77,7 @@ fn others(alloc: Global, text: &str, name: &str) -> Result<String, AllocError>
     let lines = parts(alloc, text, '\n')?;
     let mut kept = String::new(alloc);
     for line in lines.as_slice() {
-        if word(line) != name {
-            kept.push_str(line)?;
-            kept.push('\n')?;
-        }
+        push_other(&mut kept, line, name)?;
     }
     Ok(kept)
 }
