@@ -6,6 +6,8 @@ use Rattle.chess_board.specs.declared.moves.Move.{Move}
 use Rattle.chess_board.specs.Position.{Position, IsValid}
 use Rattle.chess_text.specs.Fen.{IsFenOf}
 use Rattle.lobby_moves.specs.Telling.{TellsMoves}
+use Rattle.lobby_positions.specs.Pgn.{TellsGame}
+use Rattle.lobby_positions.specs.Answer.{IsLineAnswer}
 use Rattle.lobby_desk.specs.declared.telling.Kind.{Kind}
 use Rattle.lobby_desk.specs.declared.telling.Kind.TheVariants.{Whole, Position as AtPosition, Line}
 use Rattle.lobby_desk.specs.declared.telling.Told.{Told}
@@ -47,7 +49,9 @@ pub record IsWithMoves (text new : List ℕ) : Type 0 where
 
 -- The text is `ok pgn G K` and the lines of a PGN: instead of it the positions of the game that this tells.
 abbrev pub IsOfLine : List ℕ → List ℕ → Type 0
-IsOfLine text new = Unit {0}
+IsOfLine text new = (game : ℕ) (start : Position) (moves : List Move) → game < 2 ^ 32 →
+    word_of (rest_of (rest_of text)) ≡ decimal game → TellsGame (lines_behind text) start moves →
+    IsLineAnswer game start moves new
 
 -- a text of this kind, as it goes out
 abbrev pub IsFinished : Kind → List ℕ → List ℕ → Type 0
