@@ -216,11 +216,14 @@ impl<S> Guest<S> {
         self.is_asked = true;
     }
 
-    /// Asks a browser that has been silent whether it is there, and lets one go that has been for too long, or that has
-    /// spoken HTTP for too long.
-    pub fn look_after(&mut self, at: u64)
+    /// Where it is time, asks a browser that has been silent whether it is there, and lets one go that has been for too long,
+    /// or that has spoken HTTP for too long.
+    pub fn look_after(&mut self, is_time: bool, at: u64)
         ensures { IsLookedAfter self.old self.new }
     {
+        if !is_time {
+            return;
+        }
         let silent = at.saturating_sub(self.heard_at);
         let is_web = self.number.is_none();
         if silent >= CLOSED_AFTER || is_web && at.saturating_sub(self.came_at) >= HTTP_MOST {
