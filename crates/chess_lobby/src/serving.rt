@@ -7,7 +7,7 @@ use lobby_desk::Player;
 use lobby_loop::{Entrance, Lobby};
 use std::fs;
 use std::hash::RandomState;
-use std::net::Net;
+use std::net::{Net, SocketAddr};
 use std::random::RandomSource;
 use std::rt::{Clock, Files};
 
@@ -17,34 +17,62 @@ fn players_of<R: Files + AllocGlobal>(rt: &R, file: &str) -> Result<Vec<Player>>
     lobby_players::read(rt.alloc(), text.as_slice()).context(format_args!("{file}"))
 }
 
-// Tells an operator that the server came or went.
-fn tell_server<R: Eprint>(rt: &R, serving: &Serving<'_>, is_here: bool) {
-    let server = serving.server;
-    let _ = if is_here {
-        eprintln!(rt; "the server at {server} is there")
-    } else {
-        eprintln!(rt; "the server at {server} is not there: it is waited for")
-    };
+/// What an operator was told on standard error.
+#[derive(Drop)]
+struct Telling<'a, R> {
+    rt: &'a R,
+    server: SocketAddr,
+    is_here: bool,
+    turned_away: u64,
+    next_at: u64,
+}
+
+// So many milliseconds lie at least between two lines about connections that were turned away.
+const REST: u64 = 1_000;
+
+impl<R: Eprint> Telling<'_, R> {
+    // That the server came or went.
+    fn tell_server(&mut self, is_here: bool) {
+        let server = self.server;
+        if is_here != self.is_here {
+            self.is_here = is_here;
+            let _ = if is_here {
+                eprintln!(self.rt; "the server at {server} is there")
+            } else {
+                eprintln!(self.rt; "the server at {server} is not there: it is waited for")
+            };
+        }
+    }
+
+    // That connections were turned away, so many since it began.
+    fn tell_turned_away(&mut self, count: u64, at: u64) {
+        if count != self.turned_away && at >= self.next_at {
+            self.turned_away = count;
+            self.next_at = at.saturating_add(REST);
+            let _ = eprintln!(self.rt; "so many connections were turned away by now: {count}");
+        }
+    }
 }
 
 // Takes turns until something is at fault.
 fn take_turns<R: Clock + Eprint + Net>(
     rt: &R,
-    serving: &Serving<'_>,
+    server: SocketAddr,
     lobby: &mut Lobby,
 ) -> Result<()> {
     let mut moments = Moments::new(rt)?;
-    let mut was_here = false;
-    let mut turned_away = 0;
+    let mut telling = Telling {
+        rt,
+        server,
+        is_here: false,
+        turned_away: 0,
+        next_at: 0,
+    };
     for _ in 0..u64::MAX {
-        let turned = lobby.turn(rt, moments.next())?;
-        if lobby.has_server() != was_here {
-            was_here = !was_here;
-            tell_server(rt, serving, was_here);
-        }
-        if lobby.turned_away() > turned_away && lobby.guests() == 0 {
-            turned_away = lobby.turned_away();
-        }
+        let at = moments.next();
+        let turned = lobby.turn(rt, at)?;
+        telling.tell_server(lobby.has_server());
+        telling.tell_turned_away(lobby.turned_away(), at);
         lobby.rest(turned)?;
     }
     Ok(())
@@ -76,5 +104,5 @@ where
     if !is_loopback(address) {
         eprintln!(rt; "the line is not encrypted: whoever is on the way reads along, links too")?;
     }
-    take_turns(rt, serving, &mut lobby)
+    take_turns(rt, serving.server, &mut lobby)
 }

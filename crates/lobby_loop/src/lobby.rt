@@ -121,11 +121,6 @@ impl Lobby {
         })
     }
 
-    /// How many browsers are connected.
-    pub fn guests(&self) -> usize {
-        self.hall.len()
-    }
-
     /// Whether the server is there.
     pub fn has_server(&self) -> bool {
         self.hall.has_server()
