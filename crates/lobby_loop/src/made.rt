@@ -101,7 +101,7 @@ fn as_positions(alloc: Global, text: &str) -> Result<String, AllocError>
 {
     match line_answer(alloc, game_in(text), lines_behind(text))? {
         Some(answer) => Ok(answer),
-        None => String::from_str(alloc, "lost\n"),
+        None => Ok(String::from_str(alloc, "lost\n")?),
     }
 }
 
