@@ -1,7 +1,6 @@
 -- Lines that are taken, one after the other.
-use Rattle.std.proofs.Common.{◌≡◌, ◌<◌, ◌+◌, ℕ, List, [], ◌∷◌, ◌++◌, length, get_or, take, drop, take-append-drop, refl, sym, ap, ◌∙◌, subst, append_assoc, add-one, arith}
+use Rattle.std.proofs.Common.{◌≡◌, ◌<◌, ◌+◌, ℕ, List, [], ◌∷◌, ◌++◌, length, get_or, take, drop, take-append-drop, sym, ap, ◌∙◌, append_assoc, add-one}
 use Rattle.std.proofs.Math.Seq.{drop-cons}
-use Rattle.std.proofs.lemmas.List.{drop-drop}
 use Rattle.session_lines.specs.Lines.{HasNoFeed}
 use Rattle.lobby_desk.specs.Events.{Heard}
 use Rattle.lobby_loop.specs.declared.talk.Talk.{Talk}

@@ -1,6 +1,5 @@
 -- What the desk is told, and what goes from it.
-use Rattle.std.specs.Prelude.{ℕ, ◌≡◌, List, [], ◌∷◌}
-use Rattle.lobby_desk.specs.declared.desk.Desk.{Desk}
+use Rattle.std.specs.Prelude.{ℕ, ◌≡◌, List, []}
 use Rattle.lobby_desk.specs.Events.{Event, Gone, tellings}
 use Rattle.lobby_desk.specs.Pace.{is_too_fast}
 use Rattle.lobby_desk.specs.Who.{Steps, said_event, until_of}

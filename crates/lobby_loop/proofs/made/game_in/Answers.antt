@@ -1,4 +1,4 @@
-use Rattle.std.proofs.Common.{◌≡◌, ◌∙◌, ap, sym, subst, ℕ, List, Ok, decimal, arith}
+use Rattle.std.proofs.Common.{◌≡◌, Ok, decimal, arith}
 use Rattle.std.proofs.lemmas.Fmt.{parse-decimal}
 use Rattle.lobby_loop.proofs.made.game_in.Goals as goal
 
