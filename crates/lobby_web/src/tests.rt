@@ -34,37 +34,38 @@ struct Trial {
 }
 
 // Puts bytes behind those before.
-fn put(rt: &HostRuntime, all: &mut Vec<u8>, part: &[u8]) {
-    assert!(rt; all.extend_from_slice(part).is_ok());
+fn put(all: &mut Vec<u8>, part: &[u8]) {
+    let _ = all.extend_from_slice(part);
 }
 
 // Three texts, one behind the other.
 fn joined(rt: &HostRuntime, front: &[u8], middle: &[u8], back: &[u8]) -> Vec<u8> {
     let mut all = Vec::new(rt.alloc());
-    put(rt, &mut all, front);
-    put(rt, &mut all, middle);
-    put(rt, &mut all, back);
+    put(&mut all, front);
+    put(&mut all, middle);
+    put(&mut all, back);
     all
 }
 
 fn copied(rt: &HostRuntime, bytes: &[u8]) -> Vec<u8> {
     let mut all = Vec::new(rt.alloc());
-    put(rt, &mut all, bytes);
+    put(&mut all, bytes);
     all
 }
 
 fn add_host(rt: &HostRuntime, hosts: &mut Vec<Vec<u8>>, host: &[u8]) {
-    assert!(rt; hosts.push(copied(rt, host)).is_ok());
+    let _ = hosts.push(copied(rt, host));
 }
 
 fn add_file(rt: &HostRuntime, files: &mut Vec<File>, path: &[u8], bytes: &[u8]) {
-    let bytes = Bytes::copy_from_slice(rt.alloc(), bytes).expect(rt, "memory");
-    let file = File {
-        path: copied(rt, path),
-        kind: Kind::of(path).unwrap_or(Kind::Html),
-        bytes,
-    };
-    assert!(rt; files.push(file).is_ok());
+    if let Ok(bytes) = Bytes::copy_from_slice(rt.alloc(), bytes) {
+        let file = File {
+            path: copied(rt, path),
+            kind: Kind::of(path).unwrap_or(Kind::Html),
+            bytes,
+        };
+        let _ = files.push(file);
+    }
 }
 
 fn club_site(rt: &HostRuntime) -> Site {
@@ -78,41 +79,41 @@ fn club_site(rt: &HostRuntime) -> Site {
 }
 
 // A browser that has said nothing.
-fn started(rt: &HostRuntime) -> Trial {
-    let keys = RandomState::new(rt).expect(rt, "no random bytes");
-    Trial {
+fn started(rt: &HostRuntime) -> Option<Trial> {
+    let keys = RandomState::new(rt).ok()?;
+    Some(Trial {
         site: club_site(rt),
         browser: Browser::new(rt.alloc(), keys),
         out: Vec::new(rt.alloc()),
         heard: 0,
         texts: Vec::new(rt.alloc()),
         was_opened: false,
-    }
+    })
 }
 
 impl Trial {
     // Takes what waits to be written, a piece at a time.
-    fn write_out(&mut self, rt: &HostRuntime) {
+    fn write_out(&mut self) {
         for _ in 0..1_000 {
             let piece = self.browser.out();
             let count = piece.len();
             if count == 0 {
                 return;
             }
-            put(rt, &mut self.out, piece);
+            put(&mut self.out, piece);
             self.browser.written(&self.site, count);
         }
     }
 
     // Hears one message, and tells whether there was one.
-    fn hear_one(&mut self, rt: &HostRuntime) -> bool {
+    fn hear_one(&mut self) -> bool {
         match self.browser.next() {
             Some(Heard::Opened) => {
                 self.was_opened = true;
                 true
             }
             Some(Heard::Text(text)) => {
-                put(rt, &mut self.texts, &text);
+                put(&mut self.texts, &text);
                 self.heard = self.heard.saturating_add(1);
                 true
             }
@@ -121,29 +122,34 @@ impl Trial {
     }
 
     // Takes a piece, and hears all that is whole then.
-    fn feed(&mut self, rt: &HostRuntime, piece: &[u8]) {
+    fn feed(&mut self, piece: &[u8]) {
         self.browser.take(&self.site, piece);
         for _ in 0..1_000 {
-            if !self.hear_one(rt) {
+            if !self.hear_one() {
                 break;
             }
         }
-        self.write_out(rt);
+        self.write_out();
     }
 
     // Takes an input in pieces of so many bytes.
-    fn feed_all(&mut self, rt: &HostRuntime, input: &[u8], step: usize) {
+    fn feed_all(&mut self, input: &[u8], step: usize) {
         for piece in input.chunks(step.max(1)) {
             if !self.browser.wants_read() {
                 return;
             }
-            self.feed(rt, piece);
+            self.feed(piece);
         }
     }
 
     // Takes a piece without hearing what is whole then.
     fn take(&mut self, piece: &[u8]) {
         self.browser.take(&self.site, piece);
+    }
+
+    // Whether it opened no socket and nothing was heard.
+    fn is_unheard(&self) -> bool {
+        !self.was_opened && self.heard == 0
     }
 
     // Says a text, and tells whether it was said.
@@ -162,10 +168,10 @@ impl Trial {
 }
 
 // What becomes of an input that is given in pieces of so many bytes.
-fn trial_of(rt: &HostRuntime, input: &[u8], step: usize) -> Trial {
-    let mut trial = started(rt);
-    trial.feed_all(rt, input, step);
-    trial
+fn trial_of(rt: &HostRuntime, input: &[u8], step: usize) -> Option<Trial> {
+    let mut trial = started(rt)?;
+    trial.feed_all(input, step);
+    Some(trial)
 }
 
 // Whether a part stands in a text.
@@ -179,14 +185,14 @@ fn contains(text: &[u8], part: &[u8]) -> bool {
 }
 
 // A file is answered whole, with the fields of each file.
-fn sees_file(rt: &HostRuntime, input: &[u8], step: usize, kind: &[u8], body: &[u8]) {
-    let trial = trial_of(rt, input, step);
+fn sees_file(rt: &HostRuntime, input: &[u8], step: usize, kind: &[u8], body: &[u8]) -> bool {
+    let Some(trial) = trial_of(rt, input, step) else {
+        return false;
+    };
     let head = joined(rt, b"HTTP/1.1 200 OK\r\ncontent-type: ", kind, FILE_FIELDS);
     let end = joined(rt, b"\r\n\r\n", body, b"");
-    assert!(rt; trial.out.starts_with(&head));
-    assert!(rt; trial.out.ends_with(&end));
-    assert!(rt; !trial.was_opened && trial.heard == 0);
-    assert!(rt; !trial.is_over());
+    let is_whole = trial.out.starts_with(&head) && trial.out.ends_with(&end);
+    is_whole && trial.is_unheard() && !trial.is_over()
 }
 
 #[test]
@@ -214,18 +220,18 @@ fn files_go_by_their_paths(rt: HostRuntime) {
         ),
     ];
     for (input, kind, body) in cases {
-        sees_file(&rt, input, 1, kind, body);
-        sees_file(&rt, input, 7, kind, body);
-        sees_file(&rt, input, 1_000, kind, body);
+        for step in [1, 7, 1_000] {
+            assert!(rt; sees_file(&rt, input, step, kind, body));
+        }
     }
 }
 
 // An input is answered by a status, and its socket is not opened.
-fn sees_status(rt: &HostRuntime, input: &[u8], step: usize, status: &[u8], is_over: bool) {
-    let trial = trial_of(rt, input, step);
-    assert!(rt; trial.has_status(status));
-    assert!(rt; trial.is_over() == is_over);
-    assert!(rt; !trial.was_opened && trial.heard == 0);
+fn sees_status(rt: &HostRuntime, input: &[u8], step: usize, status: &[u8], is_over: bool) -> bool {
+    let Some(trial) = trial_of(rt, input, step) else {
+        return false;
+    };
+    trial.has_status(status) && trial.is_unheard() && trial.is_over() == is_over
 }
 
 #[test]
@@ -288,8 +294,9 @@ fn requests_are_refused_for_a_reason(rt: HostRuntime) {
         (b"GET / HTTP/1.0\r\nHost: club:80\r\n\r\n", b"200", true),
     ];
     for (input, status, is_over) in cases {
-        sees_status(&rt, input, 1, status, is_over);
-        sees_status(&rt, input, 1_000, status, is_over);
+        for step in [1, 1_000] {
+            assert!(rt; sees_status(&rt, input, step, status, is_over));
+        }
     }
 }
 
@@ -297,7 +304,7 @@ fn requests_are_refused_for_a_reason(rt: HostRuntime) {
 fn with_many(rt: &HostRuntime, front: &[u8], part: &[u8], count: usize) -> Vec<u8> {
     let mut all = copied(rt, front);
     for _ in 0..count {
-        put(rt, &mut all, part);
+        put(&mut all, part);
     }
     all
 }
@@ -308,23 +315,21 @@ fn long_heads_are_refused(rt: HostRuntime) {
     let head = b"GET / HTTP/1.1\r\nHost: club:80\r\nCookie: ";
     let field = with_many(&rt, head, b"a", 20_000);
     let mut many = with_many(&rt, b"GET / HTTP/1.1\r\nHost: club:80\r\n", b"A: b\r\n", 80);
-    put(&rt, &mut many, b"\r\n");
-    sees_status(&rt, &target, 1_000, b"414", true);
-    sees_status(&rt, &field, 1_000, b"431", true);
-    sees_status(&rt, &many, 1_000, b"431", true);
+    put(&mut many, b"\r\n");
+    assert!(rt; sees_status(&rt, &target, 1_000, b"414", true));
+    assert!(rt; sees_status(&rt, &field, 1_000, b"431", true));
+    assert!(rt; sees_status(&rt, &many, 1_000, b"431", true));
 }
 
 // Requests in one input are answered in their order.
-fn sees_pipeline(rt: &HostRuntime, input: &[u8], step: usize) {
-    let trial = trial_of(rt, input, step);
+fn sees_pipeline(rt: &HostRuntime, input: &[u8], step: usize) -> bool {
+    let Some(trial) = trial_of(rt, input, step) else {
+        return false;
+    };
     let middle = joined(rt, SCRIPT, b"HTTP/1.1 404 Not Found\r\n", b"");
-    assert!(rt;
-        trial
-            .out
-            .starts_with(b"HTTP/1.1 200 OK\r\ncontent-type: text/javascript")
-    );
-    assert!(rt; contains(&trial.out, &middle));
-    assert!(rt; trial.out.ends_with(INDEX) && trial.is_over());
+    let front = b"HTTP/1.1 200 OK\r\ncontent-type: text/javascript";
+    let is_ordered = trial.out.starts_with(front) && contains(&trial.out, &middle);
+    is_ordered && trial.out.ends_with(INDEX) && trial.is_over()
 }
 
 #[test]
@@ -333,7 +338,7 @@ fn a_pipeline_is_answered_in_its_order(rt: HostRuntime) {
         b"GET /page.js HTTP/1.1\r\nHost: club:80\r\n\r\nGET /no HTTP/1.1\r\nHost: club:80\r\n\r\n\
         GET / HTTP/1.1\r\nHost: club:80\r\nConnection: close\r\n\r\nGET /page.js HTTP/1.1\r\nHost: club:80\r\n\r\n";
     for step in [1, 30, 1_000] {
-        sees_pipeline(&rt, input, step);
+        assert!(rt; sees_pipeline(&rt, input, step));
     }
 }
 
@@ -345,13 +350,22 @@ fn sees_frames(
     answer: &[u8],
     heard: usize,
     is_over: bool,
-) {
+) -> bool {
     let input = joined(rt, UPGRADE, frames, b"");
-    let trial = trial_of(rt, &input, step);
     let answers = joined(rt, SWITCHED, answer, b"");
-    assert!(rt; trial.out.as_slice() == answers.as_slice());
-    assert!(rt; trial.was_opened && trial.heard == heard);
-    assert!(rt; trial.is_over() == is_over);
+    let Some(trial) = trial_of(rt, &input, step) else {
+        return false;
+    };
+    let is_answered = trial.was_opened && trial.out.as_slice() == answers.as_slice();
+    is_answered && trial.heard == heard && trial.is_over() == is_over
+}
+
+// The texts that are heard of an input, one behind the other.
+fn hears(rt: &HostRuntime, input: &[u8], step: usize, texts: &[u8]) -> bool {
+    match trial_of(rt, input, step) {
+        Some(trial) => trial.was_opened && trial.texts.as_slice() == texts,
+        None => false,
+    }
 }
 
 #[test]
@@ -360,9 +374,8 @@ fn a_page_opens_its_socket(rt: HostRuntime) {
     let frames = b"\x81\x85\x37\xfa\x21\x3d\x7f\x9f\x4d\x51\x58\x81\x80\0\0\0\0";
     let input = joined(&rt, UPGRADE, frames, b"");
     for step in [1, 2, 11, 10_000] {
-        sees_frames(&rt, frames, step, b"", 2, false);
-        let trial = trial_of(&rt, &input, step);
-        assert!(rt; trial.texts.as_slice() == b"Hello".as_slice());
+        assert!(rt; sees_frames(&rt, frames, step, b"", 2, false));
+        assert!(rt; hears(&rt, &input, step, b"Hello"));
     }
 }
 
@@ -377,12 +390,13 @@ fn replaced(rt: &HostRuntime, text: &[u8], old: &[u8], new: &[u8]) -> Vec<u8> {
 }
 
 // An upgrade with one part made another opens nothing.
-fn sees_no_socket(rt: &HostRuntime, old: &[u8], new: &[u8], status: &[u8]) {
+fn sees_no_socket(rt: &HostRuntime, old: &[u8], new: &[u8], status: &[u8]) -> bool {
     let head = replaced(rt, UPGRADE, old, new);
     let input = joined(rt, &head, b"\x81\x85\0\0\0\0Hello", b"");
-    let trial = trial_of(rt, &input, 10_000);
-    assert!(rt; trial.has_status(status));
-    assert!(rt; !trial.was_opened && trial.heard == 0);
+    match trial_of(rt, &input, 10_000) {
+        Some(trial) => trial.has_status(status) && trial.is_unheard(),
+        None => false,
+    }
 }
 
 #[test]
@@ -405,10 +419,10 @@ fn nobody_else_opens_it(rt: HostRuntime) {
         ),
     ];
     for (old, new, status) in cases {
-        sees_no_socket(&rt, old, new, status);
+        assert!(rt; sees_no_socket(&rt, old, new, status));
     }
     let secure = replaced(&rt, UPGRADE, b"http://club", b"https://club");
-    assert!(rt; trial_of(&rt, &secure, 10_000).was_opened);
+    assert!(rt; hears(&rt, &secure, 10_000, b""));
 }
 
 #[test]
@@ -465,28 +479,27 @@ fn frames_are_taken_or_refused(rt: HostRuntime) {
     ];
     for (frames, answer, heard, is_over) in cases {
         for step in [1, 3, 10_000] {
-            sees_frames(&rt, frames, step, answer, heard, is_over);
+            assert!(rt; sees_frames(&rt, frames, step, answer, heard, is_over));
         }
     }
 }
 
 // A browser whose socket is open, and to whom nothing was said.
-fn opened(rt: &HostRuntime) -> Trial {
-    let mut trial = trial_of(rt, UPGRADE, 10_000);
-    assert!(rt; trial.was_opened);
+fn opened(rt: &HostRuntime) -> Option<Trial> {
+    let mut trial = trial_of(rt, UPGRADE, 10_000)?;
     trial.out.clear();
-    trial
+    if trial.was_opened { Some(trial) } else { None }
 }
 
 #[test]
 fn nothing_is_said_before_the_upgrade(rt: HostRuntime) {
-    let mut early = started(&rt);
+    let mut early = started(&rt).expect(&rt, "no trial");
     assert!(rt; early.browser.say(b"ok") == Err(Unsaid::NotOpen));
 }
 
 #[test]
 fn what_is_said_goes_out_in_frames(rt: HostRuntime) {
-    let mut trial = opened(&rt);
+    let mut trial = opened(&rt).expect(&rt, "not opened");
     assert!(rt; trial.browser.is_open() && !trial.is_over());
     assert!(rt; trial.browser.say(b"\xff") == Err(Unsaid::NotText));
     let long = [b'x'; 300];
@@ -496,11 +509,11 @@ fn what_is_said_goes_out_in_frames(rt: HostRuntime) {
     assert!(rt; trial.browser.close(CloseCode::Away).is_ok());
     assert!(rt; !trial.browser.is_open() && !trial.is_over());
     assert!(rt; trial.browser.say(b"ok") == Err(Unsaid::NotOpen));
-    trial.write_out(&rt);
+    trial.write_out();
     let front = b"\x81\x0fok move 1 1 e4\n\x89\x00\x81\x7e\x01\x2c";
     let expected = joined(&rt, front, &long, b"\x88\x02\x03\xe9");
     assert!(rt; trial.out.as_slice() == expected.as_slice());
-    trial.feed(&rt, b"\x88\x82\0\0\0\0\x03\xe9");
+    trial.feed(b"\x88\x82\0\0\0\0\x03\xe9");
     assert!(rt; trial.heard == 0 && trial.is_over());
     assert!(rt; trial.out.as_slice() == expected.as_slice());
 }
@@ -508,7 +521,7 @@ fn what_is_said_goes_out_in_frames(rt: HostRuntime) {
 #[test]
 fn who_does_not_read_is_over(rt: HostRuntime) {
     let text = [b'x'; 10_000];
-    let mut slow = opened(&rt);
+    let mut slow = opened(&rt).expect(&rt, "not opened");
     let mut said = 0u32;
     for _ in 0..200 {
         if slow.says(&text) {
@@ -523,12 +536,13 @@ fn who_does_not_read_is_over(rt: HostRuntime) {
 
 #[test]
 fn who_pings_and_does_not_read_is_over(rt: HostRuntime) {
-    let pings = with_many(&rt, b"", b"\x89\x80\0\0\0\0", 1_000);
-    let mut pinging = opened(&rt);
+    let ping = with_many(&rt, b"\x89\xfd\0\0\0\0", b"p", 125);
+    let pings = with_many(&rt, b"", &ping, 60);
+    let mut pinging = opened(&rt).expect(&rt, "not opened");
     for _ in 0..1_000 {
         if !pinging.is_over() {
             pinging.take(&pings);
-            assert!(rt; !pinging.hear_one(&rt));
+            assert!(rt; !pinging.hear_one());
         }
     }
     assert!(rt; pinging.is_over());
@@ -537,23 +551,23 @@ fn who_pings_and_does_not_read_is_over(rt: HostRuntime) {
 #[test]
 fn who_is_not_heard_is_not_read(rt: HostRuntime) {
     let text = [b'x'; 10_000];
-    let mut unheard = opened(&rt);
+    let mut unheard = opened(&rt).expect(&rt, "not opened");
     unheard.take(&text);
     assert!(rt; !unheard.browser.wants_read() && !unheard.is_over());
     unheard.take(b"x");
-    assert!(rt; unheard.is_over() && !unheard.hear_one(&rt));
+    assert!(rt; unheard.is_over() && !unheard.hear_one());
 }
 
 #[test]
 fn the_end_of_the_input_ends_it(rt: HostRuntime) {
-    let mut trial = opened(&rt);
+    let mut trial = opened(&rt).expect(&rt, "not opened");
     trial.take(b"\x81\x83\0\0\0\0one\x81\x83\0\0");
     trial.take(b"");
-    assert!(rt; trial.is_over() && !trial.hear_one(&rt));
-    let mut asking = started(&rt);
+    assert!(rt; trial.is_over() && !trial.hear_one());
+    let mut asking = started(&rt).expect(&rt, "no trial");
     asking.take(b"GET / HTTP/1.1\r\nHost: club:80\r\n\r\n");
     asking.take(b"");
-    asking.write_out(&rt);
+    asking.write_out();
     assert!(rt; asking.is_over() && asking.out.ends_with(INDEX));
 }
 
