@@ -1,5 +1,5 @@
 //! Where lines come from.
-ghost use Rattle.std.specs.Prelude.{ℕ, ◌≡◌, ◌≤◌, ◌+◌, Bool, List, Option, true, false, OnOk, OnErr};
+ghost use Rattle.std.specs.Prelude.{ℕ, ◌≡◌, ◌≤◌, ◌+◌, ◌-◌, ◌^◌, Bool, List, Option, true, false, OnOk, OnErr};
 ghost use Rattle.std.specs.Io.KnownBytes.{ReadConsumes};
 ghost use Rattle.std.specs.Io.{ReadsAtMost};
 
@@ -45,6 +45,7 @@ impl<R> ReaderSource<R> {
     pub fn new(reader: R) -> Self
         ensures reader { result.reader ≡ reader }
         ensures works { result.has_failed ≡ false }
+        ensures left { result.left ≡ 2 ^ 32 - 1 }
     {
         ReaderSource {
             reader,
@@ -77,7 +78,14 @@ impl<R: Read> LineSource for ReaderSource<R> {
 
     ghost pieces_left = { λ source. source.left };
 
-    fn next_piece(&mut self, piece: &mut [u8]) -> Result<usize, SourceFault> {
+    // It gives exactly one piece fewer at each; the other clauses are the trait's.
+    fn next_piece(&mut self, piece: &mut [u8]) -> Result<usize, SourceFault>
+        ensures bound { ReadsAtMost result piece.new }
+        ensures bytes { ReadConsumes (R.remaining self.old.reader) (R.remaining self.new.reader) result piece.new }
+        ensures works { OnOk result (self.new.has_failed ≡ self.old.has_failed) }
+        ensures failed { OnErr result (self.new.has_failed ≡ true) }
+        ensures fewer { OnOk result (self.new.left + 1 ≡ self.old.left) }
+    {
         if self.left == 0 {
             return Err(self.fail());
         }
