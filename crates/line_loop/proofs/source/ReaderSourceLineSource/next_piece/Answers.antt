@@ -1,5 +1,5 @@
 -- A read gives its bytes behind those that were interrupted, which took nothing.
-use Rattle.std.proofs.Common.{◌≡◌, ◌≤◌, ◌+◌, ℕ, List, Option, None, Some, take, refl, subst, sym, arith}
+use Rattle.std.proofs.Common.{ℕ, List, Option, None, Some, take, refl, subst, arith}
 use Rattle.std.specs.Io.KnownBytes.{Consumes, Keeps}
 use Rattle.std.proofs.KnownBytes.{Keeps-refl, Keeps-trans}
 use Rattle.line_loop.proofs.source.ReaderSourceLineSource.next_piece.Goals as goal
