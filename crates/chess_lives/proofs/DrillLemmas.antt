@@ -1,6 +1,7 @@
 -- The cases of the drill, and their tally.
 use Rattle.std.specs.Prelude.{ℕ, ◌≡◌, ◌+◌, List, [], ◌∷◌, ◌++◌, map, length, Ok, Err, Result, IfErr}
-use Rattle.std.proofs.Common.{arith, ap, sym, subst, ◌∙◌, Vec, Global}
+use Rattle.std.proofs.Common.{arith, ap, refl, sym, subst, ◌∙◌, Vec, Global}
+use Rattle.std.proofs.lemmas.List.{length-map}
 use Rattle.sector_dev.specs.declared.memory.MemoryDevice.{MemoryDevice}
 use Rattle.chess_board.specs.Legal.{EachOf}
 use Rattle.chess_entry.specs.declared.commands.Command.{Command}
@@ -11,9 +12,16 @@ use Rattle.chess_lives.specs.declared.plan.Report.{Report}
 use Rattle.chess_lives.specs.declared.drilling.Tally.{Tally}
 use Rattle.chess_lives.specs.Courses.{IsBatch}
 use Rattle.chess_lives.specs.Lives.{AreSubmittable, batches_of}
-use Rattle.chess_lives.specs.Drill.{IsCase, AreCases, IsTold, IsFaultInMemory, IsDrillLife}
+use Rattle.chess_lives.specs.Drill.{IsCase, AreCases, IsTold, IsFaultInMemory}
+use Rattle.chess_lives.specs.DrillLife.{IsDrillLife, shown, opening_batch, moves_batch}
 
 -- ---- its batches may be submitted
+
+lengths : (batches : List (List Command)) → map length (map (map shown) batches) ≡ map length batches
+lengths [] = refl
+lengths (one ∷ batches) =
+    ap (λ (n : ℕ). n ∷ map length (map (map shown) batches)) (length-map one shown)
+    ∙ ap (λ (ns : List ℕ). length one ∷ ns) (lengths batches)
 
 batches_fit : (batches : List (List Command)) → map length batches ≡ 2 ∷ 5 ∷ [] → EachOf IsBatch batches
 batches_fit [] is = absurd (cc)
@@ -29,14 +37,17 @@ batches_fit (one ∷ two ∷ three ∷ more) is = absurd (cc)
 pub drill_submittable : (case : ℕ) (lives : List Life) (life : Life) → lives ≡ life ∷ [] → IsDrillLife case life
     → AreSubmittable lives
 drill_submittable case lives life alone is =
-    subst (λ (ls : List Life). AreSubmittable ls) (sym alone) (batches_fit (batches_of life) is.batches, tt)
+    let many : map length (batches_of life) ≡ 2 ∷ 5 ∷ [] =
+    sym (lengths (batches_of life)) ∙ ap (λ (bs : List (List Command)). map length bs) is.batches in
+    subst (λ (ls : List Life). AreSubmittable ls) (sym alone) (batches_fit (batches_of life) many, tt)
 
 pub drill_batches : (batches : List (Vec Command Global)) (one two : Vec Command Global) → batches ≡ one ∷ two ∷ []
-    → length one.items ≡ 2 → length two.items ≡ 5 → map length (map (λ b. b.items) batches) ≡ 2 ∷ 5 ∷ []
+    → one.items ≡ opening_batch → map shown two.items ≡ moves_batch
+    → map (map shown) (map (λ b. b.items) batches) ≡ opening_batch ∷ moves_batch ∷ []
 drill_batches batches one two are first second =
-    ap (λ (bs : List (Vec Command Global)). map length (map (λ b. b.items) bs)) are
-    ∙ ap (λ (n : ℕ). n ∷ length two.items ∷ []) first
-    ∙ ap (λ (n : ℕ). 2 ∷ n ∷ []) second
+    ap (λ (bs : List (Vec Command Global)). map (map shown) (map (λ b. b.items) bs)) are
+    ∙ ap (λ (c : List Command). map shown c ∷ map shown two.items ∷ []) first
+    ∙ ap (λ (c : List Command). opening_batch ∷ c ∷ []) second
 
 -- ---- one case more
 

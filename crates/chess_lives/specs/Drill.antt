@@ -1,5 +1,5 @@
 -- What comes of lives on a device in memory that is made for them, and of the drill.
-use Rattle.std.specs.Prelude.{ℕ, ◌≡◌, ◌⊎◌, ◌==◌, ◌+◌, ⊤, Bool, false, nat_lt, if◌then◌else◌, List, [], ◌∷◌, ◌++◌, map, length, count_by, Option, Some, None, Result, Ok, Err, IsOk, IfOk, IfErr, MatchResult}
+use Rattle.std.specs.Prelude.{ℕ, ◌≡◌, ◌⊎◌, ◌==◌, ◌+◌, ⊤, Bool, false, List, [], ◌∷◌, ◌++◌, length, count_by, Result, Ok, Err, IsOk, IfOk, IfErr, MatchResult}
 use Rattle.chess_board.specs.Legal.{EachOf}
 use Rattle.rec_codec.specs.declared.limits.Limits.{Limits}
 use Rattle.rec_codec.specs.Limits.{need}
@@ -14,8 +14,9 @@ use Rattle.chess_lives.specs.declared.plan.Lived.{Lived}
 use Rattle.chess_lives.specs.declared.plan.Plan.{Plan}
 use Rattle.chess_lives.specs.declared.plan.Report.{Report}
 use Rattle.chess_lives.specs.declared.drilling.Tally.{Tally}
-use Rattle.chess_lives.specs.Lives.{IsReport, batches_of}
+use Rattle.chess_lives.specs.Lives.{IsReport}
 use Rattle.chess_lives.specs.Stops.{IsCutShort}
+use Rattle.chess_lives.specs.DrillLife.{IsDrillLife}
 
 -- No life began: the device failed while it was made a store, and counted it.
 abbrev pub IsUnbegun : StoreFault → ℕ → Type 0
@@ -44,22 +45,7 @@ pub record IsLivedInMemory (limits : Limits) (lives : List Life) (lived : Lived 
 abbrev pub drill_limits : Limits
 drill_limits = record { games = 4; plies = 60 }
 
--- After how many calls the device fails in the life of a case: in the last it is not to fail.
-abbrev pub calls_of : ℕ → Option ℕ
-calls_of case =
-    if nat_lt case 3 then Some 7
-    else if nat_lt case 12 then Some 8
-    else if nat_lt case 21 then Some 9
-    else if nat_lt case 24 then Some 10
-    else if nat_lt case 27 then Some 11
-    else None
-
--- the life of a case: two batches, of two commands and of five
-pub record IsDrillLife (case : ℕ) (life : Life) : Type 0 where
-  pub calls : life.calls ≡ calls_of case
-  pub batches : map length (batches_of life) ≡ 2 ∷ 5 ∷ []
-
--- a plan of such a life alone
+-- a plan of the life of a case alone
 pub record IsDrillPlan (case : ℕ) (plan : Plan) : Type 0 where
   pub life : Life
   pub alone : plan.lives.items ≡ life ∷ []

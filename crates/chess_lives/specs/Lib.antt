@@ -4,3 +4,4 @@ pub mod Stops
 pub mod Serving
 pub mod Laws
 pub mod Drill
+pub mod DrillLife

@@ -1,6 +1,8 @@
 //! The drill: a batch of moves, stopped at each of its device calls.
-ghost use Rattle.std.specs.Prelude.{◌≡◌, ◌+◌, ◌-◌, ◌^◌, ◌<◌, ◌==◌, cond, min, IfOk, IfErr, length};
-ghost use Rattle.chess_lives.specs.Drill.{IsDrillPlan, IsCase, AreCases, IsTold, IsFaultInMemory, calls_of};
+ghost use Rattle.std.specs.Prelude.{◌≡◌, ◌+◌, ◌-◌, ◌^◌, ◌<◌, ◌≤◌, ◌==◌, cond, min, IfOk, IfErr, map, length};
+ghost use Rattle.rec_codec.specs.Name.{IsName};
+ghost use Rattle.chess_lives.specs.Drill.{IsDrillPlan, IsCase, AreCases, IsTold, IsFaultInMemory};
+ghost use Rattle.chess_lives.specs.DrillLife.{asked, played, shown, opening_batch, moves_batch, stop_of, fate_of, fates_of};
 
 use crate::in_memory::lives_in_memory;
 use crate::plan::{Life, Lived, Plan};
@@ -43,11 +45,12 @@ const WITHOUT_MOVES: u64 = 2;
 
 const WITH_MOVES: u64 = 7;
 
-// After how many calls the life of a case stops, and in which of the ways: there are three for each write that is pending
-// then. The opening makes three calls and the batch that opens and joins a game four. The batch of five moves makes five:
+// After how many calls the life of a case stops, and in which of the ways: each write that is pending then may have three
+// fates. The opening makes three calls and the batch that opens and joins a game four. The batch of five moves makes five:
 // it writes two sectors, syncs, writes the header, and syncs.
 fn stop(case: u32) -> (Option<u64>, u32)
-    ensures { result.0 ≡ calls_of case }
+    ensures calls { result.0 ≡ (stop_of case).calls }
+    ensures way { result.1 ≡ (stop_of case).way }
 {
     match case {
         0..=2 => (Some(7), case),
@@ -59,7 +62,9 @@ fn stop(case: u32) -> (Option<u64>, u32)
     }
 }
 
-fn command(who: &str, act: Act) -> Command {
+fn command(who: &str, act: Act) -> Command
+    ensures { IsName who.now → result ≡ asked who.now act }
+{
     Command {
         at: MOMENT,
         who: Name::try_new(who),
@@ -67,7 +72,9 @@ fn command(who: &str, act: Act) -> Command {
     }
 }
 
-fn play(who: &str, ply: u32, text: &str) -> Command {
+fn play(who: &str, ply: u32, text: &str) -> Command
+    ensures { IsName who.now → length text.now ≤ 255 → shown result ≡ played who.now ply text.now }
+{
     let text = match Text::from(text) {
         Ok(text) => text,
         Err(_) => Text::new(),
@@ -76,7 +83,7 @@ fn play(who: &str, ply: u32, text: &str) -> Command {
 }
 
 fn opening(alloc: Global) -> Result<Vec<Command>, AllocError>
-    ensures { IfOk result (λ batch. length batch.items ≡ 2) }
+    ensures { IfOk result (λ batch. batch.items ≡ opening_batch) }
 {
     let game = Act::NewGame {
         colour: Colour::White,
@@ -92,7 +99,7 @@ fn opening(alloc: Global) -> Result<Vec<Command>, AllocError>
 }
 
 fn moves(alloc: Global) -> Result<Vec<Command>, AllocError>
-    ensures { IfOk result (λ batch. length batch.items ≡ 5) }
+    ensures { IfOk result (λ batch. map shown batch.items ≡ moves_batch) }
 {
     Vec::from_slice(
         alloc,
@@ -107,11 +114,15 @@ fn moves(alloc: Global) -> Result<Vec<Command>, AllocError>
 }
 
 // What becomes of the first and the second pending write in one of the ways.
-fn fates(alloc: Global, way: u32) -> Result<Vec<Fate>, AllocError> {
+fn fates(alloc: Global, way: u32) -> Result<Vec<Fate>, AllocError>
+    ensures { IfOk result (λ fates. fates.items ≡ fates_of way) }
+{
     Vec::from_slice(alloc, &[fate(way % 3), fate(way / 3 % 3)])
 }
 
-fn fate(way: u32) -> Fate {
+fn fate(way: u32) -> Fate
+    ensures { result ≡ fate_of way }
+{
     match way {
         0 => Fate::Lost,
         1 => Fate::Kept,
