@@ -19,7 +19,8 @@ use std::alloc::Global;
 #[derive(Drop)]
 pub struct Hub<D: Device> {
     alloc: Global,
-    sessions: Sessions,
+    /// The sessions. All but a turn's work is theirs alone, and may be asked of them here.
+    pub sessions: Sessions,
     store: Store<D>,
     /// To how many turns memory was refused.
     refusals: u64,

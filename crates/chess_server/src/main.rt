@@ -2,10 +2,11 @@
 #![tactic(auto)]
 
 use clap::Error;
+use server_playing::{run_journal, serve, tell_drill};
 use server_words::{Word, read_words, words_given};
 use server_work::{
-    End, Fault, copy_journal, end_of_words, end_of_work, format, name, play_board, run_journal,
-    serve, show_games, status, tell_drill, widen,
+    End, Fault, copy_journal, end_of_words, end_of_work, format, name, play_board, show_games,
+    status, widen,
 };
 use std::process::ExitCode;
 

@@ -1,7 +1,2 @@
-pub mod Pieces
-pub mod Portions
-pub mod Incoming
-pub mod Sending
-pub mod Clients
 pub mod Serving
 pub mod Turns

@@ -3,19 +3,15 @@ ghost use Rattle.std.specs.Prelude.{◌≡◌, ◌+◌, ◌↔◌, true, false, 
 ghost use Rattle.std.specs.Bool.{OnTrue, OnFalse};
 ghost use Rattle.chess_store.specs.Means.{IsKept};
 ghost use Rattle.chess_hub.specs.Faults.{CountsFault, refusals_after};
-ghost use Rattle.chess_sessions.specs.Session.{Changes};
 ghost use Rattle.chess_hub.specs.Turning.{MayBeAsked, Lasts, IsTried};
-ghost use Rattle.chess_hub.specs.Law.{Stays};
-ghost use Rattle.chess_sockets.specs.Clients.{IsOpen, IsSilent};
-ghost use Rattle.chess_sockets.specs.Serving.{state_of, unknown, intake, AreEach, AreRead, IsRead, IsWritten, Welcomes, HasServed, HasGoneRound, open_in};
+ghost use Rattle.chess_sockets.specs.Serving.{state_of, unknown, Welcomes, HasServed, HasGoneRound, open_in};
 ghost use Rattle.chess_sockets.specs.Turns.{EndsServing, IsCounted, IsRefusal, IsTurnRefusal};
 
-use crate::client::Client;
-use crate::door::{Door, Found, Listens, may_wait, next_connection};
-use crate::pieces::PIECE_ROOM;
-use crate::room::Room;
-use crate::watch::Watch;
 use chess_hub::{Hub, HubFault};
+use client_streams::{
+    Client, Door, Found, Listens, Reading, Watch, hand_out_all, may_wait, next_connection,
+    take_in_all,
+};
 use sector_dev::Device;
 use std::alloc::Global;
 use std::io;
@@ -68,139 +64,6 @@ fn asks_for_one(rested: Rested, found: Found) -> bool
     rested != Rested::Calm || may_wait(found)
 }
 
-/// When clients are read for.
-#[derive(Clone, Copy, Debug)]
-pub(crate) struct Reading {
-    /// The moment of the turn, in milliseconds.
-    pub(crate) at: u64,
-    /// Whether quiet clients are passed over.
-    pub(crate) is_calm: bool,
-    /// For how many milliseconds a client may be silent.
-    pub(crate) silence: Option<u64>,
-}
-
-// Whether a client has been silent for longer than it may.
-fn is_over_silent<S, D: Device>(client: &Client<S>, hub: &Hub<D>, reading: Reading) -> bool
-    requires { IsOpen hub.now.sessions client.now.sid }
-    ensures { IsTrue result ↔ IsSomeAnd reading.silence (IsSilent client.now hub.now.sessions reading.at) }
-{
-    match reading.silence {
-        Some(most) => client.is_silent(hub, reading.at, most),
-        None => false,
-    }
-}
-
-// Closes the session of a client that has been silent for longer than it may, behind a read that found nothing, and tells
-// whether it did.
-fn close_silent<S, D: Device>(client: &Client<S>, hub: &mut Hub<D>, reading: Reading) -> bool
-    requires open { IsOpen hub.old.sessions client.now.sid }
-    requires quiet { client.now.is_quiet ≡ true }
-    ensures silent { IsTrue result ↔ IsSomeAnd reading.silence (IsSilent client.now hub.old.sessions reading.at) }
-    ensures closed { OnTrue result (Changes hub.old.sessions hub.new.sessions client.now.sid None) }
-    ensures stays { OnFalse result (hub.new ≡ hub.old) }
-    ensures store { hub.new.store ≡ hub.old.store }
-    ensures refusals { hub.new.refusals ≡ hub.old.refusals }
-{
-    if !is_over_silent(client, hub, reading) {
-        return false;
-    }
-    hub.close(client.sid());
-    true
-}
-
-// Whether a client is passed over: after calm rests one that was read to its end, unless it has been silent for too long.
-fn is_passed_over<S, D: Device>(client: &Client<S>, hub: &Hub<D>, reading: Reading) -> bool
-    requires { IsOpen hub.now.sessions client.now.sid }
-{
-    reading.is_calm && client.is_quiet() && !is_over_silent(client, hub, reading)
-}
-
-// Reads for a session that is open, but after calm rests not for a quiet client; and where the read finds nothing, closes
-// that of a client that has been silent for too long. It tells whether there may be more to do.
-fn read_for<S: Read + Write, D: Device>(
-    client: &mut Client<S>,
-    hub: &mut Hub<D>,
-    reading: Reading,
-    piece: &mut [u8; PIECE_ROOM],
-    room: &mut Room,
-) -> bool
-    ensures read { IsRead S.remaining client.old client.new
-        (intake (state_of hub.old.sessions hub.old.store.table) room.old.lines)
-        (intake (state_of hub.new.sessions hub.new.store.table) room.new.lines) }
-    ensures store { hub.new.store ≡ hub.old.store }
-    ensures refusals { hub.new.refusals ≡ hub.old.refusals }
-{
-    if !hub.is_open(client.sid()) {
-        return false;
-    }
-    if is_passed_over(client, hub, reading) {
-        return false;
-    }
-    let any = client.take_in(hub, reading.at, piece, room);
-    if client.is_quiet() {
-        return close_silent(client, hub, reading);
-    }
-    any
-}
-
-// For how many turns a client of an open session has waited that has waited longest with a line that asks for much.
-fn longest_wait<S, D: Device>(clients: &[Client<S>], hub: &Hub<D>) -> u32 {
-    let mut longest = 0;
-    for client in clients {
-        if hub.is_open(client.sid()) && client.waited() > longest {
-            longest = client.waited();
-        }
-    }
-    longest
-}
-
-// Reads for each session, and tells whether there may be more to do.
-fn take_in_all<S: Read + Write, D: Device>(
-    clients: &mut Vec<Client<S>>,
-    hub: &mut Hub<D>,
-    reading: Reading,
-) -> bool
-    ensures read { AreRead S.remaining clients.old.items clients.new.items
-        (state_of hub.old.sessions hub.old.store.table) (state_of hub.new.sessions hub.new.store.table) }
-    ensures store { hub.new.store ≡ hub.old.store }
-    ensures refusals { hub.new.refusals ≡ hub.old.refusals }
-{
-    let mut piece = [0u8; PIECE_ROOM];
-    let mut room = Room::new(longest_wait(clients, hub));
-    let mut any = false;
-    for client in clients.iter_mut() {
-        any |= read_for(client, hub, reading, &mut piece, &mut room);
-    }
-    any
-}
-
-// Writes for a session that is open, and tells whether there was anything to do.
-fn write_for<S: Read + Write, D: Device>(client: &mut Client<S>, hub: &mut Hub<D>) -> bool
-    ensures written { IsWritten S.contents client.old client.new (state_of hub.old.sessions hub.old.store.table)
-        (state_of hub.new.sessions hub.new.store.table) }
-    ensures store { hub.new.store ≡ hub.old.store }
-    ensures refusals { hub.new.refusals ≡ hub.old.refusals }
-{
-    if !hub.is_open(client.sid()) {
-        return false;
-    }
-    client.hand_out(hub)
-}
-
-// Writes for each session, and tells whether there was anything to do.
-fn hand_out_all<S: Read + Write, D: Device>(clients: &mut Vec<Client<S>>, hub: &mut Hub<D>) -> bool
-    ensures written { AreEach Stays (IsWritten S.contents) clients.old.items clients.new.items
-        (state_of hub.old.sessions hub.old.store.table) (state_of hub.new.sessions hub.new.store.table) }
-    ensures store { hub.new.store ≡ hub.old.store }
-    ensures refusals { hub.new.refusals ≡ hub.old.refusals }
-{
-    let mut any = false;
-    for client in clients.iter_mut() {
-        any |= write_for(client, hub);
-    }
-    any
-}
-
 // Reads for each session, has the hub answer lines that wait, and writes; and tells whether there was anything to read or
 // to write.
 pub(crate) fn serve_clients<S: Read + Write, D: Device>(
@@ -228,11 +91,11 @@ pub(crate) fn serve_clients<S: Read + Write, D: Device>(
         → Lasts result (D.state hub.old.store.journal.device) (D.state hub.new.store.journal.device)
         hub.new.store.journal.header hub.new.store.journal.compaction hub.old.store.table hub.new.store.table }
 {
-    let has_read = take_in_all(clients, hub, reading);
+    let has_read = take_in_all(clients, &mut hub.sessions, reading);
     if let Err(fault) = hub.turn(reading.at, LINES) {
         return Err(fault);
     }
-    let has_written = hand_out_all(clients, hub);
+    let has_written = hand_out_all(clients, &mut hub.sessions);
     Ok(has_read | has_written)
 }
 

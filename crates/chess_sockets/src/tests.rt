@@ -1,11 +1,10 @@
 //! Clients over connections that give and take little, or fail.
-mod doors;
 mod memory;
 
-use crate::client::Client;
-use crate::server::{Reading, serve_clients};
+use crate::server::serve_clients;
 use chess_hub::Hub;
 use chess_store::Store;
+use client_streams::{Client, Reading};
 use rec_codec::Limits;
 use sector_dev::MemoryDevice;
 use std::alloc::Global;

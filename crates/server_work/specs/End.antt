@@ -4,8 +4,6 @@ use Rattle.chess_store.specs.declared.fault.StoreFault.{StoreFault}
 use Rattle.chess_store.specs.declared.fault.StoreFault.TheVariants.{Exists, TooSmall, NotOurs, Damaged, Device, NoMemory, Worn, Failed}
 use Rattle.chess_hub.specs.declared.fault.HubFault.{HubFault}
 use Rattle.chess_hub.specs.declared.fault.HubFault.TheVariants as hub
-use Rattle.chess_run.specs.declared.running.RunFault.{RunFault}
-use Rattle.chess_run.specs.declared.running.RunFault.TheVariants as run
 use Rattle.board_session.specs.declared.board_loop.BoardFault.{BoardFault}
 use Rattle.board_session.specs.declared.board_loop.BoardFault.TheVariants as board
 use Rattle.journal_copy.specs.declared.fault.CopyFault.{CopyFault}
@@ -57,13 +55,6 @@ name_of (Hub fault) = name_of_hub fault
 abbrev pub of_board : BoardFault → Fault
 of_board board.Read = Read
 of_board board.Write = Write
-
--- what a fault of `run` is to the program
-abbrev pub of_run : RunFault → Fault
-of_run run.Read = Read
-of_run run.Write = Write
-of_run run.LineTooLong = LineTooLong
-of_run (run.Hub fault) = Hub fault
 
 -- what a fault of reading a journal is to the program
 abbrev pub of_copy : CopyFault → Fault

@@ -2,8 +2,6 @@
 use Rattle.std.specs.Prelude.{◌≤◌, ◌⊎◌, ⊤}
 use Rattle.rec_codec.specs.declared.limits.Limits.{Limits}
 use Rattle.chess_store.specs.Faults as store
-use Rattle.chess_sockets.specs.Turns as sockets
-use Rattle.chess_lives.specs.Drill as drill
 use Rattle.server_work.specs.declared.ends.Fault.{Fault}
 use Rattle.server_work.specs.declared.ends.Fault.TheVariants as faults
 
@@ -63,31 +61,6 @@ IsWidenFault faults.Limits = ⊤
 IsWidenFault faults.Write = ⊤
 IsWidenFault (faults.Store fault) = store.IsOpenFault fault ⊎ store.IsWidenFault fault
 IsWidenFault _ = ⊥
-
--- of `run`
-abbrev pub IsRunFault : Fault → Type 0
-IsRunFault faults.File = ⊤
-IsRunFault (faults.Store fault) = store.IsOpenFault fault
-IsRunFault faults.Read = ⊤
-IsRunFault faults.Write = ⊤
-IsRunFault faults.LineTooLong = ⊤
-IsRunFault (faults.Hub fault) = ⊤
-IsRunFault _ = ⊥
-
--- of `serve`
-abbrev pub IsServeFault : Fault → Type 0
-IsServeFault faults.File = ⊤
-IsServeFault (faults.Store fault) = store.IsOpenFault fault
-IsServeFault faults.Socket = ⊤
-IsServeFault faults.Write = ⊤
-IsServeFault (faults.Hub fault) = sockets.EndsServing fault
-IsServeFault _ = ⊥
-
--- of `drill`
-abbrev pub IsDrillFault : Fault → Type 0
-IsDrillFault faults.Write = ⊤
-IsDrillFault (faults.Store fault) = drill.IsFaultInMemory fault
-IsDrillFault _ = ⊥
 
 -- no limit is below the present one
 pub record MayWiden (present wanted : Limits) : Type 0 where

@@ -6,7 +6,7 @@ use sector_dev::{Device, DeviceFault, FileDevice, Got, PositionedFile};
 use std::io;
 
 /// A device that keeps the system's error.
-pub(crate) trait KeepsError {
+pub trait KeepsError {
     /// The error of the last call that failed.
     fn kept_error(&self) -> Option<&io::Error>;
 }
@@ -20,7 +20,7 @@ impl<F: PositionedFile> KeepsError for FileDevice<F> {
 /// A device, of whose failures an operator is told: which file, what kind of call, and the system's error. All else is
 /// the device below.
 #[derive(Drop)]
-pub(crate) struct TellingDevice<'a, R, D> {
+pub struct TellingDevice<'a, R, D> {
     device: D,
     teller: &'a Teller<'a, R>,
     path: &'a str,
@@ -28,7 +28,7 @@ pub(crate) struct TellingDevice<'a, R, D> {
 
 impl<'a, R, D> TellingDevice<'a, R, D> {
     /// The device of this path.
-    pub(crate) fn new(device: D, teller: &'a Teller<'a, R>, path: &'a str) -> Self
+    pub fn new(device: D, teller: &'a Teller<'a, R>, path: &'a str) -> Self
         ensures { result.device ≡ device }
     {
         TellingDevice {

@@ -1,11 +1,10 @@
 //! How a run of the program ends: its exit status, and what is told of a fault.
 ghost use Rattle.std.specs.Prelude.{◌≡◌, ◌≢◌};
 ghost use Rattle.clap.specs.Values.{kind_of};
-ghost use Rattle.server_work.specs.End.{end_of, name_of, name_of_hub, name_of_store, of_board, of_copy, of_run, status_of};
+ghost use Rattle.server_work.specs.End.{end_of, name_of, name_of_hub, name_of_store, of_board, of_copy, status_of};
 
 use board_session::BoardFault;
 use chess_hub::HubFault;
-use chess_run::RunFault;
 use chess_store::StoreFault;
 use clap::Error;
 use clap::error::ErrorKind;
@@ -109,18 +108,6 @@ pub fn fault_of_board(fault: BoardFault) -> Fault
     match fault {
         BoardFault::Read => Fault::Read,
         BoardFault::Write => Fault::Write,
-    }
-}
-
-/// What a fault of `run` is to the program.
-pub fn fault_of_run(fault: RunFault) -> Fault
-    ensures { result ≡ of_run fault }
-{
-    match fault {
-        RunFault::Read => Fault::Read,
-        RunFault::Write => Fault::Write,
-        RunFault::LineTooLong => Fault::LineTooLong,
-        RunFault::Hub(fault) => Fault::Hub(fault),
     }
 }
 

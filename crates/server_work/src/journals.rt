@@ -21,7 +21,7 @@ use std::rt::Files;
 use std::{fs, io};
 
 /// The device in a journal's file that is there.
-pub(crate) fn open_file<R: Files<File = File> + Eprint>(
+pub fn open_file<R: Files<File = File> + Eprint>(
     rt: &R,
     teller: &Teller<'_, R>,
     journal: &str,
@@ -56,7 +56,7 @@ pub(crate) fn make_file<R: Files<File = File> + Eprint>(
 }
 
 /// The store that a device holds.
-pub(crate) fn open_on<D: Device + Drop>(alloc: Global, device: D) -> Result<Store<D>, Fault>
+pub fn open_on<D: Device + Drop>(alloc: Global, device: D) -> Result<Store<D>, Fault>
     ensures { IfErr result IsOpenFault }
 {
     match Store::open(alloc, device) {

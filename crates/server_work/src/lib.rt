@@ -1,21 +1,21 @@
-//! What the program does for each word, and how its run ends.
+//! What the program does for the words that play over no sessions, how its run ends, and what an operator is told.
 #![tactic(auto)]
 
 mod causes;
-mod clock;
 mod device;
 mod ends;
 mod journals;
 mod memory;
-mod playing;
 mod reading;
 mod streams;
 mod telling;
 #[cfg(test)]
 mod tests;
 
+pub use device::TellingDevice;
 pub use ends::{End, Fault, end_of_words, end_of_work, name, status};
-pub use journals::{format, widen};
-pub use memory::{play_board, tell_drill};
-pub use playing::{run_journal, serve};
+pub use journals::{format, open_file, open_on, widen};
+pub use memory::play_board;
 pub use reading::{copy_journal, show_games};
+pub use streams::{INPUT, TellingReader, TellingWriter};
+pub use telling::{Found, Teller, TurnedAway};

@@ -6,22 +6,22 @@ use std::io;
 use std::io::{Read, Write};
 
 /// The name under which standard input is told of.
-pub(crate) const INPUT: &str = "standard input";
+pub const INPUT: &str = "standard input";
 
 /// The name under which standard output is told of.
-pub(crate) const OUTPUT: &str = "standard output";
+pub const OUTPUT: &str = "standard output";
 
 /// A reader, of whose failures an operator is told as of standard input. One that is only interrupted is read again, and
 /// nothing is told.
 #[derive(Drop)]
-pub(crate) struct TellingReader<'a, R, I> {
+pub struct TellingReader<'a, R, I> {
     reader: I,
     teller: &'a Teller<'a, R>,
 }
 
 impl<'a, R, I> TellingReader<'a, R, I> {
     /// The reader, of which is told.
-    pub(crate) fn new(reader: I, teller: &'a Teller<'a, R>) -> Self
+    pub fn new(reader: I, teller: &'a Teller<'a, R>) -> Self
         ensures { result.reader ≡ reader }
     {
         TellingReader { reader, teller }
@@ -45,14 +45,14 @@ impl<R: Eprint, I: Read> Read for TellingReader<'_, R, I> {
 /// A writer, of whose failures an operator is told as of standard output. One that is only interrupted is written again,
 /// and nothing is told.
 #[derive(Drop)]
-pub(crate) struct TellingWriter<'a, R, O> {
+pub struct TellingWriter<'a, R, O> {
     writer: O,
     teller: &'a Teller<'a, R>,
 }
 
 impl<'a, R, O> TellingWriter<'a, R, O> {
     /// The writer, of which is told.
-    pub(crate) fn new(writer: O, teller: &'a Teller<'a, R>) -> Self
+    pub fn new(writer: O, teller: &'a Teller<'a, R>) -> Self
         ensures { result.writer ≡ writer }
     {
         TellingWriter { writer, teller }

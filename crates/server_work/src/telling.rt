@@ -1,31 +1,45 @@
 //! What an operator is told on standard error, a line for each: as the system's journal and a human read it, and without
 //! a time, which the journal puts before it.
-ghost use Rattle.std.specs.Prelude.{ℕ, ◌≡◌, ◌<◌, ◌+◌, None, Some, IsSome, IfErr, IfSome, IfNone, length};
+ghost use Rattle.std.specs.Prelude.{ℕ, ◌≡◌, ◌<◌, ◌+◌, ◌-◌, ◌↔◌, true, None, Some, IsSome, IsNone, IfErr, IfSome, IfNone, length};
 
 use crate::causes::reason;
-use crate::clock::behind;
 use crate::ends::Fault;
 use crate::streams::OUTPUT;
 use chess_entry::Limits;
+use chess_store::Store;
 use chess_table::Table;
+use sector_dev::Device;
 use std::io;
 use std::io::ErrorKind;
 
 /// What a journal had when it was opened.
 #[derive(Clone, Copy, Debug)]
-pub(crate) struct Found {
+pub struct Found {
     games: usize,
     most: u32,
     entries: u64,
     /// The greatest moment of an entry.
-    pub(crate) moment: u64,
+    moment: u64,
     /// How many milliseconds the opening took.
     took: u64,
 }
 
 impl Found {
-    /// What a table has, whose opening took so long.
-    pub(crate) fn of(table: &Table, took: u64) -> Found
+    /// What the table of a store has, whose opening took so long; `None` exactly after a call that the device failed.
+    pub fn in_store<D: Device>(store: &Store<D>, took: u64) -> Option<Found>
+        ensures none { IsNone result ↔ (store.now.failed ≡ true) }
+        ensures found { IfSome result (λ found. (found.games ≡ length store.now.table.games)
+            × (found.most ≡ store.now.table.limits.games) × (found.entries ≡ store.now.table.entries)
+            × (found.moment ≡ store.now.table.moment) × (found.took ≡ took)) }
+    {
+        match store.table() {
+            Ok(table) => Some(Found::of(table, took)),
+            Err(_) => None,
+        }
+    }
+
+    // What a table has.
+    fn of(table: &Table, took: u64) -> Found
         ensures games { result.games ≡ length table.now.games }
         ensures most { result.most ≡ table.now.limits.games }
         ensures entries { result.entries ≡ table.now.entries }
@@ -47,14 +61,14 @@ const MINUTE: u64 = 60_000;
 
 /// How many connections were turned away that were told of, and when the last were.
 #[derive(Clone, Copy, Debug)]
-pub(crate) struct TurnedAway {
+pub struct TurnedAway {
     told: u64,
     at: Option<u64>,
 }
 
 impl TurnedAway {
     /// None yet.
-    pub(crate) fn new() -> TurnedAway
+    pub fn new() -> TurnedAway
         ensures told { result.told ≡ 0 }
         ensures at { result.at ≡ None }
     {
@@ -63,7 +77,7 @@ impl TurnedAway {
 
     /// How many more there are than were told of, where there are some and a minute has passed since the last were: these
     /// are told of now.
-    pub(crate) fn news(&mut self, count: u64, at: u64) -> Option<u64>
+    pub fn news(&mut self, count: u64, at: u64) -> Option<u64>
         ensures news { IfSome result (λ more. (0 < more) × (more + self.old.told ≡ count) × (self.new.told ≡ count)
             × (self.new.at ≡ Some at)) }
         ensures none { IfNone result (self.new ≡ self.old) }
@@ -84,35 +98,42 @@ impl TurnedAway {
     }
 }
 
+/// By how many milliseconds one moment is before another.
+pub(crate) fn behind(moment: u64, other: u64) -> u64
+    ensures { result ≡ other - moment }
+{
+    other.saturating_sub(moment)
+}
+
 /// Tells an operator, or is quiet. What cannot be written is not told.
 #[derive(Drop)]
-pub(crate) struct Teller<'a, R> {
+pub struct Teller<'a, R> {
     rt: &'a R,
     is_quiet: bool,
 }
 
 impl<'a, R: Eprint> Teller<'a, R> {
     /// One that tells, or one that is quiet.
-    pub(crate) fn new(rt: &'a R, is_quiet: bool) -> Self {
+    pub fn new(rt: &'a R, is_quiet: bool) -> Self {
         Teller { rt, is_quiet }
     }
 
     /// What the system said of a file: what could not be done, and its error.
-    pub(crate) fn file_failed(&self, path: &str, what: &str, error: &io::Error) {
+    pub fn file_failed(&self, path: &str, what: &str, error: &io::Error) {
         if !self.is_quiet {
             let _ = eprintln!(self.rt; "{path}: {what}: {error}");
         }
     }
 
     /// The same, where the system said something.
-    pub(crate) fn failed(&self, path: &str, what: &str, error: Option<&io::Error>) {
+    pub fn failed(&self, path: &str, what: &str, error: Option<&io::Error>) {
         if let Some(error) = error {
             self.file_failed(path, what, error);
         }
     }
 
     /// The same of a file that could not be opened. Another program may have it locked.
-    pub(crate) fn not_opened(&self, path: &str, what: &str, error: &io::Error) {
+    pub fn not_opened(&self, path: &str, what: &str, error: &io::Error) {
         if error.kind() == ErrorKind::WouldBlock {
             self.file_failed(path, "another program has it open", error);
         } else {
@@ -121,14 +142,14 @@ impl<'a, R: Eprint> Teller<'a, R> {
     }
 
     /// The same of a stream, unless the call was only interrupted.
-    pub(crate) fn stream_failed(&self, name: &str, what: &str, error: &io::Error) {
+    pub fn stream_failed(&self, name: &str, what: &str, error: &io::Error) {
         if error.kind() != ErrorKind::Interrupted {
             self.file_failed(name, what, error);
         }
     }
 
     /// What a print on standard output came to.
-    pub(crate) fn printed(&self, print: io::Result<()>) -> Result<(), Fault>
+    pub fn printed(&self, print: io::Result<()>) -> Result<(), Fault>
         ensures { IfErr result (λ fault. fault ≡ Fault.Write) }
     {
         match print {
@@ -141,7 +162,7 @@ impl<'a, R: Eprint> Teller<'a, R> {
     }
 
     /// What a word's work on a file or a stream came to. Why it broke off is told, where the system has not said it.
-    pub(crate) fn told(&self, path: &str, ended: Result<(), Fault>) -> Result<(), Fault>
+    pub fn told(&self, path: &str, ended: Result<(), Fault>) -> Result<(), Fault>
         ensures { result ≡ ended }
     {
         if let Err(fault) = ended {
@@ -161,14 +182,14 @@ impl<'a, R: Eprint> Teller<'a, R> {
     }
 
     /// What the system said of a port.
-    pub(crate) fn port_failed(&self, port: u16, error: &io::Error) {
+    pub fn port_failed(&self, port: u16, error: &io::Error) {
         if !self.is_quiet {
             let _ = eprintln!(self.rt; "port {port}: it cannot be listened on: {error}");
         }
     }
 
     /// How many connections were turned away.
-    pub(crate) fn turned_away(&self, more: u64) {
+    pub fn turned_away(&self, more: u64) {
         if !self.is_quiet {
             let _ = eprintln!(self.rt;
                 "{more} connections were turned away: all 64 places are taken, or memory was refused"
@@ -177,7 +198,7 @@ impl<'a, R: Eprint> Teller<'a, R> {
     }
 
     /// What is served, and, where the clock is behind the last entry, by how much.
-    pub(crate) fn serves(&self, port: u16, found: Found, now: u64) {
+    pub fn serves(&self, port: u16, found: Found, now: u64) {
         if self.is_quiet {
             return;
         }

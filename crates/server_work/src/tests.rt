@@ -1,5 +1,5 @@
 mod causes;
-mod clock;
 mod ends;
 mod journals;
 mod reading;
+mod telling;

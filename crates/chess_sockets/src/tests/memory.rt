@@ -1,9 +1,9 @@
 //! Memory that is refused to clients over connections: `bench/refused-memory` refuses each allocation in turn.
 use super::{Gives, Peer, Takes, connect, hub, made};
-use crate::client::Client;
-use crate::server::{Reading, serve_clients};
+use crate::server::serve_clients;
 use chess_hub::{Hub, HubFault};
 use chess_store::StoreFault;
+use client_streams::{Client, Reading};
 use sector_dev::MemoryDevice;
 use std::alloc::Global;
 use std::process::Abort;

@@ -1,10 +1,7 @@
 //! How a run ends.
-use crate::ends::{
-    End, Fault, end_of_words, end_of_work, fault_of_board, fault_of_run, name, status,
-};
+use crate::ends::{End, Fault, end_of_words, end_of_work, fault_of_board, name, status};
 use board_session::BoardFault;
 use chess_hub::HubFault;
-use chess_run::RunFault;
 use chess_store::StoreFault;
 use clap::Error;
 use server_words::read_words;
@@ -47,15 +44,10 @@ fn names_each_fault(rt: HostRuntime) {
         // Of the words themselves.
         (Fault::NoMemory, "NoMemory"),
         // Of `run`.
-        (fault_of_run(RunFault::Read), "Read"),
-        (fault_of_run(RunFault::Write), "Write"),
-        (fault_of_run(RunFault::LineTooLong), "LineTooLong"),
-        (fault_of_run(RunFault::Hub(HubFault::NoMemory)), "NoMemory"),
-        (
-            fault_of_run(RunFault::Hub(HubFault::Store(StoreFault::Worn))),
-            "Worn",
-        ),
-        // Of `serve`.
+        (Fault::Read, "Read"),
+        (Fault::LineTooLong, "LineTooLong"),
+        (Fault::Hub(HubFault::Store(StoreFault::Worn)), "Worn"),
+        // Of `serve` too.
         (Fault::Hub(HubFault::NoMemory), "NoMemory"),
         (Fault::Hub(HubFault::Busy), "Busy"),
         (Fault::Hub(HubFault::LineTooLong), "LineTooLong"),

@@ -1,78 +1,92 @@
--- The store is asked by the hub's turn alone.
-use Rattle.std.proofs.Common.{◌≡◌, ◌∙◌, Bool, Err, ap, refl, sym}
+-- The store is asked by the hub's turn alone; what is done for the clients is done to the sessions alone.
+use Rattle.std.proofs.Common.{◌≡◌, Bool, Err, ap, refl}
 use Rattle.chess_hub.specs.Faults.{CountsFault}
 use Rattle.chess_hub.specs.Turning.{AsksFor, AreRefused, IsTurnFault}
 use Rattle.chess_sockets.specs.Serving.{state_of}
-use Rattle.chess_sockets.proofs.StoreLemmas.{lasts_over, lasts_refused, at_err, turn_ends, turn_refusal, counts_refused, counts_done}
+use Rattle.chess_sockets.proofs.ServingLemmas.{are_read, are_written}
+use Rattle.chess_sockets.proofs.StoreLemmas.{lasts_over, lasts_refused, of_answered, at_err, turn_ends, turn_refusal, counts_refused, counts_done}
 use Rattle.chess_sockets.proofs.server.serve_clients.Goals as goal
+
+-- ---- who is served
+
+pub returns-clause-served : goal.returns-clause-served
+returns-clause-served g c =
+    let old = c.args.hub.now in
+    let heard = c.take_in_all-has_read.new.sessions in
+    let answered = c.turn.new.self in
+    let written = c.hand_out_all-has_written.new.sessions in
+    let read = c.take_in_all-has_read.new.clients.items in
+    record {
+      read = read;
+      answered = state_of answered.sessions answered.store.table;
+      answers = record {
+        heard = state_of heard old.store.table;
+        reads = are_read old.store.table g.S.Read.remaining c.args.clients.now.items read old.sessions heard
+            c.take_in_all-has_read.ensures;
+        turned = of_answered c.turn.result tt c.in_default.is c.turn.ensures.turned;
+        works = of_answered c.turn.result tt c.in_default.is c.turn.ensures.works;
+      };
+      writes = are_written answered.store.table g.S.Write.contents read c.hand_out_all-has_written.new.clients.items
+          answered.sessions written c.hand_out_all-has_written.ensures;
+    }
 
 -- ---- what is left of the store
 
 pub returns-in-Err-clause-lasts : goal.returns-in-Err-clause-lasts
 returns-in-Err-clause-lasts g c =
-    let s = c.take_in_all-has_read.new.hub.store in
+    let s = c.args.hub.now.store in
     let n = c.turn.new.self.store in
     let state = g.D.Device.state in
-    rw (sym c.take_in_all-has_read.ensures.store)
-    (λ kept. lasts_refused c.turn.result c.in-Err.fault (state s.journal.device) (state n.journal.device)
-    n.journal.header n.journal.compaction s.table n.table c.in-Err.is (c.turn.ensures.lasts kept))
+    λ kept. lasts_refused c.turn.result c.in-Err.fault (state s.journal.device) (state n.journal.device)
+    n.journal.header n.journal.compaction s.table n.table c.in-Err.is (c.turn.ensures.lasts kept)
 
 pub returns-clause-lasts : goal.returns-clause-lasts
 returns-clause-lasts g c =
-    let s = c.take_in_all-has_read.new.hub.store in
+    let s = c.args.hub.now.store in
     let n = c.turn.new.self.store in
     let state = g.D.Device.state in
-    rw (c.hand_out_all-has_written.ensures.store, sym c.take_in_all-has_read.ensures.store)
-    (λ kept. lasts_over c.turn.result tt _ (state s.journal.device) (state n.journal.device) n.journal.header
-    n.journal.compaction s.table n.table c.in_default.is (c.turn.ensures.lasts kept))
+    λ kept. lasts_over c.turn.result tt _ (state s.journal.device) (state n.journal.device) n.journal.header
+    n.journal.compaction s.table n.table c.in_default.is (c.turn.ensures.lasts kept)
 
 -- ---- why it ends serving
 
 pub returns-in-Err-clause-fault : goal.returns-in-Err-clause-fault
 returns-in-Err-clause-fault g c =
-    let hub = c.take_in_all-has_read.new.hub in
+    let s = c.args.hub.now.store in
     let n = c.turn.new.self.store in
-    turn_ends (n ≡ hub.store) c.args.reading.at hub.sessions hub.store.journal.header.seq hub.store.failed hub.store.table
-    n.table c.in-Err.fault (at_err c.turn.result c.in-Err.fault (λ fault. IsTurnFault fault (n ≡ hub.store)
-    (λ refused. AsksFor c.args.reading.at 64 hub.sessions (AreRefused refused hub.store.journal.header.seq hub.store.failed
-    hub.store.table n.table))) c.in-Err.is c.turn.ensures.fault)
+    let heard = c.take_in_all-has_read.new.sessions in
+    turn_ends (n ≡ s) c.args.reading.at heard s.journal.header.seq s.failed s.table n.table c.in-Err.fault
+    (at_err c.turn.result c.in-Err.fault (λ fault. IsTurnFault fault (n ≡ s) (λ refused. AsksFor c.args.reading.at 64 heard
+    (AreRefused refused s.journal.header.seq s.failed s.table n.table))) c.in-Err.is c.turn.ensures.fault)
 
 pub returns-in-Err-clause-refused : goal.returns-in-Err-clause-refused
 returns-in-Err-clause-refused g c =
-    let hub = c.take_in_all-has_read.new.hub in
     let old = c.args.hub.now in
+    let s = old.store in
     let n = c.turn.new.self.store in
-    let same = c.take_in_all-has_read.ensures.store in
-    turn_refusal (n ≡ hub.store) c.args.reading.at hub.sessions old.store.journal.header.seq old.store.failed hub.store.table
-    n.table _ c.args.clients.now.items c.take_in_all-has_read.new.clients.items (state_of old.sessions old.store.table)
-    hub.store.table c.take_in_all-has_read.ensures.read (ap (λ s. s.table) same) (λ e. ap (λ s. s.table) e) c.in-Err.fault
-    (rw (sym same) (at_err c.turn.result c.in-Err.fault (λ fault. IsTurnFault fault (n ≡ hub.store)
-    (λ refused. AsksFor c.args.reading.at 64 hub.sessions (AreRefused refused hub.store.journal.header.seq hub.store.failed
-    hub.store.table n.table))) c.in-Err.is c.turn.ensures.fault))
+    let heard = c.take_in_all-has_read.new.sessions in
+    let read = c.take_in_all-has_read.new.clients.items in
+    turn_refusal (n ≡ s) c.args.reading.at heard s.journal.header.seq s.failed s.table n.table _ c.args.clients.now.items
+    read (state_of old.sessions s.table) s.table
+    (are_read s.table g.S.Read.remaining c.args.clients.now.items read old.sessions heard c.take_in_all-has_read.ensures)
+    refl (λ e. ap (λ s. s.table) e) c.in-Err.fault
+    (at_err c.turn.result c.in-Err.fault (λ fault. IsTurnFault fault (n ≡ s) (λ refused. AsksFor c.args.reading.at 64 heard
+    (AreRefused refused s.journal.header.seq s.failed s.table n.table))) c.in-Err.is c.turn.ensures.fault)
 
 -- ---- the count of failures
 
 pub returns-in-Err-clause-cause_err : goal.returns-in-Err-clause-cause_err
 returns-in-Err-clause-cause_err g c =
     let failures = g.D.Device.failures in
-    let s = c.take_in_all-has_read.new.hub.store in
-    let n = c.turn.new.self.store in
-    rw (sym c.take_in_all-has_read.ensures.store)
-    (at_err c.turn.result c.in-Err.fault (λ fault. CountsFault fault (failures s.journal.device)
-    (failures n.journal.device)) c.in-Err.is c.turn.ensures.tried.cause_err)
+    at_err c.turn.result c.in-Err.fault (λ fault. CountsFault fault (failures c.args.hub.now.store.journal.device)
+    (failures c.turn.new.self.store.journal.device)) c.in-Err.is c.turn.ensures.tried.cause_err
 
 -- ---- the count of refusals
 
 pub returns-in-Err-clause-counts : goal.returns-in-Err-clause-counts
-returns-in-Err-clause-counts g c =
-    let hub = c.take_in_all-has_read.new.hub in
-    rw (sym c.take_in_all-has_read.ensures.refusals)
-    (counts_refused {T = Bool} c.turn.result (Err c.in-Err.fault) c.in-Err.fault c.in-Err.fault hub.refusals
-    c.turn.new.self.refusals c.in-Err.is refl refl c.turn.ensures.counts)
+returns-in-Err-clause-counts g c = counts_refused {T = Bool} c.turn.result (Err c.in-Err.fault) c.in-Err.fault
+    c.in-Err.fault c.args.hub.now.refusals c.turn.new.self.refusals c.in-Err.is refl refl c.turn.ensures.counts
 
 pub returns-clause-counts : goal.returns-clause-counts
-returns-clause-counts g c =
-    let hub = c.take_in_all-has_read.new.hub in
-    c.hand_out_all-has_written.ensures.refusals
-    ∙ counts_done c.turn.result tt hub.refusals c.turn.new.self.refusals c.in_default.is c.turn.ensures.counts
-    ∙ c.take_in_all-has_read.ensures.refusals
+returns-clause-counts g c = counts_done c.turn.result tt c.args.hub.now.refusals c.turn.new.self.refusals
+    c.in_default.is c.turn.ensures.counts

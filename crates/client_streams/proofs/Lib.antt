@@ -1,0 +1,5 @@
+pub mod PortionLemmas
+pub mod SendLemmas
+pub mod ClientLemmas
+pub mod TakingLemmas
+pub mod RoundLemmas

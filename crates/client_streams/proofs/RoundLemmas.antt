@@ -1,0 +1,425 @@
+-- What a session is sent and given, and clients one after the other.
+use Rattle.std.proofs.Common.{◌≡◌, ◌≢◌, ◌≤◌, ◌<◌, ◌+◌, ℕ, Bool, true, false, List, [], ◌∷◌, ◌++◌, Option, Some, None, IfSome, length, get_or, set, take, refl, ap, sym, ◌∙◌, subst, inl, inr, arith, append-nil}
+use Rattle.std.specs.Prelude.{IsSome, IsSomeAnd, ◌==◌, ◌&&◌, ◌||◌, not, if◌then◌else◌, option_map}
+use Rattle.std.specs.Io.KnownBytes.{Consumes, Keeps}
+use Rattle.std.specs.Bool.{OnTrue, OnFalse}
+use Rattle.std.proofs.KnownBytes.{Consumes-nil, Appends-nil}
+use Rattle.std.proofs.lemmas.Bool.{cases_Bool, false≢true}
+use Rattle.std.proofs.lemmas.Bool.Decides.{Decides-eqb}
+use Rattle.std.proofs.lemmas.List.{take_more, take_more_set, take_all, length-set, get_or-set_other}
+use Rattle.session_lines.specs.Lines.{IsUnfinished}
+use Rattle.session_lines.specs.Heard.{Heard}
+use Rattle.chess_answer.specs.declared.reads.Reply.{Reply}
+use Rattle.chess_sessions.specs.declared.sessions.Sessions.{Sessions}
+use Rattle.chess_sessions.specs.Session.{Said, said, SessionState, session_at, Changes, IsUnchanged, due, first_due, given_one, farewell, is_done}
+use Rattle.client_streams.specs.declared.client.Client.{Client}
+use Rattle.client_streams.specs.Clients.{OthersStay, IsSilent, TakesIn, HandsOut, to_go}
+use Rattle.client_streams.specs.Incoming.{held}
+use Rattle.client_streams.specs.Sending.{waiting}
+use Rattle.client_streams.specs.Portions.{IsDearLine}
+use Rattle.client_streams.proofs.PortionLemmas.{none-dear}
+use Rattle.client_streams.proofs.TakingLemmas.{takes-kept, takes-in, gives-nothing, gives-closed}
+use Rattle.client_streams.specs.Rounds.{Intake, intake, Holds, AreEach, PassesClosed, IsSent, IsRead, AreGivenTo, AreGiven, IsGivenOut, IsWritten}
+
+-- ---- sessions that are as they were
+
+pub unchanged-refl : (s : Sessions) → IsUnchanged s s
+unchanged-refl s = λ sid. refl
+
+pub unchanged-trans : (a b c : Sessions) → IsUnchanged a b → IsUnchanged b c → IsUnchanged a c
+unchanged-trans a b c h k = λ sid. k sid ∙ h sid
+
+pub unchanged_by : (old new : Sessions) → new ≡ old → IsUnchanged old new
+unchanged_by old new same = subst (IsUnchanged old) (sym same) (unchanged-refl old)
+
+pub unchanged : (old new : Sessions) (sid : ℕ) → session_at new sid ≡ session_at old sid → OthersStay old new sid →
+    IsUnchanged old new
+unchanged old new sid same others = λ other. elim (cases_Bool (other == sid)) [
+  | inl is ↦
+      let e : other ≡ sid = (Decides-eqb other sid).0 is in
+      ap (λ (n : ℕ). session_at new n) e ∙ same ∙ sym (ap (λ (n : ℕ). session_at old n) e)
+  | inr not ↦ others other (λ (e : other ≡ sid). false≢true (sym not ∙ (Decides-eqb other sid).1 e))
+]
+
+-- a change after sessions that were as before
+changes_after : (a b c : Sessions) (sid : ℕ) (now : Option SessionState) → IsUnchanged a b → Changes b c sid now →
+    Changes a c sid now
+changes_after a b c sid now h k = record {
+  changed = k.changed;
+  others = λ other differs. k.others other differs ∙ h other;
+}
+
+-- ---- what a session is sent
+
+-- what was read and sent
+pub record Sends (room left : ℕ) (before after : Option (List ℕ)) (holds keeps : List ℕ) (sid : ℕ) (old new : Sessions)
+    : Type 0 where
+  pub taken : List ℕ
+  pub consumed : Consumes before after taken
+  pub unfinished : taken ≢ [] → IsUnfinished holds
+  pub fed : List ℕ
+  pub order : holds ++ taken ≡ fed ++ keeps
+  pub fewer : left ≤ room
+  pub dear : IsDearLine fed → left + 1 ≤ room
+  pub sent : IsSent sid fed old new
+
+pub sends : (room left : ℕ) (before after : Option (List ℕ)) (holds keeps : List ℕ) (sid : ℕ) (old new : Sessions)
+    (m n : Option SessionState) → session_at old sid ≡ m → session_at new sid ≡ n → IsSome m →
+    IfSome m (λ s. TakesIn room left before after holds keeps s n) → OthersStay old new sid →
+    Sends room left before after holds keeps sid old new
+sends room left before after holds keeps sid old new None n e f is_open takes others =
+    absurd (let bad : false ≡ true = is_open in false≢true bad)
+sends room left before after holds keeps sid old new (Some s) None e f is_open takes others = record {
+  taken = takes.taken;
+  consumed = takes.consumed;
+  unfinished = takes.unfinished;
+  fed = takes.gives.fed;
+  order = takes.gives.order;
+  fewer = takes.gives.fewer;
+  dear = takes.gives.dear;
+  sent = inr (inr (inl (takes.gives.gone refl, record { changed = f; others = others })));
+}
+sends room left before after holds keeps sid old new (Some s) (Some r) e f is_open takes others = record {
+  taken = takes.taken;
+  consumed = takes.consumed;
+  unfinished = takes.unfinished;
+  fed = takes.gives.fed;
+  order = takes.gives.order;
+  fewer = takes.gives.fewer;
+  dear = takes.gives.dear;
+  sent = elim takes.gives.heard [
+    | inl (short_so_far, portion, alone, is) ↦ inl (
+      portion,
+      subst (λ (o : Option SessionState). IsSomeAnd o (λ s. s.heard.bytes ≡ [])) (sym e) alone,
+      record {
+        state = s;
+        was = e;
+        short = short_so_far;
+        heard = record { changed = f ∙ ap Some is; others = others };
+      },
+    )
+    | inr (inl (is, none)) ↦ inr (inl (none, unchanged old new sid (f ∙ ap Some is ∙ sym e) others))
+    | inr (inr (is, long)) ↦ inr (inr (inr (
+      subst (λ (o : Option SessionState). IsSomeAnd o (λ s. s.heard.is_long ≡ true)) (sym e) long,
+      unchanged old new sid (f ∙ ap Some is ∙ sym e) others,
+    )))
+  ];
+}
+
+pub sent_after : (a b c : Sessions) (sid : ℕ) (fed : List ℕ) → IsUnchanged a b → IsSent sid fed b c → IsSent sid fed a c
+sent_after a b c sid fed h sent = elim sent [
+  | inl (portion, alone, hears) ↦ inl (
+    portion,
+    subst (λ (o : Option SessionState). IsSomeAnd o (λ s. s.heard.bytes ≡ [])) (h sid) alone,
+    record {
+      state = hears.state;
+      was = sym (h sid) ∙ hears.was;
+      short = hears.short;
+      heard = changes_after a b c sid _ h hears.heard;
+    },
+  )
+  | inr (inl (none, stays)) ↦ inr (inl (none, unchanged-trans a b c h stays))
+  | inr (inr (inl (none, closed))) ↦ inr (inr (inl (none, changes_after a b c sid None h closed)))
+  | inr (inr (inr (long, stays))) ↦ inr (inr (inr (
+    subst (λ (o : Option SessionState). IsSomeAnd o (λ s. s.heard.is_long ≡ true)) (h sid) long,
+    unchanged-trans a b c h stays,
+  )))
+]
+
+-- ---- a session that is closed
+
+pub closed_after : {S : Type 0} (client after : Client S) (a b c : Sessions) → IsUnchanged a b →
+    PassesClosed client after b c → PassesClosed client after a c
+closed_after client after a b c h passes none =
+    let past = passes (h client.sid ∙ none) in
+    (past.0, unchanged-trans a b c h past.1)
+
+-- this one is not closed
+pub not_closed : {A : Type 0} (m : Option A) (P : Type 0) → IsSome m → m ≡ None → P
+not_closed None P is_open e = absurd (false≢true is_open)
+not_closed (Some s) P is_open e = absurd (let bad : Some s ≡ None = e in cc)
+
+pub on_true : {P : Type 0} (b : Bool) → (b ≡ true → P) → OnTrue b P
+on_true true p = p refl
+on_true false p = tt
+
+pub on_false : {P Q : Type 0} (b : Bool) → (P → Q) → OnFalse b P → OnFalse b Q
+on_false true q p = tt
+on_false false q p = q p
+
+pub silent_written : {S : Type 0} (silence : Option ℕ) (client : Client S) (sessions : Sessions) (at : ℕ) →
+    IsSomeAnd silence (IsSilent client sessions at) → waiting client.outgoing ≡ []
+silent_written None client sessions at silent = absurd silent
+silent_written (Some most) client sessions at silent = silent.written
+
+-- ---- who is read for
+
+pub holds-refl : (s : Intake) → Holds s s
+holds-refl s = (unchanged-refl s.sessions, refl)
+
+module _ {S : Type 0} (remaining : S → Option (List ℕ)) where
+  pub passed_over : (client : Client S) (s : Intake) → IsRead remaining client client s s
+  passed_over client s = record {
+    sid = refl;
+    outgoing = refl;
+    taken = [];
+    consumed = Consumes-nil (remaining client.stream);
+    unfinished = λ some. absurd (some refl);
+    fed = [];
+    order = append-nil (held client.incoming);
+    short = client.incoming.few;
+    sent = inr (inl (refl, unchanged-refl s.sessions));
+    fewer = omega arith;
+    dear = none-dear;
+    unread = λ waits. (refl, refl, unchanged-refl s.sessions);
+    closed = λ none. (refl, unchanged-refl s.sessions);
+  }
+
+  pub is_read : (client after : Client S) (old new : Intake) → after.sid ≡ client.sid →
+      waiting after.outgoing ≡ waiting client.outgoing →
+      (waiting client.outgoing ≢ [] → (after.stream ≡ client.stream) × (held after.incoming ≡ held client.incoming)
+      × IsUnchanged old.sessions new.sessions) → PassesClosed client after old.sessions new.sessions →
+      Sends old.room new.room (remaining client.stream) (remaining after.stream) (held client.incoming)
+      (held after.incoming) client.sid old.sessions new.sessions → IsRead remaining client after old new
+  is_read client after old new sid outgoing unread closed sends = record {
+    sid = sid;
+    outgoing = outgoing;
+    taken = sends.taken;
+    consumed = sends.consumed;
+    unfinished = sends.unfinished;
+    fed = sends.fed;
+    order = sends.order;
+    short = after.incoming.few;
+    sent = sends.sent;
+    fewer = sends.fewer;
+    dear = sends.dear;
+    unread = unread;
+    closed = closed;
+  }
+
+  -- Nothing came of a client. Its session is closed, or all stays.
+  pub read_nothing : (client after : Client S) (room : ℕ) (old new : Sessions) (done : Bool) →
+      after.sid ≡ client.sid → waiting after.outgoing ≡ waiting client.outgoing →
+      Keeps (remaining client.stream) (remaining after.stream) → held after.incoming ≡ held client.incoming →
+      IsSome (session_at old client.sid) → OnTrue done (waiting client.outgoing ≡ []) →
+      (waiting client.outgoing ≢ [] → after.stream ≡ client.stream) → OnTrue done (Changes old new client.sid None) →
+      OnFalse done (IsUnchanged old new) → IsRead remaining client after (intake old room) (intake new room)
+  read_nothing client after room old new true sid outgoing kept same is_open silent stream closed stays =
+      is_read client after (intake old room) (intake new room) sid outgoing
+      (λ waits. absurd (waits silent)) (not_closed (session_at old client.sid) _ is_open)
+      (sends room room (remaining client.stream) (remaining after.stream) (held client.incoming) (held after.incoming)
+      client.sid old new (session_at old client.sid) (session_at new client.sid) refl refl is_open
+      (takes-in room room (session_at old client.sid) (session_at new client.sid) (remaining client.stream)
+      (remaining after.stream) (held client.incoming) (held after.incoming) (held after.incoming)
+      (takes-kept (remaining client.stream) (remaining after.stream) (held client.incoming) (held after.incoming) kept same)
+      (gives-closed room room (session_at old client.sid) (session_at new client.sid) (held after.incoming) (omega arith)
+      closed.changed)) closed.others)
+  read_nothing client after room old new false sid outgoing kept same is_open silent stream closed stays =
+      is_read client after (intake old room) (intake new room) sid outgoing
+      (λ waits. (stream waits, same, stays)) (not_closed (session_at old client.sid) _ is_open)
+      (sends room room (remaining client.stream) (remaining after.stream) (held client.incoming) (held after.incoming)
+      client.sid old new (session_at old client.sid) (session_at new client.sid) refl refl is_open
+      (takes-in room room (session_at old client.sid) (session_at new client.sid) (remaining client.stream)
+      (remaining after.stream) (held client.incoming) (held after.incoming) (held after.incoming)
+      (takes-kept (remaining client.stream) (remaining after.stream) (held client.incoming) (held after.incoming) kept same)
+      (gives-nothing room room (session_at old client.sid) (session_at new client.sid) (held after.incoming) (omega arith)
+      (stays client.sid))) (λ other differs. stays other))
+
+  pub read_after : (client after : Client S) (a b c : Intake) → Holds a b → IsRead remaining client after b c →
+      IsRead remaining client after a c
+  read_after client after a b c h read = record {
+    sid = read.sid;
+    outgoing = read.outgoing;
+    taken = read.taken;
+    consumed = read.consumed;
+    unfinished = read.unfinished;
+    fed = read.fed;
+    order = read.order;
+    short = read.short;
+    sent = sent_after a.sessions b.sessions c.sessions client.sid read.fed h.0 read.sent;
+    fewer = subst (λ r. c.room ≤ r) h.1 read.fewer;
+    dear = λ dear. subst (λ r. c.room + 1 ≤ r) h.1 (read.dear dear);
+    unread = λ waits.
+        let same = read.unread waits in
+        (same.0, same.1, unchanged-trans a.sessions b.sessions c.sessions h.0 same.2);
+    closed = closed_after client after a.sessions b.sessions c.sessions h.0 read.closed;
+  }
+
+-- ---- clients one after the other
+
+-- all places from one on are as they were
+abbrev pub SameFrom : {A : Type 0} → ℕ → List A → List A → Type 0
+SameFrom {A = A} from old new = (d : A) (k : ℕ) → from ≤ k → get_or new k d ≡ get_or old k d
+
+-- It is done for the clients before a place, and the others are as they were.
+pub record IsDoneTo {S A : Type 0} (Same : A → A → Type 0) (Done : Client S → Client S → A → A → Type 0) (i : ℕ)
+    (old items : List (Client S)) (s t : A) : Type 0 where
+  pub each : AreEach Same Done (take i old) (take i items) s t
+  pub same : SameFrom i old items
+  pub whole : length items ≡ length old
+
+module _ {S A : Type 0} (Same : A → A → Type 0) (same : (a : A) → Same a a) (Done : Client S → Client S → A → A → Type 0)
+  where
+    -- It may be done later, where nothing has changed.
+    abbrev pub MayWait : Type 0
+    MayWait = (client after : Client S) (a b c : A) → Same a b → Done client after b c → Done client after a c
+
+    one_more : MayWait → (clients done : List (Client S)) (client after : Client S) (a b c : A) →
+        AreEach Same Done clients done a b → Done client after b c →
+        AreEach Same Done (clients ++ client ∷ []) (done ++ after ∷ []) a c
+    one_more waits [] done client after a b c (none, stays) one = (
+      after,
+      [],
+      c,
+      ap (λ (l : List (Client S)). l ++ after ∷ []) none,
+      waits client after a b c stays one,
+      (refl, same c),
+    )
+    one_more waits (first ∷ clients) done client after a b c (it, rest, between, whole, is, are) one = (
+      it,
+      rest ++ after ∷ [],
+      between,
+      ap (λ (l : List (Client S)). l ++ after ∷ []) whole,
+      is,
+      one_more waits clients rest client after between b c are one,
+    )
+
+    -- and it is done for one client more
+    pub done_further : MayWait → (old items : List (Client S)) (i : ℕ) (d after : Client S) (s t u : A) →
+        i < length items → IsDoneTo Same Done i old items s t → Done (get_or items i d) after t u →
+        IsDoneTo Same Done (i + 1) old (set items i after) s u
+    done_further waits old items i d after s t u lt so_far one =
+        let below : i < length old = omega (arith, lt, so_far.whole) in
+        let front : take (i + 1) old ≡ take i old ++ get_or items i d ∷ [] =
+        take_more old i d below ∙ ap (λ x. take i old ++ x ∷ []) (sym (so_far.same d i (omega arith))) in
+        record {
+          each = subst (λ (l : List (Client S)). AreEach Same Done l (take (i + 1) (set items i after)) s u) (sym front)
+              (subst (λ (l : List (Client S)). AreEach Same Done (take i old ++ get_or items i d ∷ []) l s u)
+              (sym (take_more_set items i after lt))
+              (one_more waits (take i old) (take i items) (get_or items i d) after s t u so_far.each one));
+          same = λ d' k from.
+              let ne : k ≢ i = omega (arith, from) in
+              get_or-set_other items i k after d' ne ∙ so_far.same d' k (omega (arith, from));
+          whole = length-set items i after ∙ so_far.whole;
+        }
+
+    -- before the first
+    pub done_none : (clients : List (Client S)) (s t : A) → Same s t → IsDoneTo Same Done 0 clients clients s t
+    done_none clients s t stays = record { each = (refl, stays); same = λ d k from. refl; whole = refl }
+
+    -- and for all
+    pub done_all : (i : ℕ) (old items : List (Client S)) (s t : A) → length items ≤ i → IsDoneTo Same Done i old items s t →
+        AreEach Same Done old items s t
+    done_all i old items s t le so_far =
+        let below : length old ≤ i = omega (arith, le, so_far.whole) in
+        subst (λ (l : List (Client S)). AreEach Same Done l items s t) (take_all i old below)
+        (subst (λ (l : List (Client S)). AreEach Same Done (take i old) l s t) (take_all i items le) so_far.each)
+
+-- ---- what a session is given
+
+given_since : (sid : ℕ) (answers : List Said) (a b c : Sessions) → IsUnchanged a b → AreGivenTo sid answers b c →
+    AreGivenTo sid answers a c
+given_since sid [] a b c h k = unchanged-trans a b c h k
+given_since sid (answer ∷ answers) a b c h (before, after, given, is, stays) =
+    (before, after, given_since sid answers a b before h given, is, stays)
+
+given_kept : (sid : ℕ) (answers : List Said) (a b c : Sessions) → AreGivenTo sid answers a b → IsUnchanged b c →
+    AreGivenTo sid answers a c
+given_kept sid [] a b c h k = unchanged-trans a b c h k
+given_kept sid (answer ∷ answers) a b c (before, after, given, is, stays) k =
+    (before, after, given, is, unchanged-trans after b c stays k)
+
+given_both : (sid : ℕ) (answers more : List Said) (a b c : Sessions) → AreGivenTo sid answers a b →
+    AreGivenTo sid more b c → AreGivenTo sid (more ++ answers) a c
+given_both sid answers [] a b c h k = given_kept sid answers a b c h k
+given_both sid answers (answer ∷ more) a b c h (before, after, given, is, stays) =
+    (before, after, given_both sid answers more a b before h given, is, stays)
+
+pub given_none_yet : (sid : ℕ) (a b : Sessions) → IsUnchanged a b → AreGiven sid a b
+given_none_yet sid a b h = record { answers = []; given = h }
+
+pub given_more : (sid : ℕ) (a b c : Sessions) → AreGiven sid a b → AreGiven sid b c → AreGiven sid a c
+given_more sid a b c h k = record {
+  answers = k.answers ++ h.answers;
+  given = given_both sid h.answers k.answers a b c h.given k.given;
+}
+
+given_later : (sid : ℕ) (a b c : Sessions) → IsUnchanged a b → AreGiven sid b c → AreGiven sid a c
+given_later sid a b c h k = record { answers = k.answers; given = given_since sid k.answers a b c h k.given }
+
+abbrev session : Option (List ℕ) → Heard → List Said → Bool → SessionState
+session name heard answers left = record { name = name; heard = heard; answers = answers; has_left = left }
+
+same_left : (done left : Bool) → None ≡ first_due (if done && not left then farewell ∷ [] else []) → (left || done) ≡ left
+same_left true false none = absurd (let bad : None ≡ Some farewell = none in cc)
+same_left true true none = refl
+same_left false true none = refl
+same_left false false none = refl
+
+-- a session that nothing is due to stays as it is
+same_one : (name : Option (List ℕ)) (heard : Heard) (answers : List Said) (left : Bool) →
+    None ≡ first_due (due (session name heard answers left)) →
+    given_one (session name heard answers left) ≡ session name heard answers left
+same_one name heard [] left none = ap (session name heard []) (same_left (is_done heard) left none)
+same_one name heard (x ∷ xs) left none = absurd (let bad : None ≡ Some x = none in cc)
+
+-- one call of `output`
+pub output_gives : (m : Option SessionState) (old new : Sessions) (sid : ℕ) (r : Option Reply) →
+    session_at old sid ≡ m → IsSome m → IfSome m (λ s. option_map said r ≡ first_due (due s)) →
+    IfSome m (λ s. Changes old new sid (Some (given_one s))) → AreGiven sid old new
+output_gives None old new sid r e is_open given after = absurd (let bad : false ≡ true = is_open in false≢true bad)
+output_gives (Some s) old new sid None e is_open given after = given_none_yet sid old new
+    (unchanged old new sid (after.changed ∙ ap Some (same_one s.name s.heard s.answers s.has_left given) ∙ sym e)
+    after.others)
+output_gives (Some s) old new sid (Some reply) e is_open given after = record {
+  answers = said reply ∷ [];
+  given = (
+    old,
+    new,
+    unchanged-refl old,
+    record { state = s; was = e; first = sym given; after = after },
+    unchanged-refl new,
+  );
+}
+
+-- nothing more is done to it
+pub goes_on : (sid : ℕ) (old new : Sessions) → AreGiven sid old new → IsGivenOut sid old new
+goes_on sid old new given = record { between = new; given = given; closed = inl (unchanged-refl new) }
+
+-- it is closed behind that
+pub closes : (sid : ℕ) (old mid new : Sessions) → AreGiven sid old mid → Changes mid new sid None → IsGivenOut sid old new
+closes sid old mid new given closed = record { between = mid; given = given; closed = inr closed }
+
+module _ {S : Type 0} (contents : S → Option (List ℕ)) where
+  hands_none : (b : Option (List ℕ)) (all : Option (List ℕ)) → HandsOut b b all all
+  hands_none b None = record { left = []; hands = tt; waits = tt }
+  hands_none b (Some all) = record {
+    left = all;
+    hands = record { front = []; appended = Appends-nil b; split = refl };
+    waits = refl;
+  }
+
+  pub skipped : (client : Client S) (t : Sessions) → IsWritten contents client client t t
+  skipped client t = record {
+    sid = refl;
+    incoming = refl;
+    given = goes_on client.sid t t (given_none_yet client.sid t t (unchanged-refl t));
+    hands = hands_none (contents client.stream) (to_go (session_at t client.sid) (waiting client.outgoing));
+    closed = λ none. (refl, unchanged-refl t);
+  }
+
+  pub written_after : (client after : Client S) (a b c : Sessions) → IsUnchanged a b →
+      IsWritten contents client after b c → IsWritten contents client after a c
+  written_after client after a b c h written = record {
+    sid = written.sid;
+    incoming = written.incoming;
+    given = record {
+      between = written.given.between;
+      given = given_later client.sid a b written.given.between h written.given.given;
+      closed = written.given.closed;
+    };
+    hands = subst (λ (o : Option SessionState). HandsOut (contents client.stream) (contents after.stream)
+        (to_go o (waiting client.outgoing)) (to_go (session_at c client.sid) (waiting after.outgoing)))
+        (h client.sid) written.hands;
+    closed = closed_after client after a b c h written.closed;
+  }

@@ -1,0 +1,31 @@
+-- The session is given the portion, or nothing.
+use Rattle.std.proofs.Common.{refl}
+use Rattle.chess_sessions.specs.Session.{session_at}
+use Rattle.client_streams.specs.Incoming.{held}
+use Rattle.client_streams.proofs.TakingLemmas.{gives-nothing, gives-closed, gives-fed, cut-off}
+use Rattle.client_streams.proofs.client.Client.hand_on.Goals as goal
+
+pub returns-then-not-admit-clause-gives : goal.returns-then-not-admit-clause-gives
+returns-then-not-admit-clause-gives g c =
+    let m = session_at c.args.sessions.now c.args.self.now.sid in
+    gives-nothing c.args.room.now.lines c.admit.new.self.lines m m (held c.args.self.now.incoming) c.admit.ensures.fewer
+    refl
+
+pub returns-then-feed-clause-gives : goal.returns-then-feed-clause-gives
+returns-then-feed-clause-gives g c =
+    let sid = c.args.self.now.sid in
+    let holds = held c.args.self.now.incoming in
+    let portion = c.portion-portion.result.now in
+    let cut = c.portion-portion.ensures.portion in
+    let keeps = held c.give_up.new.self in
+    gives-fed c.args.room.now.lines c.admit.new.self.lines (session_at c.args.sessions.now sid)
+    (session_at c.feed.new.sessions sid) holds portion keeps
+    (cut-off holds portion cut.rest keeps cut.order c.give_up.ensures) c.admit.ensures.fewer c.if-not-admit.ensures.dear
+    c.if-feed.ensures.heard
+
+pub returns-else-feed-clause-gives : goal.returns-else-feed-clause-gives
+returns-else-feed-clause-gives g c =
+    let sid = c.args.self.now.sid in
+    gives-closed c.args.room.now.lines c.admit.new.self.lines (session_at c.args.sessions.now sid)
+    (session_at c.feed.new.sessions sid) (held c.args.self.now.incoming) c.admit.ensures.fewer
+    c.if-feed.ensures.closed

@@ -1,0 +1,81 @@
+-- What came is held back, and then the session is given what stands in front.
+use Rattle.std.proofs.Common.{ℕ, List, Option, None, IfSome, ap, refl, subst, sym, arith}
+use Rattle.chess_sessions.specs.Session.{Changes, session_at}
+use Rattle.client_streams.specs.Clients.{GivesOn, TakesIn}
+use Rattle.client_streams.specs.Incoming.{held}
+use Rattle.client_streams.proofs.TakingLemmas.{takes-nothing, takes-in, gives-nothing, gives-closed}
+use Rattle.client_streams.proofs.client.Client.take_in.Goals as goal
+
+pub returns-then-not-is_empty-clause-taken : goal.returns-then-not-is_empty-clause-taken
+returns-then-not-is_empty-clause-taken g c =
+    let client = c.args.self.now in
+    let room = c.args.room.now.lines in
+    let m = session_at c.args.sessions.now client.sid in
+    let bytes = g.S.Read.remaining client.stream in
+    let holds = held client.incoming in
+    takes-in room room m m bytes bytes holds holds holds (takes-nothing bytes holds) (gives-nothing room room m m holds (omega arith) refl)
+
+pub returns-then-not-is_unfinished-clause-taken : goal.returns-then-not-is_unfinished-clause-taken
+returns-then-not-is_unfinished-clause-taken g c =
+    let client = c.args.self.now in
+    let after = c.hand_on.new.self in
+    let old = c.args.sessions.now in
+    let new = c.hand_on.new.sessions in
+    let rest = g.S.Read.remaining in
+    subst (λ (b : Option (List ℕ)). IfSome (session_at old client.sid) (λ s. TakesIn c.args.room.now.lines
+    c.hand_on.new.room.lines (rest client.stream) b (held client.incoming) (held after.incoming) s
+    (session_at new client.sid))) (sym (ap rest c.hand_on.ensures.stream))
+    (takes-in c.args.room.now.lines c.hand_on.new.room.lines (session_at old client.sid) (session_at new client.sid)
+    (rest client.stream) (rest client.stream) (held client.incoming) (held client.incoming) (held after.incoming)
+    (takes-nothing (rest client.stream) (held client.incoming)) c.hand_on.ensures.gives)
+
+pub returns-in-Nothing-clause-taken : goal.returns-in-Nothing-clause-taken
+returns-in-Nothing-clause-taken g c =
+    let client = c.args.self.now in
+    let after = c.read_more.new.self in
+    let room = c.args.room.now.lines in
+    let m = session_at c.args.sessions.now client.sid in
+    takes-in room room m m (g.S.Read.remaining client.stream) (g.S.Read.remaining after.stream) (held client.incoming)
+    (held after.incoming) (held after.incoming) c.read_more.ensures.takes
+    (gives-nothing room room m m (held after.incoming) (omega arith) refl)
+
+pub returns-in-End-clause-taken : goal.returns-in-End-clause-taken
+returns-in-End-clause-taken g c =
+    let client = c.args.self.now in
+    let after = c.read_more.new.self in
+    let room = c.args.room.now.lines in
+    let m = session_at c.args.sessions.now client.sid in
+    takes-in room room m m (g.S.Read.remaining client.stream) (g.S.Read.remaining after.stream) (held client.incoming)
+    (held after.incoming) (held after.incoming) c.read_more.ensures.takes
+    (gives-nothing room room m m (held after.incoming) (omega arith) refl)
+
+pub returns-in-Fault-clause-taken : goal.returns-in-Fault-clause-taken
+returns-in-Fault-clause-taken g c =
+    let client = c.args.self.now in
+    let after = c.read_more.new.self in
+    let room = c.args.room.now.lines in
+    let old = c.args.sessions.now in
+    let new = c.close.new.self in
+    let closed = subst (λ (n : ℕ). Changes old new n None) c.read_more.ensures.peer.0 c.close.ensures in
+    takes-in room room (session_at old client.sid) (session_at new client.sid) (g.S.Read.remaining client.stream)
+    (g.S.Read.remaining after.stream) (held client.incoming) (held after.incoming) (held after.incoming)
+    c.read_more.ensures.takes
+    (gives-closed room room (session_at old client.sid) (session_at new client.sid) (held after.incoming) (omega arith)
+    closed.changed)
+
+pub returns-in-Bytes-clause-taken : goal.returns-in-Bytes-clause-taken
+returns-in-Bytes-clause-taken g c =
+    let client = c.args.self.now in
+    let between = c.read_more.new.self in
+    let after = c.hand_on-in-Bytes.new.self in
+    let room = c.args.room.now.lines in
+    let left = c.hand_on-in-Bytes.new.room.lines in
+    let old = c.args.sessions.now in
+    let new = c.hand_on-in-Bytes.new.sessions in
+    let rest = g.S.Read.remaining in
+    let gives = subst (λ (n : ℕ). IfSome (session_at old n) (λ s. GivesOn room left (held between.incoming)
+    (held after.incoming) s (session_at new n))) c.read_more.ensures.peer.0 c.hand_on-in-Bytes.ensures.gives in
+    subst (λ (b : Option (List ℕ)). IfSome (session_at old client.sid) (λ s. TakesIn room left (rest client.stream) b
+    (held client.incoming) (held after.incoming) s (session_at new client.sid))) (sym (ap rest c.hand_on-in-Bytes.ensures.stream))
+    (takes-in room left (session_at old client.sid) (session_at new client.sid) (rest client.stream) (rest between.stream)
+    (held client.incoming) (held between.incoming) (held after.incoming) c.read_more.ensures.takes gives)

@@ -1,0 +1,22 @@
+-- What the session is given goes to the connection.
+use Rattle.std.proofs.Common.{subst}
+use Rattle.std.specs.Prelude.{IsSome}
+use Rattle.chess_sessions.specs.Session.{session_at}
+use Rattle.client_streams.proofs.RoundLemmas.{not_closed, skipped}
+use Rattle.client_streams.proofs.rounds.write_for.Goals as goal
+
+pub returns-then-not-is_open : goal.returns-then-not-is_open
+returns-then-not-is_open g c = skipped g.S.Write.contents c.args.client.now c.args.sessions.now
+
+pub returns : goal.returns
+returns g c =
+    let old = c.args.sessions.now in
+    let open_now = subst (λ sid. IsSome (session_at old sid)) c.sid.ensures
+    (c.is_open.ensures.0 c.if-not-is_open.false) in
+    record {
+      sid = c.hand_out.ensures.peer.0;
+      incoming = c.hand_out.ensures.peer.3;
+      given = c.hand_out.ensures.given;
+      hands = c.hand_out.ensures.hands;
+      closed = not_closed (session_at old c.args.client.now.sid) _ open_now;
+    }

@@ -1,0 +1,76 @@
+-- What a connection does for its session.
+use Rattle.std.specs.Prelude.{ℕ, ◌≡◌, ◌≢◌, ◌≤◌, ◌+◌, ◌⊎◌, true, false, List, [], ◌∷◌, ◌++◌, Option, None, IsSome, IfSome, option_map}
+use Rattle.std.specs.Io.KnownBytes.{Consumes}
+use Rattle.session_lines.specs.Lines.{IsUnfinished}
+use Rattle.session_lines.specs.Heard.{heard_more}
+use Rattle.chess_sessions.specs.declared.sessions.Sessions.{Sessions}
+use Rattle.chess_sessions.specs.Session.{Said, SessionState, session_at, due}
+use Rattle.client_streams.specs.declared.client.Client.{Client}
+use Rattle.client_streams.specs.Portions.{IsDearLine, IsPortion}
+use Rattle.client_streams.specs.Incoming.{held}
+use Rattle.client_streams.specs.Sending.{waiting, HandsOn}
+
+abbrev pub IsOpen : Sessions → ℕ → Type 0
+IsOpen sessions sid = IsSome (session_at sessions sid)
+
+-- No other session is touched.
+abbrev pub OthersStay : Sessions → Sessions → ℕ → Type 0
+OthersStay old new sid = (other : ℕ) → other ≢ sid → session_at new other ≡ session_at old other
+
+-- Nothing came of a client for so long, by this moment, and nothing waits for it: nothing to be written, no line of its
+-- session, and no line that is held back.
+pub record IsSilent {S : Type 0} (client : Client S) (sessions : Sessions) (at most : ℕ) : Type 0 where
+  pub long : client.heard_at + most ≤ at
+  pub written : waiting client.outgoing ≡ []
+  pub answered : IfSome (session_at sessions client.sid) (λ s. s.heard.bytes ≡ [])
+  pub unfinished : IsUnfinished (held client.incoming)
+
+-- ---- what comes
+
+-- The session is given bytes that were held back for it. Where no line of it was too long these are a portion, and
+-- nothing of it waits. None leaves it as it was; and what comes behind a line that is too long is dropped.
+abbrev pub HasHeard : SessionState → List ℕ → SessionState → Type 0
+HasHeard old fed new = (old.heard.is_long ≡ false) × IsPortion fed × (old.heard.bytes ≡ [])
+    × (new ≡ record old { heard = heard_more old.heard fed })
+    ⊎ (new ≡ old) × (fed ≡ [])
+    ⊎ (new ≡ old) × (old.heard.is_long ≡ true)
+
+-- The session is given what stands in front of what is held back for it; a line that asks for much takes of the room that the
+-- turn has for such lines. It is closed only where it is given nothing.
+pub record GivesOn (room left : ℕ) (holds keeps : List ℕ) (old : SessionState) (new : Option SessionState) : Type 0 where
+  pub fed : List ℕ
+  pub order : holds ≡ fed ++ keeps
+  pub heard : IfSome new (HasHeard old fed)
+  pub gone : new ≡ None → fed ≡ []
+  pub fewer : left ≤ room
+  pub dear : IsDearLine fed → left + 1 ≤ room
+
+-- Bytes came from the peer, none where a line is held back, and the session is given what stands in front of all that is
+-- held back.
+pub record TakesIn (room left : ℕ) (before after : Option (List ℕ)) (holds keeps : List ℕ) (old : SessionState)
+    (new : Option SessionState) : Type 0 where
+  pub taken : List ℕ
+  pub consumed : Consumes before after taken
+  pub unfinished : taken ≢ [] → IsUnfinished holds
+  pub gives : GivesOn room left (holds ++ taken) keeps old new
+
+-- ---- what goes
+
+-- the bytes of an answer: its line with a line feed, and the whole lines behind it
+abbrev pub bytes_of : Said → List ℕ
+bytes_of a = a.line ++ 10 ∷ a.body
+
+-- those of several, one behind the other
+abbrev pub bytes_of_all : List Said → List ℕ
+bytes_of_all [] = []
+bytes_of_all (a ∷ more) = bytes_of a ++ bytes_of_all more
+
+-- all that is to go to the peer of an open session: what waits already, and then all that the session is due
+abbrev pub to_go : Option SessionState → List ℕ → Option (List ℕ)
+to_go now waiting = option_map (λ s. waiting ++ bytes_of_all (due s)) now
+
+-- What was written stood at the front of what was to go, and the rest is to go, unless the session was closed.
+pub record HandsOut (before after : Option (List ℕ)) (old new : Option (List ℕ)) : Type 0 where
+  pub left : List ℕ
+  pub hands : IfSome old (λ all. HandsOn before after all left)
+  pub waits : IfSome new (λ rest. rest ≡ left)

@@ -1,0 +1,6 @@
+pub mod Pieces
+pub mod Portions
+pub mod Incoming
+pub mod Sending
+pub mod Clients
+pub mod Rounds

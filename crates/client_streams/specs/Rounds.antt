@@ -1,0 +1,125 @@
+-- What is done for clients one after the other: where what their sessions hear comes from, and where what these are given
+-- goes.
+use Rattle.std.specs.Prelude.{ℕ, ◌≡◌, ◌≢◌, ◌≤◌, ◌+◌, ◌⊎◌, true, false, List, [], ◌∷◌, ◌++◌, Option, Some, None, IsSomeAnd, length}
+use Rattle.std.specs.Io.KnownBytes.{Consumes}
+use Rattle.session_lines.specs.Lines.{IsUnfinished}
+use Rattle.session_lines.specs.Heard.{heard_more}
+use Rattle.chess_sessions.specs.declared.sessions.Sessions.{Sessions}
+use Rattle.chess_sessions.specs.Session.{Said, SessionState, session_at, Changes, IsUnchanged, due, first_due, given_one}
+use Rattle.client_streams.specs.declared.client.Client.{Client}
+use Rattle.client_streams.specs.Clients.{HandsOut, to_go}
+use Rattle.client_streams.specs.Portions.{IsDearLine, IsPortion}
+use Rattle.client_streams.specs.Incoming.{held}
+use Rattle.client_streams.specs.Sending.{waiting}
+
+-- This is done for each of these clients, one after the other; between them all is the same.
+abbrev pub AreEach : {S A : Type 0} → (A → A → Type 0) → (Client S → Client S → A → A → Type 0) → List (Client S)
+    → List (Client S) → A → A → Type 0
+AreEach Same Done [] after old new = (after ≡ []) × Same old new
+AreEach {S = S} {A = A} Same Done (client ∷ clients) after old new =
+    (next : Client S) × (rest : List (Client S)) × (between : A) × (after ≡ next ∷ rest)
+    × Done client next old between × AreEach Same Done clients rest between new
+
+-- Nothing is done for a client whose session is closed.
+abbrev pub PassesClosed : {S : Type 0} → Client S → Client S → Sessions → Sessions → Type 0
+PassesClosed client after old new =
+    session_at old client.sid ≡ None → (after ≡ client) × IsUnchanged old new
+
+-- ---- what comes
+
+-- A session hears these bytes, where no line of it was too long.
+pub record Hears (sid : ℕ) (fed : List ℕ) (old new : Sessions) : Type 0 where
+  pub state : SessionState
+  pub was : session_at old sid ≡ Some state
+  pub short : state.heard.is_long ≡ false
+  pub heard : Changes old new sid (Some (record state { heard = heard_more state.heard fed }))
+
+-- A session is given bytes that were held back for it: a portion, where nothing of it waits; or none, and it is as it was
+-- or closed; or a line of it was too long before, and what comes behind that is dropped.
+abbrev pub IsSent : ℕ → List ℕ → Sessions → Sessions → Type 0
+IsSent sid fed old new =
+    IsPortion fed × IsSomeAnd (session_at old sid) (λ s. s.heard.bytes ≡ []) × Hears sid fed old new
+    ⊎ (fed ≡ []) × IsUnchanged old new
+    ⊎ (fed ≡ []) × Changes old new sid None
+    ⊎ IsSomeAnd (session_at old sid) (λ s. s.heard.is_long ≡ true) × IsUnchanged old new
+
+-- A turn while it reads: the sessions, and for how many lines that ask for much it has room yet.
+pub record Intake : Type 0 where
+  pub sessions : Sessions
+  pub room : ℕ
+
+abbrev pub intake : Sessions → ℕ → Intake
+intake sessions room = record { sessions = sessions; room = room }
+
+abbrev pub Holds : Intake → Intake → Type 0
+Holds old new = IsUnchanged old.sessions new.sessions × (new.room ≡ old.room)
+
+-- What comes on a client's connection is held back, and its session is given what stands in front of that, and nothing
+-- else. None is read where a line is held back, and no more is held back than a piece. A line that asks for much is given
+-- only where there is room. Of a client for which answers wait nothing is read, and nothing that it sent goes on.
+pub record IsRead {S : Type 0} (remaining : S → Option (List ℕ)) (client after : Client S) (old new : Intake) : Type 0
+  where
+    pub sid : after.sid ≡ client.sid
+    pub outgoing : waiting after.outgoing ≡ waiting client.outgoing
+    pub taken : List ℕ
+    pub consumed : Consumes (remaining client.stream) (remaining after.stream) taken
+    pub unfinished : taken ≢ [] → IsUnfinished (held client.incoming)
+    pub fed : List ℕ
+    pub order : held client.incoming ++ taken ≡ fed ++ held after.incoming
+    pub short : length (held after.incoming) ≤ 4096
+    pub sent : IsSent client.sid fed old.sessions new.sessions
+    pub fewer : new.room ≤ old.room
+    pub dear : IsDearLine fed → new.room + 1 ≤ old.room
+    pub unread : waiting client.outgoing ≢ [] → (after.stream ≡ client.stream)
+        × (held after.incoming ≡ held client.incoming) × IsUnchanged old.sessions new.sessions
+    pub closed : PassesClosed client after old.sessions new.sessions
+
+-- Each client is read for. A turn has room for one line that asks for much.
+abbrev pub AreRead : {S : Type 0} → (S → Option (List ℕ)) → List (Client S) → List (Client S) → Sessions → Sessions
+    → Type 0
+AreRead remaining clients read old new =
+    (left : ℕ) × AreEach Holds (IsRead remaining) clients read (intake old 1) (intake new left)
+
+-- ---- what goes
+
+-- A session is given an answer, the first that is due to it.
+pub record IsGiven (sid : ℕ) (answer : Said) (old new : Sessions) : Type 0 where
+  pub state : SessionState
+  pub was : session_at old sid ≡ Some state
+  pub first : first_due (due state) ≡ Some answer
+  pub after : Changes old new sid (Some (given_one state))
+
+-- It is given these, of which the newest stands first. Between them nothing changes.
+abbrev pub AreGivenTo : ℕ → List Said → Sessions → Sessions → Type 0
+AreGivenTo sid [] old new = IsUnchanged old new
+AreGivenTo sid (answer ∷ answers) old new =
+    (before : Sessions) × (after : Sessions) × AreGivenTo sid answers old before × IsGiven sid answer before after
+    × IsUnchanged after new
+
+-- A session is given answers, and nothing else changes.
+pub record AreGiven (sid : ℕ) (old new : Sessions) : Type 0 where
+  pub answers : List Said
+  pub given : AreGivenTo sid answers old new
+
+-- A session is given answers, and then it may be closed.
+pub record IsGivenOut (sid : ℕ) (old new : Sessions) : Type 0 where
+  pub between : Sessions
+  pub given : AreGiven sid old between
+  pub closed : IsUnchanged between new ⊎ Changes between new sid None
+
+-- What a client's session is given goes to its connection, behind what waited and as far as that takes it. What is held
+-- back stays.
+pub record IsWritten {S : Type 0} (contents : S → Option (List ℕ)) (client after : Client S) (old new : Sessions)
+    : Type 0 where
+  pub sid : after.sid ≡ client.sid
+  pub incoming : held after.incoming ≡ held client.incoming
+  pub given : IsGivenOut client.sid old new
+  pub hands : HandsOut (contents client.stream) (contents after.stream)
+      (to_go (session_at old client.sid) (waiting client.outgoing))
+      (to_go (session_at new client.sid) (waiting after.outgoing))
+  pub closed : PassesClosed client after old new
+
+-- Each client is written to.
+abbrev pub AreWritten : {S : Type 0} → (S → Option (List ℕ)) → List (Client S) → List (Client S) → Sessions → Sessions
+    → Type 0
+AreWritten contents clients written old new = AreEach IsUnchanged (IsWritten contents) clients written old new

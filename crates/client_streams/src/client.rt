@@ -1,0 +1,341 @@
+//! A connection and its session.
+ghost use Rattle.std.specs.Prelude.{◌≡◌, ◌≢◌, ◌≤◌, ◌++◌, ◌+◌, ◌-◌, ◌↔◌, ◌⊎◌, true, false, [], None, length, IsTrue, IsSome, IfSome, IsSomeAnd, OnOk, OnErr};
+ghost use Rattle.std.specs.Bool.{OnTrue, OnFalse};
+ghost use Rattle.std.specs.Io.KnownBytes.{Keeps};
+ghost use Rattle.chess_sessions.specs.Session.{said, session_at};
+ghost use Rattle.client_streams.specs.Clients.{IsOpen, OthersStay, IsSilent, HasHeard, GivesOn, TakesIn, HandsOut, bytes_of, to_go};
+ghost use Rattle.client_streams.specs.Portions.{IsPortion};
+ghost use Rattle.session_lines.specs.Lines.{IsUnfinished};
+ghost use Rattle.client_streams.specs.Incoming.{held};
+ghost use Rattle.client_streams.specs.Pieces.{Takes};
+ghost use Rattle.client_streams.specs.Sending.{waiting};
+ghost use Rattle.client_streams.specs.Rounds.{AreGiven, IsGivenOut};
+
+use crate::incoming::Incoming;
+use crate::outgoing::{Outgoing, Sent};
+use crate::pieces::{Came, PIECE_ROOM};
+use crate::room::Room;
+use chess_answer::Reply;
+use chess_sessions::{Sessions, Sid};
+use session_lines::FeedFault;
+use std::alloc::{AllocError, Global};
+use std::io::{Read, Write};
+
+/// A connection, and the session that its bytes go to.
+#[derive(Drop)]
+pub struct Client<S> {
+    stream: S,
+    sid: Sid,
+    /// Bytes on their way to the session.
+    incoming: Incoming,
+    /// Answers on their way to the peer.
+    outgoing: Outgoing,
+    /// Whether the peer sends no more.
+    has_ended: bool,
+    /// Whether it was read to its end for now: the last read found nothing, and none was put off since.
+    is_quiet: bool,
+    /// The moment at which it began, or last sent something, in milliseconds.
+    heard_at: u64,
+    /// For so many turns on end it had a line that asks for much, and there was no room for it.
+    waited: u32,
+    /// For so many turns more it is heard after its farewell.
+    patience: u8,
+}
+
+/// For so many turns a client is heard after its farewell, so that this is not lost: a connection that is closed before
+/// all is read is reset.
+const PATIENCE: u8 = u8::MAX;
+
+impl<S> Client<S> {
+    /// A connection that begins, for a session that is open.
+    pub fn new(alloc: Global, stream: S, sid: Sid, at: u64) -> Client<S>
+        ensures sid { result.sid ≡ sid }
+        ensures nothing { (held result.incoming ≡ []) × (waiting result.outgoing ≡ []) }
+    {
+        Client {
+            stream,
+            sid,
+            incoming: Incoming::new(),
+            outgoing: Outgoing::new(alloc),
+            has_ended: false,
+            is_quiet: false,
+            heard_at: at,
+            waited: 0,
+            patience: PATIENCE,
+        }
+    }
+
+    /// The connection.
+    pub fn stream(&self) -> &S
+        ensures { result.now ≡ self.now.stream }
+    {
+        &self.stream
+    }
+
+    /// The number of its session.
+    pub fn sid(&self) -> Sid
+        ensures { result ≡ self.now.sid }
+    {
+        self.sid
+    }
+
+    /// Whether all that had come was read. Then there is nothing to read until its socket is ready.
+    pub(crate) fn is_quiet(&self) -> bool
+        ensures { result ≡ self.now.is_quiet }
+    {
+        self.is_quiet
+    }
+
+    /// For how many turns on end a line that asks for much has waited.
+    pub(crate) fn waited(&self) -> u32
+        ensures { result ≡ self.now.waited }
+    {
+        self.waited
+    }
+
+    /// Whether nothing came from it for so many milliseconds, by this moment, and nothing waits for it.
+    pub(crate) fn is_silent(&self, sessions: &Sessions, at: u64, most: u64) -> bool
+        requires { IsOpen sessions.now self.now.sid }
+        ensures { IsTrue result ↔ IsSilent self.now sessions.now at most }
+    {
+        self.heard_at <= at
+            && at - self.heard_at >= most
+            && self.outgoing.is_empty()
+            && sessions.waiting(self.sid) == 0
+            && self.incoming.is_unfinished()
+    }
+}
+
+// Gives a session of which nothing waits a portion; what comes behind a line that is too long is dropped. Where memory is
+// refused the session is closed, and it answers false.
+fn feed(sessions: &mut Sessions, sid: Sid, portion: &[u8]) -> bool
+    requires open { IsOpen sessions.old sid }
+    requires small { length portion.now ≤ 4096 }
+    requires portion { IsPortion portion.now }
+    requires alone { IfSome (session_at sessions.old sid) (λ s. s.heard.bytes ≡ []) }
+    ensures heard { IfSome (session_at sessions.old sid) (λ s. OnTrue result (IsSomeAnd
+        (session_at sessions.new sid) (HasHeard s portion.now))) }
+    ensures closed { OnFalse result (session_at sessions.new sid ≡ None) }
+    ensures others { OthersStay sessions.old sessions.new sid }
+{
+    match sessions.feed(sid, portion) {
+        Ok(()) | Err(FeedFault::LineTooLong) => true,
+        Err(FeedFault::NoMemory) => {
+            sessions.close(sid);
+            false
+        }
+    }
+}
+
+// Puts an answer behind what waits to be written.
+fn push(outgoing: &mut Outgoing, reply: &Reply) -> Result<(), AllocError>
+    ensures { OnOk result (waiting outgoing.new ≡ waiting outgoing.old ++ bytes_of (said reply.now)) }
+{
+    outgoing.push(reply.line.as_str().as_bytes())?;
+    outgoing.push(b"\n")?;
+    outgoing.push(reply.body.as_bytes())
+}
+
+// Puts the answers of a session behind what waits to be written, and tells whether there were any. Where memory is refused
+// an answer may be lost, and then the session is to be closed.
+fn gather(sessions: &mut Sessions, sid: Sid, outgoing: &mut Outgoing) -> Result<bool, AllocError>
+    requires { IsOpen sessions.old sid }
+    ensures open { IsOpen sessions.new sid }
+    ensures same { OnOk result (to_go (session_at sessions.new sid) (waiting outgoing.new)
+        ≡ to_go (session_at sessions.old sid) (waiting outgoing.old)) }
+    ensures given { AreGiven sid sessions.old sessions.new }
+    ensures others { OthersStay sessions.old sessions.new sid }
+{
+    let mut any = false;
+    for _ in 0..u32::MAX {
+        let Some(reply) = sessions.output(sid) else {
+            break;
+        };
+        push(outgoing, &reply)?;
+        any = true;
+    }
+    Ok(any)
+}
+
+/// What a connection wrote.
+#[derive(Clone, Copy)]
+struct Wrote {
+    /// Whether answers came to it.
+    any: bool,
+    sent: Sent,
+}
+
+impl<S: Read + Write> Client<S> {
+    // Reads at most one piece, unless the peer sends no more, and holds it back. `Nothing` where there is none to read for
+    // now.
+    fn read_more(&mut self, at: u64, piece: &mut [u8; PIECE_ROOM]) -> Came
+        requires { IsUnfinished (held self.old.incoming) }
+        ensures takes { Takes (S.remaining self.old.stream) (S.remaining self.new.stream) (held self.old.incoming)
+            (held self.new.incoming) }
+        ensures quiet { self.new.is_quiet ≡ true → (result ≡ Came.Nothing)
+            × Keeps (S.remaining self.old.stream) (S.remaining self.new.stream)
+            × (held self.new.incoming ≡ held self.old.incoming) }
+        ensures peer { (self.new.sid ≡ self.old.sid) × (waiting self.new.outgoing ≡ waiting self.old.outgoing) }
+    {
+        self.is_quiet = false;
+        if self.has_ended {
+            return Came::Nothing;
+        }
+        let came = self.incoming.read_from(&mut self.stream, piece);
+        match came {
+            Came::Nothing => self.is_quiet = true,
+            Came::Bytes(_) => self.heard_at = at,
+            Came::End => self.has_ended = true,
+            Came::Interrupted | Came::Fault => {}
+        }
+        came
+    }
+
+    // Gives the session a portion of what is held back for it, unless something of it waits, or a line asks for much and the
+    // turn has no room for it. Where memory is refused the session is closed.
+    fn hand_on(&mut self, sessions: &mut Sessions, room: &mut Room)
+        requires { IsOpen sessions.old self.old.sid }
+        ensures gives { IfSome (session_at sessions.old self.old.sid) (λ s. GivesOn room.old.lines room.new.lines
+            (held self.old.incoming) (held self.new.incoming) s (session_at sessions.new self.old.sid)) }
+        ensures peer { (self.new.sid ≡ self.old.sid) × (waiting self.new.outgoing ≡ waiting self.old.outgoing) }
+        ensures quiet { self.new.is_quiet ≡ self.old.is_quiet }
+        ensures stream { self.new.stream ≡ self.old.stream }
+        ensures others { OthersStay sessions.old sessions.new self.old.sid }
+    {
+        if sessions.waiting(self.sid) > 0 {
+            return;
+        }
+        let portion = self.incoming.portion();
+        if !room.admit(portion, self.waited) {
+            self.waited = self.waited.saturating_add(1);
+            return;
+        }
+        self.waited = 0;
+        let count = portion.len();
+        if feed(sessions, self.sid, portion) {
+            self.incoming.give_up(count);
+        }
+    }
+
+    /// Reads at most one piece for the session, unless a line of it is held back or the peer doesn't take its answers; and
+    /// gives the session a portion, once the lines before are answered and the answers are written: one line that asks for
+    /// much, where the turn has room for it, or up to 16 that don't. The session is closed after a fault, and where memory is
+    /// refused for it. It tells whether there may be more to do.
+    pub(crate) fn take_in(
+        &mut self,
+        sessions: &mut Sessions,
+        at: u64,
+        piece: &mut [u8; PIECE_ROOM],
+        room: &mut Room,
+    ) -> bool
+        requires { IsOpen sessions.old self.old.sid }
+        ensures taken { IfSome (session_at sessions.old self.old.sid) (λ s. TakesIn room.old.lines room.new.lines
+            (S.remaining self.old.stream) (S.remaining self.new.stream) (held self.old.incoming)
+            (held self.new.incoming) s (session_at sessions.new self.old.sid)) }
+        ensures peer { (self.new.sid ≡ self.old.sid) × (waiting self.new.outgoing ≡ waiting self.old.outgoing) }
+        // Who has sent something is asked for more.
+        ensures quiet { self.new.is_quiet ≡ true → (result ≡ false)
+            × Keeps (S.remaining self.old.stream) (S.remaining self.new.stream)
+            × (held self.new.incoming ≡ held self.old.incoming) × (sessions.new ≡ sessions.old)
+            × (room.new.lines ≡ room.old.lines) }
+        // Of who doesn't take its answers nothing is read, and nothing that it sent goes on.
+        ensures unread { waiting self.old.outgoing ≢ [] → (self.new.stream ≡ self.old.stream)
+            × (held self.new.incoming ≡ held self.old.incoming) × (sessions.new ≡ sessions.old) }
+        ensures others { OthersStay sessions.old sessions.new self.old.sid }
+    {
+        self.is_quiet = false;
+        if !self.outgoing.is_empty() {
+            return false;
+        }
+        if !self.incoming.is_unfinished() {
+            self.hand_on(sessions, room);
+            return true;
+        }
+        match self.read_more(at, piece) {
+            Came::Nothing => return false,
+            Came::Bytes(_) | Came::Interrupted => self.hand_on(sessions, room),
+            Came::End => {}
+            Came::Fault => sessions.close(self.sid),
+        }
+        true
+    }
+
+    // Writes what waits and what the session is due, as far as the peer takes it. Where memory is refused an answer may be
+    // lost.
+    fn write_out(&mut self, sessions: &mut Sessions) -> Result<Wrote, AllocError>
+        requires { IsOpen sessions.old self.old.sid }
+        ensures open { IsOpen sessions.new self.old.sid }
+        ensures hands { OnOk result (HandsOut (S.contents self.old.stream) (S.contents self.new.stream)
+            (to_go (session_at sessions.old self.old.sid) (waiting self.old.outgoing))
+            (to_go (session_at sessions.new self.old.sid) (waiting self.new.outgoing))) }
+        ensures refused { OnErr result (HandsOut (S.contents self.old.stream) (S.contents self.new.stream)
+            (to_go (session_at sessions.old self.old.sid) (waiting self.old.outgoing)) None) }
+        ensures given { AreGiven self.old.sid sessions.old sessions.new }
+        ensures peer { (self.new.sid ≡ self.old.sid) × (self.new.has_ended ≡ self.old.has_ended)
+            × (self.new.is_quiet ≡ self.old.is_quiet) × (held self.new.incoming ≡ held self.old.incoming) }
+        ensures others { OthersStay sessions.old sessions.new self.old.sid }
+    {
+        let sent = self.outgoing.write_to(&mut self.stream);
+        if sent != Sent::All {
+            return Ok(Wrote { any: false, sent });
+        }
+        let any = match gather(sessions, self.sid, &mut self.outgoing) {
+            Ok(any) => any,
+            Err(refused) => return Err(refused),
+        };
+        let sent = self.outgoing.write_to(&mut self.stream);
+        Ok(Wrote { any, sent })
+    }
+
+    // Whether the session is over, after a write. Where the peer sends no more, that is once its whole lines are answered: a
+    // turn answers a line of every session that has one. After its farewell it is once nothing comes, or after 255 turns.
+    fn is_over(&mut self, sessions: &Sessions, wrote: Wrote) -> bool
+        requires { IsOpen sessions.now self.old.sid }
+        ensures fault { wrote.sent ≡ Sent.Fault → result ≡ true }
+        ensures part { wrote.sent ≡ Sent.Part → result ≡ false }
+        ensures answered { wrote.sent ≡ Sent.All → IfSome (session_at sessions.now self.old.sid)
+            (λ s. s.has_left ≡ false → (IsTrue result ↔ ((self.old.has_ended ≡ true) × (wrote.any ≡ false)))) }
+        ensures left { wrote.sent ≡ Sent.All → IfSome (session_at sessions.now self.old.sid)
+            (λ s. s.has_left ≡ true → (self.new.patience ≡ self.old.patience - 1) × (IsTrue result
+            ↔ ((self.old.has_ended ≡ true) ⊎ (self.old.is_quiet ≡ true) ⊎ (self.old.patience ≤ 1)))) }
+        ensures peer { (self.new.sid ≡ self.old.sid) × (self.new.has_ended ≡ self.old.has_ended)
+            × (self.new.is_quiet ≡ self.old.is_quiet) × (held self.new.incoming ≡ held self.old.incoming)
+            × (waiting self.new.outgoing ≡ waiting self.old.outgoing) × (self.new.stream ≡ self.old.stream) }
+    {
+        match wrote.sent {
+            Sent::Fault => true,
+            Sent::Part => false,
+            Sent::All if sessions.ended(self.sid) => {
+                self.patience = self.patience.saturating_sub(1);
+                self.has_ended || self.is_quiet || self.patience == 0
+            }
+            Sent::All => self.has_ended && !wrote.any,
+        }
+    }
+
+    /// Writes what can be written of the session's answers, after a turn. The session is closed after a fault,
+    /// and where memory is refused for it; where the peer sends no more, once its whole lines are answered; and after its
+    /// farewell to a line that is too long, once nothing comes behind that line, or after 255 turns. It tells whether there
+    /// was anything to do.
+    pub(crate) fn hand_out(&mut self, sessions: &mut Sessions) -> bool
+        requires { IsOpen sessions.old self.old.sid }
+        ensures hands { HandsOut (S.contents self.old.stream) (S.contents self.new.stream)
+            (to_go (session_at sessions.old self.old.sid) (waiting self.old.outgoing))
+            (to_go (session_at sessions.new self.old.sid) (waiting self.new.outgoing)) }
+        ensures given { IsGivenOut self.old.sid sessions.old sessions.new }
+        ensures peer { (self.new.sid ≡ self.old.sid) × (self.new.has_ended ≡ self.old.has_ended)
+            × (self.new.is_quiet ≡ self.old.is_quiet) × (held self.new.incoming ≡ held self.old.incoming) }
+        ensures others { OthersStay sessions.old sessions.new self.old.sid }
+    {
+        let was_stuck = !self.outgoing.is_empty();
+        let Ok(wrote) = self.write_out(sessions) else {
+            sessions.close(self.sid);
+            return true;
+        };
+        if self.is_over(sessions, wrote) {
+            sessions.close(self.sid);
+            return true;
+        }
+        wrote.any || was_stuck && wrote.sent == Sent::All
+    }
+}

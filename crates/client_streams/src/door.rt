@@ -1,0 +1,152 @@
+//! Where connections come from.
+ghost use Rattle.std.specs.Prelude.{◌≡◌, ◌↔◌, ◌⊎◌, false, IsSome};
+
+use std::io;
+use std::io::ErrorKind;
+use std::net::{Ipv4Addr, Net, TcpListener, TcpStream};
+use std::os::fd::{AsRawFd, RawFd};
+
+/// What a try to accept a connection found.
+#[derive(Clone, Copy, Debug, PartialEq, Eq)]
+pub enum Found {
+    /// A connection.
+    Connection,
+    /// None waits. A socket that wakes the server tells of the next.
+    Nobody,
+    /// One that was lost before it was there, or a signal: another may wait behind it.
+    Lost,
+    /// One may wait, and the system has no descriptor or no memory for it.
+    Refused,
+}
+
+/// What a fault of `accept` says.
+pub fn found_of(fault: ErrorKind) -> Found
+    ensures nobody { result ≡ Found.Nobody ↔ (fault ≡ ErrorKind.WouldBlock) }
+    ensures lost { result ≡ Found.Lost ↔ ((fault ≡ ErrorKind.ConnectionAborted) ⊎ (fault ≡ ErrorKind.ConnectionReset)
+        ⊎ (fault ≡ ErrorKind.Interrupted)) }
+    ensures refused { result ≡ Found.Connection → ⊥ }
+{
+    if fault == ErrorKind::WouldBlock {
+        Found::Nobody
+    } else if fault == ErrorKind::ConnectionAborted
+        || fault == ErrorKind::ConnectionReset
+        || fault == ErrorKind::Interrupted
+    {
+        Found::Lost
+    } else {
+        Found::Refused
+    }
+}
+
+/// Whether a connection may wait behind what the last try found.
+pub fn may_wait(found: Found) -> bool
+    ensures { result ≡ false ↔ (found ≡ Found.Nobody) }
+{
+    found != Found::Nobody
+}
+
+/// Where connections are accepted.
+pub trait Listens {
+    ghost use Rattle.std.specs.Prelude.{◌≡◌, ◌↔◌, IsSome};
+    ghost use Rattle.client_streams.specs.declared.door.Found.{Found};
+
+    type Stream: Drop;
+
+    /// What the last try found.
+    ghost last_found: { Self → Found };
+
+    /// Accepts a connection, if one is there, without waiting.
+    fn accept_one(&mut self) -> Option<Self::Stream>
+        ensures { IsSome result ↔ (last_found self.new ≡ Found.Connection) };
+
+    /// What the last try found.
+    fn found(&self) -> Found
+        ensures { result ≡ last_found self.now };
+}
+
+/// So many connections that were lost are passed over in a turn.
+const TRIES: usize = 64;
+
+/// Accepts the next connection, if one waits. Those that were lost are passed over, up to 64 tries; where the system has
+/// nothing for it, it is tried no further for now.
+pub fn next_connection<L: Listens>(door: &mut L) -> Option<L::Stream>
+    ensures { IsSome result ↔ (L.last_found door.new ≡ Found.Connection) }
+{
+    for _ in 1..TRIES {
+        let came = door.accept_one();
+        if door.found() != Found::Lost {
+            return came;
+        }
+    }
+    door.accept_one()
+}
+
+/// A listener on a port of this machine.
+#[derive(Drop)]
+pub struct Door {
+    listener: TcpListener,
+    found: Found,
+}
+
+impl Door {
+    /// Listens on a port of 127.0.0.1, where 0 leaves the choice to the system. A connection may wait.
+    pub fn listen<R: Net<Listener = TcpListener, Stream = TcpStream>>(
+        net: &R,
+        port: u16,
+    ) -> io::Result<Door> {
+        let listener = TcpListener::bind(net, (Ipv4Addr::LOCALHOST, port))?;
+        listener.set_nonblocking(true)?;
+        Ok(Door {
+            listener,
+            found: Found::Lost,
+        })
+    }
+
+    /// The port.
+    pub fn port(&self) -> io::Result<u16> {
+        let address = self.listener.local_addr()?;
+        Ok(address.port())
+    }
+
+    /// The listener's socket.
+    pub fn socket(&self) -> RawFd {
+        self.listener.as_raw_fd()
+    }
+}
+
+// A connection that is not waited for: answers are short, and a client waits for them.
+fn prepared(stream: TcpStream) -> io::Result<TcpStream> {
+    stream.set_nonblocking(true)?;
+    stream.set_nodelay(true)?;
+    Ok(stream)
+}
+
+impl Listens for Door {
+    type Stream = TcpStream;
+
+    ghost last_found = { λ door. door.found };
+
+    fn accept_one(&mut self) -> Option<TcpStream> {
+        let (stream, _) = match self.listener.accept() {
+            Ok(came) => came,
+            Err(fault) => {
+                self.found = found_of(fault.kind());
+                return None;
+            }
+        };
+        match prepared(stream) {
+            Ok(stream) => {
+                self.found = Found::Connection;
+                Some(stream)
+            }
+            Err(_) => {
+                self.found = Found::Lost;
+                None
+            }
+        }
+    }
+
+    fn found(&self) -> Found {
+        self.found
+    }
+}

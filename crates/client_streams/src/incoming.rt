@@ -1,0 +1,112 @@
+//! What a peer has sent and its session was not given yet.
+ghost use Rattle.std.specs.Prelude.{ℕ, ◌≡◌, ◌≤◌, ◌↔◌, ◌⊎◌, [], IsTrue, length, take, drop};
+ghost use Rattle.session_lines.specs.Lines.{HasNoFeed, IsUnfinished};
+ghost use Rattle.client_streams.specs.Portions.{is_dear, AreLines, AreFewLines, BeginDear, IsPortionOf};
+ghost use Rattle.std.specs.Io.KnownBytes.{Keeps};
+ghost use Rattle.client_streams.specs.Pieces.{Takes};
+
+use crate::pieces::{Came, PIECE_ROOM, read_piece};
+use arrayvec::ArrayVec;
+use session_lines::{LINE_ROOM, first_feed};
+use std::io::Read;
+
+/// Bytes that are held back, in their order.
+#[derive(Drop)]
+pub struct Incoming {
+    bytes: ArrayVec<u8, PIECE_ROOM>,
+    ghost few: { length bytes.items ≤ 4096 },
+}
+
+/// How many lines a session is given at once. It is given more when these are answered and the answers are written: so
+/// what waits for one client is bounded.
+const PORTION: usize = 16;
+
+/// Whether a line asks for much, by its first word: only `list` and `pgn` are answered by more than a line.
+pub fn is_dear(line: &[u8]) -> bool
+    ensures { result ≡ is_dear line.now }
+{
+    line.starts_with(b"list") || line.starts_with(b"pgn ")
+}
+
+// Where the last of so many lines ends that are whole and ask for little, of which the first ends here.
+fn end_of_lines(bytes: &[u8], first: usize) -> usize
+    requires within { first ≤ length bytes.now }
+    requires line { AreLines 1 (take first bytes.now) }
+    ensures further { first ≤ result }
+    ensures within { result ≤ length bytes.now }
+    ensures lines { AreFewLines (take result bytes.now) }
+    ensures most { AreLines 16 (take result bytes.now) ⊎ HasNoFeed (drop result bytes.now)
+        ⊎ BeginDear (drop result bytes.now) }
+{
+    let mut end = first;
+    for _ in 1..PORTION {
+        let Some(at) = first_feed(&bytes[end..]) else {
+            return end;
+        };
+        if is_dear(&bytes[end..end + at]) {
+            return end;
+        }
+        end += at + 1;
+    }
+    end
+}
+
+impl Incoming {
+    ghost use Rattle.client_streams.specs.Incoming.{held};
+
+    /// Nothing is held back.
+    pub fn new() -> Incoming
+        ensures { held result ≡ [] }
+    {
+        Incoming {
+            bytes: ArrayVec::new(),
+        }
+    }
+
+    /// Whether no line is held back: what is held can still become one.
+    pub fn is_unfinished(&self) -> bool
+        ensures { IsTrue result ↔ IsUnfinished (held self.now) }
+    {
+        self.bytes.len() <= LINE_ROOM && first_feed(self.bytes.as_slice()).is_none()
+    }
+
+    /// The most of what is held back that a session may be given at once: one line that asks for much, or up to 16 that
+    /// don't, or what belongs to a line that is too long; and nothing just where no line is held back.
+    pub fn portion(&self) -> &[u8]
+        ensures portion { IsPortionOf (held self.now) result.now }
+        ensures some { result.now ≡ [] → IsUnfinished (held self.now) }
+    {
+        let bytes = self.bytes.as_slice();
+        match first_feed(bytes) {
+            Some(at) if is_dear(&bytes[..at]) => &bytes[..at + 1],
+            Some(at) => &bytes[..end_of_lines(bytes, at + 1)],
+            None if bytes.len() > LINE_ROOM => bytes,
+            None => &bytes[..0],
+        }
+    }
+
+    /// Reads once, without waiting where the reader doesn't wait, and holds back what came.
+    pub fn read_from<R: Read>(&mut self, reader: &mut R, piece: &mut [u8; PIECE_ROOM]) -> Came
+        requires { IsUnfinished (held self.old) }
+        ensures takes { Takes (R.remaining reader.old) (R.remaining reader.new) (held self.old) (held self.new) }
+        ensures nothing { result ≡ Came.Nothing → Keeps (R.remaining reader.old) (R.remaining reader.new)
+            × (held self.new ≡ held self.old) }
+    {
+        let room = PIECE_ROOM - self.bytes.len();
+        let came = read_piece(reader, &mut piece[..room]);
+        if let Came::Bytes(count) = came {
+            let _ = self.bytes.try_extend_from_slice(&piece[..count]);
+        }
+        came
+    }
+
+    /// Gives up the first bytes.
+    pub fn give_up(&mut self, count: usize)
+        requires { count ≤ length (held self.old) }
+        ensures { held self.new ≡ drop count (held self.old) }
+    {
+        let left = self.bytes.len() - count;
+        self.bytes.as_mut_slice().copy_within(count.., 0);
+        self.bytes.truncate(left);
+    }
+}

@@ -1,0 +1,21 @@
+//! The connections of clients: where they come from, what tells that one is ready, and each with its session. What comes on
+//! a connection is held back and goes to the session line by line, and what the session is given goes back, as far as the
+//! connection takes it.
+#![tactic(auto)]
+
+mod client;
+mod door;
+mod incoming;
+mod outgoing;
+mod pieces;
+mod room;
+mod rounds;
+mod watch;
+
+pub use client::Client;
+pub use door::{Door, Found, Listens, may_wait, next_connection};
+pub use rounds::{Reading, hand_out_all, take_in_all};
+pub use watch::Watch;
+
+#[cfg(test)]
+mod tests;

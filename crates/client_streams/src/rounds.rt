@@ -1,0 +1,134 @@
+//! What a turn of a server does for all its clients, one after the other.
+ghost use Rattle.std.specs.Prelude.{◌≡◌, ◌↔◌, true, None, IsTrue, IsSomeAnd};
+ghost use Rattle.std.specs.Bool.{OnTrue, OnFalse};
+ghost use Rattle.chess_sessions.specs.Session.{Changes, IsUnchanged};
+ghost use Rattle.client_streams.specs.Clients.{IsOpen, IsSilent};
+ghost use Rattle.client_streams.specs.Rounds.{intake, AreRead, IsRead, AreWritten, IsWritten};
+
+use crate::client::Client;
+use crate::pieces::PIECE_ROOM;
+use crate::room::Room;
+use chess_sessions::Sessions;
+use std::io::{Read, Write};
+
+/// When clients are read for.
+#[derive(Clone, Copy, Debug)]
+pub struct Reading {
+    /// The moment of the turn, in milliseconds.
+    pub at: u64,
+    /// Whether quiet clients are passed over.
+    pub is_calm: bool,
+    /// For how many milliseconds a client may be silent.
+    pub silence: Option<u64>,
+}
+
+// Whether a client has been silent for longer than it may.
+fn is_over_silent<S>(client: &Client<S>, sessions: &Sessions, reading: Reading) -> bool
+    requires { IsOpen sessions.now client.now.sid }
+    ensures { IsTrue result ↔ IsSomeAnd reading.silence (IsSilent client.now sessions.now reading.at) }
+{
+    match reading.silence {
+        Some(most) => client.is_silent(sessions, reading.at, most),
+        None => false,
+    }
+}
+
+// Closes the session of a client that has been silent for longer than it may, behind a read that found nothing, and tells
+// whether it did.
+fn close_silent<S>(client: &Client<S>, sessions: &mut Sessions, reading: Reading) -> bool
+    requires open { IsOpen sessions.old client.now.sid }
+    requires quiet { client.now.is_quiet ≡ true }
+    ensures silent { IsTrue result ↔ IsSomeAnd reading.silence (IsSilent client.now sessions.old reading.at) }
+    ensures closed { OnTrue result (Changes sessions.old sessions.new client.now.sid None) }
+    ensures stays { OnFalse result (sessions.new ≡ sessions.old) }
+{
+    if !is_over_silent(client, sessions, reading) {
+        return false;
+    }
+    sessions.close(client.sid());
+    true
+}
+
+// Whether a client is passed over: after calm rests one that was read to its end, unless it has been silent for too long.
+fn is_passed_over<S>(client: &Client<S>, sessions: &Sessions, reading: Reading) -> bool
+    requires { IsOpen sessions.now client.now.sid }
+{
+    reading.is_calm && client.is_quiet() && !is_over_silent(client, sessions, reading)
+}
+
+// Reads for a session that is open, but after calm rests not for a quiet client; and where the read finds nothing, closes
+// that of a client that has been silent for too long. It tells whether there may be more to do.
+fn read_for<S: Read + Write>(
+    client: &mut Client<S>,
+    sessions: &mut Sessions,
+    reading: Reading,
+    piece: &mut [u8; PIECE_ROOM],
+    room: &mut Room,
+) -> bool
+    ensures { IsRead S.remaining client.old client.new (intake sessions.old room.old.lines)
+        (intake sessions.new room.new.lines) }
+{
+    if !sessions.is_open(client.sid()) {
+        return false;
+    }
+    if is_passed_over(client, sessions, reading) {
+        return false;
+    }
+    let any = client.take_in(sessions, reading.at, piece, room);
+    if client.is_quiet() {
+        return close_silent(client, sessions, reading);
+    }
+    any
+}
+
+// For how many turns a client of an open session has waited that has waited longest with a line that asks for much.
+fn longest_wait<S>(clients: &[Client<S>], sessions: &Sessions) -> u32 {
+    let mut longest = 0;
+    for client in clients {
+        if sessions.is_open(client.sid()) && client.waited() > longest {
+            longest = client.waited();
+        }
+    }
+    longest
+}
+
+/// Reads for each client, and tells whether there may be more to do: at most one piece of each of which no line is held
+/// back and no answer waits to be written; gives each session what it may be given, in all one line that asks for much;
+/// and closes the sessions of those that have been silent for too long.
+pub fn take_in_all<S: Read + Write>(
+    clients: &mut Vec<Client<S>>,
+    sessions: &mut Sessions,
+    reading: Reading,
+) -> bool
+    ensures { AreRead S.remaining clients.old.items clients.new.items sessions.old sessions.new }
+{
+    let mut piece = [0u8; PIECE_ROOM];
+    let mut room = Room::new(longest_wait(clients, sessions));
+    let mut any = false;
+    for client in clients.iter_mut() {
+        any |= read_for(client, sessions, reading, &mut piece, &mut room);
+    }
+    any
+}
+
+// Writes for a session that is open, and tells whether there was anything to do.
+fn write_for<S: Read + Write>(client: &mut Client<S>, sessions: &mut Sessions) -> bool
+    ensures { IsWritten S.contents client.old client.new sessions.old sessions.new }
+{
+    if !sessions.is_open(client.sid()) {
+        return false;
+    }
+    client.hand_out(sessions)
+}
+
+/// Writes for each client what can be written, closes the sessions that are over, and tells whether there was anything to
+/// do.
+pub fn hand_out_all<S: Read + Write>(clients: &mut Vec<Client<S>>, sessions: &mut Sessions) -> bool
+    ensures { AreWritten S.contents clients.old.items clients.new.items sessions.old sessions.new }
+{
+    let mut any = false;
+    for client in clients.iter_mut() {
+        any |= write_for(client, sessions);
+    }
+    any
+}

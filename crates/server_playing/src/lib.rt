@@ -1,0 +1,13 @@
+//! The words of the program that play games: the lines of an input, players on a port, the drill.
+#![tactic(auto)]
+
+mod clock;
+mod drilling;
+mod running;
+mod serving;
+#[cfg(test)]
+mod tests;
+
+pub use drilling::tell_drill;
+pub use running::run_journal;
+pub use serving::serve;
