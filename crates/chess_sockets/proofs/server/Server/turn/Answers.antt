@@ -55,15 +55,20 @@ returns-in_err-has_served-clause-refused g c =
     let r = c.from_residual in
     let e = err_from_is_err_and r.result r.ensures.1 in
     let same = c.welcome-came.ensures.store ∙ ap (λ h. h.store) c.part.ensures.hub in
+    let w = c.welcome-came.new.self in
+    let n = c.serve_clients.new in
     of_fault r.result e.0 c.in_err-has_served.field-0.0
-    (λ fault. IsTurnRefusal unknown fault c.args.at old.hub.store.journal.header.seq old.hub.store.failed
-    old.clients.items (state_of old.hub.sessions old.hub.store.table) c.serve_clients.new.hub.store.table) e.1 e.2 (
-      c.welcome-came.new.self.clients.items,
-      state_of c.welcome-came.new.self.hub.sessions c.welcome-came.new.self.hub.store.table,
-      welcomed_there c.part.new.self.hub c.args.self.now.hub (λ hub. state_of hub.sessions hub.store.table) _ _ _ _
-          c.part.ensures.hub c.part.ensures.stay c.welcome-came.ensures.welcomes,
-      rw (sym same) c.in_err-has_served.ensures.refused,
-    )
+    (λ fault. IsTurnRefusal unknown w.door.found old.turned_away w.turned_away fault c.args.at
+    old.hub.store.journal.header.seq old.hub.store.failed old.clients.items n.clients.items
+    (state_of old.hub.sessions old.hub.store.table) (state_of n.hub.sessions n.hub.store.table)) e.1 e.2
+    (record {
+      asked = w.clients.items;
+      begun = state_of w.hub.sessions w.hub.store.table;
+      welcomes = welcomed_there c.part.new.self.hub old.hub (λ hub. state_of hub.sessions hub.store.table) w.door.found
+          c.part.new.self.turned_away old.turned_away w.turned_away _ _ _ _ c.part.ensures.hub c.part.ensures.stay
+          c.part.ensures.turned_away c.welcome-came.ensures.welcomes;
+      refusal = rw (sym same) c.in_err-has_served.ensures.refused;
+    })
 
 pub returns-in_err-has_served-clause-cause_err : goal.returns-in_err-has_served-clause-cause_err
 returns-in_err-has_served-clause-cause_err g c =

@@ -1,0 +1,66 @@
+-- When something came last.
+use Rattle.std.proofs.Common.{◌≡◌, ◌<◌, ◌≤◌, ℕ, zero, suc, List, [], ◌∷◌, Option, length, take, refl, subst, arith}
+use Rattle.std.specs.Io.KnownBytes.{Consumes, Keeps}
+use Rattle.std.proofs.KnownBytes.{Consumes-nil, Consumes-kept}
+use Rattle.client_streams.specs.declared.pieces.Came.{Came}
+use Rattle.client_streams.specs.declared.pieces.Came.TheVariants.{Nothing, Interrupted, Bytes, End, Fault}
+use Rattle.client_streams.specs.Clients.{IsHeardAt, heard_since}
+use Rattle.client_streams.specs.Pieces.{HasCome, IsBrought, Brings}
+
+none_brought : (before after : Option (List ℕ)) → Keeps before after → Consumes before after []
+none_brought before after kept = Consumes-kept before before after [] (Consumes-nil before) kept
+
+taken_some : (count : ℕ) (piece : List ℕ) → 0 < count → count ≤ length piece → take count piece ≡ [] → ⊥
+taken_some count [] pos le none = absurd (omega arith)
+taken_some (suc count) (byte ∷ piece) pos le none = absurd (cc)
+taken_some zero (byte ∷ piece) pos le none = absurd (omega arith)
+
+-- what a read brought, by what it told
+pub brings : (before after : Option (List ℕ)) (piece : List ℕ) (came : Came) → HasCome before after piece came
+    → Brings before after came
+brings before after piece Nothing kept =
+    record { taken = []; consumed = none_brought before after kept; brought = refl }
+brings before after piece Interrupted kept =
+    record { taken = []; consumed = none_brought before after kept; brought = refl }
+brings before after piece (Bytes count) has = record {
+  taken = take count piece;
+  consumed = has.2;
+  brought = taken_some count piece has.0 has.1;
+}
+brings before after piece End has = record { taken = []; consumed = has.0; brought = refl }
+brings before after piece Fault kept =
+    record { taken = []; consumed = none_brought before after kept; brought = refl }
+
+-- bytes came
+since_now : (at old : ℕ) (taken : List ℕ) → (taken ≡ [] → ⊥) → at ≡ heard_since taken at old
+since_now at old [] no = absurd (no refl)
+since_now at old (byte ∷ taken) no = refl
+
+pub heard_now : (before after : Option (List ℕ)) (count at old : ℕ) → Brings before after (Bytes count)
+    → IsHeardAt before after at old at
+heard_now before after count at old has = record {
+  taken = has.taken;
+  consumed = has.consumed;
+  moment = since_now at old has.taken has.brought;
+}
+
+-- none came
+pub heard_before : (before after : Option (List ℕ)) (at old : ℕ) (taken : List ℕ) → Consumes before after taken
+    → taken ≡ [] → IsHeardAt before after at old old
+heard_before before after at old taken consumed none = record {
+  taken = [];
+  consumed = subst (λ (l : List ℕ). Consumes before after l) none consumed;
+  moment = refl;
+}
+
+pub heard_not : (before after : Option (List ℕ)) (at old : ℕ) (came : Came) → ((count : ℕ) → came ≡ Bytes count → ⊥)
+    → Brings before after came → IsHeardAt before after at old old
+heard_not before after at old Nothing no has = heard_before before after at old has.taken has.consumed has.brought
+heard_not before after at old Interrupted no has = heard_before before after at old has.taken has.consumed has.brought
+heard_not before after at old (Bytes count) no has = absurd (no count refl)
+heard_not before after at old End no has = heard_before before after at old has.taken has.consumed has.brought
+heard_not before after at old Fault no has = heard_before before after at old has.taken has.consumed has.brought
+
+-- nothing was read
+pub heard_as_before : (now : Option (List ℕ)) (at old : ℕ) → IsHeardAt now now at old old
+heard_as_before now at old = record { taken = []; consumed = Consumes-nil now; moment = refl }
