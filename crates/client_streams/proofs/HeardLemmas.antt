@@ -1,5 +1,5 @@
 -- When something came last.
-use Rattle.std.proofs.Common.{◌≡◌, ◌<◌, ◌≤◌, ℕ, zero, suc, List, [], ◌∷◌, Option, length, take, refl, subst, arith}
+use Rattle.std.proofs.Common.{◌≡◌, ◌<◌, ◌≤◌, ℕ, zero, suc, List, [], ◌∷◌, Option, length, take, refl, subst, sym, arith}
 use Rattle.std.specs.Io.KnownBytes.{Consumes, Keeps}
 use Rattle.std.proofs.KnownBytes.{Consumes-nil, Consumes-kept}
 use Rattle.client_streams.specs.declared.pieces.Came.{Came}
@@ -53,14 +53,29 @@ heard_before before after at old taken consumed none = record {
   moment = refl;
 }
 
-pub heard_not : (before after : Option (List ℕ)) (at old : ℕ) (came : Came) → ((count : ℕ) → came ≡ Bytes count → ⊥)
-    → Brings before after came → IsHeardAt before after at old old
-heard_not before after at old Nothing no has = heard_before before after at old has.taken has.consumed has.brought
-heard_not before after at old Interrupted no has = heard_before before after at old has.taken has.consumed has.brought
-heard_not before after at old (Bytes count) no has = absurd (no count refl)
-heard_not before after at old End no has = heard_before before after at old has.taken has.consumed has.brought
-heard_not before after at old Fault no has = heard_before before after at old has.taken has.consumed has.brought
+pub heard_nothing : (before after : Option (List ℕ)) (at old : ℕ) → Brings before after Nothing
+    → IsHeardAt before after at old old
+heard_nothing before after at old has = heard_before before after at old has.taken has.consumed has.brought
+
+pub heard_interrupted : (before after : Option (List ℕ)) (at old : ℕ) → Brings before after Interrupted
+    → IsHeardAt before after at old old
+heard_interrupted before after at old has = heard_before before after at old has.taken has.consumed has.brought
+
+pub heard_end : (before after : Option (List ℕ)) (at old : ℕ) → Brings before after End
+    → IsHeardAt before after at old old
+heard_end before after at old has = heard_before before after at old has.taken has.consumed has.brought
+
+pub heard_fault : (before after : Option (List ℕ)) (at old : ℕ) → Brings before after Fault
+    → IsHeardAt before after at old old
+heard_fault before after at old has = heard_before before after at old has.taken has.consumed has.brought
 
 -- nothing was read
 pub heard_as_before : (now : Option (List ℕ)) (at old : ℕ) → IsHeardAt now now at old old
 heard_as_before now at old = record { taken = []; consumed = Consumes-nil now; moment = refl }
+
+-- and after it nothing more
+pub heard_on : (before mid after : Option (List ℕ)) (at old new next : ℕ) → IsHeardAt before mid at old new
+    → after ≡ mid → next ≡ new → IsHeardAt before after at old next
+heard_on before mid after at old new next h same still =
+    subst (λ (b : Option (List ℕ)). IsHeardAt before b at old next) (sym same)
+    (subst (λ (n : ℕ). IsHeardAt before mid at old n) (sym still) h)

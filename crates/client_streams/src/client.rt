@@ -167,6 +167,7 @@ struct Wrote {
 }
 
 impl<S: Read + Write> Client<S> {
+    #[tactic(auto, using(crate::proofs::HeardLemmas::heard_as_before, crate::proofs::HeardLemmas::heard_now, crate::proofs::HeardLemmas::heard_nothing, crate::proofs::HeardLemmas::heard_interrupted, crate::proofs::HeardLemmas::heard_end, crate::proofs::HeardLemmas::heard_fault))]
     // Reads at most one piece, unless the peer sends no more, and holds it back. `Nothing` where there is none to read for
     // now.
     fn read_more(&mut self, at: u64, piece: &mut [u8; PIECE_ROOM]) -> Came
@@ -221,6 +222,7 @@ impl<S: Read + Write> Client<S> {
         }
     }
 
+    #[tactic(auto, using(crate::proofs::HeardLemmas::heard_as_before))]
     /// Reads at most one piece for the session, unless a line of it is held back or the peer doesn't take its answers; and
     /// gives the session a portion, once the lines before are answered and the answers are written: one line that asks for
     /// much, where the turn has room for it, or up to 16 that don't. The session is closed after a fault, and where memory is

@@ -85,6 +85,7 @@ impl Incoming {
         }
     }
 
+    #[tactic(auto, using(crate::proofs::HeardLemmas::brings))]
     /// Reads once, without waiting where the reader doesn't wait, and holds back what came.
     pub fn read_from<R: Read>(&mut self, reader: &mut R, piece: &mut [u8; PIECE_ROOM]) -> Came
         requires { IsUnfinished (held self.old) }
