@@ -138,16 +138,16 @@ nobody_welcomed clients s = record { came = []; whole = sym (append-nil clients)
 -- who came and is no client is counted, and nobody else
 not_counted : {S : Type 0} (found : Found) (came : List (Client S)) (count : ℕ) → (found ≡ Connection → ⊥)
     → away_after found came count ≡ count
-not_counted Connection came count no = absurd (no refl)
-not_counted Nobody came count no = refl
-not_counted Lost came count no = refl
-not_counted Refused came count no = refl
+not_counted Connection came count other = absurd (other refl)
+not_counted Nobody came count other = refl
+not_counted Lost came count other = refl
+not_counted Refused came count other = refl
 
 pub nobody_came : {S : Type 0} (found : Found) (count : ℕ) (clients : List (Client S)) (s : HubState)
     → (found ≡ Connection → ⊥) → IsWelcomed found count count clients clients s s
-nobody_came found count clients s no = record {
+nobody_came found count clients s other = record {
   welcomes = nobody_welcomed clients s;
-  counted = sym (not_counted found [] count no);
+  counted = sym (not_counted found [] count other);
 }
 
 one_away : {S : Type 0} (clients came : List (Client S)) (count : ℕ) → length clients ≡ length clients + length came

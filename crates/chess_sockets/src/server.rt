@@ -185,6 +185,7 @@ impl<D: Device> Server<D> {
         true
     }
 
+    #[tactic(auto, using(crate::proofs::ServingLemmas::nobody_came, crate::proofs::ServingLemmas::away_counted, crate::proofs::ServingLemmas::client_counted))]
     // Accepts at most one connection, and tells whether one came; after calm rests none, unless one may wait. One that came
     // and is no client is counted. What fails at it ends nothing, and is no turn's work, so that a rest comes before the next.
     fn welcome(&mut self, at: u64) -> bool

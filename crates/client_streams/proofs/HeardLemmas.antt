@@ -33,8 +33,8 @@ brings before after piece Fault kept =
 
 -- bytes came
 since_now : (at old : ℕ) (taken : List ℕ) → (taken ≡ [] → ⊥) → at ≡ heard_since taken at old
-since_now at old [] no = absurd (no refl)
-since_now at old (byte ∷ taken) no = refl
+since_now at old [] some = absurd (some refl)
+since_now at old (byte ∷ taken) some = refl
 
 pub heard_now : (before after : Option (List ℕ)) (count at old : ℕ) → Brings before after (Bytes count)
     → IsHeardAt before after at old at

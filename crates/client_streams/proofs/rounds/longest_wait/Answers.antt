@@ -20,9 +20,9 @@ loop-client-preserved g c =
     ∙ sym (take-suc clients i client lt)) in
     record {
       within = omega (arith, lt);
-      longest = subst (λ (l : List (Client g.row.S.Denot)). IsLongest c.args.sessions.now l c.longer.result) more
-          (longest_more c.args.sessions.now (take i clients) client c.loop-client.longest c.longer.result
-          c.loop-client.invariant.longest c.longer.ensures.least c.longer.ensures.own c.longer.ensures.which);
+      longest = subst (λ (l : List (Client g.row.S.Denot)). IsLongest c.args.sessions.now l c.longer-longest.result) more
+          (longest_more c.args.sessions.now (take i clients) client c.loop-client.longest c.longer-longest.result
+          c.loop-client.invariant.longest c.longer-longest.ensures.least c.longer-longest.ensures.own c.longer-longest.ensures.which);
     }
 
 pub returns : goal.returns
