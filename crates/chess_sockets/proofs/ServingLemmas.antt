@@ -12,7 +12,7 @@ use Rattle.client_streams.specs.declared.client.Client.{Client}
 use Rattle.client_streams.specs.declared.door.Found.{Found}
 use Rattle.client_streams.specs.declared.door.Found.TheVariants.{Connection, Nobody, Lost, Refused}
 use Rattle.client_streams.specs.Rounds as rounds
-use Rattle.client_streams.specs.Rounds.{AreEach, IsSent, AreGivenTo, IsGivenOut, IsRead, IsWritten, Intake, intake, Holds}
+use Rattle.client_streams.specs.Rounds.{AreEach, IsSent, AreGivenTo, IsGivenOut, IsRead, IsWritten, intake, Holds}
 use Rattle.chess_sockets.specs.Serving.{state_of, LeadsOn, IsLedBy, IsOfReading, IsOfWriting, AreRead, AreWritten, Welcomes, IsWelcomed, away_after}
 
 -- ---- calls

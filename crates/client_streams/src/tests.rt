@@ -6,7 +6,7 @@ use crate::incoming::Incoming;
 use crate::outgoing::{Outgoing, Sent};
 use crate::pieces::{Came, PIECE_ROOM};
 use crate::rounds::{Reading, hand_out_all, take_in_all};
-use chess_sessions::Sessions;
+use chess_sessions::{Sessions, Sid};
 use std::alloc::Global;
 use std::io;
 use std::io::{Error, ErrorKind, Read, Write};
@@ -110,6 +110,15 @@ fn writes_in_pieces(rt: HostRuntime) -> Result<(), Fail> {
     Ok(())
 }
 
+// How many bytes wait of a session, if it is open.
+fn waiting(sessions: &Sessions, sid: Sid) -> Option<usize> {
+    if sessions.is_open(sid) {
+        Some(sessions.waiting(sid))
+    } else {
+        None
+    }
+}
+
 // A turn without a hub: what was to do at the read, and at the write.
 fn turn(clients: &mut Vec<Client<Peer>>, sessions: &mut Sessions, at: u64) -> (bool, bool) {
     let reading = Reading {
@@ -132,7 +141,7 @@ fn serves_a_session(rt: HostRuntime) -> Result<(), Fail> {
     let mut clients = Vec::new(alloc);
     clients.push(Client::new(alloc, made(alloc, &["name ann\nsh"], 99), sid, 1_000))?;
     assert_eq!(rt; turn(&mut clients, &mut sessions, 1_000), (true, false));
-    assert_eq!(rt; sessions.waiting(sid), 9);
+    assert_eq!(rt; waiting(&sessions, sid), Some(9));
     // Nothing more comes, and a line of it waits: it is not silent.
     assert_eq!(rt; turn(&mut clients, &mut sessions, 2_000), (false, false));
     assert!(rt; sessions.is_open(sid));

@@ -3,7 +3,7 @@ use Rattle.std.proofs.Common.{◌≡◌, ◌+◌, ◌++◌, ℕ, suc, List, [], 
 use Rattle.std.specs.Prelude.{Option, slice_get}
 use Rattle.std.proofs.KnownBytes.{Appends-nil, Appends-trans}
 use Rattle.chess_entry.specs.State.{GameState}
-use Rattle.server_work.specs.Games.{WritesGame, WritesGames, AreGamesInFile}
+use Rattle.server_work.specs.Games.{WritesGame, WritesGames}
 
 -- before the first
 pub games_begun : (known : Option (List ℕ)) (games : List GameState) → WritesGames known known games 0
