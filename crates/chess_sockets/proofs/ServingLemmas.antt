@@ -9,6 +9,7 @@ use Rattle.chess_sessions.specs.Session.{Said, Changes, IsUnchanged}
 use Rattle.chess_hub.specs.Calls.{Call, Closed, Fed, Given}
 use Rattle.chess_hub.specs.Law.{HubState, Steps, Stays}
 use Rattle.client_streams.specs.declared.client.Client.{Client}
+use Rattle.client_streams.specs.declared.door.Door.{Door}
 use Rattle.client_streams.specs.declared.door.Found.{Found}
 use Rattle.client_streams.specs.declared.door.Found.TheVariants.{Connection, Nobody, Lost, Refused}
 use Rattle.client_streams.specs.Rounds as rounds
@@ -160,23 +161,25 @@ one_client : {S : Type 0} (clients came : List (Client S)) (count : ℕ)
 one_client clients [] count same = absurd (omega (arith, same))
 one_client clients (client ∷ came) count same = refl
 
-module _ {S : Type 0} (found : Found) (count counted : ℕ) (clients after : List (Client S)) (old new : HubState)
-    (came : found ≡ Connection) (w : Welcomes clients after old new) where
+module _ {S : Type 0} (door after_door : Door) (count counted : ℕ) (clients after : List (Client S)) (old new : HubState)
+    (same_door : after_door ≡ door) (came : door.found ≡ Connection) (w : Welcomes clients after old new) where
   many : length after ≡ length clients + length w.came
   many = ap length w.whole ∙ length-append clients w.came
 
-  at_one : away_after found w.came count ≡ away_after Connection w.came count
-  at_one = ap (λ (f : Found). away_after f w.came count) came
+  at_one : away_after after_door.found w.came count ≡ away_after Connection w.came count
+  at_one =
+      ap (λ (d : Door). away_after d.found w.came count) same_door
+      ∙ ap (λ (f : Found). away_after f w.came count) came
 
   pub away_counted : after ≡ clients → counted ≡ min (count + 1) (2 ^ 64 - 1)
-      → IsWelcomed found count counted clients after old new
+      → IsWelcomed after_door.found count counted clients after old new
   away_counted same is = record {
     welcomes = w;
     counted = is ∙ sym (at_one ∙ one_away clients w.came count (sym (ap length same) ∙ many));
   }
 
   pub client_counted : length after ≡ length clients + 1 → counted ≡ count
-      → IsWelcomed found count counted clients after old new
+      → IsWelcomed after_door.found count counted clients after old new
   client_counted same is = record {
     welcomes = w;
     counted = is ∙ sym (at_one ∙ one_client clients w.came count (sym same ∙ many));

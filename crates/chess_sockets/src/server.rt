@@ -185,7 +185,24 @@ impl<D: Device> Server<D> {
         true
     }
 
-    #[tactic(auto, using(crate::proofs::ServingLemmas::nobody_came, crate::proofs::ServingLemmas::away_counted, crate::proofs::ServingLemmas::client_counted))]
+    // Begins a session for a connection that came, or counts it as turned away.
+    fn greet(&mut self, stream: TcpStream, at: u64)
+        requires { self.old.door.found ≡ Found.Connection }
+        ensures welcomes { IsWelcomed self.new.door.found self.old.turned_away self.new.turned_away
+            self.old.clients.items self.new.clients.items
+            (state_of self.old.hub.sessions self.old.hub.store.table)
+            (state_of self.new.hub.sessions self.new.hub.store.table) }
+        ensures store { self.new.hub.store ≡ self.old.hub.store }
+        ensures refusals { self.new.hub.refusals ≡ self.old.hub.refusals }
+        ensures port { self.new.port ≡ self.old.port }
+        ensures silence { self.new.silence ≡ self.old.silence }
+        ensures waits { self.new.watch.calm_waits ≡ self.old.watch.calm_waits }
+    {
+        if !self.admit(stream, at) {
+            self.turned_away = self.turned_away.saturating_add(1);
+        }
+    }
+
     // Accepts at most one connection, and tells whether one came; after calm rests none, unless one may wait. One that came
     // and is no client is counted. What fails at it ends nothing, and is no turn's work, so that a rest comes before the next.
     fn welcome(&mut self, at: u64) -> bool
@@ -204,9 +221,7 @@ impl<D: Device> Server<D> {
         }
         match next_connection(&mut self.door) {
             Some(stream) => {
-                if !self.admit(stream, at) {
-                    self.turned_away = self.turned_away.saturating_add(1);
-                }
+                self.greet(stream, at);
                 true
             }
             None => false,
