@@ -193,3 +193,11 @@ welcomed_there {S = S} {H = H} h k to found n m counted kept clients asked begun
     subst (λ (x : H). IsWelcomed found m counted clients asked (to x) begun) same
     (subst (λ (l : List (Client S)). IsWelcomed found m counted l asked (to h) begun) are
     (subst (λ (x : ℕ). IsWelcomed found x counted kept asked (to h) begun) count w))
+
+-- the same try and the same count
+pub welcomed_on : {S : Type 0} (door next : Door) (n counted after : ℕ) (clients asked : List (Client S)) (s t : HubState) →
+    next ≡ door → after ≡ counted → IsWelcomed door.found n counted clients asked s t →
+    IsWelcomed next.found n after clients asked s t
+welcomed_on door next n counted after clients asked s t same is w =
+    subst (λ (d : Door). IsWelcomed d.found n after clients asked s t) (sym same)
+    (subst (λ (x : ℕ). IsWelcomed door.found n x clients asked s t) (sym is) w)
