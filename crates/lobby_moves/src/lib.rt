@@ -5,4 +5,4 @@ mod telling;
 #[cfg(test)]
 mod tests;
 
-pub use telling::moves_line;
+pub use telling::{moves_line, push_move};

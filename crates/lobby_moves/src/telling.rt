@@ -36,8 +36,8 @@ fn small_letter(kind: Kind) -> &'static str
     }
 }
 
-// Appends a space and the coordinate text of a move.
-fn push_move(text: &mut String, mv: &Move) -> Result<(), AllocError>
+/// Appends a space and the coordinate text of a move.
+pub fn push_move(text: &mut String, mv: &Move) -> Result<(), AllocError>
     ensures bytes { OnOk result (string_bytes text.new ≡ string_bytes text.old ++ (32 ∷ coordinate_of mv.now)) }
     ensures squares { OnOk result (IsBetweenSquares mv.now) }
 {

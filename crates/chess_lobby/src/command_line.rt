@@ -1,0 +1,242 @@
+//! The words of the command line, with the texts of their help.
+use clap::builder::ValueParser;
+use clap::error::ErrorKind;
+use clap::{Arg, ArgAction, ArgMatches, Command, Error};
+use std::alloc::{AllocError, Global};
+use std::net::{IpAddr, Ipv4Addr, SocketAddr};
+use std::rt::Env;
+use std::{env, io};
+
+const HELP_OF_SERVE: &str = "\
+It listens on an address of this machine, prints the page's address, and serves the page
+and its players over the game server that listens at --server. Where that is not there it
+waits for it, and browsers are told; it may be ended and started again at any time.
+
+A browser is served where it names a host that is taken: 127.0.0.1, localhost and the
+address, each with the port, and what --host names, with the port and without one.
+
+It goes on until it is ended: kill it, by any signal. Nothing is lost by that.
+
+The line is not encrypted. On an address other than 127.0.0.1 whoever is on the way reads
+along, links too: docs/LOBBY.md has how to put nginx in front.
+
+Limits: 1,000 browsers at a time. A further connection is closed at once.
+
+Exit status: 1 with what is wrong on standard error; 2 for words that the program does not
+know.
+
+Example:
+  chess-lobby serve --players club.players --server 127.0.0.1:5001 --port 8080
+prints
+  http://127.0.0.1:8080/";
+
+const HELP_OF_PLAYER: &str = "\
+It puts a player into the players' file, which it makes where there is none, and prints the
+player's personal link. Who opens it plays as this player: give it to nobody else. The file
+keeps no more than a sum (SHA-256) of the link's token.
+
+A player who is in the file already gets a new link, and the old one holds no more. A lobby
+that serves reads the file when it starts.
+
+Exit status: 0; 1 with what is wrong on standard error; 2 for words that the program does
+not know.
+
+Example:
+  chess-lobby player ann --full-name \"Ann Lee\" --players club.players
+prints
+  http://127.0.0.1:8080/#6f2d..";
+
+const PORT: u16 = 8_080;
+
+/// What the program is to do.
+#[derive(Drop)]
+pub enum Word<'a> {
+    /// To serve browsers.
+    Serve(Serving<'a>),
+    /// To put a player into a players' file.
+    Player(Adding<'a>),
+}
+
+/// What is served, and where.
+#[derive(Drop)]
+pub struct Serving<'a> {
+    pub players: &'a str,
+    pub server: SocketAddr,
+    pub address: SocketAddr,
+    pub page: &'a str,
+    /// The names of hosts that are taken besides.
+    pub hosts: Vec<&'a str>,
+}
+
+/// Who is put into a players' file, and the address of the page for the link.
+#[derive(Clone, Copy)]
+pub struct Adding<'a> {
+    pub name: &'a str,
+    pub full_name: &'a str,
+    pub is_arbiter: bool,
+    pub players: &'a str,
+    pub page: &'a str,
+}
+
+// An argument `--NAME VALUE`.
+fn option<'a>(
+    alloc: Global,
+    name: &'static str,
+    value: &'static str,
+    help: &'static str,
+) -> Arg<'a> {
+    Arg::new(alloc, name)
+        .long(name)
+        .value_name(value)
+        .help(help)
+}
+
+fn serve_command<'a>(alloc: Global) -> Result<Command<'a>, AllocError> {
+    let players = option(alloc, "players", "FILE", "The players' file").required(true);
+    let server = option(alloc, "server", "A:P", "Where the game server listens").required(true);
+    let port = option(
+        alloc,
+        "port",
+        "P",
+        "The port, 0 to 65535, 8080 without it; 0 leaves the choice to the system",
+    )
+    .value_parser(ValueParser::Unsigned(0, 65_535));
+    let address = option(
+        alloc,
+        "address",
+        "A",
+        "The address of this machine, 127.0.0.1 without it",
+    );
+    let page = option(
+        alloc,
+        "page",
+        "FOLDER",
+        "The folder of the page's files, page without it",
+    );
+    let host = option(
+        alloc,
+        "host",
+        "NAME",
+        "A name by which browsers reach it; it may be given several times",
+    )
+    .action(ArgAction::Append);
+    Command::new(alloc, "serve")
+        .about("Serves the page and its players, over a game server")
+        .after_help(HELP_OF_SERVE)
+        .arg(players)?
+        .arg(server)?
+        .arg(port)?
+        .arg(address)?
+        .arg(page)?
+        .arg(host)
+}
+
+fn player_command<'a>(alloc: Global) -> Result<Command<'a>, AllocError> {
+    let name = Arg::new(alloc, "name")
+        .value_name("NAME")
+        .help("1 to 16 of A-Z a-z 0-9 _")
+        .required(true);
+    let full_name = option(alloc, "full-name", "TEXT", "The name as it is shown").required(true);
+    let players = option(alloc, "players", "FILE", "The players' file").required(true);
+    let url = option(
+        alloc,
+        "url",
+        "URL",
+        "The page's address, http://127.0.0.1:8080/ without it",
+    );
+    let arbiter = Arg::new(alloc, "arbiter")
+        .long("arbiter")
+        .help("An arbiter, who may drop games")
+        .action(ArgAction::SetTrue);
+    Command::new(alloc, "player")
+        .about("Puts a player into the players' file, and prints the personal link")
+        .after_help(HELP_OF_PLAYER)
+        .arg(name)?
+        .arg(full_name)?
+        .arg(players)?
+        .arg(url)?
+        .arg(arbiter)
+}
+
+fn command_line<'a>(alloc: Global) -> Result<Command<'a>, AllocError> {
+    let serve = serve_command(alloc)?;
+    let player = player_command(alloc)?;
+    Command::new(alloc, "chess-lobby")
+        .about("The lobby of a chess club: players and spectators come by a browser.")
+        .version("1.0.0 (rattle-kit-13f)")
+        .subcommand_required(true)
+        .subcommand(serve)?
+        .subcommand(player)
+}
+
+/// Reads the words, the program's own name first. An `Err` is a usage fault, or a request for help.
+pub fn read_words<'a>(alloc: Global, words: &'a [String]) -> Result<Word<'a>, Error> {
+    let mut command = command_line(alloc)?;
+    let matches = command.try_get_matches_from_mut(words)?;
+    let word = match matches.subcommand() {
+        Some(("serve", values)) => serving_of(alloc, values)?.map(Word::Serve),
+        Some(("player", values)) => adding_of(values).map(Word::Player),
+        _ => None,
+    };
+    match word {
+        Some(word) => Ok(word),
+        None => Err(command.error(ErrorKind::InvalidValue, "an address is none")?),
+    }
+}
+
+// What `serve` asks for; none where an address is none.
+fn serving_of<'a>(
+    alloc: Global,
+    values: &ArgMatches<'a>,
+) -> Result<Option<Serving<'a>>, AllocError> {
+    let (Some(players), Some(server), Some(address)) = (
+        values.get_str("players"),
+        server_of(values),
+        address_of(values),
+    ) else {
+        return Ok(None);
+    };
+    Ok(Some(Serving {
+        players,
+        server,
+        address: SocketAddr::new(address, values.get_one("port").unwrap_or(PORT)),
+        page: values.get_str("page").unwrap_or("page"),
+        hosts: Vec::from_slice(alloc, values.get_strs("host").unwrap_or(&[]))?,
+    }))
+}
+
+fn server_of(values: &ArgMatches<'_>) -> Option<SocketAddr> {
+    values.get_str("server")?.parse().ok()
+}
+
+fn address_of(values: &ArgMatches<'_>) -> Option<IpAddr> {
+    match values.get_str("address") {
+        Some(address) => address.parse().ok(),
+        None => Some(IpAddr::V4(Ipv4Addr::LOCALHOST)),
+    }
+}
+
+fn adding_of<'a>(values: &ArgMatches<'a>) -> Option<Adding<'a>> {
+    Some(Adding {
+        name: values.get_str("name")?,
+        full_name: values.get_str("full-name")?,
+        is_arbiter: values.get_flag("arbiter"),
+        players: values.get_str("players")?,
+        page: values.get_str("url").unwrap_or("http://127.0.0.1:8080/"),
+    })
+}
+
+// The fault of words that are no text.
+fn no_text(alloc: Global) -> Result<Error, AllocError> {
+    command_line(alloc)?.error(ErrorKind::InvalidValue, "a word is not in UTF-8")
+}
+
+/// The words of the command line, the program's own name first. An `Err` is a usage fault where one of them is no text,
+/// and `OutOfMemory` where memory was refused.
+pub fn words_given<R: Env + AllocGlobal>(rt: &R) -> Result<Vec<String>, Error> {
+    match env::args(rt) {
+        Ok(args) => Ok(args.collect(rt.alloc())?),
+        Err(fault) if fault.kind() == io::ErrorKind::OutOfMemory => Err(Error::from(AllocError)),
+        Err(_) => Err(no_text(rt.alloc())?),
+    }
+}

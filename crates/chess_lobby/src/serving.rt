@@ -1,0 +1,108 @@
+//! The word that serves browsers.
+use crate::clock::Moments;
+use crate::command_line::Serving;
+use crate::page::{is_loopback, site_of};
+use anyhow::{Context, Result};
+use lobby_desk::Player;
+use lobby_loop::{Entrance, Lobby};
+use std::fs;
+use std::hash::RandomState;
+use std::net::{Net, SocketAddr};
+use std::random::RandomSource;
+use std::rt::{Clock, Files};
+
+// The players of a file.
+fn players_of<R: Files + AllocGlobal>(rt: &R, file: &str) -> Result<Vec<Player>> {
+    let text = fs::read(rt, file).context(format_args!("reading {file}"))?;
+    lobby_players::read(rt.alloc(), text.as_slice()).context(format_args!("{file}"))
+}
+
+/// What an operator was told on standard error.
+#[derive(Drop)]
+struct Telling<'a, R> {
+    rt: &'a R,
+    server: SocketAddr,
+    is_here: bool,
+    turned_away: u64,
+    next_at: u64,
+}
+
+// So many milliseconds lie at least between two lines about connections that were turned away.
+const REST: u64 = 1_000;
+
+impl<R: Eprint> Telling<'_, R> {
+    // That the server came or went.
+    fn tell_server(&mut self, is_here: bool) {
+        let server = self.server;
+        if is_here != self.is_here {
+            self.is_here = is_here;
+            let _ = if is_here {
+                eprintln!(self.rt; "the server at {server} is there")
+            } else {
+                eprintln!(self.rt; "the server at {server} is not there: it is waited for")
+            };
+        }
+    }
+
+    // That connections were turned away, so many since it began.
+    fn tell_turned_away(&mut self, count: u64, at: u64) {
+        if count != self.turned_away && at >= self.next_at {
+            self.turned_away = count;
+            self.next_at = at.saturating_add(REST);
+            let _ = eprintln!(self.rt; "so many connections were turned away by now: {count}");
+        }
+    }
+}
+
+// Takes turns until something is at fault.
+fn take_turns<R: Clock + Eprint + Net>(
+    rt: &R,
+    server: SocketAddr,
+    lobby: &mut Lobby,
+) -> Result<()> {
+    let mut moments = Moments::new(rt)?;
+    let mut telling = Telling {
+        rt,
+        server,
+        is_here: false,
+        turned_away: 0,
+        next_at: 0,
+    };
+    for _ in 0..u64::MAX {
+        let at = moments.next();
+        let turned = lobby.turn(rt, at)?;
+        telling.tell_server(lobby.has_server());
+        telling.tell_turned_away(lobby.turned_away(), at);
+        lobby.rest(turned)?;
+    }
+    Ok(())
+}
+
+/// Serves browsers, and first prints the page's address.
+pub fn serve<R>(rt: &R, serving: &Serving<'_>) -> Result<()>
+where
+    R: Files + AllocGlobal + Clone + Drop + Clock + Print + Eprint + Net + RandomSource,
+{
+    let players = players_of(rt, serving.players)?;
+    let entrance = Entrance::open(rt, serving.address).context(format_args!(
+        "listening on {}",
+        serving.address
+    ))?;
+    let address = entrance.address()?;
+    let site = site_of(rt, serving.page, address, serving.hosts.as_slice())?;
+    let keys = RandomState::new(rt)?;
+    let mut lobby = Lobby::new(
+        rt,
+        rt.alloc(),
+        keys,
+        entrance,
+        serving.server,
+        site,
+        players,
+    )?;
+    println!(rt; "http://{address}/")?;
+    if !is_loopback(address) {
+        eprintln!(rt; "the line is not encrypted: whoever is on the way reads along, links too")?;
+    }
+    take_turns(rt, serving.server, &mut lobby)
+}

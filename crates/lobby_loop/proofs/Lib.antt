@@ -1,0 +1,4 @@
+pub mod Each
+pub mod Making
+pub mod Telling
+pub mod Taking

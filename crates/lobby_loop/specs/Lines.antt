@@ -1,0 +1,38 @@
+-- Lines of the server, and bytes that go to it.
+use Rattle.std.specs.Prelude.{ℕ, ◌≡◌, List, [], ◌∷◌, ◌++◌, Option}
+use Rattle.std.specs.Io.KnownBytes.{Consumes, Appends}
+use Rattle.session_lines.specs.Lines.{HasNoFeed}
+use Rattle.lobby_desk.specs.Events.{Heard}
+use Rattle.lobby_desk.specs.Lines.{ended}
+use Rattle.lobby_loop.specs.declared.link.Link.{Link}
+use Rattle.lobby_loop.specs.declared.talk.Talk.{Talk}
+use Rattle.lobby_loop.specs.Talking.{Moves}
+
+-- the bytes of lines, the last line first
+abbrev pub bytes_of : List (List ℕ) → List ℕ
+bytes_of [] = []
+bytes_of (line ∷ before) = bytes_of before ++ ended line
+
+-- The desk is told these lines, one after the other, the last first.
+abbrev pub AreHeard : List (List ℕ) → Talk → Talk → Type 0
+AreHeard [] old new = new ≡ old
+AreHeard (line ∷ before) old new =
+    (between : Talk) × AreHeard before old between × HasNoFeed line × Moves between (Heard line) new
+
+-- Of these bytes the desk is told the lines in front, and these bytes stand behind them.
+pub record AreTaken (bytes rest : List ℕ) (old new : Talk) : Type 0 where
+  pub lines : List (List ℕ)
+  pub cut : bytes ≡ bytes_of lines ++ rest
+  pub heard : AreHeard lines old new
+
+-- Bytes came of the server, and the desk is told the lines in front of all that came and was not told.
+pub record TakesIn {S : Type 0} (remaining : S → Option (List ℕ)) (old new : Link S) (talk after : Talk) : Type 0 where
+  pub taken : List ℕ
+  pub consumed : Consumes (remaining old.stream) (remaining new.stream) taken
+  pub lines : AreTaken (old.held.items ++ taken) new.held.items talk after
+
+-- A front of what is to go was written, and the rest is to go.
+pub record HandsOn (before after : Option (List ℕ)) (old new : List ℕ) : Type 0 where
+  pub front : List ℕ
+  pub appended : Appends before after front
+  pub split : old ≡ front ++ new

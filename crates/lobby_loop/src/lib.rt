@@ -1,0 +1,16 @@
+//! The lobby's loop: browsers' sockets, the one connection to the server, and the desk between them.
+#![tactic(auto)]
+
+mod door;
+mod guest;
+mod hall;
+mod link;
+mod lobby;
+mod made;
+mod pieces;
+mod talk;
+#[cfg(test)]
+mod tests;
+
+pub use door::Entrance;
+pub use lobby::{Fault, Lobby, Turned};

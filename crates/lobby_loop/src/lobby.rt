@@ -1,0 +1,255 @@
+//! The sockets of a lobby, and what wakes it.
+ghost use Rattle.std.specs.Prelude.{◌≡◌};
+
+use crate::door::{Entrance, Gate, Welcomed, welcome};
+use crate::hall::Hall;
+use lobby_desk::Player;
+use lobby_web::Site;
+use mio::net::TcpStream;
+use mio::{Events, Interest, Poll, Token};
+use std::alloc::{AllocError, Global};
+use std::hash::RandomState;
+use std::io;
+use std::io::ErrorKind;
+use std::net::{Net, SocketAddr};
+use std::time::Duration;
+use thiserror::Error;
+
+/// Why a lobby ends.
+#[derive(Clone, Copy, Debug, PartialEq, Eq, Error)]
+pub enum Fault {
+    #[error("memory was refused")]
+    NoMemory,
+    #[error("the system does not tell any more which sockets are ready")]
+    NoEvents,
+}
+
+impl From<AllocError> for Fault {
+    fn from(_: AllocError) -> Fault {
+        Fault::NoMemory
+    }
+}
+
+/// What came of a turn.
+#[derive(Clone, Copy, Debug, PartialEq, Eq)]
+pub enum Turned {
+    /// There was something to do, and there may be more.
+    Worked,
+    /// There is nothing to do until a socket is ready, or so many milliseconds have passed.
+    Idle(Option<u64>),
+}
+
+// The names of sockets that are no browser's.
+const ENTRANCE: usize = 0;
+
+const SERVER: usize = 1;
+
+// How many sockets one wait tells of.
+const EVENTS: usize = 1_024;
+
+// So many milliseconds lie between two tries to reach the server, and after so many one is given up.
+const RETRY: u64 = 500;
+
+const PATIENCE: u64 = 5_000;
+
+// So many milliseconds the entrance is left alone where the system has nothing for another connection.
+const REST: u64 = 1_000;
+
+/// A lobby: its entrance, its browsers, and its connection to the server.
+#[derive(Drop)]
+pub struct Lobby {
+    entrance: Entrance,
+    // Whether a connection may wait there, and from when on it is asked.
+    has_more: bool,
+    ask_at: u64,
+    server: SocketAddr,
+    // A connection to the server that is being made.
+    call: Option<TcpStream>,
+    call_until: u64,
+    call_at: u64,
+    hall: Hall<TcpStream>,
+    poll: Poll,
+    events: Events,
+}
+
+// Whether a connection to the server is made; none where that is open.
+fn is_made(call: &TcpStream) -> Option<bool> {
+    match call.take_error() {
+        Ok(None) => {}
+        _ => return Some(false),
+    }
+    match call.peer_addr() {
+        Ok(_) => Some(true),
+        Err(error) if error.kind() == ErrorKind::NotConnected => None,
+        Err(_) => Some(false),
+    }
+}
+
+// The earlier of two moments, where there are any.
+fn earlier(a: Option<u64>, b: Option<u64>) -> Option<u64> {
+    match (a, b) {
+        (Some(a), Some(b)) => Some(a.min(b)),
+        (Some(a), None) => Some(a),
+        (None, b) => b,
+    }
+}
+
+impl Lobby {
+    /// A lobby whose server is at this address. The system's error where it cannot be watched.
+    pub fn new(
+        net: &impl Net,
+        alloc: Global,
+        keys: RandomState,
+        mut entrance: Entrance,
+        server: SocketAddr,
+        site: Site,
+        players: Vec<Player>,
+    ) -> io::Result<Lobby> {
+        let poll = Poll::new(net)?;
+        poll.registry().register(&mut entrance.listener, Token(ENTRANCE), Interest::READABLE)?;
+        Ok(Lobby {
+            entrance,
+            has_more: true,
+            ask_at: 0,
+            server,
+            call: None,
+            call_until: 0,
+            call_at: 0,
+            hall: Hall::new(alloc, keys, site, players),
+            poll,
+            events: Events::with_capacity(alloc, EVENTS)?,
+        })
+    }
+
+    /// Whether the server is there.
+    pub fn has_server(&self) -> bool {
+        self.hall.has_server()
+    }
+
+    /// How many connections were turned away since it began; at most 2^64 - 1.
+    pub fn turned_away(&self) -> u64 {
+        self.hall.turned_away()
+    }
+
+    // Accepts who waits at the entrance, and tells whether more may.
+    fn welcome(&mut self, at: u64) -> bool {
+        if !self.has_more || at < self.ask_at {
+            return false;
+        }
+        let mut gate = Gate {
+            listener: &self.entrance.listener,
+            registry: self.poll.registry(),
+        };
+        match welcome(&mut gate, &mut self.hall, at) {
+            Welcomed::All => {
+                self.has_more = false;
+                false
+            }
+            Welcomed::Some => true,
+            Welcomed::Refused => {
+                self.ask_at = at.saturating_add(REST);
+                false
+            }
+        }
+    }
+
+    // Begins a connection to the server.
+    fn begin_call(&mut self, net: &impl Net, at: u64) {
+        self.call_at = at.saturating_add(RETRY);
+        self.call_until = at.saturating_add(PATIENCE);
+        let Ok(mut call) = TcpStream::connect(net, self.server) else {
+            return;
+        };
+        let interest = Interest::READABLE | Interest::WRITABLE;
+        let watched = self
+            .poll
+            .registry()
+            .register(&mut call, Token(SERVER), interest);
+        if watched.is_ok() && call.set_nodelay(true).is_ok() {
+            self.call = Some(call);
+        }
+    }
+
+    // Goes on with the connection to the server that is being made.
+    fn end_call(&mut self, call: TcpStream, at: u64) -> Result<bool, AllocError> {
+        match is_made(&call) {
+            Some(true) => {
+                self.hall.server_came(call)?;
+                Ok(true)
+            }
+            None if at < self.call_until => {
+                self.call = Some(call);
+                Ok(false)
+            }
+            _ => Ok(false),
+        }
+    }
+
+    // Reaches for the server where it is not there, and tells whether it came.
+    fn reach_server(&mut self, net: &impl Net, at: u64) -> Result<bool, AllocError> {
+        if self.hall.has_server() {
+            return Ok(false);
+        }
+        if self.call.is_none() && at >= self.call_at {
+            self.begin_call(net, at);
+        }
+        match self.call.take() {
+            Some(call) => self.end_call(call, at),
+            None => Ok(false),
+        }
+    }
+
+    // The moment at which there is something to do, though no socket is ready.
+    fn next_moment(&self) -> Option<u64> {
+        let call = if self.hall.has_server() {
+            None
+        } else if self.call.is_some() {
+            Some(self.call_until)
+        } else {
+            Some(self.call_at)
+        };
+        let ask = if self.has_more {
+            Some(self.ask_at)
+        } else {
+            None
+        };
+        earlier(earlier(call, ask), self.hall.look_at())
+    }
+
+    /// One turn at a moment, in milliseconds of a clock that does not go back. It waits for nothing.
+    pub fn turn(&mut self, net: &impl Net, at: u64) -> Result<Turned, Fault> {
+        let has_reached = self.reach_server(net, at)?;
+        let has_welcomed = self.welcome(at);
+        let has_turned = self.hall.turn(at)?;
+        if has_reached | has_welcomed | has_turned {
+            return Ok(Turned::Worked);
+        }
+        Ok(Turned::Idle(self.next_moment().map(|moment| moment.saturating_sub(at))))
+    }
+
+    // The sockets that were ready are looked at in the next turn.
+    fn wake(&mut self) {
+        for event in self.events.iter() {
+            match usize::from(event.token()) {
+                ENTRANCE => self.has_more = true,
+                SERVER => self.hall.wake_server(),
+                key => self.hall.wake(key),
+            }
+        }
+    }
+
+    /// Waits until a socket is ready, or as long as the turn before says; not at all where that had something to do.
+    pub fn rest(&mut self, turned: Turned) -> Result<(), Fault> {
+        let most = match turned {
+            Turned::Worked => Some(Duration::ZERO),
+            Turned::Idle(most) => most.map(Duration::from_millis),
+        };
+        match self.poll.poll(&mut self.events, most) {
+            Ok(()) => {
+                self.wake();
+                Ok(())
+            }
+            Err(_) => Err(Fault::NoEvents),
+        }
+    }
+}

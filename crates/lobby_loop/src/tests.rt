@@ -1,0 +1,230 @@
+//! Browsers and a server over streams that give and take little, or fail.
+use crate::door::{Found, Listens, Welcomed, welcome};
+use crate::hall::Hall;
+use lobby_web::Site;
+use std::alloc::Global;
+use std::hash::RandomState;
+use std::io;
+use std::io::{Error, ErrorKind, Read, Write};
+use std::test::Fail;
+
+/// What a stream gives at a read.
+#[derive(Clone, Copy)]
+enum Gives {
+    Bytes(&'static [u8]),
+    Nothing,
+    End,
+    Reset,
+}
+
+/// A stream that gives these, one at a read, and the last one again and again, and takes so many bytes at a write.
+#[derive(Drop)]
+struct Peer {
+    gives: &'static [Gives],
+    reads: usize,
+    takes: usize,
+    is_full: bool,
+    written: Vec<u8>,
+}
+
+impl Read for Peer {
+    fn read(&mut self, buf: &mut [u8]) -> io::Result<usize> {
+        let last = self.gives.len().saturating_sub(1);
+        let place = if self.reads < last { self.reads } else { last };
+        self.reads = self.reads.saturating_add(1);
+        match self.gives.get(place) {
+            Some(Gives::Bytes(bytes)) if bytes.len() <= buf.len() => {
+                buf[..bytes.len()].copy_from_slice(bytes);
+                Ok(bytes.len())
+            }
+            Some(Gives::Nothing) => Err(Error::from(ErrorKind::WouldBlock)),
+            Some(Gives::Reset) => Err(Error::from(ErrorKind::ConnectionReset)),
+            _ => Ok(0),
+        }
+    }
+}
+
+impl Write for Peer {
+    fn write(&mut self, buf: &[u8]) -> io::Result<usize> {
+        self.is_full = !self.is_full;
+        if !self.is_full {
+            return Err(Error::from(ErrorKind::WouldBlock));
+        }
+        let count = if buf.len() < self.takes {
+            buf.len()
+        } else {
+            self.takes
+        };
+        self.written.extend_from_slice(&buf[..count])?;
+        Ok(count)
+    }
+
+    fn flush(&mut self) -> io::Result<()> {
+        Ok(())
+    }
+}
+
+const UPGRADE: &[u8] =
+    b"GET /ws HTTP/1.1\r\nHost: a:1\r\nOrigin: http://a:1\r\nConnection: Upgrade\r\nUpgrade: websocket\r\nSec-WebSocket-Version: 13\r\nSec-WebSocket-Key: AAAAAAAAAAAAAAAAAAAAAA==\r\n\r\n";
+
+fn stream_of(alloc: Global, gives: &'static [Gives], takes: usize) -> Peer {
+    Peer {
+        gives,
+        reads: 0,
+        takes,
+        is_full: false,
+        written: Vec::new(alloc),
+    }
+}
+
+// One browser that gives these, before a server that gives those, after so many turns with all sockets awake.
+fn played(
+    rt: &HostRuntime,
+    browser: &'static [Gives],
+    server: &'static [Gives],
+    takes: usize,
+) -> io::Result<Hall<Peer>> {
+    let alloc = rt.alloc();
+    let mut host = Vec::new(alloc);
+    host.extend_from_slice(b"a:1")?;
+    let mut hosts = Vec::new(alloc);
+    hosts.push(host)?;
+    let site = Site::new(hosts, Vec::new(alloc));
+    let mut hall = Hall::new(alloc, RandomState::new(rt)?, site, Vec::new(alloc));
+    hall.server_came(stream_of(alloc, server, 1_000))?;
+    hall.admit(stream_of(alloc, browser, takes), 2, 0);
+    for at in 0..90 {
+        hall.turn(at)?;
+        hall.wake(2);
+        hall.wake_server();
+    }
+    Ok(hall)
+}
+
+// Whether what was written to the browser ends with these bytes.
+fn is_told(hall: &Hall<Peer>, end: &[u8]) -> bool {
+    match hall.guest_stream() {
+        Some(peer) => peer.written.as_slice().ends_with(end),
+        None => false,
+    }
+}
+
+// Whether this was written to the server.
+fn is_asked(hall: &Hall<Peer>, lines: &[u8]) -> bool {
+    match hall.server_stream() {
+        Some(peer) => peer.written.as_slice() == lines,
+        None => false,
+    }
+}
+
+#[test]
+fn half_a_frame_waits_for_the_rest(rt: HostRuntime) -> Result<(), Fail> {
+    let browser = &[
+        Gives::Bytes(UPGRADE),
+        Gives::Nothing,
+        Gives::Bytes(b"\x81\x86\0\0\0\0sho"),
+        Gives::Nothing,
+        Gives::Bytes(b"w 7"),
+        Gives::Nothing,
+    ];
+    let server = &[
+        Gives::Nothing,
+        Gives::Nothing,
+        Gives::Nothing,
+        Gives::Nothing,
+        Gives::Nothing,
+        Gives::Nothing,
+        Gives::Nothing,
+        Gives::Nothing,
+        Gives::Bytes(b"no 3 "),
+        Gives::Bytes(b"NoGame\n"),
+        Gives::Nothing,
+    ];
+    let hall = played(&rt, browser, server, 7)?;
+    assert!(rt; is_asked(&hall, b"show 7\n"));
+    assert!(rt; is_told(&hall, b"\x81\x0cserver here\n\x81\x0cno 3 NoGame\n"));
+    Ok(())
+}
+
+#[test]
+fn a_flood_is_said_line_by_line(rt: HostRuntime) -> Result<(), Fail> {
+    let browser = &[
+        Gives::Bytes(UPGRADE),
+        Gives::Bytes(b"\x81\x85\0\0\0\0fen 1\x81\x85\0\0\0\0fen 2\x81\x85\0\0\0\0fen 3"),
+        Gives::Nothing,
+    ];
+    let hall = played(&rt, browser, &[Gives::Nothing], 1_000)?;
+    // (the first is not answered)
+    assert!(rt; is_asked(&hall, b"fen 1\n"));
+    assert!(rt; is_told(&hall, b"\x81\x0cserver here\n"));
+    Ok(())
+}
+
+#[test]
+fn who_is_reset_is_let_go(rt: HostRuntime) -> Result<(), Fail> {
+    let browser = &[Gives::Bytes(UPGRADE), Gives::Nothing, Gives::Reset];
+    let hall = played(&rt, browser, &[Gives::Nothing], 1_000)?;
+    assert!(rt; hall.len() == 0);
+    assert!(rt; hall.has_server());
+    Ok(())
+}
+
+#[test]
+fn an_answer_that_breaks_off_is_lost(rt: HostRuntime) -> Result<(), Fail> {
+    let browser = &[
+        Gives::Bytes(UPGRADE),
+        Gives::Bytes(b"\x81\x84\0\0\0\0list"),
+        Gives::Nothing,
+    ];
+    let server = &[
+        Gives::Nothing,
+        Gives::Nothing,
+        Gives::Nothing,
+        Gives::Nothing,
+        Gives::Nothing,
+        Gives::Bytes(b"ok list 2\n1 ann bob 0 *\n"),
+        Gives::End,
+    ];
+    let hall = played(&rt, browser, server, 1_000)?;
+    assert!(rt; !hall.has_server());
+    assert!(rt; is_told(&hall, b"\x81\x05lost\n\x81\x0cserver gone\n"));
+    Ok(())
+}
+
+/// An entrance that finds these, one at a try.
+#[derive(Drop)]
+struct Door {
+    finds: &'static [ErrorKind],
+    tries: usize,
+}
+
+impl Listens for Door {
+    type Stream = Peer;
+
+    fn accept_one(&mut self) -> Found<Peer> {
+        let found = self.finds.get(self.tries).copied();
+        self.tries = self.tries.saturating_add(1);
+        match found {
+            Some(ErrorKind::ConnectionAborted) => Found::Lost,
+            Some(ErrorKind::OutOfMemory) => Found::Refused,
+            _ => Found::Nobody,
+        }
+    }
+
+    fn watch(&mut self, _stream: &mut Peer, _key: usize) -> bool {
+        false
+    }
+}
+
+#[test]
+fn a_failed_accept_ends_the_turn_at_the_door(rt: HostRuntime) -> Result<(), Fail> {
+    let mut hall = played(&rt, &[Gives::End], &[Gives::Nothing], 1_000)?;
+    let mut door = Door {
+        finds: &[ErrorKind::ConnectionAborted, ErrorKind::OutOfMemory],
+        tries: 0,
+    };
+    assert!(rt; welcome(&mut door, &mut hall, 0) == Welcomed::Refused);
+    assert!(rt; door.tries == 2);
+    assert!(rt; welcome(&mut door, &mut hall, 0) == Welcomed::All);
+    Ok(())
+}

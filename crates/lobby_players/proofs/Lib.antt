@@ -1,0 +1,4 @@
+pub mod Words
+pub mod Told
+pub mod Entries
+pub mod Written

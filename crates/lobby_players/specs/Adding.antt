@@ -1,0 +1,65 @@
+-- A player is put into a players' file.
+use Rattle.std.specs.Prelude.{ℕ, ◌≡◌, Bool, true, false, not, List, [], ◌∷◌, ◌++◌, filter}
+use Rattle.std.specs.Str.{bytes_eq}
+use Rattle.std.specs.List.{list_any}
+use Rattle.hex.specs.Hex.{encode_lower}
+use Rattle.sha2.specs.Sha256.{sha256}
+use Rattle.rec_codec.specs.Name.{IsName}
+use Rattle.lobby_desk.specs.Words.{word_of}
+use Rattle.lobby_desk.specs.Lines.{bytes_of}
+use Rattle.lobby_players.specs.declared.adding.Addition.{Addition}
+use Rattle.lobby_players.specs.declared.faults.AddFault.{AddFault}
+use Rattle.lobby_players.specs.declared.faults.AddFault.TheVariants as faults
+use Rattle.lobby_players.specs.File.{Entry, lines_of, has_name, has_sum, IsFileOf, role_text, is_full_name}
+use Rattle.lobby_players.specs.Faults.{IsFault}
+
+-- the player who is put in, with the sum of this token
+abbrev pub entry_with : Addition → List ℕ → Entry
+entry_with who sum = record {
+  name = who.name.now;
+  is_arbiter = who.is_arbiter;
+  sum = sum;
+  full_name = who.full_name.now;
+}
+
+abbrev pub entry_added : Addition → List ℕ → Entry
+entry_added who token = entry_with who (sha256 (encode_lower token))
+
+abbrev pub line_of : Entry → List ℕ
+line_of e = e.name ++ (32 ∷ (role_text e.is_arbiter ++ (32 ∷ (encode_lower e.sum ++ (32 ∷ e.full_name)))))
+
+-- a line that is not this player's
+abbrev pub is_others : List ℕ → List ℕ → Bool
+is_others name line = not (bytes_eq (word_of line) name)
+
+-- the text's lines but that of this name, and the new line behind them
+abbrev pub added_text : List ℕ → Entry → List ℕ
+added_text text e = bytes_of (filter (is_others e.name) (lines_of text) ++ (line_of e ∷ []))
+
+abbrev pub is_other : List ℕ → Entry → Bool
+is_other name one = not (has_name name one)
+
+-- the players but the one of this name, and the new one behind them
+abbrev pub added_entries : List Entry → Entry → List Entry
+added_entries entries e = filter (is_other e.name) entries ++ (e ∷ [])
+
+-- The new text is the file with the player: all lines of others stand in it as they did, and it is a file of the players with
+-- this one.
+pub record IsAdded (text : List ℕ) (e : Entry) (new : List ℕ) : Type 0 where
+  pub entries : List Entry
+  pub before : IsFileOf text entries
+  pub written : new ≡ added_text text e
+  pub after : IsFileOf new (added_entries entries e)
+
+-- another player of the file has the token
+pub record IsTaken (text : List ℕ) (e : Entry) : Type 0 where
+  pub entries : List Entry
+  pub before : IsFileOf text entries
+  pub another : list_any (has_sum e.sum) (filter (is_other e.name) entries) ≡ true
+
+abbrev pub IsAddFault : List ℕ → Entry → AddFault → Type 0
+IsAddFault text e (faults.File fault) = IsFault text fault
+IsAddFault text e faults.BadName = ¬ IsName e.name
+IsAddFault text e faults.BadFullName = is_full_name e.full_name ≡ false
+IsAddFault text e faults.TokenTaken = IsTaken text e
+IsAddFault text e faults.NoMemory = Unit {0}

@@ -1,0 +1,104 @@
+-- The players' file.
+use Rattle.std.specs.Prelude.{ℕ, ◌≡◌, ◌≢◌, ◌-◌, Bool, true, false, ◌&&◌, ◌==◌, not, nat_le, List, [], ◌∷◌, ◌++◌, length, codes, Ok, EachIndex, slice_index, map, filter}
+use Rattle.std.specs.List.{AllZip, AllPairs, list_all}
+use Rattle.std.specs.Str.{bytes_eq}
+use Rattle.std.specs.String.{string_bytes}
+use Rattle.text_parts.specs.Parts.{parts_of}
+use Rattle.hex.specs.Hex.{decode_sized}
+use Rattle.rec_codec.specs.Name.{IsName}
+use Rattle.lobby_desk.specs.declared.players.Player.{Player}
+
+-- the lines of a text
+abbrev pub lines_of : List ℕ → List (List ℕ)
+lines_of text = parts_of 10 text
+
+-- a line that tells of no player: an empty one, or one that begins with `#`
+abbrev pub is_silent : List ℕ → Bool
+is_silent [] = true
+is_silent (b ∷ bs) = b == 35
+
+-- what a line tells
+pub record Entry : Type 0 where
+  pub name : List ℕ
+  pub is_arbiter : Bool
+  pub sum : List ℕ
+  pub full_name : List ℕ
+
+abbrev pub role_text : Bool → List ℕ
+role_text true = codes "arbiter"
+role_text false = codes "player"
+
+-- no control character
+abbrev pub is_shown_byte : ℕ → Bool
+is_shown_byte b = nat_le 32 b && not (b == 127)
+
+-- a full name: 1 to 100 bytes, no control character, and no space at either end
+abbrev pub is_full_name : List ℕ → Bool
+is_full_name text =
+    nat_le 1 (length text) && nat_le (length text) 100 && list_all is_shown_byte text
+    && not (slice_index text 0 == 32) && not (slice_index text (length text - 1) == 32)
+
+-- a text without a space
+abbrev pub IsWord : List ℕ → Type 0
+IsWord text = EachIndex text (λ i. slice_index text i ≢ 32)
+
+-- three words and what is left, with one space between each two
+pub record HasFields (line name role sum full_name : List ℕ) : Type 0 where
+  pub name_word : IsWord name
+  pub role_word : IsWord role
+  pub sum_word : IsWord sum
+  pub joined : line ≡ name ++ (32 ∷ (role ++ (32 ∷ (sum ++ (32 ∷ full_name)))))
+
+-- three words and what is left tell of a player
+pub record TellsOf (first second digits rest : List ℕ) (e : Entry) : Type 0 where
+  pub is_name : IsName e.name
+  pub name : first ≡ e.name
+  pub role : second ≡ role_text e.is_arbiter
+  pub sum : decode_sized digits 32 ≡ Ok e.sum
+  pub is_full_name : is_full_name e.full_name ≡ true
+  pub full_name : rest ≡ e.full_name
+
+-- The line of a player: the name, the role, the token's sum as 64 hex digits, and the full name, with one space between each
+-- two.
+pub record IsLineOf (line : List ℕ) (e : Entry) : Type 0 where
+  pub name : IsName e.name
+  pub digits : List ℕ
+  pub sum : decode_sized digits 32 ≡ Ok e.sum
+  pub full_name : is_full_name e.full_name ≡ true
+  pub spelled : line ≡ e.name ++ (32 ∷ (role_text e.is_arbiter ++ (32 ∷ (digits ++ (32 ∷ e.full_name)))))
+
+-- the player has this name, or this sum
+abbrev pub has_name : List ℕ → Entry → Bool
+has_name name one = bytes_eq one.name name
+
+abbrev pub has_sum : List ℕ → Entry → Bool
+has_sum sum one = bytes_eq one.sum sum
+
+-- two players with neither one name nor one token
+pub record AreTwo (a b : Entry) : Type 0 where
+  pub names : a.name ≢ b.name
+  pub sums : a.sum ≢ b.sum
+
+-- the lines that are not silent
+abbrev pub spoken : List (List ℕ) → List (List ℕ)
+spoken lines = filter (λ line. not (is_silent line)) lines
+
+-- the lines tell of these players, in this order, and of no other
+pub record AreLinesOf (lines : List (List ℕ)) (entries : List Entry) : Type 0 where
+  pub told : AllZip IsLineOf (spoken lines) entries
+  pub apart : AllPairs AreTwo entries
+
+-- the text is a file of these players
+abbrev pub IsFileOf : List ℕ → List Entry → Type 0
+IsFileOf text entries = AreLinesOf (lines_of text) entries
+
+abbrev pub entry_of : Player → Entry
+entry_of player = record {
+  name = player.name;
+  is_arbiter = player.is_arbiter;
+  sum = player.sum;
+  full_name = string_bytes player.full_name;
+}
+
+abbrev pub entries_of : List Player → List Entry
+entries_of players = map entry_of players

@@ -1,0 +1,67 @@
+//! What is wrong with a players' file, or with what is put into it.
+ghost use Rattle.std.specs.Prelude.{◌≡◌};
+ghost use Rattle.lobby_players.specs.declared.faults.PlayersFault.TheVariants as faults;
+ghost use Rattle.lobby_players.specs.declared.faults.AddFault.TheVariants as add_faults;
+
+use std::alloc::AllocError;
+use thiserror::Error;
+
+/// What is wrong with a line.
+#[derive(Clone, Copy, Debug, PartialEq, Eq, Error)]
+pub enum LineFault {
+    /// It is no player's: NAME ROLE SUM FULL NAME.
+    #[error("is not NAME ROLE SUM FULL NAME")]
+    NotPlayer,
+    /// A line before it has the name.
+    #[error("has a name that a line before it has")]
+    NameTwice,
+    /// A line before it has the token's sum.
+    #[error("has a token that a line before it has")]
+    TokenTwice,
+}
+
+/// Why a text is not read as a players' file. Lines are numbered from 1.
+#[derive(Clone, Copy, Debug, PartialEq, Eq, Error)]
+pub enum PlayersFault {
+    /// The first byte that is no UTF-8 stands in this line.
+    #[error("line {0} of the players' file is no UTF-8")]
+    NotText(usize),
+    /// The first line with a fault.
+    #[error("line {0} of the players' file {1}")]
+    Line(usize, LineFault),
+    #[error("memory was refused")]
+    NoMemory,
+}
+
+impl From<AllocError> for PlayersFault {
+    ghost from_gives = { λ _ fault. fault ≡ faults.NoMemory };
+
+    fn from(_fault: AllocError) -> PlayersFault {
+        PlayersFault::NoMemory
+    }
+}
+
+/// Why a player is not put into a players' file.
+#[derive(Clone, Copy, Debug, PartialEq, Eq, Error)]
+pub enum AddFault {
+    /// The file is none.
+    #[error("{0}")]
+    File(PlayersFault),
+    #[error("a name is 1 to 16 of the letters A to Z and a to z, the digits, and _")]
+    BadName,
+    #[error("a full name is 1 to 100 bytes, has no control character, and no space at either end")]
+    BadFullName,
+    /// Another player has the token.
+    #[error("another player has this token")]
+    TokenTaken,
+    #[error("memory was refused")]
+    NoMemory,
+}
+
+impl From<AllocError> for AddFault {
+    ghost from_gives = { λ _ fault. fault ≡ add_faults.NoMemory };
+
+    fn from(_fault: AllocError) -> AddFault {
+        AddFault::NoMemory
+    }
+}

@@ -1,0 +1,16 @@
+//! The players' file: a line a player, and the tokens that players show.
+#![tactic(auto)]
+
+mod adding;
+mod faults;
+mod line;
+mod lines;
+mod reading;
+#[cfg(test)]
+mod tests;
+mod token;
+
+pub use adding::{Addition, added};
+pub use faults::{AddFault, LineFault, PlayersFault};
+pub use reading::read;
+pub use token::{link_text, new_token, token_text};

@@ -1,0 +1,126 @@
+//! The line of a player.
+ghost use Rattle.std.specs.Prelude.{ℕ, Bool, List, ◌≡◌, ◌∷◌, ◌++◌, Ok, IfOk, IfSome, IfNone, length, codes};
+ghost use Rattle.std.specs.List.{list_all};
+ghost use Rattle.std.specs.String.{string_bytes};
+ghost use Rattle.hex.specs.Hex.{decode_sized, encode_lower};
+ghost use Rattle.lobby_players.specs.File as file;
+ghost use Rattle.lobby_players.specs.File.{Entry, HasFields, TellsOf, IsLineOf, entry_of};
+
+use hex::FromHex;
+use lobby_desk::Player;
+use rec_codec::Name;
+use std::alloc::{AllocError, Global};
+
+// The fields of a line.
+#[derive(Clone, Copy)]
+struct Fields<'a> {
+    name: &'a str,
+    role: &'a str,
+    sum: &'a str,
+    full_name: &'a str,
+}
+
+// The three words in front of a line, and what is left behind them.
+fn fields_of(line: &str) -> Option<Fields<'_>>
+    ensures some { IfSome result (λ f. HasFields line.entry.now f.name.now f.role.now f.sum.now f.full_name.now) }
+    ensures none { IfNone result ((a b c d : List ℕ) → ¬ HasFields line.entry.now a b c d) }
+{
+    let (name, rest) = line.split_once(' ')?;
+    let (role, rest) = rest.split_once(' ')?;
+    let (sum, full_name) = rest.split_once(' ')?;
+    Some(Fields {
+        name,
+        role,
+        sum,
+        full_name,
+    })
+}
+
+// Whether a role's word is an arbiter's.
+fn role_named(role: &str) -> Option<bool>
+    ensures some { IfSome result (λ is_arbiter. role.now ≡ file.role_text is_arbiter) }
+    ensures none { IfNone result ((is_arbiter : Bool) → ¬ (role.now ≡ file.role_text is_arbiter)) }
+{
+    if role == "player" {
+        Some(false)
+    } else if role == "arbiter" {
+        Some(true)
+    } else {
+        None
+    }
+}
+
+// The sum that 64 hex digits tell.
+fn sum_named(digits: &str) -> Option<[u8; 32]>
+    ensures some { IfSome result (λ sum. decode_sized digits.now 32 ≡ Ok sum) }
+    ensures none { IfNone result ((sum : List ℕ) → ¬ (decode_sized digits.now 32 ≡ Ok sum)) }
+{
+    <[u8; 32] as FromHex>::from_hex(digits).ok()
+}
+
+// Whether a byte is no control character.
+fn is_shown_byte(byte: u8) -> bool
+    ensures { result ≡ file.is_shown_byte byte }
+{
+    32 <= byte && byte != 127
+}
+
+// Whether no byte is a control character.
+fn are_shown_bytes(bytes: &[u8]) -> bool
+    ensures { result ≡ list_all file.is_shown_byte bytes.now }
+{
+    bytes.iter().all(|byte| is_shown_byte(*byte))
+}
+
+/// Whether a text is a full name: 1 to 100 bytes, without a control character, and without a space at either end.
+pub fn is_full_name(text: &str) -> bool
+    ensures { result ≡ file.is_full_name text.now }
+{
+    let bytes = text.as_bytes();
+    if bytes.is_empty() {
+        return false;
+    }
+    let last = bytes.len() - 1;
+    let short = bytes.len() <= 100;
+    let shown = are_shown_bytes(bytes);
+    short & shown & (bytes[0] != b' ') & (bytes[last] != b' ')
+}
+
+// The player that fields tell.
+fn player_told(alloc: Global, fields: &Fields<'_>) -> Result<Option<Player>, AllocError>
+    ensures some { IfOk result (λ found. IfSome found (λ player.
+        TellsOf fields.now.name.now fields.now.role.now fields.now.sum.now fields.now.full_name.now (entry_of player))) }
+    ensures none { IfOk result (λ found. IfNone found ((e : Entry) →
+        ¬ TellsOf fields.now.name.now fields.now.role.now fields.now.sum.now fields.now.full_name.now e)) }
+{
+    let Some(name) = Name::try_new(fields.name) else {
+        return Ok(None);
+    };
+    let Some(is_arbiter) = role_named(fields.role) else {
+        return Ok(None);
+    };
+    let Some(sum) = sum_named(fields.sum) else {
+        return Ok(None);
+    };
+    if !is_full_name(fields.full_name) {
+        return Ok(None);
+    }
+    let full_name = String::from_str(alloc, fields.full_name)?;
+    Ok(Some(Player {
+        name,
+        full_name,
+        sum,
+        is_arbiter,
+    }))
+}
+
+/// The player of a line, and `None` where it is no player's.
+pub fn player_of(alloc: Global, line: &str) -> Result<Option<Player>, AllocError>
+    ensures some { IfOk result (λ found. IfSome found (λ player. IsLineOf line.now (entry_of player))) }
+    ensures none { IfOk result (λ found. IfNone found ((e : Entry) → ¬ IsLineOf line.now e)) }
+{
+    match fields_of(line) {
+        None => Ok(None),
+        Some(fields) => player_told(alloc, &fields),
+    }
+}

@@ -1,0 +1,24 @@
+//! What stands in front of a line.
+ghost use Rattle.std.specs.Prelude.{◌≡◌};
+ghost use Rattle.lobby_players.specs.File.{is_silent};
+ghost use Rattle.lobby_desk.specs.Words.{word_of};
+
+/// Whether a line tells of no player.
+pub fn is_silent(line: &str) -> bool
+    ensures { result ≡ is_silent line.now }
+{
+    match line.as_bytes() {
+        [] => true,
+        [first, ..] => *first == b'#',
+    }
+}
+
+/// What stands before the first space of a line, or all of it.
+pub fn word(line: &str) -> &str
+    ensures { result.now ≡ word_of line.entry.now }
+{
+    match line.split_once(' ') {
+        Some((word, _)) => word,
+        None => line,
+    }
+}

@@ -1,0 +1,107 @@
+//! A players' file is read.
+ghost use Rattle.std.specs.Prelude.{◌≡◌, ◌==◌, suc, IfOk, IfErr};
+ghost use Rattle.lobby_players.specs.File.{IsFileOf, entry_of, entries_of};
+ghost use Rattle.lobby_players.specs.Faults.{IsFault, TakesLine};
+ghost use Rattle.lobby_players.specs.File as file;
+ghost use Rattle.std.specs.List.{list_any, count_by};
+
+use crate::faults::{LineFault, PlayersFault};
+use crate::line::player_of;
+use crate::lines::is_silent;
+use lobby_desk::Player;
+use rec_codec::Name;
+use std::alloc::{AllocError, Global};
+use text_parts::parts;
+
+// Whether a player has the name.
+fn has_name(players: &[Player], name: &Name) -> bool
+    ensures { result ≡ list_any (λ player. file.has_name name.now (entry_of player)) players.now }
+{
+    players
+        .iter()
+        .any(|player| player.name.as_str() == name.as_str())
+}
+
+// Whether a player has the sum.
+fn has_sum(players: &[Player], sum: &[u8; 32]) -> bool
+    ensures { result ≡ list_any (λ player. file.has_sum sum.now (entry_of player)) players.now }
+{
+    players
+        .iter()
+        .any(|player| player.sum.as_slice() == sum.as_slice())
+}
+
+// Puts the player of a line behind those before, where it has one. It answers the line's fault.
+fn take(
+    alloc: Global,
+    players: &mut Vec<Player>,
+    line: &str,
+) -> Result<Option<LineFault>, AllocError>
+    ensures { IfOk result (TakesLine (entries_of players.old.items) line.now (entries_of players.new.items)) }
+{
+    if is_silent(line) {
+        return Ok(None);
+    }
+    let Some(player) = player_of(alloc, line)? else {
+        return Ok(Some(LineFault::NotPlayer));
+    };
+    if has_name(players.as_slice(), &player.name) {
+        return Ok(Some(LineFault::NameTwice));
+    }
+    if has_sum(players.as_slice(), &player.sum) {
+        return Ok(Some(LineFault::TokenTwice));
+    }
+    players.push(player)?;
+    Ok(None)
+}
+
+// The number of the line in which the first byte stands that is no UTF-8.
+fn broken_line(valid: &[u8]) -> usize
+    ensures { result ≡ suc (count_by (λ b. b == 10) valid.now) }
+{
+    let mut number = 1;
+    for byte in valid {
+        if *byte == b'\n' {
+            number += 1;
+        }
+    }
+    number
+}
+
+/// The players of a text, in the order of its lines; else the first line's fault.
+pub fn read_text(alloc: Global, text: &str) -> Result<Vec<Player>, PlayersFault>
+    ensures players { IfOk result (λ players. IsFileOf text.now (entries_of players.items)) }
+    ensures fault { IfErr result (IsFault text.now) }
+{
+    let lines = parts(alloc, text, '\n')?;
+    let mut players = Vec::new(alloc);
+    for (i, line) in lines.as_slice().iter().enumerate() {
+        if let Some(fault) = take(alloc, &mut players, line)? {
+            return Err(PlayersFault::Line(i + 1, fault));
+        }
+    }
+    Ok(players)
+}
+
+/// A file's bytes as text; else the fault.
+pub fn text_of(bytes: &[u8]) -> Result<&str, PlayersFault>
+    ensures text { IfOk result (λ text. text.now ≡ bytes.entry.now) }
+    ensures fault { IfErr result (IsFault bytes.entry.now) }
+{
+    match str::from_utf8(bytes) {
+        Ok(text) => Ok(text),
+        Err(fault) => {
+            let valid = &bytes[..fault.valid_up_to()];
+            Err(PlayersFault::NotText(broken_line(valid)))
+        }
+    }
+}
+
+/// The players of a file, in the order of its lines; else the first fault.
+pub fn read(alloc: Global, text: &[u8]) -> Result<Vec<Player>, PlayersFault>
+    ensures players { IfOk result (λ players. IsFileOf text.now (entries_of players.items)) }
+    ensures fault { IfErr result (IsFault text.now) }
+{
+    let text = text_of(text)?;
+    read_text(alloc, text)
+}

@@ -1,0 +1,59 @@
+-- Lines and words, one after another.
+use Rattle.std.proofs.Common.{ℕ, zero, suc, ◌≡◌, ◌<◌, ◌≤◌, ◌+◌, Bool, true, false, cond, ◌||◌, List, [], ◌∷◌, ◌++◌, length, get_or, map, take, drop, refl, sym, ap, ◌∙◌, append_assoc, append-nil, arith, Option, Some, None}
+use Rattle.std.specs.Prelude.{find, is_some}
+use Rattle.std.specs.Borrow.{Bor}
+use Rattle.std.specs.List.{list_any, filter, flat_map}
+use Rattle.std.specs.Option.{option_map}
+use Rattle.std.proofs.lemmas.Bool.{false≢true}
+use Rattle.std.proofs.lemmas.List.{take_more, drop_more, take-append-drop, get_or-map, length-map}
+use Rattle.std.proofs.lemmas.List.Elements.{filter-append}
+use Rattle.lobby_positions.specs.Pgn.{words_of_line, words_of, is_word, is_fen_tag, fen_in, value_of}
+
+-- the items up to one more
+pub items_more : (items : List (Bor (List ℕ))) (i : ℕ) (d : Bor (List ℕ)) → i < length items →
+    take (i + 1) (map (λ (line : Bor (List ℕ)). line.now) items)
+    ≡ take i (map (λ (line : Bor (List ℕ)). line.now) items) ++ (get_or items i d).now ∷ []
+items_more items i d below =
+    let now = λ (line : Bor (List ℕ)). line.now in
+    let inside : i < length (map (λ (line : Bor (List ℕ)). line.now) items) = rw (length-map items now) below in
+    take_more (map now items) i d.now inside
+    ∙ ap (λ (line : List ℕ). take i (map now items) ++ line ∷ []) (get_or-map now items i d d.now below)
+
+cond_none : (b : Bool) (l : List ℕ) (o : Option (List ℕ)) → cond b (Some l) o ≡ None → (b ≡ false) × (o ≡ None)
+cond_none true l o h = absurd (false≢true (sym (ap is_some h)))
+cond_none false l o h = (refl, h)
+
+-- nothing was found so far
+pub none_more : (p : List ℕ → Bool) (lines : List (List ℕ)) (line : List ℕ) → find p lines ≡ None → p line ≡ false → find p (lines ++ line ∷ []) ≡ None
+none_more p [] line none here = rw here refl
+none_more p (l ∷ ls) line none here =
+    let both = cond_none (p l) l (find p ls) none in
+    rw both.0 (none_more p ls line both.1 here)
+
+-- the first that is found
+pub found_at : (p : List ℕ → Bool) (before : List (List ℕ)) (line : List ℕ) (after : List (List ℕ)) → find p before ≡ None → p line ≡ true →
+    find p (before ++ (line ∷ after)) ≡ Some line
+found_at p [] line after none here = rw here refl
+found_at p (l ∷ ls) line after none here =
+    let both = cond_none (p l) l (find p ls) none in
+    rw both.0 (found_at p ls line after both.1 here)
+
+pub items_around : (items : List (Bor (List ℕ))) (i : ℕ) (d : Bor (List ℕ)) → i < length items →
+    map (λ (line : Bor (List ℕ)). line.now) items ≡ take i (map (λ (line : Bor (List ℕ)). line.now) items)
+    ++ ((get_or items i d).now ∷ drop (i + 1) (map (λ (line : Bor (List ℕ)). line.now) items))
+items_around items i d below =
+    let now = λ (line : Bor (List ℕ)). line.now in
+    let lines = map now items in
+    let inside : i < length (map (λ (line : Bor (List ℕ)). line.now) items) = rw (length-map items now) below in
+    sym (take-append-drop i lines)
+    ∙ (ap (λ (ls : List (List ℕ)). take i lines ++ ls) (drop_more lines i d.now inside)
+    ∙ ap (λ (line : List ℕ). take i lines ++ (line ∷ drop (i + 1) lines)) (get_or-map now items i d d.now below))
+
+pub filter_more : (words : List (List ℕ)) (word : List ℕ) → filter is_word (words ++ word ∷ []) ≡ filter is_word words ++ filter is_word (word ∷ [])
+filter_more words word = filter-append is_word words (word ∷ [])
+
+pub flat_more : (lines : List (List ℕ)) (line : List ℕ) → words_of (lines ++ line ∷ []) ≡ words_of lines ++ words_of_line line
+flat_more [] line = append-nil (words_of_line line)
+flat_more (l ∷ ls) line =
+    ap (λ (ws : List (List ℕ)). words_of_line l ++ ws) (flat_more ls line)
+    ∙ sym (append_assoc (words_of_line l) (words_of ls) (words_of_line line))

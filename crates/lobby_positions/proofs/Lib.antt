@@ -1,0 +1,3 @@
+pub mod Played
+pub mod Spelled
+pub mod Found

@@ -1,0 +1,2 @@
+pub mod Pgn
+pub mod Answer

@@ -1,0 +1,84 @@
+-- What is read of a game's PGN: the start, and the words that name its moves.
+use Rattle.std.specs.Prelude.{ℕ, ◌≡◌, ◌<◌, Bool, true, false, ◌==◌, List, [], ◌∷◌, ◌++◌, codes, Option, Some, None, if◌then◌else◌, find, filter, flat_map, slice_index}
+use Rattle.std.specs.Char.{is_ascii_alphabetic}
+use Rattle.std.specs.List.{before_first, after_first}
+use Rattle.std.specs.Str.{bytes_eq}
+use Rattle.std.specs.Option.{option_map}
+use Rattle.text_parts.specs.Parts.{parts_of}
+use Rattle.chess_board.specs.declared.moves.Move.{Move}
+use Rattle.chess_board.specs.Position.{Position, IsValid}
+use Rattle.chess_board.specs.Initial.{initial}
+use Rattle.chess_board.specs.Next.{next}
+use Rattle.chess_board.specs.Legal.{IsLegal}
+use Rattle.chess_san.specs.Reading.{Names}
+use Rattle.chess_text.specs.Fen.{IsFenOf}
+
+abbrev pub lines_of : List ℕ → List (List ℕ)
+lines_of text = parts_of 10 text
+
+-- a tag's line begins with `[` (PGN Standard, section 8.1.1)
+abbrev pub is_tag : List ℕ → Bool
+is_tag line = slice_index line 0 == 91
+
+-- the line `[FEN ".."]`
+abbrev pub is_fen_tag : List ℕ → Bool
+is_fen_tag line = bytes_eq (before_first (λ b. b == 32) line) (codes "[FEN")
+
+-- its value, between the quotes
+abbrev pub value_of : List ℕ → List ℕ
+value_of line = before_first (λ b. b == 34) (after_first (λ b. b == 34) line)
+
+abbrev pub fen_in : List (List ℕ) → Option (List ℕ)
+fen_in lines = option_map value_of (find is_fen_tag lines)
+
+-- The game starts in the position of the first tag FEN, and where there is none in the initial one (PGN Standard, section
+-- 9.7).
+abbrev pub StartsAt : Option (List ℕ) → Position → Type 0
+StartsAt None p = p ≡ initial
+StartsAt (Some fen) p = IsValid p × IsFenOf fen p
+
+-- A move's word begins with a letter; the numbers of moves and the result do not (PGN Standard, section 8.2).
+abbrev pub is_word : List ℕ → Bool
+is_word token = is_ascii_alphabetic (slice_index token 0)
+
+abbrev pub words_of_line : List ℕ → List (List ℕ)
+words_of_line line = if is_tag line then [] else filter is_word (parts_of 32 line)
+
+-- the words that name moves, in their order: those of the lines that are no tags
+abbrev pub words_of : List (List ℕ) → List (List ℕ)
+words_of lines = flat_map words_of_line lines
+
+-- the word names this move, and both counters have room for it
+pub record Plays (p : Position) (word : List ℕ) (m : Move) : Type 0 where
+  pub named : Names p word m
+  pub halfmove : p.halfmove < 65535
+  pub fullmove : p.fullmove < 65535
+
+-- The words name these moves, one after another from a position on, each by the Laws.
+abbrev pub ArePlayed : Position → List (List ℕ) → List Move → Type 0
+ArePlayed p [] [] = Unit {0}
+ArePlayed p [] (m ∷ ms) = ⊥
+ArePlayed p (word ∷ words) [] = ⊥
+ArePlayed p (word ∷ words) (m ∷ ms) = Plays p word m × ArePlayed (next p m) words ms
+
+-- each of these moves is legal in its position, with room in both counters
+abbrev pub IsPlayable : Position → List Move → Type 0
+IsPlayable p [] = Unit {0}
+IsPlayable p (m ∷ ms) = IsLegal p m × (p.halfmove < 65535) × (p.fullmove < 65535) × IsPlayable (next p m) ms
+
+-- one word is played, as the only move that it names
+pub record PlaysWord (before : Position) (word : List ℕ) (done : List Move) (after : Position) (more : List Move) : Type 0 where
+  pub move : Move
+  pub plays : Plays before word move
+  pub one : (other : Move) → Plays before word other → other ≡ move
+  pub board : after ≡ next before move
+  pub put : more ≡ done ++ (move ∷ [])
+
+abbrev pub StepsBy : Bool → Position → List ℕ → List Move → Position → List Move → Type 0
+StepsBy true before word done after more = PlaysWord before word done after more
+StepsBy false before word done after more = (m : Move) → ¬ Plays before word m
+
+-- the text tells this game
+pub record TellsGame (text : List ℕ) (start : Position) (moves : List Move) : Type 0 where
+  pub begun : StartsAt (fen_in (lines_of text)) start
+  pub played : ArePlayed start (words_of (lines_of text)) moves

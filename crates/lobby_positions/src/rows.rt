@@ -1,0 +1,96 @@
+//! The rows of an answer.
+ghost use Rattle.std.specs.Prelude.{◌≡◌, ◌++◌, ◌∷◌, [], codes, decimal, IfOk, OnOk};
+ghost use Rattle.std.specs.String.{string_bytes};
+ghost use Rattle.chess_board.specs.Legal.{IsLegal};
+ghost use Rattle.chess_text.specs.Fen.{fen_of};
+ghost use Rattle.lobby_positions.specs.Pgn.{IsPlayable};
+ghost use Rattle.lobby_positions.specs.Answer.{row, PutsRow, PutsRows, IsLineAnswer};
+
+use chess_board::{Board, Move};
+use chess_san::write;
+use chess_text::fen_write;
+use itoa::Buffer;
+use lobby_moves::push_move;
+use std::alloc::{AllocError, Global};
+
+// Appends a number.
+fn push_number(text: &mut String, number: usize) -> Result<(), AllocError>
+    ensures { OnOk result (string_bytes text.new ≡ string_bytes text.old ++ decimal number) }
+{
+    let mut buffer = Buffer::new();
+    text.push_str(buffer.format(number))
+}
+
+// Appends a space, a position's FEN and a line feed.
+fn push_fen(text: &mut String, board: &Board) -> Result<(), AllocError>
+    ensures { OnOk result (string_bytes text.new ≡ string_bytes text.old ++ (32 ∷ (fen_of board.now ++ (10 ∷ [])))) }
+{
+    text.push(' ')?;
+    text.push_str(fen_write(board).as_str())?;
+    text.push('\n')
+}
+
+// Appends the row of the start.
+fn push_start(text: &mut String, start: &Board) -> Result<(), AllocError>
+    ensures { OnOk result (string_bytes text.new ≡ string_bytes text.old ++ row 0 (codes "-") (codes "-") start.now) }
+{
+    push_number(text, 0)?;
+    text.push_str(" - -")?;
+    push_fen(text, start)?;
+    Ok(())
+}
+
+// Appends the row of a move, which has this number.
+fn push_row(
+    text: &mut String,
+    number: usize,
+    before: &Board,
+    mv: &Move,
+    after: &Board,
+) -> Result<(), AllocError>
+    requires { IsLegal before.now mv.now }
+    ensures { OnOk result (PutsRow number before.now mv.now after.now (string_bytes text.old) (string_bytes text.new)) }
+{
+    push_number(text, number)?;
+    text.push(' ')?;
+    text.push_str(write(before, *mv).as_str())?;
+    push_move(text, mv)?;
+    push_fen(text, after)?;
+    Ok(())
+}
+
+// Appends the rows of moves from a start on.
+fn push_rows(text: &mut String, start: &Board, moves: &[Move]) -> Result<(), AllocError>
+    requires { IsPlayable start.now moves.now }
+    ensures { OnOk result (PutsRows start.now moves.now (string_bytes text.old) (string_bytes text.new)) }
+{
+    let mut board = *start;
+    let mut number = 0;
+    for mv in moves {
+        let after = board.apply(*mv);
+        number += 1;
+        push_row(text, number, &board, mv, &after)?;
+        board = after;
+    }
+    Ok(())
+}
+
+/// The answer to `line G` of a game of these moves.
+pub fn answer_text(
+    alloc: Global,
+    game: u32,
+    start: &Board,
+    moves: &[Move],
+) -> Result<String, AllocError>
+    requires { IsPlayable start.now moves.now }
+    ensures { IfOk result (λ text. IsLineAnswer game start.now moves.now (string_bytes text)) }
+{
+    let mut text = String::from_str(alloc, "ok line ")?;
+    push_number(&mut text, game as usize)?;
+    text.push(' ')?;
+    push_number(&mut text, moves.len())?;
+    text.push('\n')?;
+    push_start(&mut text, start)?;
+    push_rows(&mut text, start, moves)?;
+    Ok(text)
+}
