@@ -4,7 +4,8 @@ ghost use Rattle.server_playing.specs.Faults.{IsDrillFault};
 
 use chess_lives::{Tally, drill};
 use chess_store::StoreFault;
-use server_work::{Fault, Teller};
+use server_telling::Teller;
+use server_work::{Fault, printed, told};
 use std::alloc::Global;
 
 // Plays the drill, and prints what came of it.
@@ -22,7 +23,7 @@ fn print_drill<R: Print + Eprint>(
         Ok(tally) => tally,
         Err(fault) => return Err(Fault::Store(fault)),
     };
-    teller.printed(println!(rt; "drill {cases} none {none} all {all}"))
+    printed(teller, println!(rt; "drill {cases} none {none} all {all}"))
 }
 
 /// Plays the drill, and prints what came of it as `drill C none N all A`: the cases, those in which no move of the batch
@@ -32,5 +33,5 @@ pub fn tell_drill<R: Print + Eprint>(rt: &R, alloc: Global) -> Result<(), Fault>
 {
     let teller = Teller::new(rt, false);
     let drilled = print_drill(rt, alloc, &teller);
-    teller.told("a device in memory", drilled)
+    told(&teller, "a device in memory", drilled)
 }

@@ -5,9 +5,8 @@ ghost use Rattle.server_playing.specs.Faults.{IsRunFault, of_run};
 use crate::clock::SteadyClock;
 use chess_run::{LineSource, Moments, ReaderSource, RunFault, run};
 use sector_dev::Device;
-use server_work::{
-    Fault, INPUT, Teller, TellingDevice, TellingReader, TellingWriter, open_file, open_on,
-};
+use server_telling::{INPUT, Teller, TellingDevice, TellingReader, TellingWriter};
+use server_work::{Fault, open_file, open_on, told};
 use std::alloc::Global;
 use std::fs::File;
 use std::io::{Read, Write};
@@ -85,5 +84,5 @@ where
     let mut source = ReaderSource::new(TellingReader::new(input, &teller));
     let mut writer = TellingWriter::new(output, &teller);
     let played = play_journal(rt, alloc, &teller, journal, &mut source, &mut writer);
-    teller.told(at_fault(journal, played), played)
+    told(&teller, at_fault(journal, played), played)
 }

@@ -8,8 +8,9 @@ use chess_run::Moments;
 use chess_sockets::{Server, Turned};
 use chess_store::Store;
 use sector_dev::Device;
+use server_telling::{Teller, TellingDevice, TurnedAway};
 use server_words::Serving;
-use server_work::{Fault, Found, Teller, TellingDevice, TurnedAway, open_file, open_on};
+use server_work::{Fault, found_in, open_file, open_on, printed, told};
 use std::alloc::Global;
 use std::fs::File;
 use std::net::{Net, TcpListener, TcpStream};
@@ -53,7 +54,7 @@ where
     R: Clock + Print + Eprint + Net<Listener = TcpListener, Stream = TcpStream>,
     ensures { IfErr result IsServeFault }
 {
-    let found = Found::in_store(&store, took);
+    let found = found_in(&store, took);
     let hub = Hub::new(alloc, store);
     let mut server = match Server::bind(rt, alloc, serving.port, serving.silence, hub) {
         Ok(server) => server,
@@ -64,7 +65,7 @@ where
     };
     let port = server.port();
     // At once, since who started it waits for it.
-    teller.printed(println!(rt; "port {port}"))?;
+    printed(teller, println!(rt; "port {port}"))?;
     let mut clock = SteadyClock::new(rt);
     if let Some(found) = found {
         teller.serves(port, found, clock.next());
@@ -125,5 +126,5 @@ where
 {
     let teller = Teller::new(rt, serving.is_quiet);
     let served = serve_journal(rt, alloc, &teller, serving);
-    teller.told(serving.journal, served)
+    told(&teller, serving.journal, served)
 }

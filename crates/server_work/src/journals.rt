@@ -6,12 +6,12 @@ ghost use Rattle.sector_dev.specs.Device.{IsUnchanged};
 ghost use Rattle.server_work.specs.Blank.{IsBlankAt};
 ghost use Rattle.server_work.specs.Faults.{IsBlankFault, IsFormatFault, IsOpenFault, IsWidenFault, MayWiden};
 
-use crate::device::TellingDevice;
 use crate::ends::Fault;
-use crate::telling::Teller;
+use crate::telling::{printed, told};
 use chess_store::{Store, StoreFault};
 use rec_codec::{Limits, need};
 use sector_dev::{Device, FileDevice, Got};
+use server_telling::{Teller, TellingDevice};
 use server_words::{Formatting, Tables};
 use std::alloc::Global;
 use std::fs::{File, FileType};
@@ -238,7 +238,7 @@ fn make_journal<R: Files<File = File> + Print + Eprint>(
     let file = make_file(rt, teller, tables.journal, sectors)?;
     let device = TellingDevice::new(file, teller, tables.journal);
     format_on(alloc, device, tables.limits, formatting.is_forced)?;
-    teller.printed(println!(rt; "ok format {sectors}"))
+    printed(teller, println!(rt; "ok format {sectors}"))
 }
 
 /// Makes a file a journal of the empty table within the limits, and prints `ok format S`, S being their need. `Exists`
@@ -253,7 +253,7 @@ pub fn format<R: Files<File = File> + Print + Eprint>(
 {
     let teller = Teller::new(rt, false);
     let made = make_journal(rt, alloc, &teller, formatting);
-    teller.told(formatting.tables.journal, made)
+    told(&teller, formatting.tables.journal, made)
 }
 
 // Whether no limit is below the present one.
@@ -324,7 +324,7 @@ fn widen_journal<R: Files<File = File> + Print + Eprint>(
     let file = make_file(rt, teller, tables.journal, sectors)?;
     let device = TellingDevice::new(file, teller, tables.journal);
     widen_on(alloc, device, tables.limits)?;
-    teller.printed(println!(rt; "ok widen {sectors}"))
+    printed(teller, println!(rt; "ok widen {sectors}"))
 }
 
 /// Lengthens a journal's file to the need of the limits, raises its table's limits to them, and prints `ok widen S`, S
@@ -338,5 +338,5 @@ pub fn widen<R: Files<File = File> + Print + Eprint>(
 {
     let teller = Teller::new(rt, false);
     let widened = widen_journal(rt, alloc, &teller, tables);
-    teller.told(tables.journal, widened)
+    told(&teller, tables.journal, widened)
 }

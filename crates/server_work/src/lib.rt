@@ -2,20 +2,16 @@
 #![tactic(auto)]
 
 mod causes;
-mod device;
 mod ends;
 mod journals;
 mod memory;
 mod reading;
-mod streams;
 mod telling;
 #[cfg(test)]
 mod tests;
 
-pub use device::TellingDevice;
 pub use ends::{End, Fault, end_of_words, end_of_work, name, status};
 pub use journals::{format, open_file, open_on, widen};
 pub use memory::play_board;
 pub use reading::{copy_journal, show_games};
-pub use streams::{INPUT, TellingReader, TellingWriter};
-pub use telling::{Found, Teller, TurnedAway};
+pub use telling::{found_in, printed, told};

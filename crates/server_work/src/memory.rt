@@ -3,9 +3,8 @@ ghost use Rattle.std.specs.Prelude.{IfErr};
 ghost use Rattle.server_work.specs.Faults.{IsBoardFault};
 
 use crate::ends::{Fault, fault_of_board};
-use crate::streams::{TellingReader, TellingWriter};
-use crate::telling::Teller;
 use board_session::{ReaderSource, board};
+use server_telling::{Teller, TellingReader, TellingWriter};
 use std::io::{Read, Write};
 
 /// Answers the lines of a reader on a writer, over one board.

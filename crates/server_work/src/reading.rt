@@ -3,11 +3,9 @@ ghost use Rattle.std.specs.Prelude.{◌≡◌, length, IfErr, OnOk};
 ghost use Rattle.server_work.specs.Faults.{IsCopyFault, IsReadingFault, IsShowFault};
 ghost use Rattle.server_work.specs.Games.{WritesGame, WritesGames};
 
-use crate::device::TellingDevice;
 use crate::ends::{Fault, fault_of_copy};
 use crate::journals::{make_file, may_overwrite, open_on, stays_blank};
-use crate::streams::TellingWriter;
-use crate::telling::Teller;
+use crate::telling::{printed, told};
 use chess_answer::pgn_reply;
 use chess_game::Game;
 use chess_store::StoreFault;
@@ -15,6 +13,7 @@ use chess_table::Table;
 use journal_copy::{Copied, FileSource, copy, header_in_force};
 use rec_codec::Header;
 use sector_dev::{CrashDevice, Device, MemoryDevice};
+use server_telling::{Teller, TellingDevice, TellingWriter};
 use server_words::Copying;
 use std::alloc::Global;
 use std::fs::File;
@@ -106,7 +105,7 @@ fn make_copy<R: Files<File = File> + Print + Eprint>(
     let copied = copy_into(rt, alloc, teller, copying.copy, &mut source);
     teller.failed(copying.journal, "a read failed", source.last_error());
     let sectors = copied?;
-    teller.printed(println!(rt; "ok copy {sectors}"))
+    printed(teller, println!(rt; "ok copy {sectors}"))
 }
 
 // The file that is at fault where no copy was made.
@@ -129,7 +128,7 @@ pub fn copy_journal<R: Files<File = File> + Print + Eprint>(
 {
     let teller = Teller::new(rt, false);
     let copied = make_copy(rt, alloc, &teller, copying);
-    teller.told(at_fault(copying, copied), copied)
+    told(&teller, at_fault(copying, copied), copied)
 }
 
 // A copy of a journal in memory.
@@ -210,5 +209,5 @@ pub fn show_games<R: Files<File = File> + Eprint, W: Write>(
     let teller = Teller::new(rt, false);
     let mut output = TellingWriter::new(output, &teller);
     let shown = write_journal(rt, alloc, &teller, journal, &mut output);
-    teller.told(journal, shown)
+    told(&teller, journal, shown)
 }

@@ -2,4 +2,3 @@ mod causes;
 mod ends;
 mod journals;
 mod reading;
-mod telling;

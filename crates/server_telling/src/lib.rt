@@ -1,0 +1,12 @@
+//! What an operator is told on standard error: of a journal's file, of standard input and output, of a port.
+#![tactic(auto)]
+
+mod device;
+mod streams;
+mod telling;
+#[cfg(test)]
+mod tests;
+
+pub use device::TellingDevice;
+pub use streams::{INPUT, OUTPUT, TellingReader, TellingWriter};
+pub use telling::{Found, Teller, TurnedAway};
