@@ -11,7 +11,7 @@ use crate::promotions::{Moves, push_choices};
 use crate::safe::safe_targets;
 use crate::squares::men_of;
 use arrayvec::ArrayVec;
-use chess_bits::{Kind, Square};
+use chess_bits::{Bits, Kind, Square};
 use chess_board::{Board, Move};
 
 // Appends the legal moves of a man of the side to move.
@@ -81,8 +81,8 @@ pub fn has_legal(board: &Board) -> bool
     ensures { IsTrue result ↔ HasLegal board.now }
 {
     let masks = masks_of(board);
-    // Most checks are answered by the king, and no more is asked where a move of it is found.
-    if has_legal_from(board, &masks, masks.king) {
+    // Most checks are answered by the king; without one, most often another man has a move.
+    if masks.ends != Bits::from_word(u64::MAX) && has_legal_from(board, &masks, masks.king) {
         return true;
     }
     for from in men_of(board, board.side()).iter() {

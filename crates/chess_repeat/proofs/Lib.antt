@@ -1,6 +1,7 @@
 pub mod Takers
 pub mod LiveTargets
 pub mod KeyBytes
+pub mod KeyChanges
 pub mod SameKeys
 pub mod Counting
 pub mod QuietRuns

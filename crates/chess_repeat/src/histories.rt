@@ -5,27 +5,32 @@ ghost use Rattle.chess_repeat.specs.SamePosition.{IsTimes};
 ghost use Rattle.chess_repeat.specs.QuietRun.{quiet_run};
 ghost use Rattle.chess_repeat.specs.History.{count_in, IsHistoryOf};
 
-use crate::keys::key;
+use crate::keys::{key, key_from};
 use chess_board::Board;
 use indexmap::IndexMap;
 use std::alloc::{AllocError, Global};
 use std::marker::Model;
 
-/// The positions of a game in their order: of each its halfmove clock, and how often its key stood.
+/// The positions of a game in their order: of each its halfmove clock, and how often its key stood; and the last of them
+/// with its key, from which that of the next is made.
 #[derive(Drop)]
 pub struct History {
     clocks: Vec<u16>,
     counts: IndexMap<[u8; 34], u32>,
+    last: Board,
+    key: [u8; 34],
 }
 
 impl Model for History {
+    ghost use Rattle.std.specs.Prelude.{◌≡◌};
+    ghost use Rattle.chess_repeat.specs.Key.{key_of};
     ghost use Rattle.chess_repeat.specs.History.{HistoryState, IsBounded};
 
     ghost Value = { HistoryState };
 
     ghost view = { λ h. record { clocks = h.clocks.items; counts = h.counts.entries } };
 
-    ghost invariant = { λ h. IsBounded h.clocks.items h.counts.entries };
+    ghost invariant = { λ h. IsBounded h.clocks.items h.counts.entries × (h.key ≡ key_of h.last) };
 }
 
 impl History {
@@ -37,8 +42,14 @@ impl History {
         let mut clocks = Vec::new(alloc);
         clocks.push(board.halfmove())?;
         let mut counts = IndexMap::new(alloc);
-        counts.insert(key(board), 1)?;
-        Ok(History { clocks, counts })
+        let key = key(board);
+        counts.insert(key, 1)?;
+        Ok(History {
+            clocks,
+            counts,
+            last: *board,
+            key,
+        })
     }
 
     /// How many positions there are, 1 to 65,535.
@@ -61,11 +72,13 @@ impl History {
         ensures refused { OnErr result (self.new ≡ self.old) }
     {
         let _valid = board.rights();
-        let key = key(board);
+        let key = key_from(&self.last, &self.key, board);
         let count = self.count(&key);
         self.clocks.reserve(1)?;
         self.counts.insert(key, count + 1)?;
         self.clocks.push(board.halfmove()).unwrap();
+        self.last = *board;
+        self.key = key;
         Ok(count + 1)
     }
 
@@ -76,7 +89,7 @@ impl History {
         ensures times { (list : List Position) → IsHistoryOf self.now list → IsTimes board.now list result }
     {
         let _valid = board.rights();
-        self.count(&key(board))
+        self.count(&key_from(&self.last, &self.key, board))
     }
 
     /// The quiet run: the halfmove clock of the last position, 0 to 65,535 (FIDE articles 9.3 and 9.6.2).

@@ -13,7 +13,10 @@ use Rattle.chess_board.specs.Position.{Position, Placement, Rights, HasCounters,
 use Rattle.chess_board.specs.Next.{next, placement_after, rights_after, target_after}
 use Rattle.chess_board.specs.Legal.{Advances, AdvancesTwo, PawnTakes, TakesEnPassant, IsPieceMove, Castles, IsMoveOf, IsLegal}
 use Rattle.chess_moves.specs.Moves.{HasLegal}
-use Rattle.chess_san.specs.Boards.{DiffersInCounters}
+use Rattle.chess_notation.specs.declared.telling.Threat.{Threat}
+use Rattle.chess_notation.specs.declared.telling.Threat.TheVariants as threat
+use Rattle.chess_notation.specs.San.{Threatens}
+use Rattle.chess_san.specs.Boards.{DiffersInCounters, StandsUnder}
 
 -- a position with other counters
 abbrev pub recounted : Position → ℕ → ℕ → Position
@@ -140,3 +143,18 @@ pub IsValid-like : (a b : Position) → DiffersInCounters a b → IsValid a → 
 IsValid-like a b d valid counters =
     let Valid' : Position → Type 0 = IsValid in
     subst Valid' (sym (recounted-is a b d)) (IsValid-recounted a b.halfmove b.fullmove valid counters)
+
+-- what a move threatens is what its opponent stands under after it
+pub threatens-after : (p : Position) (m : Move) (q : Position) (t : Threat) → DiffersInCounters (next p m) q →
+    StandsUnder q t → Threatens p m t
+threatens-after p m q threat.Nothing d on = λ check. on ((check-like (next p m) q d).0 check)
+threatens-after p m q threat.Check d on =
+    ((check-like (next p m) q d).1 on.0, (HasLegal-like (next p m) q d).1 on.1)
+threatens-after p m q threat.Mate d on =
+    ((check-like (next p m) q d).1 on.0, λ has. on.1 ((HasLegal-like (next p m) q d).0 has))
+
+pub threatens-made : (p : Position) (m : Move) (q : Position) (t : Threat) → q ≡ next p m → StandsUnder q t →
+    Threatens p m t
+threatens-made p m q t made on =
+    threatens-after p m (next p m) t (record { placement = refl; side = refl; rights = refl; target = refl })
+    (subst (λ (x : Position). StandsUnder x t) made on)

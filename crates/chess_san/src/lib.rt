@@ -9,7 +9,7 @@ mod writing;
 
 pub use reading::read;
 pub use threat::rewound;
-pub use writing::write;
+pub use writing::{write, write_made};
 
 #[cfg(test)]
 mod tests;

@@ -2,7 +2,7 @@ ghost use Rattle.std.specs.Prelude.{◌≡◌};
 ghost use Rattle.chess_board.specs.Next.{next};
 ghost use Rattle.chess_board.specs.Legal.{IsLegal};
 ghost use Rattle.chess_notation.specs.San.{Threatens};
-ghost use Rattle.chess_san.specs.Boards.{DiffersInCounters, rewound};
+ghost use Rattle.chess_san.specs.Boards.{DiffersInCounters, StandsUnder, rewound};
 
 use chess_bits::Square;
 use chess_board::{Board, Move, Parts};
@@ -43,17 +43,23 @@ fn after(board: &Board, mv: Move) -> Board
     }
 }
 
+/// What the side to move stands under: check, mate, or neither.
+pub fn threat_on(board: &Board) -> Threat
+    ensures { StandsUnder board.now result }
+{
+    if !board.in_check() {
+        Threat::Nothing
+    } else if has_legal(board) {
+        Threat::Check
+    } else {
+        Threat::Mate
+    }
+}
+
 /// What a legal move threatens.
 pub fn threat_of(board: &Board, mv: Move) -> Threat
     requires { IsLegal board.now mv }
     ensures { Threatens board.now mv result }
 {
-    let after = after(board, mv);
-    if !after.in_check() {
-        Threat::Nothing
-    } else if has_legal(&after) {
-        Threat::Check
-    } else {
-        Threat::Mate
-    }
+    threat_on(&after(board, mv))
 }

@@ -10,7 +10,7 @@ ghost use Rattle.chess_notation.specs.Name.{file_letter, rank_digit, square_name
 ghost use Rattle.chess_notation.specs.San as san;
 
 use crate::origin::origin_of;
-use crate::threat::threat_of;
+use crate::threat::{threat_of, threat_on};
 use arrayvec::ArrayString;
 use chess_bits::{Kind, Square};
 use chess_board::{Board, Move, Wing, castled_king, king_home};
@@ -278,5 +278,16 @@ pub fn write(board: &Board, mv: Move) -> ArrayString<8>
 {
     let mut text = body(board, &mv);
     push_threat(&mut text, threat_of(board, mv));
+    text
+}
+
+/// `write`, where the board after the move is at hand.
+pub fn write_made(board: &Board, mv: Move, made: &Board) -> ArrayString<8>
+    requires legal { IsLegal board.now mv }
+    requires made { made.now ≡ after.next board.now mv }
+    ensures { san.IsSan board.now mv result.bytes }
+{
+    let mut text = body(board, &mv);
+    push_threat(&mut text, threat_on(made));
     text
 }
