@@ -24,7 +24,7 @@ pub struct Masks {
     pub diagonal: Bits,
     /// The squares on which a man ends every check, all squares where there is none.
     pub ends: Bits,
-    /// The men that stand alone between the king and a slider: the own ones are pinned.
+    /// Men that stand alone between the king and a slider. No own man outside is pinned; of one in it `line_of` is asked.
     pub pinned: Bits,
 }
 
