@@ -137,8 +137,8 @@ up_one from n m to (inr (c, is, le, e)) = omega arith
 
 up_all : (from : ℕ) (ns ms : List (Option ℕ)) (to : ℕ) → AreNumbered from ns ms to → from ≤ to
 up_all from [] [] to e = omega arith
-up_all from [] (m ∷ ms) to no = absurd no
-up_all from (n ∷ ns) [] to no = absurd no
+up_all from [] (m ∷ ms) to none_such = absurd none_such
+up_all from (n ∷ ns) [] to none_such = absurd none_such
 up_all from (n ∷ ns) (m ∷ ms) to (mid, one, all) =
     let a : from ≤ mid = up_one from n m mid one in
     let b : mid ≤ to = up_all mid ns ms to all in
@@ -152,8 +152,8 @@ other_kept c from n m to lt other (inr (d, is, le, e)) =
 
 none_kept : (c from : ℕ) (ns ms : List (Option ℕ)) (to : ℕ) → c < from → HasNone c ns → AreNumbered from ns ms to → HasNone c ms
 none_kept c from [] [] to lt none e = tt
-none_kept c from [] (m ∷ ms) to lt none no = absurd no
-none_kept c from (n ∷ ns) [] to lt none no = absurd no
+none_kept c from [] (m ∷ ms) to lt none none_such = absurd none_such
+none_kept c from (n ∷ ns) [] to lt none none_such = absurd none_such
 none_kept c from (n ∷ ns) (m ∷ ms) to lt (other, others) (mid, one, all) =
     let a : from ≤ mid = up_one from n m mid one in
     (other_kept c from n m mid lt other one, none_kept c mid ns ms to (omega arith) others all)
@@ -193,8 +193,8 @@ own_one from n m mid ns ms to one owns (inr (c, is, le, e)) all =
 
 own_all : (from : ℕ) (ns ms : List (Option ℕ)) (to : ℕ) → AreOwn from ns → AreNumbered from ns ms to → AreOwn to ms
 own_all from [] [] to own e = tt
-own_all from [] (m ∷ ms) to own no = absurd no
-own_all from (n ∷ ns) [] to own no = absurd no
+own_all from [] (m ∷ ms) to own none_such = absurd none_such
+own_all from (n ∷ ns) [] to own none_such = absurd none_such
 own_all from (n ∷ ns) (m ∷ ms) to (one, owns) (mid, first, all) =
     (own_one from n m mid ns ms to one owns first all,
     own_all mid ns ms to (own_up from mid ns (up_one from n m mid first) owns) all)
@@ -216,7 +216,7 @@ heard_as players written (Some heards.Opened) at (Some d) after s t so_far (is, 
 heard_as players written (Some (heards.Text text)) at None after s t so_far (is, same) =
     let so = same_talk players written s t so_far same in
     (so.0, inl (is, so.1))
-heard_as players written (Some (heards.Text text)) at (Some d) after s t so_far (is, (shown, yes, no, moves)) =
+heard_as players written (Some (heards.Text text)) at (Some d) after s t so_far (is, (shown, a_text, no_text, moves)) =
     let so = moved players written s t (said_event (is_too_fast (until_of s.desk d) at) d shown)
         (keeps_said (is_too_fast (until_of s.desk d) at) d shown) so_far moves in
     (so.0, inl (is, so.1))
@@ -247,12 +247,17 @@ module _ {S : Type 0} (remaining : S → Option (List ℕ)) (site : Site) (at : 
 
 -- ---- numbers that stay
 
+own_with : (next : ℕ) (n : Option ℕ) (ns ms : List (Option ℕ)) → ((c : ℕ) → HasNone c ns → HasNone c ms) → IsOwn next n ns →
+    IsOwn next n ms
+own_with next None ns ms stay own = tt
+own_with next (Some c) ns ms stay (lt, none) = (lt, stay c none)
+
 module _ {S : Type 0} where
   same_numbers : (R : Guest S → Guest S → Type 0) → ((x y : Guest S) → R x y → y.number ≡ x.number) →
       (xs ys : List (Guest S)) → AllZip R xs ys → numbers ys ≡ numbers xs
   same_numbers R same [] [] all = refl
-  same_numbers R same [] (y ∷ ys) no = absurd no
-  same_numbers R same (x ∷ xs) [] no = absurd no
+  same_numbers R same [] (y ∷ ys) none_such = absurd none_such
+  same_numbers R same (x ∷ xs) [] none_such = absurd none_such
   same_numbers R same (x ∷ xs) (y ∷ ys) (one, all) =
       ap (λ (n : Option ℕ). n ∷ numbers ys) (same x y one)
       ∙ ap (λ (ns : List (Option ℕ)). x.number ∷ ns) (same_numbers R same xs ys all)
@@ -265,25 +270,20 @@ module _ {S : Type 0} where
       HasNone c (numbers (filter test guests))
   none_filtered test c [] none = tt
   none_filtered test c (x ∷ xs) (other, others) = elim (cases_Bool (test x)) [
-    | inl yes ↦ subst (λ (b : Bool). HasNone c (numbers (cond b (x ∷ filter test xs) (filter test xs)))) (sym yes)
+    | inl stays ↦ subst (λ (b : Bool). HasNone c (numbers (cond b (x ∷ filter test xs) (filter test xs)))) (sym stays)
         (other, none_filtered test c xs others)
-    | inr no ↦ subst (λ (b : Bool). HasNone c (numbers (cond b (x ∷ filter test xs) (filter test xs)))) (sym no)
+    | inr goes ↦ subst (λ (b : Bool). HasNone c (numbers (cond b (x ∷ filter test xs) (filter test xs)))) (sym goes)
         (none_filtered test c xs others)
   ]
-
-  own_with : (next : ℕ) (n : Option ℕ) (ns ms : List (Option ℕ)) → ((c : ℕ) → HasNone c ns → HasNone c ms) → IsOwn next n ns →
-      IsOwn next n ms
-  own_with next None ns ms kept own = tt
-  own_with next (Some c) ns ms kept (lt, none) = (lt, kept c none)
 
   own_filtered : (test : Guest S → Bool) (next : ℕ) (guests : List (Guest S)) → AreOwn next (numbers guests) →
       AreOwn next (numbers (filter test guests))
   own_filtered test next [] own = tt
   own_filtered test next (x ∷ xs) (one, all) = elim (cases_Bool (test x)) [
-    | inl yes ↦ subst (λ (b : Bool). AreOwn next (numbers (cond b (x ∷ filter test xs) (filter test xs)))) (sym yes)
+    | inl stays ↦ subst (λ (b : Bool). AreOwn next (numbers (cond b (x ∷ filter test xs) (filter test xs)))) (sym stays)
         (own_with next x.number (numbers xs) (numbers (filter test xs)) (λ c none. none_filtered test c xs none) one,
         own_filtered test next xs all)
-    | inr no ↦ subst (λ (b : Bool). AreOwn next (numbers (cond b (x ∷ filter test xs) (filter test xs)))) (sym no)
+    | inr goes ↦ subst (λ (b : Bool). AreOwn next (numbers (cond b (x ∷ filter test xs) (filter test xs)))) (sym goes)
         (own_filtered test next xs all)
   ]
 
