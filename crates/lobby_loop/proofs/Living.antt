@@ -41,8 +41,12 @@ at_more : (players : List Player) (written before after : List ℕ) (t u : List 
     IsAt players written new after
 at_more players written before after t u old new e keeps so_far s = record {
   steps = record { event = e; lines = s.lines; tells = s.tells } ∷ so_far.steps;
-  run = (view old, so_far.run, subst (λ (p : List Player). IsStep p (view old) e s.lines s.tells (view new))
-      so_far.players_are s.step);
+  run = (
+    view old,
+    so_far.run,
+    subst (λ (p : List Player). IsStep p (view old) e s.lines s.tells (view new))
+        so_far.players_are s.step,
+  );
   players_are = s.players ∙ so_far.players_are;
   sent = ap (λ (bytes : List ℕ). bytes ++ bytes_of s.lines) (keeps (sent_in so_far.steps) ∙ so_far.sent)
       ∙ (append_assoc written before (bytes_of s.lines) ∙ ap (λ (bytes : List ℕ). written ++ bytes) (sym s.sent));
@@ -53,8 +57,12 @@ at_anew : (players : List Player) (written before wire : List ℕ) (t u : List T
     IsAt players [] new wire
 at_anew players written before wire t u old new e drops so_far s nothing = record {
   steps = record { event = e; lines = s.lines; tells = s.tells } ∷ so_far.steps;
-  run = (view old, so_far.run, subst (λ (p : List Player). IsStep p (view old) e s.lines s.tells (view new))
-      so_far.players_are s.step);
+  run = (
+    view old,
+    so_far.run,
+    subst (λ (p : List Player). IsStep p (view old) e s.lines s.tells (view new))
+        so_far.players_are s.step,
+  );
   players_are = s.players ∙ so_far.players_are;
   sent = ap (λ (bytes : List ℕ). bytes ++ bytes_of s.lines) (drops (sent_in so_far.steps)) ∙ (sym s.sent ∙ sym nothing);
 }
@@ -195,9 +203,10 @@ own_all : (from : ℕ) (ns ms : List (Option ℕ)) (to : ℕ) → AreOwn from ns
 own_all from [] [] to own e = tt
 own_all from [] (m ∷ ms) to own none_such = absurd none_such
 own_all from (n ∷ ns) [] to own none_such = absurd none_such
-own_all from (n ∷ ns) (m ∷ ms) to (one, owns) (mid, first, all) =
-    (own_one from n m mid ns ms to one owns first all,
-    own_all mid ns ms to (own_up from mid ns (up_one from n m mid first) owns) all)
+own_all from (n ∷ ns) (m ∷ ms) to (one, owns) (mid, first, all) = (
+  own_one from n m mid ns ms to one owns first all,
+  own_all mid ns ms to (own_up from mid ns (up_one from n m mid first) owns) all,
+)
 
 -- ---- browsers that are attended
 
@@ -207,9 +216,10 @@ heard_as : (players : List Player) (written : List ℕ) (heard : Option HeardOf)
 heard_as players written None at number after s t so_far (same_number, same) =
     let so = same_talk players written s t so_far same in
     (so.0, inl (same_number, so.1))
-heard_as players written (Some heards.Opened) at None after s t so_far (c, is, opens) =
-    (at_more players written _ _ _ _ s.desk t.desk (Opened c) (λ bytes. refl) so_far opens.steps,
-    inr (c, is, opens.fresh, opens.next))
+heard_as players written (Some heards.Opened) at None after s t so_far (c, is, opens) = (
+  at_more players written _ _ _ _ s.desk t.desk (Opened c) (λ bytes. refl) so_far opens.steps,
+  inr (c, is, opens.fresh, opens.next),
+)
 heard_as players written (Some heards.Opened) at (Some d) after s t so_far (is, same) =
     let so = same_talk players written s t so_far same in
     (so.0, inl (is, so.1))
@@ -218,7 +228,7 @@ heard_as players written (Some (heards.Text text)) at None after s t so_far (is,
     (so.0, inl (is, so.1))
 heard_as players written (Some (heards.Text text)) at (Some d) after s t so_far (is, (shown, a_text, no_text, moves)) =
     let so = moved players written s t (said_event (is_too_fast (until_of s.desk d) at) d shown)
-        (keeps_said (is_too_fast (until_of s.desk d) at) d shown) so_far moves in
+    (keeps_said (is_too_fast (until_of s.desk d) at) d shown) so_far moves in
     (so.0, inl (is, so.1))
 
 module _ {S : Type 0} (remaining : S → Option (List ℕ)) (site : Site) (at : ℕ) (players : List Player) (written : List ℕ) where
@@ -241,9 +251,11 @@ module _ {S : Type 0} (remaining : S → Option (List ℕ)) (site : Site) (at : 
       (so.0, subst (λ (l : List (Guest S)). AreNumbered s.next [] (numbers l) t.next) (sym none) so.1)
   attended_all (guest ∷ guests) after s t so_far (next, rest, between, whole, is, are) =
       let one = attended_one guest next s between so_far is in
-      let all = attended_all guests rest between t one.0 are in
-      (all.0, subst (λ (l : List (Guest S)). AreNumbered s.next (guest.number ∷ numbers guests) (numbers l) t.next) (sym whole)
-          (between.next, one.1, all.1))
+      let all = attended_all guests rest between t one.0 are in (
+        all.0,
+        subst (λ (l : List (Guest S)). AreNumbered s.next (guest.number ∷ numbers guests) (numbers l) t.next) (sym whole)
+            (between.next, one.1, all.1),
+      )
 
 -- ---- numbers that stay
 
@@ -280,9 +292,10 @@ module _ {S : Type 0} where
       AreOwn next (numbers (filter test guests))
   own_filtered test next [] own = tt
   own_filtered test next (x ∷ xs) (one, all) = elim (cases_Bool (test x)) [
-    | inl stays ↦ subst (λ (b : Bool). AreOwn next (numbers (cond b (x ∷ filter test xs) (filter test xs)))) (sym stays)
-        (own_with next x.number (numbers xs) (numbers (filter test xs)) (λ c none. none_filtered test c xs none) one,
-        own_filtered test next xs all)
+    | inl stays ↦ subst (λ (b : Bool). AreOwn next (numbers (cond b (x ∷ filter test xs) (filter test xs)))) (sym stays) (
+      own_with next x.number (numbers xs) (numbers (filter test xs)) (λ c none. none_filtered test c xs none) one,
+      own_filtered test next xs all,
+    )
     | inr goes ↦ subst (λ (b : Bool). AreOwn next (numbers (cond b (x ∷ filter test xs) (filter test xs)))) (sym goes)
         (own_filtered test next xs all)
   ]
@@ -295,9 +308,10 @@ module _ {S : Type 0} where
   own_more : (next : ℕ) (guests : List (Guest S)) (guest : Guest S) → guest.number ≡ None → AreOwn next (numbers guests) →
       AreOwn next (numbers (guests ++ guest ∷ []))
   own_more next [] guest new own = (subst (λ (n : Option ℕ). IsOwn next n []) (sym new) tt, tt)
-  own_more next (x ∷ xs) guest new (one, all) =
-      (own_with next x.number (numbers xs) (numbers (xs ++ guest ∷ [])) (λ c none. none_more c xs guest new none) one,
-      own_more next xs guest new all)
+  own_more next (x ∷ xs) guest new (one, all) = (
+    own_with next x.number (numbers xs) (numbers (xs ++ guest ∷ [])) (λ c none. none_more c xs guest new none) one,
+    own_more next xs guest new all,
+  )
 
 -- ---- whatever happens
 
@@ -320,27 +334,27 @@ module _ {S : Type 0} (remaining contents : S → Option (List ℕ)) (players : 
       let base = left t.is_gone written in
       let said = attended_all remaining old.site at players base old.guests.items t.attended t.parted t.said gone.0 t.attends in
       let own_then : AreOwn t.parted.next (numbers old.guests.items) =
-          subst (λ (n : ℕ). AreOwn n (numbers old.guests.items)) (sym (gone.1 ∙ heard.1)) so_far.own in
+      subst (λ (n : ℕ). AreOwn n (numbers old.guests.items)) (sym (gone.1 ∙ heard.1)) so_far.own in
       let own_said : AreOwn t.said.next (numbers t.attended) =
-          own_all t.parted.next (numbers old.guests.items) (numbers t.attended) t.said.next own_then said.1 in
+      own_all t.parted.next (numbers old.guests.items) (numbers t.attended) t.said.next own_then said.1 in
       let rest_at : IsAt players (base ++ t.front) t.rest.desk t.rest.wire.items =
-          subst (λ (d : Desk). IsAt players (base ++ t.front) d t.rest.wire.items) (sym t.desk) (record {
-            steps = said.0.steps;
-            run = said.0.run;
-            players_are = said.0.players_are;
-            sent = said.0.sent ∙ (ap (λ (bytes : List ℕ). base ++ bytes)
-                (written_on contents t.front t.server new.server t.said.wire.items t.rest.wire.items t.tells)
-                ∙ sym (append_assoc base t.front t.rest.wire.items));
-          }) in
+      subst (λ (d : Desk). IsAt players (base ++ t.front) d t.rest.wire.items) (sym t.desk) (record {
+        steps = said.0.steps;
+        run = said.0.run;
+        players_are = said.0.players_are;
+        sent = said.0.sent ∙ (ap (λ (bytes : List ℕ). base ++ bytes)
+            (written_on contents t.front t.server new.server t.said.wire.items t.rest.wire.items t.tells)
+            ∙ sym (append_assoc base t.front t.rest.wire.items));
+      }) in
       let closed = closed_all players (base ++ t.front) t.parted_from.settled t.rest new.talk rest_at t.parted_from.closes in
       let same : numbers t.parted_from.settled ≡ numbers t.attended =
-          same_numbers IsAsBefore (λ x y one. one.number) t.written t.parted_from.settled t.parted_from.settles
-          ∙ (same_numbers (IsWritten contents old.site) (λ x y one. one.number) t.told t.written t.writes
-          ∙ (same_numbers (AreTold t.delivers.made) (λ x y one. told_number t.delivers.made x y one) t.looked t.told
-          t.delivers.are_told
-          ∙ same_numbers IsLookedAfter (λ x y one. one.number) t.attended t.looked t.looks)) in
+      same_numbers IsAsBefore (λ x y one. one.number) t.written t.parted_from.settled t.parted_from.settles
+      ∙ (same_numbers (IsWritten contents old.site) (λ x y one. one.number) t.told t.written t.writes
+      ∙ (same_numbers (AreTold t.delivers.made) (λ x y one. told_number t.delivers.made x y one) t.looked t.told
+      t.delivers.are_told
+      ∙ same_numbers IsLookedAfter (λ x y one. one.number) t.attended t.looked t.looks)) in
       let own_settled : AreOwn t.said.next (numbers t.parted_from.settled) =
-          subst (λ (ns : List (Option ℕ)). AreOwn t.said.next ns) (sym same) own_said in
+      subst (λ (ns : List (Option ℕ)). AreOwn t.said.next ns) (sym same) own_said in
       record {
         talk = closed.0;
         own = subst (λ (n : ℕ). AreOwn n (numbers new.guests.items)) (sym (closed.1 ∙ t.next))
