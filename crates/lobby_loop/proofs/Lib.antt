@@ -2,3 +2,4 @@ pub mod Each
 pub mod Making
 pub mod Telling
 pub mod Taking
+pub mod Living

@@ -3,18 +3,29 @@ use Rattle.std.specs.Prelude.{ℕ, ◌≡◌, ◌≤◌, ◌⊎◌, Bool, true, 
 use Rattle.std.specs.Io.KnownBytes.{Consumes, Appends}
 use Rattle.std.specs.String.{string_bytes}
 use Rattle.websocket.specs.Content.{text as Text, ping as Ping}
-use Rattle.lobby_desk.specs.Events.{Opened}
 use Rattle.lobby_desk.specs.Who.{at_table}
 use Rattle.lobby_web.specs.declared.browser.Browser.{Browser}
 use Rattle.lobby_web.specs.declared.site.Site.{Site}
 use Rattle.lobby_web.specs.declared.socket.Heard.{Heard}
 use Rattle.lobby_web.specs.declared.socket.Heard.TheVariants as heards
 use Rattle.lobby_web.specs.declared.socket.Unsaid.{Unsaid}
-use Rattle.lobby_web.specs.Browsing.{pending, Takes, HearsNext, SaysTo, Writes}
+use Rattle.lobby_web.specs.Browsing.{IsNew, pending, Takes, HearsNext, SaysTo, Writes}
 use Rattle.lobby_loop.specs.declared.guest.Guest.{Guest}
 use Rattle.lobby_loop.specs.declared.made.Made.{Made}
 use Rattle.lobby_loop.specs.declared.talk.Talk.{Talk}
-use Rattle.lobby_loop.specs.Talking.{Moves, said_at}
+use Rattle.lobby_loop.specs.Talking.{Moves, Opens, said_at}
+
+-- A connection that begins: nothing came of it, and it has no number.
+pub record IsNewGuest {S : Type 0} (stream : S) (guest : Guest S) : Type 0 where
+  pub new : IsNew guest.browser.stage
+  pub number : guest.number ≡ None
+  pub stream_is : guest.stream ≡ stream
+
+-- Nothing came, and nothing went.
+pub record IsAsBefore {S : Type 0} (old new : Guest S) : Type 0 where
+  pub number : new.number ≡ old.number
+  pub stream : new.stream ≡ old.stream
+  pub browser : new.browser ≡ old.browser
 
 -- ---- what comes
 
@@ -28,13 +39,13 @@ pub record IsRead {S : Type 0} (remaining : S → Option (List ℕ)) (site : Sit
 -- A text of a connection is said to the desk; what is no text is said as the empty text, which is refused.
 abbrev pub IsTextSaid : List ℕ → ℕ → ℕ → Talk → Talk → Type 0
 IsTextSaid text c at old new =
-    (shown : List ℕ) × (IsUtf8 text → shown ≡ text) × Moves old (said_at old c at shown) new
+    (shown : List ℕ) × (IsUtf8 text → shown ≡ text) × (¬ IsUtf8 text → shown ≡ []) × Moves old (said_at old c at shown) new
 
--- What the desk is told of what a socket gave: that it is open, and then the connection has a number; and each text, under that
--- number. A socket gives no text before that it is open, and that but once: else nothing is told.
+-- What the desk is told of what a socket gave: that it is open, and then the connection has a number that none had before;
+-- and each text, under that number. A socket gives no text before that it is open, and that but once: else nothing is told.
 abbrev pub IsHeardAs : Option Heard → ℕ → Option ℕ → Option ℕ → Talk → Talk → Type 0
 IsHeardAs None at number after old new = (after ≡ number) × (new ≡ old)
-IsHeardAs (Some heards.Opened) at None after old new = (c : ℕ) × (after ≡ Some c) × Moves old (Opened c) new
+IsHeardAs (Some heards.Opened) at None after old new = (c : ℕ) × (after ≡ Some c) × Opens old c new
 IsHeardAs (Some heards.Opened) at (Some c) after old new = (after ≡ Some c) × (new ≡ old)
 IsHeardAs (Some (heards.Text text)) at None after old new = (after ≡ None) × (new ≡ old)
 IsHeardAs (Some (heards.Text text)) at (Some c) after old new = (after ≡ Some c) × IsTextSaid text.items c at old new

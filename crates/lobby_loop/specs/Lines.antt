@@ -32,7 +32,6 @@ pub record TakesIn {S : Type 0} (remaining : S → Option (List ℕ)) (old new :
   pub lines : AreTaken (old.held.items ++ taken) new.held.items talk after
 
 -- A front of what is to go was written, and the rest is to go.
-pub record HandsOn (before after : Option (List ℕ)) (old new : List ℕ) : Type 0 where
-  pub front : List ℕ
+pub record HandsOn (front : List ℕ) (before after : Option (List ℕ)) (old new : List ℕ) : Type 0 where
   pub appended : Appends before after front
   pub split : old ≡ front ++ new

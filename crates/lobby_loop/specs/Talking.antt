@@ -1,21 +1,42 @@
 -- What the desk is told, and what goes from it.
-use Rattle.std.specs.Prelude.{ℕ, ◌≡◌, List, []}
-use Rattle.lobby_desk.specs.Events.{Event, Gone, tellings}
+use Rattle.std.specs.Prelude.{ℕ, ◌≡◌, ◌≤◌, ◌+◌, List, []}
+use Rattle.lobby_desk.specs.declared.players.Player.{Player}
+use Rattle.lobby_desk.specs.Events.{Event, Opened, tellings}
 use Rattle.lobby_desk.specs.Pace.{is_too_fast}
-use Rattle.lobby_desk.specs.Who.{Steps, said_event, until_of}
+use Rattle.lobby_desk.specs.Who.{Begins as BeginsDesk, Steps, said_event, until_of}
 use Rattle.lobby_loop.specs.declared.talk.Talk.{Talk}
+
+-- A desk that begins: nothing was said, nothing is to go, and no number was given.
+pub record Begins (players : List Player) (now : Talk) : Type 0 where
+  pub desk : BeginsDesk now.desk
+  pub players_are : now.desk.players.items ≡ players
+  pub wire : now.wire.items ≡ []
+  pub told : now.told.items ≡ []
+  pub next : now.next ≡ 0
+
+-- a step of the desk, by the bytes that are to go to the server before and after
+abbrev pub StepsAt : Talk → Event → List ℕ → List ℕ → Talk → Type 0
+StepsAt old event before after new =
+    Steps old.desk event before after (tellings old.told.items) (tellings new.told.items) new.desk
 
 -- The desk takes this event: the lines for it stand behind what is to go to the server, and the messages for it behind those
 -- that are to go to connections.
-abbrev pub Moves : Talk → Event → Talk → Type 0
-Moves old event new =
-    Steps old.desk event old.wire.items new.wire.items (tellings old.told.items) (tellings new.told.items) new.desk
+pub record Moves (old : Talk) (event : Event) (new : Talk) : Type 0 where
+  pub steps : StepsAt old event old.wire.items new.wire.items new
+  pub next : new.next ≡ old.next
+
+-- A connection comes, and has a number that none had before.
+pub record Opens (old : Talk) (c : ℕ) (new : Talk) : Type 0 where
+  pub steps : StepsAt old (Opened c) old.wire.items new.wire.items new
+  pub fresh : old.next ≤ c
+  pub next : new.next ≡ c + 1
+
+-- The desk takes this event, and nothing is to go to the server: what was to go there is not sent.
+pub record MovesAnew (old : Talk) (event : Event) (new : Talk) : Type 0 where
+  pub steps : StepsAt old event [] [] new
+  pub nothing : new.wire.items ≡ []
+  pub next : new.next ≡ old.next
 
 -- a message of a connection at a moment, as the desk takes it
 abbrev pub said_at : Talk → ℕ → ℕ → List ℕ → Event
 said_at talk c at text = said_event (is_too_fast (until_of talk.desk c) at) c text
-
--- The connection to the server is lost, and nothing is to go there.
-pub record IsBroken (old new : Talk) : Type 0 where
-  pub step : Steps old.desk Gone [] [] (tellings old.told.items) (tellings new.told.items) new.desk
-  pub nothing : new.wire.items ≡ []

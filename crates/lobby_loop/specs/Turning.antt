@@ -1,16 +1,18 @@
 -- One turn of all that are connected.
-use Rattle.std.specs.Prelude.{ℕ, ◌≡◌, ◌⊎◌, List, [], ◌∷◌, Option, None, Some}
+use Rattle.std.specs.Prelude.{ℕ, ◌≡◌, ◌⊎◌, Bool, true, false, not, List, [], ◌∷◌, ◌++◌, filter, Option, None, Some}
 use Rattle.std.specs.List.{AllZip}
+use Rattle.lobby_desk.specs.declared.players.Player.{Player}
 use Rattle.lobby_desk.specs.declared.telling.Told.{Told}
-use Rattle.lobby_desk.specs.Events.{Closed}
+use Rattle.lobby_desk.specs.Events.{Closed, Gone, Here}
+use Rattle.lobby_web.specs.declared.site.Site.{Site}
 use Rattle.lobby_loop.specs.declared.guest.Guest.{Guest}
 use Rattle.lobby_loop.specs.declared.hall.Hall.{Hall}
 use Rattle.lobby_loop.specs.declared.link.Link.{Link}
 use Rattle.lobby_loop.specs.declared.made.Made.{Made}
 use Rattle.lobby_loop.specs.declared.talk.Talk.{Talk}
-use Rattle.lobby_loop.specs.Talking.{Moves, IsBroken}
+use Rattle.lobby_loop.specs.Talking.{Begins, Moves, MovesAnew}
 use Rattle.lobby_loop.specs.Making.{IsMadeOf}
-use Rattle.lobby_loop.specs.Guests.{AreAttended, AreTold, IsWritten, IsLookedAfter}
+use Rattle.lobby_loop.specs.Guests.{IsNewGuest, IsAsBefore, AreAttended, AreTold, IsWritten, IsLookedAfter}
 use Rattle.lobby_loop.specs.Lines.{TakesIn, HandsOn}
 
 -- Each browser is told those of these messages that are for its connection, whole and in their order, as they go out.
@@ -26,24 +28,71 @@ HearsServer {S} remaining (Some link) server old new =
     (after : Link S) × (server ≡ Some after) × TakesIn remaining link after old new
 
 -- Where its connection is lost it is there no more, and the desk is told that.
-abbrev pub PartsFromServer : {S : Type 0} → Option (Link S) → Option (Link S) → Talk → Talk → Type 0
-PartsFromServer server after old new = (after ≡ server) × (new ≡ old) ⊎ (after ≡ None) × IsBroken old new
+abbrev pub PartsFromServer : {S : Type 0} → Bool → Option (Link S) → Option (Link S) → Talk → Talk → Type 0
+PartsFromServer false server after old new = (after ≡ server) × (new ≡ old)
+PartsFromServer true server after old new = (after ≡ None) × MovesAnew old Gone new
 
 -- A front of what is to go to the server is written, where it is there, and the rest is to go.
-abbrev pub TellsServer : {S : Type 0} → (S → Option (List ℕ)) → Option (Link S) → Option (Link S) → List ℕ → List ℕ
+abbrev pub TellsServer : {S : Type 0} → (S → Option (List ℕ)) → List ℕ → Option (Link S) → Option (Link S) → List ℕ → List ℕ
     → Type 0
-TellsServer contents None server old new = (server ≡ None) × (new ≡ old)
-TellsServer {S} contents (Some link) server old new =
-    (after : Link S) × (server ≡ Some after) × HandsOn (contents link.stream) (contents after.stream) old new
+TellsServer contents front None server old new = (server ≡ None) × (front ≡ []) × (new ≡ old)
+TellsServer {S} contents front (Some link) server old new =
+    (after : Link S) × (server ≡ Some after) × HandsOn front (contents link.stream) (contents after.stream) old new
 
--- The desk is told that a connection is gone, if it had come; or nothing is.
-abbrev pub IsClosedIf : Option ℕ → Talk → Talk → Type 0
-IsClosedIf None old new = new ≡ old
-IsClosedIf (Some c) old new = (new ≡ old) ⊎ Moves old (Closed c) new
+-- The desk is told of one who is let go that its connection is gone, if that had come.
+abbrev pub IsClosedIf : Bool → Option ℕ → Talk → Talk → Type 0
+IsClosedIf false number old new = new ≡ old
+IsClosedIf true None old new = new ≡ old
+IsClosedIf true (Some c) old new = Moves old (Closed c) new
 
 abbrev pub AreClosed : {S : Type 0} → List (Guest S) → Talk → Talk → Type 0
 AreClosed [] old new = new ≡ old
-AreClosed (guest ∷ guests) old new = (between : Talk) × IsClosedIf guest.number old between × AreClosed guests between new
+AreClosed (guest ∷ guests) old new = (between : Talk) × IsClosedIf guest.is_lost guest.number old between × AreClosed guests between new
+
+-- Those who are lost are let go, and the others stay; the desk is told who is let go, and nothing else.
+pub record AreParted {S : Type 0} (guests stay : List (Guest S)) (old new : Talk) : Type 0 where
+  pub settled : List (Guest S)
+  pub settles : AllZip IsAsBefore guests settled
+  pub closes : AreClosed settled old new
+  pub stay_is : stay ≡ filter (λ guest. not guest.is_lost) settled
+
+-- Nobody is connected, and nothing was said.
+pub record BeginsHall {S : Type 0} (site : Site) (players : List Player) (now : Hall S) : Type 0 where
+  pub site_is : now.site ≡ site
+  pub talk : Begins players now.talk
+  pub guests : now.guests.items ≡ []
+  pub server : now.server ≡ None
+
+-- Nobody came or went, and nothing was read, said, told or written.
+pub record IsHallAsBefore {S : Type 0} (old new : Hall S) : Type 0 where
+  pub guests : new.guests ≡ old.guests
+  pub talk : new.talk ≡ old.talk
+  pub server : new.server ≡ old.server
+  pub site : new.site ≡ old.site
+
+-- Nothing came of the server, and nothing went to it.
+abbrev pub IsServerAsBefore : {S : Type 0} → Option (Link S) → Option (Link S) → Type 0
+IsServerAsBefore None server = server ≡ None
+IsServerAsBefore {S} (Some link) server =
+    (after : Link S) × (server ≡ Some after) × (after.held ≡ link.held) × (after.stream ≡ link.stream)
+
+-- A browser comes, behind those who are there, or is turned away.
+pub record Admits {S : Type 0} (stream : S) (old new : Hall S) : Type 0 where
+  pub guests : (new.guests.items ≡ old.guests.items)
+      ⊎ ((guest : Guest S) × IsNewGuest stream guest × (new.guests.items ≡ old.guests.items ++ guest ∷ []))
+  pub talk : new.talk ≡ old.talk
+  pub server : new.server ≡ old.server
+  pub site : new.site ≡ old.site
+
+-- The server is there, by a connection on which nothing was said and of which nothing came.
+pub record ServerComes {S : Type 0} (stream : S) (old new : Hall S) : Type 0 where
+  pub link : Link S
+  pub stream_is : link.stream ≡ stream
+  pub held : link.held.items ≡ []
+  pub server : new.server ≡ Some link
+  pub talk : MovesAnew old.talk Here new.talk
+  pub guests : new.guests ≡ old.guests
+  pub site : new.site ≡ old.site
 
 -- A turn: the server is heard, and then each browser; what the desk told of all that is delivered, and what is to go is
 -- written, to the server and to each browser; and the desk is told who is let go.
@@ -53,7 +102,8 @@ pub record HasTurned {S : Type 0} (remaining contents : S → Option (List ℕ))
   pub hears : HearsServer remaining old.server server_heard old.talk heard
   pub server : Option (Link S)
   pub parted : Talk
-  pub parts : PartsFromServer server_heard server heard parted
+  pub is_gone : Bool
+  pub parts : PartsFromServer is_gone server_heard server heard parted
   pub attended : List (Guest S)
   pub said : Talk
   pub attends : AreAttended remaining old.site at old.guests.items attended parted said
@@ -63,8 +113,11 @@ pub record HasTurned {S : Type 0} (remaining contents : S → Option (List ℕ))
   pub delivers : AreDelivered said.told.items looked told
   pub rest : Talk
   pub desk : rest.desk ≡ said.desk
+  pub next : rest.next ≡ said.next
   pub none : rest.told.items ≡ []
-  pub tells : TellsServer contents server new.server said.wire.items rest.wire.items
+  pub front : List ℕ
+  pub tells : TellsServer contents front server new.server said.wire.items rest.wire.items
   pub written : List (Guest S)
   pub writes : AllZip (IsWritten contents old.site) told written
-  pub closes : AreClosed written rest new.talk
+  pub parted_from : AreParted written new.guests.items rest new.talk
+  pub site : new.site ≡ old.site

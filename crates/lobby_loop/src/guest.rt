@@ -1,9 +1,8 @@
 //! A browser's connection: its socket, what it says, and what it is told.
 ghost use Rattle.std.specs.Prelude.{◌≡◌, None, Some, OnOk};
 ghost use Rattle.std.specs.String.{string_bytes};
-ghost use Rattle.lobby_web.specs.Browsing.{IsNew};
 ghost use Rattle.lobby_desk.specs.Who.{IsReady, at_table};
-ghost use Rattle.lobby_loop.specs.Guests.{IsRead, IsAsked, IsHeard, IsTextSaid, IsSaid, IsTold, AreTold, IsWritten, IsLookedAfter};
+ghost use Rattle.lobby_loop.specs.Guests.{IsNewGuest, IsAsBefore, IsRead, IsAsked, IsHeard, IsTextSaid, IsSaid, IsTold, AreTold, IsWritten, IsLookedAfter};
 
 use crate::made::Made;
 use crate::pieces::{Came, Gone, PIECE_ROOM, read_piece, write_piece};
@@ -55,9 +54,7 @@ fn is_among(connections: &[u64], number: u64) -> bool
 impl<S> Guest<S> {
     /// A connection that begins. The keys are for the names of headers, which the peer chooses.
     pub fn new(alloc: Global, keys: RandomState, stream: S, key: usize, at: u64) -> Guest<S>
-        ensures new { IsNew result.browser.stage }
-        ensures number { result.number ≡ None }
-        ensures stream { result.stream ≡ stream }
+        ensures { IsNewGuest stream result }
     {
         Guest {
             stream,
@@ -74,11 +71,6 @@ impl<S> Guest<S> {
         }
     }
 
-    /// The name of its socket.
-    pub fn key(&self) -> usize {
-        self.key
-    }
-
     /// Its stream.
     #[cfg(test)]
     pub fn stream(&self) -> &S {
@@ -92,17 +84,30 @@ impl<S> Guest<S> {
         self.number
     }
 
-    /// Its socket may be ready.
-    pub fn wake(&mut self)
-        ensures number { self.new.number ≡ self.old.number }
+    /// The socket of this name may be ready.
+    pub fn wake(&mut self, key: usize)
+        ensures { IsAsBefore self.old self.new }
     {
-        self.can_read = true;
-        self.can_write = true;
+        if self.key == key {
+            self.can_read = true;
+            self.can_write = true;
+        }
     }
 
-    /// Whether it is to be let go: it is lost, or over with nothing left to write or to hear.
-    pub fn is_done(&self) -> bool {
-        self.is_lost || self.browser.is_over() && !self.has_more && self.browser.out().is_empty()
+    /// It is to be closed where it is over, with nothing left to write or to hear.
+    pub fn settle(&mut self)
+        ensures { IsAsBefore self.old self.new }
+    {
+        if self.browser.is_over() && !self.has_more && self.browser.out().is_empty() {
+            self.is_lost = true;
+        }
+    }
+
+    /// Whether it is to be closed at once.
+    pub fn is_lost(&self) -> bool
+        ensures { result ≡ self.now.is_lost }
+    {
+        self.is_lost
     }
 
     // Its socket is open, and the desk is told so.

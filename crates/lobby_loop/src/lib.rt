@@ -4,6 +4,7 @@
 mod door;
 mod guest;
 mod hall;
+mod law;
 mod link;
 mod lobby;
 mod made;
@@ -13,4 +14,5 @@ mod talk;
 mod tests;
 
 pub use door::Entrance;
+pub use law::law_of_halls;
 pub use lobby::{Fault, Lobby, Turned};

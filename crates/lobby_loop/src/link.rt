@@ -70,7 +70,8 @@ fn hear_lines(talk: &mut Talk, held: &[u8]) -> Result<(usize, bool), AllocError>
 impl<S> Link<S> {
     /// A connection that begins.
     pub fn new(alloc: Global, stream: S) -> Link<S>
-        ensures { result.held.items ≡ [] }
+        ensures held { result.held.items ≡ [] }
+        ensures stream { result.stream ≡ stream }
     {
         Link {
             stream,
@@ -88,7 +89,10 @@ impl<S> Link<S> {
     }
 
     /// Its socket may be ready.
-    pub fn wake(&mut self) {
+    pub fn wake(&mut self)
+        ensures held { self.new.held ≡ self.old.held }
+        ensures stream { self.new.stream ≡ self.old.stream }
+    {
         self.can_read = true;
         self.can_write = true;
     }
@@ -144,7 +148,7 @@ impl<S: Read + Write> Link<S> {
 
     /// Writes what it takes of what is to go there. It tells whether that was anything.
     pub fn write_out(&mut self, wire: &mut Vec<u8>) -> bool
-        ensures { HandsOn (S.contents self.old.stream) (S.contents self.new.stream) wire.old.items wire.new.items }
+        ensures { (front : List ℕ) × HandsOn front (S.contents self.old.stream) (S.contents self.new.stream) wire.old.items wire.new.items }
     {
         if !self.can_write || self.is_lost || wire.is_empty() {
             return false;

@@ -1,0 +1,99 @@
+-- Whatever happens to a hall, from its beginning on.
+use Rattle.std.specs.Prelude.{ℕ, ◌≡◌, ◌≢◌, ◌<◌, Bool, true, false, List, [], ◌∷◌, ◌++◌, map, Option, None, Some}
+use Rattle.std.specs.List.{AllZip}
+use Rattle.lobby_desk.specs.declared.players.Player.{Player}
+use Rattle.lobby_desk.specs.Events.{Event, Gone, Here}
+use Rattle.lobby_desk.specs.Lines.{bytes_of}
+use Rattle.lobby_desk.specs.Who.{view}
+use Rattle.lobby_desk.specs.History.{Step, IsRun, AllRight, AllTold}
+use Rattle.lobby_web.specs.declared.site.Site.{Site}
+use Rattle.lobby_loop.specs.declared.guest.Guest.{Guest}
+use Rattle.lobby_loop.specs.declared.hall.Hall.{Hall}
+use Rattle.lobby_loop.specs.Guests.{IsAsBefore}
+use Rattle.lobby_loop.specs.Turning.{BeginsHall, Admits, IsServerAsBefore, ServerComes, HasTurned}
+
+-- What happens to a hall: a browser comes, sockets may be ready, the server is there, a turn. In a turn the connection to the
+-- server may be lost, and behind that bytes are written to it.
+pub data Happening (S : Type 0) : Type 0 where
+  Came : (stream : S) → Happening S
+  Woke : Happening S
+  ServerCame : (stream : S) → Happening S
+  Turned : (at : ℕ) → (is_gone : Bool) → (front : List ℕ) → Happening S
+
+-- Sockets may be ready, and nothing else happens.
+pub record IsWoken {S : Type 0} (old new : Hall S) : Type 0 where
+  pub guests : AllZip IsAsBefore old.guests.items new.guests.items
+  pub talk : new.talk ≡ old.talk
+  pub server : IsServerAsBefore old.server new.server
+  pub site : new.site ≡ old.site
+
+-- a turn in which the connection to the server is lost or not, and these bytes are written to it
+pub record TurnsBy {S : Type 0} (remaining contents : S → Option (List ℕ)) (at : ℕ) (is_gone : Bool) (front : List ℕ)
+    (old new : Hall S) : Type 0 where
+  pub turned : HasTurned remaining contents at old new
+  pub gone : turned.is_gone ≡ is_gone
+  pub front_is : turned.front ≡ front
+
+abbrev pub Happens : {S : Type 0} → (S → Option (List ℕ)) → (S → Option (List ℕ)) → Happening S → Hall S → Hall S → Type 0
+Happens remaining contents (Came stream) old new = Admits stream old new
+Happens remaining contents Woke old new = IsWoken old new
+Happens remaining contents (ServerCame stream) old new = ServerComes stream old new
+Happens remaining contents (Turned at is_gone front) old new = TurnsBy remaining contents at is_gone front old new
+
+-- a hall that begins, and what happened to it, the newest first
+abbrev pub IsLife : {S : Type 0} → (S → Option (List ℕ)) → (S → Option (List ℕ)) → List Player → List (Happening S) → Hall S
+    → Type 0
+IsLife remaining contents players [] now = (site : Site) × BeginsHall site players now
+IsLife {S} remaining contents players (h ∷ past) now =
+    (before : Hall S) × IsLife remaining contents players past before × Happens remaining contents h before now
+
+-- the bytes that were written to the server since its connection began
+abbrev pub written_in : {S : Type 0} → List (Happening S) → List ℕ
+written_in [] = []
+written_in (Came stream ∷ past) = written_in past
+written_in (Woke ∷ past) = written_in past
+written_in (ServerCame stream ∷ past) = []
+written_in (Turned at true front ∷ past) = front
+written_in (Turned at false front ∷ past) = written_in past ++ front
+
+-- the bytes of the lines that the desk had for the server since its connection began
+abbrev pub kept : Event → List ℕ → List ℕ
+kept Gone bytes = []
+kept Here bytes = []
+kept _ bytes = bytes
+
+abbrev pub sent_in : List Step → List ℕ
+sent_in [] = []
+sent_in (s ∷ past) = kept s.event (sent_in past) ++ bytes_of s.lines
+
+-- none of these connections has this number
+abbrev pub IsOther : ℕ → Option ℕ → Type 0
+IsOther c None = Unit {0}
+IsOther c (Some d) = d ≢ c
+
+abbrev pub HasNone : ℕ → List (Option ℕ) → Type 0
+HasNone c [] = Unit {0}
+HasNone c (n ∷ ns) = IsOther c n × HasNone c ns
+
+-- Each number is below this one, and of one connection alone.
+abbrev pub IsOwn : ℕ → Option ℕ → List (Option ℕ) → Type 0
+IsOwn next None others = Unit {0}
+IsOwn next (Some c) others = (c < next) × HasNone c others
+
+abbrev pub AreOwn : ℕ → List (Option ℕ) → Type 0
+AreOwn next [] = Unit {0}
+AreOwn next (n ∷ ns) = IsOwn next n ns × AreOwn next ns
+
+abbrev pub numbers : {S : Type 0} → List (Guest S) → List (Option ℕ)
+numbers guests = map (λ guest. guest.number) guests
+
+-- What is promised of whatever happened: the desk has taken a run of steps, in which every line to the server and every message
+-- to a connection is right; what was written to the server since its connection began is a front of the bytes of these lines,
+-- and the rest of them is to go; and no two browsers have one connection's number.
+pub record IsRightLife {S : Type 0} (players : List Player) (past : List (Happening S)) (now : Hall S) : Type 0 where
+  pub steps : List Step
+  pub run : IsRun players steps (view now.talk.desk)
+  pub lines : AllRight players steps
+  pub tells : AllTold steps
+  pub sent : sent_in steps ≡ written_in past ++ now.talk.wire.items
+  pub own : AreOwn now.talk.next (numbers now.guests.items)
