@@ -4,8 +4,6 @@
 
 mod clerk;
 mod law;
-#[cfg(test)]
-mod tests;
 
 pub use clerk::{Clerk, Stage};
 pub use law::{law_of_drops, law_of_games, law_of_log, law_of_safety};
