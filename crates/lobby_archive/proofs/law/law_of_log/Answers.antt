@@ -1,8 +1,0 @@
-use Rattle.lobby_archive.proofs.Runs.{run_good}
-use Rattle.lobby_archive.proofs.law.law_of_log.Goals as goal
-
-pub returns-clause-acts : goal.returns-clause-acts
-returns-clause-acts c = λ steps now run. (run_good steps now run).acts
-
-pub returns-clause-said : goal.returns-clause-said
-returns-clause-said c = λ steps now run. (run_good steps now run).said
