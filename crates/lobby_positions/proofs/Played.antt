@@ -7,7 +7,7 @@ use Rattle.chess_board.specs.declared.moves.Move.{Move}
 use Rattle.chess_board.specs.Position.{Position}
 use Rattle.chess_board.specs.Next.{next}
 use Rattle.chess_board.specs.Legal.{IsLegal}
-use Rattle.chess_san.specs.Reading.{Names}
+use Rattle.chess_notation.specs.Naming.{Names}
 use Rattle.lobby_positions.specs.Pgn.{Plays, ArePlayed, IsPlayable, PlaysWord}
 
 -- What is played goes on behind these moves.

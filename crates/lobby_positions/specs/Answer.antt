@@ -3,8 +3,8 @@ use Rattle.std.specs.Prelude.{ℕ, suc, ◌≡◌, List, [], ◌∷◌, ◌++◌
 use Rattle.chess_board.specs.declared.moves.Move.{Move}
 use Rattle.chess_board.specs.Position.{Position}
 use Rattle.chess_board.specs.Next.{next}
-use Rattle.chess_san.specs.San.{IsSan}
-use Rattle.chess_text.specs.Fen.{fen_of}
+use Rattle.chess_notation.specs.San.{IsSan}
+use Rattle.chess_notation.specs.Fen.{fen_of}
 use Rattle.lobby_moves.specs.Telling.{coordinate_of}
 
 -- `N SAN MOVE FEN`: after how many moves, the last of them as SAN and by its squares, and the position

@@ -10,8 +10,8 @@ use Rattle.chess_board.specs.Position.{Position, IsValid}
 use Rattle.chess_board.specs.Initial.{initial}
 use Rattle.chess_board.specs.Next.{next}
 use Rattle.chess_board.specs.Legal.{IsLegal}
-use Rattle.chess_san.specs.Reading.{Names}
-use Rattle.chess_text.specs.Fen.{IsFenOf}
+use Rattle.chess_notation.specs.Naming.{Names}
+use Rattle.chess_notation.specs.Fen.{IsFenOf}
 
 abbrev pub lines_of : List ℕ → List (List ℕ)
 lines_of text = parts_of 10 text

@@ -6,7 +6,7 @@ ghost use Rattle.chess_board.specs.Position.{Position};
 ghost use Rattle.lobby_positions.specs.Pgn.{is_tag, is_fen_tag, value_of, fen_in, StartsAt, is_word, words_of_line, words_of};
 
 use chess_board::Board;
-use chess_text::fen_read;
+use chess_fen::fen_read;
 use std::alloc::{AllocError, Global};
 use text_parts::parts;
 

@@ -2,13 +2,13 @@
 ghost use Rattle.std.specs.Prelude.{◌≡◌, ◌++◌, ◌∷◌, [], codes, decimal, IfOk, OnOk};
 ghost use Rattle.std.specs.String.{string_bytes};
 ghost use Rattle.chess_board.specs.Legal.{IsLegal};
-ghost use Rattle.chess_text.specs.Fen.{fen_of};
+ghost use Rattle.chess_notation.specs.Fen.{fen_of};
 ghost use Rattle.lobby_positions.specs.Pgn.{IsPlayable};
 ghost use Rattle.lobby_positions.specs.Answer.{row, PutsRow, PutsRows, IsLineAnswer};
 
 use chess_board::{Board, Move};
+use chess_fen::fen_write;
 use chess_san::write;
-use chess_text::fen_write;
 use itoa::Buffer;
 use lobby_moves::push_move;
 use std::alloc::{AllocError, Global};
