@@ -1,8 +1,9 @@
 -- What is promised holds of each run.
-use Rattle.std.proofs.Common.{ℕ, ◌≡◌, ◌<◌, ◌^◌, ◌⊎◌, inl, inr, Bool, true, false, ◌&&◌, ◌||◌, ◌==◌, List, [], ◌∷◌, ◌++◌, Option, None, Some, IfSome, codes, decimal, refl, sym, ap, ◌∙◌, subst}
+use Rattle.std.proofs.Common.{ℕ, ◌≡◌, ◌<◌, ◌+◌, ◌^◌, ◌⊎◌, inl, inr, Bool, true, false, ◌&&◌, ◌||◌, ◌==◌, List, [], ◌∷◌, ◌++◌, Option, None, Some, IfSome, codes, decimal, refl, sym, ap, ◌∙◌, subst, arith}
 use Rattle.std.specs.Prelude.{if◌then◌else◌}
 use Rattle.std.specs.List.{AllByRecursion, list_all, list_any}
 use Rattle.std.proofs.lemmas.Bool.{false≢true}
+use Rattle.std.proofs.lemmas.Bool.Decides.{Decides-eqb}
 use Rattle.rec_codec.specs.Name.{IsName}
 use Rattle.lobby_desk.specs.declared.words.Sort.{Sort}
 use Rattle.lobby_desk.specs.declared.words.Sort.TheVariants as sorts
@@ -16,9 +17,9 @@ use Rattle.lobby_desk.specs.Words.{rest_of, is_message, sort_of, is_act_sort, is
 use Rattle.lobby_desk.specs.Plans.{asked, act_plan, drop_plan, login_plan, numbered_plan, plan_of}
 use Rattle.lobby_desk.specs.Lines.{lines_of, act_lines, said_after, name_line, game_line, is_said, notice_lines, IsNamed}
 use Rattle.lobby_desk.specs.Events.{Event, Opened, Closed, Said, Hurried, Heard, Gone, Here, Telling, to_one, ForItself, ForPositions, ForTable, ForGame, ForAct, Owed, Nobody, Asker, Dropper, Followers, owed_last, sort_asker, asker, follower}
-use Rattle.lobby_desk.specs.Tellings.{Known, is_whole, answer, is_told, watch_front, table_front, leaves, leaves_table, watches_now, table_now, owed_answered, owed_now, left_now, begun_now, last_now, known_now, presence, lost, made_of, IsNoticeOrNone, IsToldFor, IsToldNext, IsToldHeard, IsTold}
+use Rattle.lobby_desk.specs.Tellings.{Known, owes, is_whole, answer, is_told, watch_front, table_front, leaves, leaves_table, watches_now, table_now, owed_answered, owed_now, left_now, begun_now, last_now, known_now, presence, lost, made_of, IsNoticeOrNone, IsToldFor, IsToldNext, IsToldHeard, IsTold}
 use Rattle.lobby_desk.specs.Who.{View, BeginsView, IsSaid, IsHeard, IsDropped, IsSentFor, IsSentNext, IsSentHeard, IsDone, IsKnown, who_noted}
-use Rattle.lobby_desk.specs.History.{Step, shown_by, player_said, player_after, player_in, is_drop, name_behind, name_through, name_before, name_in, ActsUnder, ActsRight, NoActs, NoDrops, AllRead, IsOf, known_in, IsArbiter, AsksNow, HasAsked, IsDropOf, IsRight, AreWhole, AllRight, AllTold, IsRun}
+use Rattle.lobby_desk.specs.History.{Step, comes, has_come, shown_by, player_said, player_after, player_in, is_drop, name_behind, name_through, name_before, name_in, ActsUnder, ActsRight, NoActs, NoDrops, AllRead, IsOf, known_in, IsArbiter, AsksNow, HasAsked, IsDropOf, IsRight, AreWhole, AllRight, AllTold, IsRun}
 use Rattle.lobby_desk.proofs.Found.{and_first, and_second, and_both}
 use Rattle.lobby_desk.proofs.Numbers.{number_small}
 use Rattle.lobby_desk.proofs.Sent.{is_said_same}
@@ -400,8 +401,8 @@ told_alike : (event : Event) (lines : List (List ℕ)) (tells : List Telling) (o
     IsTold event lines tells old → IsTold event lines tells past
 told_alike (Opened c) lines tells old past alike h = h
 told_alike (Closed c) lines tells old past alike h = h
-told_alike (Said c text) lines tells old past alike h = h
-told_alike (Hurried c) lines tells old past alike h = h
+told_alike (Said c text) lines tells old past alike h = (subst (λ (owed : List Owed). owes owed c ≡ false) alike.owed h.0, h.1)
+told_alike (Hurried c) lines tells old past alike h = (subst (λ (owed : List Owed). owes owed c ≡ false) alike.owed h.0, h.1)
 told_alike (Heard line) lines tells old past alike h =
     let here = told_heard_alike old past alike (is_whole old.left line) (answer old.begun line) lines tells h in
     let begun = subst (λ (begun : List ℕ). IsToldHeard (is_whole old.left line) past (answer begun line) lines tells) alike.begun here in
@@ -546,6 +547,7 @@ pub record Agrees (players : List Player) (past : List Step) (now : View) : Type
   pub said : now.said ≡ name_in past
   pub alike : Alike now.known (known_in past)
   pub asked : AreAsked players past now.known.owed
+  pub came : (c : ℕ) → has_come past c ≡ true → c < now.next
 
 record DoneGood (players : List Player) (past : List Step) (event : Event) (lines : List (List ℕ)) (now : View) : Type 0 where
   who : (c : ℕ) → now.who c ≡ player_after players event c (player_in players past c)
@@ -679,6 +681,28 @@ heard_good players past old line lines now agrees h =
     let begun = subst (λ (t : List ℕ). IsSentHeard (is_whole old.known.left line) old.known.owed (name_in past) (answer t line) lines now.said) agrees.alike.begun said in
     sent_heard players past line old.known.owed (sym agrees.alike.owed) agrees.asked lines now.said (is_whole old.known.left line) begun
 
+-- no number comes that came before
+not_come : (b : Bool) (c : ℕ) → (b ≡ true → c < c) → b ≡ false
+not_come false c h = refl
+not_come true c h = let less : c < c = h refl in absurd (omega (arith, less))
+
+-- each number that came is below the next
+came_more : (a b : Bool) (d c old now : ℕ) → d ≡ old → now ≡ d + 1 → (a ≡ true → d ≡ c) → (b ≡ true → c < old) → (a || b) ≡ true → c < now
+came_more true b d c old now is next same before h = let one : d ≡ c = same refl in omega (arith, is, next, one)
+came_more false b d c old now is next same before h = let less : c < old = before h in omega (arith, is, next, less)
+
+came_then : (players : List Player) (past : List Step) (old : View) (event : Event) (lines : List (List ℕ)) (now : View) →
+    Agrees players past old → IsDone players old event lines now →
+    (c : ℕ) → (comes event c || has_come past c) ≡ true → c < now.next
+came_then players past old (Opened d) lines now agrees step c h =
+    came_more (d == c) (has_come past c) d c old.next now.next step.number step.next_is (Decides-eqb d c).0 (agrees.came c) h
+came_then players past old (Closed d) lines now agrees step c h = subst (λ (n : ℕ). c < n) (sym step.next_is) (agrees.came c h)
+came_then players past old (Said d text) lines now agrees step c h = subst (λ (n : ℕ). c < n) (sym step.next_is) (agrees.came c h)
+came_then players past old (Hurried d) lines now agrees step c h = subst (λ (n : ℕ). c < n) (sym step.next_is) (agrees.came c h)
+came_then players past old (Heard line) lines now agrees step c h = subst (λ (n : ℕ). c < n) (sym step.next_is) (agrees.came c h)
+came_then players past old Gone lines now agrees step c h = subst (λ (n : ℕ). c < n) (sym step.next_is) (agrees.came c h)
+came_then players past old Here lines now agrees step c h = subst (λ (n : ℕ). c < n) (sym step.next_is) (agrees.came c h)
+
 none_done : (players : List Player) (past : List Step) (event : Event) (lines : List (List ℕ)) (now : View) →
     (lines ≡ [] → IsRight players past event lines) → lines ≡ [] → now.said ≡ name_before event (name_in past) →
     ((c : ℕ) → now.who c ≡ player_after players event c (player_in players past c)) → DoneGood players past event lines now
@@ -692,11 +716,12 @@ none_done players past event lines now right none said who = record {
 done_good : (players : List Player) (past : List Step) (old : View) (event : Event) (lines : List (List ℕ)) (now : View) →
     Agrees players past old → IsDone players old event lines now → DoneGood players past event lines now
 done_good players past old (Opened c) lines now agrees step =
-    none_done players past (Opened c) lines now (λ none. none) step.none (step.said_is ∙ agrees.said)
-    (λ d. step.who_is d ∙ ap (λ (before : Option Identity). if c == d then None else before) (agrees.who d))
+    none_done players past (Opened c) lines now
+    (λ none. (none, not_come (has_come past c) c (λ h. subst (λ (n : ℕ). c < n) (sym step.number) (agrees.came c h)))) step.moved.none (step.moved.said_is ∙ agrees.said)
+    (λ d. step.moved.who_is d ∙ ap (λ (before : Option Identity). if c == d then None else before) (agrees.who d))
 done_good players past old (Closed c) lines now agrees step =
-    none_done players past (Closed c) lines now (λ none. none) step.none (step.said_is ∙ agrees.said)
-    (λ d. step.who_is d ∙ ap (λ (before : Option Identity). if c == d then None else before) (agrees.who d))
+    none_done players past (Closed c) lines now (λ none. none) step.moved.none (step.moved.said_is ∙ agrees.said)
+    (λ d. step.moved.who_is d ∙ ap (λ (before : Option Identity). if c == d then None else before) (agrees.who d))
 done_good players past old (Hurried c) lines now agrees step =
     none_done players past (Hurried c) lines now (λ none. none) step.none (step.said_is ∙ agrees.said)
     (λ d. step.who_is d ∙ agrees.who d)
@@ -757,7 +782,7 @@ pub record RunGood (players : List Player) (steps : List Step) (now : View) : Ty
 
 pub run_good : (players : List Player) (steps : List Step) (now : View) → IsRun players steps now → RunGood players steps now
 run_good players [] now run = record {
-  agrees = record { who = run.who; said = run.said; alike = begins_alike now run; asked = subst (AreAsked players []) (sym run.owed) tt };
+  agrees = record { who = run.who; said = run.said; alike = begins_alike now run; asked = subst (AreAsked players []) (sym run.owed) tt; came = λ c h. absurd (false≢true h) };
   right = tt;
   told = tt;
 }
@@ -771,6 +796,7 @@ run_good players (s ∷ past) now run =
         said = good.said;
         alike = alike_then s.event s.lines s.tells run.0.known now.known (known_in past) step.known before.agrees.alike;
         asked = subst (AreAsked players (s ∷ past)) (sym step.known.owed) (asked_then players past run.0 s.event s.lines s.tells now before.agrees step.done);
+        came = came_then players past run.0 s.event s.lines now before.agrees step.done;
       };
       right = (good.right, good.whole, before.right);
       told = (told_alike s.event s.lines s.tells run.0.known (known_in past) before.agrees.alike step.told, before.told);

@@ -143,15 +143,6 @@ pub fn send(
     }
 }
 
-// Whether a connection that was ready waits after a plan.
-fn waits_noted(plan: &Plan) -> bool {
-    match plan {
-        Plan::Refuse(_) | Plan::Login(_) | Plan::Players | Plan::LeaveLobby | Plan::Leave(_) =>
-            false,
-        _ => true,
-    }
-}
-
 // For whom a connection acts after a plan.
 fn who_noted(before: Option<Identity>, plan: &Plan) -> Option<Identity>
     ensures { result ≡ who_noted plan.now before }
@@ -177,17 +168,16 @@ pub fn put(
     visitors: &mut BTreeMap<u64, Visitor>,
     connection: u64,
     who: Option<Identity>,
-    waits: bool,
     until: u64,
 ) -> Result<(), AllocError>
     ensures { OnOk result ((c : ℕ) → who_in visitors.new c ≡ (if connection == c then who else who_in visitors.old c)) }
 {
-    let visitor = Visitor { who, waits, until };
+    let visitor = Visitor { who, until };
     visitors.insert(connection, visitor)?;
     Ok(())
 }
 
-/// What stays of a plan: for whom the connection acts, whether it waits, and until when its time is taken.
+/// What stays of a plan: for whom the connection acts, and until when its time is taken.
 pub fn note(
     visitors: &mut BTreeMap<u64, Visitor>,
     from: u64,
@@ -197,7 +187,6 @@ pub fn note(
     ensures { OnOk result ((c : ℕ) → who_in visitors.new c ≡ (if from == c then who_noted plan.now (who_in visitors.old c) else who_in visitors.old c)) }
 {
     let before = who_acts(visitors, from);
-    let waits = waits_noted(plan);
-    put(visitors, from, who_noted(before, plan), waits, until)?;
+    put(visitors, from, who_noted(before, plan), until)?;
     Ok(())
 }
