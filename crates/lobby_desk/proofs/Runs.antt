@@ -290,9 +290,9 @@ plan_good text s said game true sorts.Name message is small named = none_good te
 plan_good text s said game true sorts.Nothing message is small named = none_good text s.who said
 
 -- a message
-said_good : (players : List Player) (old : View) (c : ℕ) (text : List ℕ) (lines : List (List ℕ)) (new : View) →
-    IsSaid players old c text lines new → Good text (old.who c) old.said lines new.said
-said_good players old c text lines new h =
+said_good : (players : List Player) (old : View) (c : ℕ) (text : List ℕ) (lines : List (List ℕ)) (tells : List Telling) (new : View) →
+    IsSaid players old c text lines tells new → Good text (old.who c) old.said lines new.said
+said_good players old c text lines tells new h =
     let game = number_in (rest_of text) in
     let named : IsNamed (plan_of (is_message text) (sort_of text) h.standing (number_in (rest_of text))) = subst IsNamed h.planned h.named in
     let planned = plan_good text h.standing old.said game (is_message text) (sort_of text) refl refl (number_small (rest_of text)) named in
@@ -501,9 +501,9 @@ asks_at true sorts.Line s game said text = tt
 asks_at true sorts.Name s game said text = tt
 asks_at true sorts.Nothing s game said text = tt
 
-said_asks : (players : List Player) (old : View) (c : ℕ) (text : List ℕ) (lines : List (List ℕ)) (new : View) →
-    IsSaid players old c text lines new → AsksDrop (is_drop text) lines (old.who c) (is_message text)
-said_asks players old c text lines new h =
+said_asks : (players : List Player) (old : View) (c : ℕ) (text : List ℕ) (lines : List (List ℕ)) (tells : List Telling) (new : View) →
+    IsSaid players old c text lines tells new → AsksDrop (is_drop text) lines (old.who c) (is_message text)
+said_asks players old c text lines tells new h =
     let planned = asks_at (is_message text) (sort_of text) h.standing (number_in (rest_of text)) old.said text in
     let by_plan = subst (λ (plan : Plan). AsksDrop (is_drop text) (lines_of plan old.said text) h.standing.who (is_message text)) (sym h.planned) planned in
     let lined = subst (λ (ls : List (List ℕ)). AsksDrop (is_drop text) ls h.standing.who (is_message text)) (sym h.lines_are) by_plan in
@@ -555,9 +555,9 @@ record DoneGood (players : List Player) (past : List Step) (event : Event) (line
   right : IsRight players past event lines
   whole : AreWhole lines
 
-said_who : (players : List Player) (old : View) (c : ℕ) (text : List ℕ) (lines : List (List ℕ)) (new : View) →
-    IsSaid players old c text lines new → (d : ℕ) → new.who d ≡ player_after players (Said c text) d (old.who d)
-said_who players old c text lines new h d =
+said_who : (players : List Player) (old : View) (c : ℕ) (text : List ℕ) (lines : List (List ℕ)) (tells : List Telling) (new : View) →
+    IsSaid players old c text lines tells new → (d : ℕ) → new.who d ≡ player_after players (Said c text) d (old.who d)
+said_who players old c text lines tells new h d =
     let plan : who_noted h.plan (old.who d) ≡ player_said players text (old.who d) =
     ap (λ (plan : Plan). who_noted plan (old.who d)) h.planned
     ∙ (planned_who (is_message text) (sort_of text) h.standing (number_in (rest_of text)) (old.who d)
@@ -691,17 +691,17 @@ came_more : (a b : Bool) (d c old now : ℕ) → d ≡ old → now ≡ d + 1 →
 came_more true b d c old now is next same before h = let one : d ≡ c = same refl in omega (arith, is, next, one)
 came_more false b d c old now is next same before h = let less : c < old = before h in omega (arith, is, next, less)
 
-came_then : (players : List Player) (past : List Step) (old : View) (event : Event) (lines : List (List ℕ)) (now : View) →
-    Agrees players past old → IsDone players old event lines now →
+came_then : (players : List Player) (past : List Step) (old : View) (event : Event) (lines : List (List ℕ)) (tells : List Telling) (now : View) →
+    Agrees players past old → IsDone players old event lines tells now →
     (c : ℕ) → (comes event c || has_come past c) ≡ true → c < now.next
-came_then players past old (Opened d) lines now agrees step c h =
+came_then players past old (Opened d) lines tells now agrees step c h =
     came_more (d == c) (has_come past c) d c old.next now.next step.number step.next_is (Decides-eqb d c).0 (agrees.came c) h
-came_then players past old (Closed d) lines now agrees step c h = subst (λ (n : ℕ). c < n) (sym step.next_is) (agrees.came c h)
-came_then players past old (Said d text) lines now agrees step c h = subst (λ (n : ℕ). c < n) (sym step.next_is) (agrees.came c h)
-came_then players past old (Hurried d) lines now agrees step c h = subst (λ (n : ℕ). c < n) (sym step.next_is) (agrees.came c h)
-came_then players past old (Heard line) lines now agrees step c h = subst (λ (n : ℕ). c < n) (sym step.next_is) (agrees.came c h)
-came_then players past old Gone lines now agrees step c h = subst (λ (n : ℕ). c < n) (sym step.next_is) (agrees.came c h)
-came_then players past old Here lines now agrees step c h = subst (λ (n : ℕ). c < n) (sym step.next_is) (agrees.came c h)
+came_then players past old (Closed d) lines tells now agrees step c h = subst (λ (n : ℕ). c < n) (sym step.next_is) (agrees.came c h)
+came_then players past old (Said d text) lines tells now agrees step c h = subst (λ (n : ℕ). c < n) (sym step.next_is) (agrees.came c h)
+came_then players past old (Hurried d) lines tells now agrees step c h = subst (λ (n : ℕ). c < n) (sym step.next_is) (agrees.came c h)
+came_then players past old (Heard line) lines tells now agrees step c h = subst (λ (n : ℕ). c < n) (sym step.next_is) (agrees.came c h)
+came_then players past old Gone lines tells now agrees step c h = subst (λ (n : ℕ). c < n) (sym step.next_is) (agrees.came c h)
+came_then players past old Here lines tells now agrees step c h = subst (λ (n : ℕ). c < n) (sym step.next_is) (agrees.came c h)
 
 none_done : (players : List Player) (past : List Step) (event : Event) (lines : List (List ℕ)) (now : View) →
     (lines ≡ [] → IsRight players past event lines) → lines ≡ [] → now.said ≡ name_before event (name_in past) →
@@ -713,22 +713,22 @@ none_done players past event lines now right none said who = record {
   whole = subst AreWhole (sym none) tt;
 }
 
-done_good : (players : List Player) (past : List Step) (old : View) (event : Event) (lines : List (List ℕ)) (now : View) →
-    Agrees players past old → IsDone players old event lines now → DoneGood players past event lines now
-done_good players past old (Opened c) lines now agrees step =
+done_good : (players : List Player) (past : List Step) (old : View) (event : Event) (lines : List (List ℕ)) (tells : List Telling) (now : View) →
+    Agrees players past old → IsDone players old event lines tells now → DoneGood players past event lines now
+done_good players past old (Opened c) lines tells now agrees step =
     none_done players past (Opened c) lines now
     (λ none. (none, not_come (has_come past c) c (λ h. subst (λ (n : ℕ). c < n) (sym step.number) (agrees.came c h)))) step.moved.none (step.moved.said_is ∙ agrees.said)
     (λ d. step.moved.who_is d ∙ ap (λ (before : Option Identity). if c == d then None else before) (agrees.who d))
-done_good players past old (Closed c) lines now agrees step =
+done_good players past old (Closed c) lines tells now agrees step =
     none_done players past (Closed c) lines now (λ none. none) step.moved.none (step.moved.said_is ∙ agrees.said)
     (λ d. step.moved.who_is d ∙ ap (λ (before : Option Identity). if c == d then None else before) (agrees.who d))
-done_good players past old (Hurried c) lines now agrees step =
+done_good players past old (Hurried c) lines tells now agrees step =
     none_done players past (Hurried c) lines now (λ none. none) step.none (step.said_is ∙ agrees.said)
     (λ d. step.who_is d ∙ agrees.who d)
-done_good players past old (Said c text) lines now agrees step =
-    let good = said_good players old c text lines now step in
+done_good players past old (Said c text) lines tells now agrees step =
+    let good = said_good players old c text lines tells now step in
     record {
-      who = λ d. said_who players old c text lines now step d ∙ ap (λ (before : Option Identity). player_after players (Said c text) d before) (agrees.who d);
+      who = λ d. said_who players old c text lines tells now step d ∙ ap (λ (before : Option Identity). player_after players (Said c text) d before) (agrees.who d);
       said = good.name ∙ ap (λ (n : Option (List ℕ)). name_through n lines) agrees.said;
       right = (
         subst (λ (n : Option (List ℕ)). ActsRight (player_in players past c) n lines) agrees.said
@@ -738,23 +738,23 @@ done_good players past old (Said c text) lines now agrees step =
       );
       whole = good.whole;
     }
-done_good players past old (Heard line) lines now agrees step =
+done_good players past old (Heard line) lines tells now agrees step =
     let good = heard_good players past old line lines now agrees step in
     record { who = λ d. step.who_is d ∙ agrees.who d; said = good.said; right = good.right; whole = good.whole }
-done_good players past old Gone lines now agrees step =
+done_good players past old Gone lines tells now agrees step =
     none_done players past Gone lines now (λ none. none) step.none step.said_is (λ d. step.who_is d ∙ agrees.who d)
-done_good players past old Here lines now agrees step =
+done_good players past old Here lines tells now agrees step =
     none_done players past Here lines now (λ none. none) step.none step.said_is (λ d. step.who_is d ∙ agrees.who d)
 
 -- each drop that waits then was asked for
 asked_then : (players : List Player) (past : List Step) (old : View) (event : Event) (lines : List (List ℕ)) (tells : List Telling) (now : View) →
-    Agrees players past old → IsDone players old event lines now →
+    Agrees players past old → IsDone players old event lines tells now →
     AreAsked players (record { event = event; lines = lines; tells = tells } ∷ past) (owed_now event lines old.known.left old.known.owed)
 asked_then players past old (Opened c) lines tells now agrees step = are_asked_later players (record { event = Opened c; lines = lines; tells = tells }) past old.known.owed agrees.asked
 asked_then players past old (Closed c) lines tells now agrees step = are_asked_later players (record { event = Closed c; lines = lines; tells = tells }) past old.known.owed agrees.asked
 asked_then players past old (Hurried c) lines tells now agrees step = are_asked_later players (record { event = Hurried c; lines = lines; tells = tells }) past old.known.owed agrees.asked
 asked_then players past old (Said c text) lines tells now agrees step =
-    let asks = subst (λ (who : Option Identity). AsksDrop (is_drop text) lines who (is_message text)) (agrees.who c) (said_asks players old c text lines now step) in
+    let asks = subst (λ (who : Option Identity). AsksDrop (is_drop text) lines who (is_message text)) (agrees.who c) (said_asks players old c text lines tells now step) in
     are_asked_both players (record { event = Said c text; lines = lines; tells = tells } ∷ past) old.known.owed (owed_last (asker c text) lines)
     (are_asked_later players (record { event = Said c text; lines = lines; tells = tells }) past old.known.owed agrees.asked)
     (asker_asked players past c text lines lines tells asks)
@@ -789,14 +789,14 @@ run_good players [] now run = record {
 run_good players (s ∷ past) now run =
     let before = run_good players past run.0 run.1 in
     let step = run.2 in
-    let good = done_good players past run.0 s.event s.lines now before.agrees step.done in
+    let good = done_good players past run.0 s.event s.lines s.tells now before.agrees step.done in
     record {
       agrees = record {
         who = good.who;
         said = good.said;
         alike = alike_then s.event s.lines s.tells run.0.known now.known (known_in past) step.known before.agrees.alike;
         asked = subst (AreAsked players (s ∷ past)) (sym step.known.owed) (asked_then players past run.0 s.event s.lines s.tells now before.agrees step.done);
-        came = came_then players past run.0 s.event s.lines now before.agrees step.done;
+        came = came_then players past run.0 s.event s.lines s.tells now before.agrees step.done;
       };
       right = (good.right, good.whole, before.right);
       told = (told_alike s.event s.lines s.tells run.0.known (known_in past) before.agrees.alike step.told, before.told);

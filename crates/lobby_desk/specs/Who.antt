@@ -1,5 +1,5 @@
 -- For whom connections act, and what a step of the desk does.
-use Rattle.std.specs.Prelude.{ℕ, ◌≡◌, ◌<◌, ◌^◌, ◌⊎◌, Bool, true, false, ◌&&◌, ◌||◌, ◌==◌, List, [], ◌∷◌, ◌++◌, ◌+◌, codes, map, Option, None, Some, IsSome, IsSomeAnd, IfSome, option_and_then, if◌then◌else◌}
+use Rattle.std.specs.Prelude.{ℕ, ◌≡◌, ◌<◌, ◌^◌, ◌⊎◌, Bool, true, false, ◌&&◌, ◌||◌, ◌==◌, List, [], ◌∷◌, ◌++◌, ◌+◌, codes, decimal, map, Option, None, Some, IsSome, IsSomeAnd, IfSome, option_and_then, if◌then◌else◌}
 use Rattle.std.specs.List.{list_any}
 use Rattle.std.specs.Str.{bytes_eq}
 use Rattle.std.specs.BTreeMap.{BTreeMap, get}
@@ -18,11 +18,11 @@ use Rattle.lobby_desk.specs.declared.watching.Watch.{Watch}
 use Rattle.lobby_desk.specs.declared.desk.Desk.{Desk}
 use Rattle.lobby_desk.specs.Words.{word_of, rest_of, is_message, sort_of, number_in}
 use Rattle.lobby_desk.specs.Players.{holder_of}
-use Rattle.lobby_desk.specs.Plans.{plan_of}
+use Rattle.lobby_desk.specs.Plans.{refusal_text, plan_of}
 use Rattle.lobby_desk.specs.Lines.{bytes_of, lines_of, act_lines, said_after, notice_lines, IsNamed}
 use Rattle.lobby_desk.specs.Answers.{IsSeated}
-use Rattle.lobby_desk.specs.Events.{Event, Opened, Closed, Said, Hurried, Heard, Gone, Here, Telling, ForAct, Owed, Asker, Dropper, owed_of, owed_last, plan_asker, follower}
-use Rattle.lobby_desk.specs.Tellings.{Known, is_whole, answer, is_told, watch_front, table_front, owes, watches_now, table_now, owed_now, left_now, begun_now, last_now, owed_answered, IsTold, IsToldOne, IsToldFor, IsToldNext}
+use Rattle.lobby_desk.specs.Events.{Event, Opened, Closed, Said, Hurried, Heard, Gone, Here, Telling, to_one, ForAct, Owed, Asker, Dropper, owed_of, owed_last, plan_asker, follower}
+use Rattle.lobby_desk.specs.Tellings.{Known, is_whole, answer, is_told, watch_front, table_front, owes, watches_now, table_now, owed_now, left_now, begun_now, last_now, owed_answered, presence, IsTold, IsToldFor, IsToldNext}
 
 -- a line of an answer is taken: the whole answer is given where it was the last
 abbrev pub IsTaken : {A : Type 0} → Coming → List ℕ → Option (String A) → Coming → Type 0
@@ -72,12 +72,19 @@ is_own plans.LeaveLobby = true
 is_own (plans.Leave game) = true
 is_own _ = false
 
-abbrev pub IsAnsweredIf : Bool → ℕ → List Telling → Type 0
-IsAnsweredIf true c tells = IsToldOne c tells
-IsAnsweredIf false c tells = tells ≡ []
+-- Such an answer: a refusal says why, and what is left is named; the texts for `login` and `players` are not told here.
+abbrev pub IsOwnText : Plan → List ℕ → Type 0
+IsOwnText (plans.Refuse refusal) text = text ≡ refusal_text refusal
+IsOwnText plans.LeaveLobby text = text ≡ codes "ok leave lobby\n"
+IsOwnText (plans.Leave game) text = text ≡ codes "ok leave " ++ decimal game ++ codes "\n"
+IsOwnText _ text = Unit {0}
+
+abbrev pub IsAnsweredIf : Bool → Plan → ℕ → List Telling → Type 0
+IsAnsweredIf true plan c tells = (text : List ℕ) × IsOwnText plan text × (tells ≡ to_one c text ∷ [])
+IsAnsweredIf false plan c tells = tells ≡ []
 
 abbrev pub IsAnswered : Plan → ℕ → List Telling → Type 0
-IsAnswered plan c tells = IsAnsweredIf (is_own plan) c tells
+IsAnswered plan c tells = IsAnsweredIf (is_own plan) plan c tells
 
 -- whether a connection watches a game
 abbrev pub is_watch : ℕ → ℕ → Watch → Bool
@@ -138,7 +145,7 @@ said_event false c text = Said c text
 
 -- The plan for a message is carried out: these lines go out, and of the players for whom connections act no more changes
 -- than a login says. That too many games wait for a second player is said to `open` alone.
-pub record IsSaid (players : List Player) (old : View) (c : ℕ) (text : List ℕ) (lines : List (List ℕ)) (new : View) : Type 0 where
+pub record IsSaid (players : List Player) (old : View) (c : ℕ) (text : List ℕ) (lines : List (List ℕ)) (tells : List Telling) (new : View) : Type 0 where
   pub standing : Standing
   pub who : standing.who ≡ old.who c
   pub holder : standing.holder ≡ holder_of players (rest_of text)
@@ -148,6 +155,7 @@ pub record IsSaid (players : List Player) (old : View) (c : ℕ) (text : List �
   pub planned : plan ≡ plan_of (is_message text) (sort_of text) standing (number_in (rest_of text))
   pub named : IsNamed plan
   pub lines_are : lines ≡ lines_of plan old.said text
+  pub answers : IsAnswered plan c tells
   pub next_is : new.next ≡ old.next
   pub said_is : new.said ≡ said_after plan old.said
   pub here_is : new.here ≡ old.here
@@ -191,8 +199,9 @@ pub record IsMoved (old : View) (c : ℕ) (lines : List (List ℕ)) (new : View)
   pub here_is : new.here ≡ old.here
   pub who_is : (d : ℕ) → new.who d ≡ (if c == d then None else old.who d)
 
--- A connection came: it has the number that comes next, which none had before.
-pub record IsOpened (old : View) (c : ℕ) (lines : List (List ℕ)) (new : View) : Type 0 where
+-- A connection came: it has the number that comes next, which none had before, and is told whether the server is there.
+pub record IsOpened (old : View) (c : ℕ) (lines : List (List ℕ)) (tells : List Telling) (new : View) : Type 0 where
+  pub told : tells ≡ to_one c (presence old.here) ∷ []
   pub moved : IsMoved old c lines new
   pub number : c ≡ old.next
   pub next_is : new.next ≡ c + 1
@@ -219,14 +228,14 @@ pub record IsTurned (old : View) (here : Bool) (lines : List (List ℕ)) (new : 
   pub who_is : (d : ℕ) → new.who d ≡ old.who d
 
 -- what the desk does about an event: the lines that go out, and for whom connections act then
-abbrev pub IsDone : List Player → View → Event → List (List ℕ) → View → Type 0
-IsDone players old (Opened c) lines new = IsOpened old c lines new
-IsDone players old (Closed c) lines new = IsClosed old c lines new
-IsDone players old (Said c text) lines new = IsSaid players old c text lines new
-IsDone players old (Hurried c) lines new = IsHurried old lines new
-IsDone players old (Heard line) lines new = IsHeard old line lines new
-IsDone players old Gone lines new = IsTurned old false lines new
-IsDone players old Here lines new = IsTurned old true lines new
+abbrev pub IsDone : List Player → View → Event → List (List ℕ) → List Telling → View → Type 0
+IsDone players old (Opened c) lines tells new = IsOpened old c lines tells new
+IsDone players old (Closed c) lines tells new = IsClosed old c lines new
+IsDone players old (Said c text) lines tells new = IsSaid players old c text lines tells new
+IsDone players old (Hurried c) lines tells new = IsHurried old lines new
+IsDone players old (Heard line) lines tells new = IsHeard old line lines new
+IsDone players old Gone lines tells new = IsTurned old false lines new
+IsDone players old Here lines tells new = IsTurned old true lines new
 
 -- What is known then. Of a connection that is told of a game, or of the table, what came and went says that it is.
 pub record IsKnown (event : Event) (lines : List (List ℕ)) (tells : List Telling) (old new : Known) : Type 0 where
@@ -239,7 +248,7 @@ pub record IsKnown (event : Event) (lines : List (List ℕ)) (tells : List Telli
 
 -- a step: what comes in, the lines that go to the server, and what connections are told
 pub record IsStep (players : List Player) (old : View) (event : Event) (lines : List (List ℕ)) (tells : List Telling) (new : View) : Type 0 where
-  pub done : IsDone players old event lines new
+  pub done : IsDone players old event lines tells new
   pub known : IsKnown event lines tells old.known new.known
   pub told : IsTold event lines tells old.known
 

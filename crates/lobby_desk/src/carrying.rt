@@ -1,9 +1,9 @@
 //! What is done by a plan for a message.
-ghost use Rattle.std.specs.Prelude.{ℕ, List, ◌≡◌, ◌++◌, ◌==◌, ◌&&◌, false, IfOk, OnOk, map, is_some, if◌then◌else◌};
+ghost use Rattle.std.specs.Prelude.{ℕ, List, ◌≡◌, ◌++◌, ◌==◌, ◌&&◌, false, IfOk, IfSome, OnOk, map, is_some, if◌then◌else◌};
 ghost use Rattle.std.specs.String.{string_bytes};
 ghost use Rattle.lobby_desk.specs.Lines.{bytes_of, lines_of, said_after, IsNamed};
 ghost use Rattle.lobby_desk.specs.Events.{Telling, tellings, owed_of, owed_last, plan_asker};
-ghost use Rattle.lobby_desk.specs.Who.{who_in, who_noted, is_left, is_risen, is_own, watched, at_table, IsAnswered};
+ghost use Rattle.lobby_desk.specs.Who.{who_in, who_noted, is_left, is_risen, is_own, watched, at_table, IsOwnText, IsAnswered};
 
 use crate::planning::Plan;
 use crate::players::{Identity, Player, Visitor};
@@ -44,7 +44,8 @@ pub fn answer_plan(
 
 // The line that a connection is answered for a plan by which nothing is sent.
 fn own_answer(alloc: Global, plan: &Plan, players: &[Player]) -> Result<Option<String>, AllocError>
-    ensures { IfOk result (λ answer. is_some answer ≡ is_own plan.now) }
+    ensures own { IfOk result (λ answer. is_some answer ≡ is_own plan.now) }
+    ensures text { IfOk result (λ answer. IfSome answer (λ text. IsOwnText plan.now (string_bytes text))) }
 {
     match plan {
         Plan::Refuse(refusal) => Ok(Some(String::from_str(alloc, refusal.line())?)),
