@@ -146,7 +146,10 @@ def written(answers):
 def unescape(text):
     out, i = '', 0
     while i < len(text):
-        if text[i] == '\\':
+        if text[i:i + 2] == '\\x':
+            out += chr(int(text[i + 2:i + 4], 16))
+            i += 4
+        elif text[i] == '\\':
             out += {'n': '\n', 'r': '\r', '\\': '\\'}[text[i + 1]]
             i += 2
         else:

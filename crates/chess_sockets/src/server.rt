@@ -4,8 +4,8 @@ ghost use Rattle.std.specs.Bool.{OnTrue, OnFalse};
 ghost use Rattle.table_commits.specs.Means.{IsKept};
 ghost use Rattle.chess_hub.specs.Faults.{CountsFault, refusals_after};
 ghost use Rattle.chess_hub.specs.Turning.{MayBeAsked, Lasts, IsTried};
-ghost use Rattle.chess_sockets.specs.Serving.{state_of, unknown, Welcomes, HasServed, HasGoneRound, open_in};
-ghost use Rattle.chess_sockets.specs.Turns.{EndsServing, IsCounted, IsRefusal, IsTurnRefusal};
+ghost use Rattle.chess_sockets.specs.Serving.{state_of, unknown, Welcomes, IsWelcomed, HasServed, HasGoneRound, open_in};
+ghost use Rattle.chess_sockets.specs.Turns.{EndsServing, IsRefusal, IsTurnRefusal};
 
 use chess_hub::{Hub, HubFault};
 use client_streams::{
@@ -115,6 +115,7 @@ impl<D: Device> Server<D> {
         ensures hub { IfOk result (λ server. server.hub ≡ hub) }
         ensures nobody { IfOk result (λ server. server.clients.items ≡ []) }
         ensures silence { IfOk result (λ server. server.silence ≡ silence) }
+        ensures away { IfOk result (λ server. server.turned_away ≡ 0) }
     {
         let door = Door::listen(net, port)?;
         let mut watch = Watch::new(net, alloc)?;
@@ -165,6 +166,7 @@ impl<D: Device> Server<D> {
         ensures port { self.new.port ≡ self.old.port }
         ensures silence { self.new.silence ≡ self.old.silence }
         ensures waits { self.new.watch.calm_waits ≡ self.old.watch.calm_waits }
+        ensures door { self.new.door ≡ self.old.door }
         ensures turned_away { self.new.turned_away ≡ self.old.turned_away }
         ensures came { OnTrue result (length self.new.clients.items ≡ length self.old.clients.items + 1) }
         ensures dropped { OnFalse result (self.new.clients.items ≡ self.old.clients.items) }
@@ -183,10 +185,11 @@ impl<D: Device> Server<D> {
         true
     }
 
-    // Accepts at most one connection, and tells whether one came; after calm rests none, unless one may wait. One that came
-    // and is no client is counted. What fails at it ends nothing, and is no turn's work, so that a rest comes before the next.
-    fn welcome(&mut self, at: u64) -> bool
-        ensures welcomes { Welcomes self.old.clients.items self.new.clients.items
+    // Begins a session for a connection that came, or counts it as turned away.
+    fn greet(&mut self, stream: TcpStream, at: u64)
+        requires { self.old.door.found ≡ Found.Connection }
+        ensures welcomes { IsWelcomed self.new.door.found self.old.turned_away self.new.turned_away
+            self.old.clients.items self.new.clients.items
             (state_of self.old.hub.sessions self.old.hub.store.table)
             (state_of self.new.hub.sessions self.new.hub.store.table) }
         ensures store { self.new.hub.store ≡ self.old.hub.store }
@@ -194,18 +197,31 @@ impl<D: Device> Server<D> {
         ensures port { self.new.port ≡ self.old.port }
         ensures silence { self.new.silence ≡ self.old.silence }
         ensures waits { self.new.watch.calm_waits ≡ self.old.watch.calm_waits }
-        ensures counted { OnTrue result (IsCounted (length self.old.clients.items) (length self.new.clients.items)
-            self.old.turned_away self.new.turned_away) }
-        ensures none { OnFalse result (self.new.turned_away ≡ self.old.turned_away) }
+    {
+        if !self.admit(stream, at) {
+            self.turned_away = self.turned_away.saturating_add(1);
+        }
+    }
+
+    // Accepts at most one connection, and tells whether one came; after calm rests none, unless one may wait. One that came
+    // and is no client is counted. What fails at it ends nothing, and is no turn's work, so that a rest comes before the next.
+    fn welcome(&mut self, at: u64) -> bool
+        ensures welcomes { IsWelcomed self.new.door.found self.old.turned_away self.new.turned_away
+            self.old.clients.items self.new.clients.items
+            (state_of self.old.hub.sessions self.old.hub.store.table)
+            (state_of self.new.hub.sessions self.new.hub.store.table) }
+        ensures store { self.new.hub.store ≡ self.old.hub.store }
+        ensures refusals { self.new.hub.refusals ≡ self.old.hub.refusals }
+        ensures port { self.new.port ≡ self.old.port }
+        ensures silence { self.new.silence ≡ self.old.silence }
+        ensures waits { self.new.watch.calm_waits ≡ self.old.watch.calm_waits }
     {
         if !asks_for_one(self.rested, self.door.found()) {
             return false;
         }
         match next_connection(&mut self.door) {
             Some(stream) => {
-                if !self.admit(stream, at) {
-                    self.turned_away = self.turned_away.saturating_add(1);
-                }
+                self.greet(stream, at);
                 true
             }
             None => false,
@@ -217,6 +233,8 @@ impl<D: Device> Server<D> {
         ensures stay { self.new.clients.items ≡ open_in self.old.hub.sessions self.old.clients.items }
         ensures hub { self.new.hub ≡ self.old.hub }
         ensures rested { self.new.rested ≡ self.old.rested }
+        ensures door { self.new.door ≡ self.old.door }
+        ensures turned_away { self.new.turned_away ≡ self.old.turned_away }
         ensures port { self.new.port ≡ self.old.port }
         ensures silence { self.new.silence ≡ self.old.silence }
         ensures waits { self.new.watch.calm_waits ≡ self.old.watch.calm_waits }
@@ -240,9 +258,11 @@ impl<D: Device> Server<D> {
         ensures fault { IfErr result EndsServing }
         ensures counts { self.new.hub.refusals ≡ refusals_after result self.old.hub.refusals }
         // The store's own fault tells why it refused what lines ask for.
-        ensures refused { IfErr result (λ fault. IsTurnRefusal unknown fault at
-            self.old.hub.store.journal.header.seq self.old.hub.store.failed self.old.clients.items
-            (state_of self.old.hub.sessions self.old.hub.store.table) self.new.hub.store.table) }
+        ensures refused { IfErr result (λ fault. IsTurnRefusal unknown self.new.door.found self.old.turned_away
+            self.new.turned_away fault at self.old.hub.store.journal.header.seq self.old.hub.store.failed
+            self.old.clients.items self.new.clients.items
+            (state_of self.old.hub.sessions self.old.hub.store.table)
+            (state_of self.new.hub.sessions self.new.hub.store.table)) }
         ensures tried { OnOk result (IsTried D.state D.sector_count D.failures self.old.hub.store.journal.device
             self.new.hub.store.journal.device (Ok (tt {0})) self.old.hub.store.table self.new.hub.store.table
             self.old.hub.store.failed self.new.hub.store.failed) }
@@ -252,7 +272,9 @@ impl<D: Device> Server<D> {
         ensures again { OnOk result (self.new.rested ≡ Rested.Not) }
         // Each session is fed one piece at most, and what it is given goes to its client. Of which bytes a socket gave and
         // took std says nothing: they are `unknown` here, and told in `serve_clients`.
-        ensures served { OnOk result (HasGoneRound unknown unknown (MayBeAsked self.old.hub.store.failed
+        // Who came and is no client is counted.
+        ensures served { OnOk result (HasGoneRound unknown unknown self.new.door.found self.old.turned_away
+            self.new.turned_away (MayBeAsked self.old.hub.store.failed
             self.old.hub.store.journal.header.seq self.old.hub.store.table.entries) at self.old.clients.items
             self.new.clients.items (state_of self.old.hub.sessions self.old.hub.store.table)
             (state_of self.new.hub.sessions self.new.hub.store.table)) }
@@ -292,6 +314,7 @@ impl<D: Device> Server<D> {
         ensures calm { self.new.rested ≡ Rested.Calm
             → self.new.watch.calm_waits ≡ self.old.watch.calm_waits + 1 }
         ensures woken { self.old.rested ≡ Rested.Woken → self.new.rested ≡ Rested.Woken }
+        ensures turned_away { self.new.turned_away ≡ self.old.turned_away }
         ensures port { self.new.port ≡ self.old.port }
         ensures silence { self.new.silence ≡ self.old.silence }
     {

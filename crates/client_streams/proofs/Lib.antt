@@ -3,3 +3,5 @@ pub mod SendLemmas
 pub mod ClientLemmas
 pub mod TakingLemmas
 pub mod RoundLemmas
+pub mod WaitLemmas
+pub mod HeardLemmas

@@ -1,6 +1,7 @@
 -- What a connection does for its session.
 use Rattle.std.specs.Prelude.{ℕ, ◌≡◌, ◌≢◌, ◌≤◌, ◌+◌, ◌⊎◌, true, false, List, [], ◌∷◌, ◌++◌, Option, None, IsSome, IfSome, option_map}
 use Rattle.std.specs.Io.KnownBytes.{Consumes}
+use Rattle.std.specs.List.{All}
 use Rattle.session_lines.specs.Lines.{IsUnfinished}
 use Rattle.session_lines.specs.Heard.{heard_more}
 use Rattle.chess_sessions.specs.declared.sessions.Sessions.{Sessions}
@@ -9,6 +10,11 @@ use Rattle.client_streams.specs.declared.client.Client.{Client}
 use Rattle.client_streams.specs.Portions.{IsDearLine, IsPortion}
 use Rattle.client_streams.specs.Incoming.{held}
 use Rattle.client_streams.specs.Sending.{waiting, HandsOn}
+
+-- the moment at which something came last, after a read at a moment that brought these bytes
+abbrev pub heard_since : List ℕ → ℕ → ℕ → ℕ
+heard_since [] at before = before
+heard_since (byte ∷ bytes) at before = at
 
 abbrev pub IsOpen : Sessions → ℕ → Type 0
 IsOpen sessions sid = IsSome (session_at sessions sid)
@@ -24,6 +30,26 @@ pub record IsSilent {S : Type 0} (client : Client S) (sessions : Sessions) (at m
   pub written : waiting client.outgoing ≡ []
   pub answered : IfSome (session_at sessions client.sid) (λ s. s.heard.bytes ≡ [])
   pub unfinished : IsUnfinished (held client.incoming)
+
+-- A client of an open session has waited so long with a line that asks for much.
+pub record HasWaited {S : Type 0} (sessions : Sessions) (clients : List (Client S)) (turns : ℕ) : Type 0 where
+  pub front : List (Client S)
+  pub client : Client S
+  pub others : List (Client S)
+  pub order : clients ≡ front ++ client ∷ others
+  pub is_open : IsOpen sessions client.sid
+  pub long : client.waited ≡ turns
+
+-- One has, and none of an open session longer; or none has waited.
+pub record IsLongest {S : Type 0} (sessions : Sessions) (clients : List (Client S)) (longest : ℕ) : Type 0 where
+  pub none_longer : All (λ client. IsOpen sessions client.sid → client.waited ≤ longest) clients
+  pub some : (longest ≡ 0) ⊎ HasWaited sessions clients longest
+
+-- Where bytes came at this moment it is the moment at which something came last, and else that is as before.
+pub record IsHeardAt (before after : Option (List ℕ)) (at old new : ℕ) : Type 0 where
+  pub taken : List ℕ
+  pub consumed : Consumes before after taken
+  pub moment : new ≡ heard_since taken at old
 
 -- ---- what comes
 

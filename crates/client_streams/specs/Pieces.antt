@@ -14,6 +14,16 @@ HasCome old new piece (Bytes count) = (0 < count) × (count ≤ length piece) ×
 HasCome old new piece End = Consumes old new [] × IsAtEnd new
 HasCome old new piece Fault = Keeps old new
 
+-- what a read brought of a reader's bytes: some, or none
+abbrev pub IsBrought : Came → List ℕ → Type 0
+IsBrought (Bytes count) taken = taken ≢ []
+IsBrought came taken = taken ≡ []
+
+pub record Brings (before after : Option (List ℕ)) (came : Came) : Type 0 where
+  pub taken : List ℕ
+  pub consumed : Consumes before after taken
+  pub brought : IsBrought came taken
+
 -- Bytes came of a reader, and stand behind those that were held back; none came where these have a line.
 pub record Takes (before after : Option (List ℕ)) (old new : List ℕ) : Type 0 where
   pub taken : List ℕ

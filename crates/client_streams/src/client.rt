@@ -3,7 +3,7 @@ ghost use Rattle.std.specs.Prelude.{◌≡◌, ◌≢◌, ◌≤◌, ◌++◌, �
 ghost use Rattle.std.specs.Bool.{OnTrue, OnFalse};
 ghost use Rattle.std.specs.Io.KnownBytes.{Keeps};
 ghost use Rattle.chess_sessions.specs.Session.{said, session_at};
-ghost use Rattle.client_streams.specs.Clients.{IsOpen, OthersStay, IsSilent, HasHeard, GivesOn, TakesIn, HandsOut, bytes_of, to_go};
+ghost use Rattle.client_streams.specs.Clients.{IsOpen, OthersStay, IsSilent, IsHeardAt, HasHeard, GivesOn, TakesIn, HandsOut, bytes_of, to_go};
 ghost use Rattle.client_streams.specs.Portions.{IsPortion};
 ghost use Rattle.session_lines.specs.Lines.{IsUnfinished};
 ghost use Rattle.client_streams.specs.Incoming.{held};
@@ -50,6 +50,7 @@ impl<S> Client<S> {
     /// A connection that begins, for a session that is open.
     pub fn new(alloc: Global, stream: S, sid: Sid, at: u64) -> Client<S>
         ensures sid { result.sid ≡ sid }
+        ensures heard { result.heard_at ≡ at }
         ensures nothing { (held result.incoming ≡ []) × (waiting result.outgoing ≡ []) }
     {
         Client {
@@ -166,12 +167,15 @@ struct Wrote {
 }
 
 impl<S: Read + Write> Client<S> {
+    #[tactic(auto, using(crate::proofs::HeardLemmas::heard_as_before, crate::proofs::HeardLemmas::heard_now, crate::proofs::HeardLemmas::heard_nothing, crate::proofs::HeardLemmas::heard_interrupted, crate::proofs::HeardLemmas::heard_end, crate::proofs::HeardLemmas::heard_fault))]
     // Reads at most one piece, unless the peer sends no more, and holds it back. `Nothing` where there is none to read for
     // now.
     fn read_more(&mut self, at: u64, piece: &mut [u8; PIECE_ROOM]) -> Came
         requires { IsUnfinished (held self.old.incoming) }
         ensures takes { Takes (S.remaining self.old.stream) (S.remaining self.new.stream) (held self.old.incoming)
             (held self.new.incoming) }
+        ensures heard { IsHeardAt (S.remaining self.old.stream) (S.remaining self.new.stream) at self.old.heard_at
+            self.new.heard_at }
         ensures quiet { self.new.is_quiet ≡ true → (result ≡ Came.Nothing)
             × Keeps (S.remaining self.old.stream) (S.remaining self.new.stream)
             × (held self.new.incoming ≡ held self.old.incoming) }
@@ -199,6 +203,7 @@ impl<S: Read + Write> Client<S> {
             (held self.old.incoming) (held self.new.incoming) s (session_at sessions.new self.old.sid)) }
         ensures peer { (self.new.sid ≡ self.old.sid) × (waiting self.new.outgoing ≡ waiting self.old.outgoing) }
         ensures quiet { self.new.is_quiet ≡ self.old.is_quiet }
+        ensures heard { self.new.heard_at ≡ self.old.heard_at }
         ensures stream { self.new.stream ≡ self.old.stream }
         ensures others { OthersStay sessions.old sessions.new self.old.sid }
     {
@@ -217,6 +222,7 @@ impl<S: Read + Write> Client<S> {
         }
     }
 
+    #[tactic(auto, using(crate::proofs::HeardLemmas::heard_as_before))]
     /// Reads at most one piece for the session, unless a line of it is held back or the peer doesn't take its answers; and
     /// gives the session a portion, once the lines before are answered and the answers are written: one line that asks for
     /// much, where the turn has room for it, or up to 16 that don't. The session is closed after a fault, and where memory is
@@ -233,6 +239,8 @@ impl<S: Read + Write> Client<S> {
             (S.remaining self.old.stream) (S.remaining self.new.stream) (held self.old.incoming)
             (held self.new.incoming) s (session_at sessions.new self.old.sid)) }
         ensures peer { (self.new.sid ≡ self.old.sid) × (waiting self.new.outgoing ≡ waiting self.old.outgoing) }
+        ensures heard { IsHeardAt (S.remaining self.old.stream) (S.remaining self.new.stream) at self.old.heard_at
+            self.new.heard_at }
         // Who has sent something is asked for more.
         ensures quiet { self.new.is_quiet ≡ true → (result ≡ false)
             × Keeps (S.remaining self.old.stream) (S.remaining self.new.stream)

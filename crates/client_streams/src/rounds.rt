@@ -1,8 +1,8 @@
 //! What a turn of a server does for all its clients, one after the other.
-ghost use Rattle.std.specs.Prelude.{◌≡◌, ◌↔◌, true, None, IsTrue, IsSomeAnd};
+ghost use Rattle.std.specs.Prelude.{◌≡◌, ◌≤◌, ◌↔◌, ◌⊎◌, true, None, IsTrue, IsSomeAnd};
 ghost use Rattle.std.specs.Bool.{OnTrue, OnFalse};
 ghost use Rattle.chess_sessions.specs.Session.{Changes, IsUnchanged};
-ghost use Rattle.client_streams.specs.Clients.{IsOpen, IsSilent};
+ghost use Rattle.client_streams.specs.Clients.{IsOpen, IsSilent, IsLongest};
 ghost use Rattle.client_streams.specs.Rounds.{intake, AreRead, IsRead, AreWritten, IsWritten};
 
 use crate::client::Client;
@@ -81,13 +81,27 @@ fn read_for<S: Read + Write>(
     any
 }
 
+// The longer of two waits: this, and that of a client with a line that asks for much, if its session is open.
+fn longer<S>(client: &Client<S>, sessions: &Sessions, longest: u32) -> u32
+    ensures least { longest ≤ result }
+    ensures own { IsOpen sessions.now client.now.sid → client.now.waited ≤ result }
+    ensures which { (result ≡ longest) ⊎ (IsOpen sessions.now client.now.sid × (client.now.waited ≡ result)) }
+{
+    let waited = client.waited();
+    if waited > longest && sessions.is_open(client.sid()) {
+        waited
+    } else {
+        longest
+    }
+}
+
 // For how many turns a client of an open session has waited that has waited longest with a line that asks for much.
-fn longest_wait<S>(clients: &[Client<S>], sessions: &Sessions) -> u32 {
+fn longest_wait<S>(clients: &[Client<S>], sessions: &Sessions) -> u32
+    ensures { IsLongest sessions.now clients.now result }
+{
     let mut longest = 0;
     for client in clients {
-        if sessions.is_open(client.sid()) && client.waited() > longest {
-            longest = client.waited();
-        }
+        longest = longer(client, sessions, longest);
     }
     longest
 }

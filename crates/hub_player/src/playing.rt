@@ -18,24 +18,57 @@ pub struct Player {
     hub: Option<Hub<MemoryDevice>>,
 }
 
+/// How far a text is in naming a byte.
+#[derive(Clone, Copy, PartialEq, Eq)]
+enum Escape {
+    Not,
+    Backslash,
+    /// The first digit of two is to come.
+    Hex,
+    /// It was this one.
+    Digit(u8),
+}
+
+fn hex_digit(byte: u8) -> Option<u8> {
+    match byte {
+        b'0'..=b'9' => Some(byte - b'0'),
+        b'a'..=b'f' => Some(byte - b'a' + 10),
+        _ => None,
+    }
+}
+
+// How far a text is after a byte more, and the byte that it names by then; `None` where it names none.
+fn step(escape: Escape, byte: u8) -> Option<(Escape, Option<u8>)> {
+    match escape {
+        Escape::Not if byte == b'\\' => Some((Escape::Backslash, None)),
+        Escape::Not => Some((Escape::Not, Some(byte))),
+        Escape::Backslash => match byte {
+            b'n' => Some((Escape::Not, Some(b'\n'))),
+            b'r' => Some((Escape::Not, Some(b'\r'))),
+            b'\\' => Some((Escape::Not, Some(b'\\'))),
+            b'x' => Some((Escape::Hex, None)),
+            _ => None,
+        },
+        Escape::Hex => Some((Escape::Digit(hex_digit(byte)?), None)),
+        Escape::Digit(high) => Some((Escape::Not, Some(high << 4 | hex_digit(byte)?))),
+    }
+}
+
 // The bytes that a text names.
 fn bytes_of(alloc: Global, text: &str) -> Result<Vec<u8>, Fault> {
     let mut bytes = Vec::new(alloc);
-    let mut is_escaped = false;
+    let mut escape = Escape::Not;
     for byte in text.as_bytes() {
-        if is_escaped {
-            is_escaped = false;
-            match byte {
-                b'n' => bytes.push(b'\n').map_err(AllocError::from)?,
-                b'r' => bytes.push(b'\r').map_err(AllocError::from)?,
-                b'\\' => bytes.push(b'\\').map_err(AllocError::from)?,
-                _ => return Err(Fault::Input),
-            }
-        } else if *byte == b'\\' {
-            is_escaped = true;
-        } else {
-            bytes.push(*byte).map_err(AllocError::from)?;
+        let Some((next, named)) = step(escape, *byte) else {
+            return Err(Fault::Input);
+        };
+        escape = next;
+        if let Some(named) = named {
+            bytes.push(named).map_err(AllocError::from)?;
         }
+    }
+    if escape != Escape::Not {
+        return Err(Fault::Input);
     }
     Ok(bytes)
 }

@@ -3,6 +3,7 @@ use Rattle.std.proofs.Common.{ℕ, List, Option, None, IfSome, ap, refl, subst, 
 use Rattle.chess_sessions.specs.Session.{Changes, session_at}
 use Rattle.client_streams.specs.Clients.{GivesOn, TakesIn}
 use Rattle.client_streams.specs.Incoming.{held}
+use Rattle.client_streams.proofs.HeardLemmas.{heard_as_before, heard_on}
 use Rattle.client_streams.proofs.TakingLemmas.{takes-nothing, takes-in, gives-nothing, gives-closed}
 use Rattle.client_streams.proofs.client.Client.take_in.Goals as goal
 
@@ -79,3 +80,21 @@ returns-in-Bytes-clause-taken g c =
     (held client.incoming) (held after.incoming) s (session_at new client.sid))) (sym (ap rest c.hand_on-in-Bytes.ensures.stream))
     (takes-in room left (session_at old client.sid) (session_at new client.sid) (rest client.stream) (rest between.stream)
     (held client.incoming) (held between.incoming) (held after.incoming) c.read_more.ensures.takes gives)
+
+pub returns-then-not-is_unfinished-clause-heard : goal.returns-then-not-is_unfinished-clause-heard
+returns-then-not-is_unfinished-clause-heard g c =
+    let client = c.args.self.now in
+    let rest = g.S.Read.remaining in
+    let after = c.hand_on.new.self in
+    heard_on (rest client.stream) (rest client.stream) (rest after.stream) c.args.at client.heard_at client.heard_at
+    after.heard_at (heard_as_before (rest client.stream) c.args.at client.heard_at) (ap rest c.hand_on.ensures.stream)
+    c.hand_on.ensures.heard
+
+pub returns-in-Bytes-clause-heard : goal.returns-in-Bytes-clause-heard
+returns-in-Bytes-clause-heard g c =
+    let client = c.args.self.now in
+    let between = c.read_more.new.self in
+    let after = c.hand_on-in-Bytes.new.self in
+    let rest = g.S.Read.remaining in
+    heard_on (rest client.stream) (rest between.stream) (rest after.stream) c.args.at client.heard_at between.heard_at
+    after.heard_at c.read_more.ensures.heard (ap rest c.hand_on-in-Bytes.ensures.stream) c.hand_on-in-Bytes.ensures.heard
