@@ -128,19 +128,19 @@ module _ (Same : Type 0) (at : ℕ) (sessions : Sessions) (seq : ℕ) (failed : 
   turn_ends (hub.Store fault) why = submit_fault fault seq failed before after _ why.those.why
 
   -- nothing was asked of the store, or it refused
-  pub turn_refusal : {S : Type 0} (remaining : S → Option (List ℕ)) (clients read : List (Client S)) (old new : HubState)
-      (table : TableState) → AreRead remaining clients read old (state_of sessions table)
+  pub turn_refusal : {S : Type 0} (remaining : S → Option (List ℕ)) (silence : Option ℕ) (clients read : List (Client S)) (old new : HubState)
+      (table : TableState) → AreRead remaining silence at clients read old (state_of sessions table)
       → IsUnchanged sessions new.sessions → before ≡ old.table → after ≡ new.table → (Same → after ≡ before)
-      → (fault : HubFault) → IsOfTurn fault → IsRefusal remaining fault at seq failed clients read old new
-  turn_refusal remaining clients read old new table hears kept same next idle hub.Busy why = why
-  turn_refusal remaining clients read old new table hears kept same next idle hub.NoMemory why = record {
+      → (fault : HubFault) → IsOfTurn fault → IsRefusal remaining silence fault at seq failed clients read old new
+  turn_refusal remaining silence clients read old new table hears kept same next idle hub.Busy why = why
+  turn_refusal remaining silence clients read old new table hears kept same next idle hub.NoMemory why = record {
     heard = state_of sessions table;
     reads = hears;
     kept = kept;
     why = sym next ∙ idle why ∙ same;
   }
-  turn_refusal remaining clients read old new table hears kept same next idle hub.LineTooLong why = why
-  turn_refusal remaining clients read old new table hears kept same next idle (hub.Store fault) why = record {
+  turn_refusal remaining silence clients read old new table hears kept same next idle hub.LineTooLong why = why
+  turn_refusal remaining silence clients read old new table hears kept same next idle (hub.Store fault) why = record {
     heard = state_of sessions table;
     reads = hears;
     kept = kept;

@@ -42,9 +42,9 @@ IsOfReading (Turned at most) = ⊥
 IsOfReading (Given sid answer) = ⊥
 
 -- Each client is read for, and the hub is called for what their sessions hear.
-pub record AreRead {S : Type 0} (remaining : S → Option (List ℕ)) (clients read : List (Client S)) (old new : HubState)
-    : Type 0 where
-  pub each : rounds.AreRead remaining clients read old.sessions new.sessions
+pub record AreRead {S : Type 0} (remaining : S → Option (List ℕ)) (silence : Option ℕ) (at : ℕ)
+    (clients read : List (Client S)) (old new : HubState) : Type 0 where
+  pub each : rounds.AreRead remaining silence at clients read old.sessions new.sessions
   pub calls : IsLedBy IsOfReading old new
 
 -- ---- what goes
@@ -96,27 +96,27 @@ pub record IsWelcomed {S : Type 0} (found : Found) (count counted : ℕ) (client
 
 -- Each client is read for, and then the hub answers at most 64 lines of what the sessions had sent by then, as one batch
 -- at this moment, which the store may be asked for.
-pub record HasReadAndAnswered {S : Type 0} (remaining : S → Option (List ℕ)) (May : List Command → Type 0) (at : ℕ)
-    (clients read : List (Client S)) (old answered : HubState) : Type 0 where
+pub record HasReadAndAnswered {S : Type 0} (remaining : S → Option (List ℕ)) (silence : Option ℕ)
+    (May : List Command → Type 0) (at : ℕ) (clients read : List (Client S)) (old answered : HubState) : Type 0 where
   pub heard : HubState
-  pub reads : AreRead remaining clients read old heard
+  pub reads : AreRead remaining silence at clients read old heard
   pub turned : Steps heard (Turned at 64) answered
   pub works : AsksFor at 64 heard.sessions May
 
 -- And then the answers are written.
-pub record HasServed {S : Type 0} (remaining contents : S → Option (List ℕ)) (May : List Command → Type 0) (at : ℕ)
-    (clients written : List (Client S)) (old new : HubState) : Type 0 where
+pub record HasServed {S : Type 0} (remaining contents : S → Option (List ℕ)) (silence : Option ℕ)
+    (May : List Command → Type 0) (at : ℕ) (clients written : List (Client S)) (old new : HubState) : Type 0 where
   pub read : List (Client S)
   pub answered : HubState
-  pub answers : HasReadAndAnswered remaining May at clients read old answered
+  pub answers : HasReadAndAnswered remaining silence May at clients read old answered
   pub writes : AreWritten contents read written answered new
 
 -- A turn of the server: each client whose session is open, and who came, is served. Who is left has an open session.
-pub record HasGoneRound {S : Type 0} (remaining contents : S → Option (List ℕ)) (found : Found) (count counted : ℕ)
-    (May : List Command → Type 0) (at : ℕ) (clients left : List (Client S)) (old new : HubState) : Type 0 where
+pub record HasGoneRound {S : Type 0} (remaining contents : S → Option (List ℕ)) (silence : Option ℕ) (found : Found)
+    (count counted : ℕ) (May : List Command → Type 0) (at : ℕ) (clients left : List (Client S)) (old new : HubState) : Type 0 where
   pub asked : List (Client S)
   pub begun : HubState
   pub welcomes : IsWelcomed found count counted (open_in old.sessions clients) asked old begun
   pub written : List (Client S)
-  pub serves : HasServed remaining contents May at asked written begun new
+  pub serves : HasServed remaining contents silence May at asked written begun new
   pub stay : left ≡ open_in new.sessions written

@@ -21,31 +21,31 @@ EndsServing LineTooLong = ⊥
 
 -- The clients were read for, and then no line of what their sessions had heard by then was answered: so they are left, and
 -- nothing is lost for who is served again.
-pub record HasReadAlone {S : Type 0} (remaining : S → Option (List ℕ)) (clients left : List (Client S))
-    (old new : HubState) (Why : Sessions → Type 0) : Type 0 where
+pub record HasReadAlone {S : Type 0} (remaining : S → Option (List ℕ)) (silence : Option ℕ) (at : ℕ)
+    (clients left : List (Client S)) (old new : HubState) (Why : Sessions → Type 0) : Type 0 where
   pub heard : HubState
-  pub reads : AreRead remaining clients left old heard
+  pub reads : AreRead remaining silence at clients left old heard
   pub kept : IsUnchanged heard.sessions new.sessions
   pub why : Why heard.sessions
 
 -- Why clients are not served on, and what is left. Where memory was refused to the hub, the table is as it was; a store's
 -- fault is that of the commands of at most 64 lines, of what the sessions had sent by then, which went to it as one batch
 -- at this moment.
-abbrev pub IsRefusal : {S : Type 0} → (S → Option (List ℕ)) → HubFault → ℕ → ℕ → Bool → List (Client S) → List (Client S)
+abbrev pub IsRefusal : {S : Type 0} → (S → Option (List ℕ)) → Option ℕ → HubFault → ℕ → ℕ → Bool → List (Client S) → List (Client S)
     → HubState → HubState → Type 0
-IsRefusal remaining NoMemory at seq failed clients left old new =
-    HasReadAlone remaining clients left old new (λ heard. new.table ≡ old.table)
-IsRefusal remaining (Store fault) at seq failed clients left old new =
-    HasReadAlone remaining clients left old new
+IsRefusal remaining silence NoMemory at seq failed clients left old new =
+    HasReadAlone remaining silence at clients left old new (λ heard. new.table ≡ old.table)
+IsRefusal remaining silence (Store fault) at seq failed clients left old new =
+    HasReadAlone remaining silence at clients left old new
     (λ heard. AsksFor at 64 heard (AreRefused fault seq failed old.table new.table))
-IsRefusal remaining Busy at seq failed clients left old new = ⊥
-IsRefusal remaining LineTooLong at seq failed clients left old new = ⊥
+IsRefusal remaining silence Busy at seq failed clients left old new = ⊥
+IsRefusal remaining silence LineTooLong at seq failed clients left old new = ⊥
 
 -- Why a turn of the server ended: so it ended for those whose session is open and who came.
-pub record IsTurnRefusal {S : Type 0} (remaining : S → Option (List ℕ)) (found : Found) (count counted : ℕ)
+pub record IsTurnRefusal {S : Type 0} (remaining : S → Option (List ℕ)) (silence : Option ℕ) (found : Found) (count counted : ℕ)
     (fault : HubFault) (at seq : ℕ) (failed : Bool) (clients left : List (Client S)) (old new : HubState)
     : Type 0 where
   pub asked : List (Client S)
   pub begun : HubState
   pub welcomes : IsWelcomed found count counted (open_in old.sessions clients) asked old begun
-  pub refusal : IsRefusal remaining fault at seq failed asked left begun new
+  pub refusal : IsRefusal remaining silence fault at seq failed asked left begun new

@@ -74,11 +74,11 @@ pub(crate) fn serve_clients<S: Read + Write, D: Device>(
     ensures fault { IfErr result EndsServing }
     // Want of memory ends serving only where a turn of the hub was refused it.
     ensures counts { hub.new.refusals ≡ refusals_after result hub.old.refusals }
-    ensures refused { IfErr result (λ fault. IsRefusal S.remaining fault reading.at hub.old.store.journal.header.seq
+    ensures refused { IfErr result (λ fault. IsRefusal S.remaining reading.silence fault reading.at hub.old.store.journal.header.seq
         hub.old.store.failed clients.old.items (state_of hub.old.sessions hub.old.store.table) hub.new.store.table) }
     // Each session hears what its client's stream gave, and nothing else, but for what comes behind a line that is too
     // long; and what it is given goes to that stream, as far as that takes it, unless the session is closed.
-    ensures served { OnOk result (HasServed S.remaining S.contents (MayBeAsked hub.old.store.failed
+    ensures served { OnOk result (HasServed S.remaining S.contents reading.silence (MayBeAsked hub.old.store.failed
         hub.old.store.journal.header.seq hub.old.store.table.entries) reading.at clients.old.items clients.new.items
         (state_of hub.old.sessions hub.old.store.table) (state_of hub.new.sessions hub.new.store.table)) }
     ensures tried { OnOk result (IsTried D.state D.sector_count D.failures hub.old.store.journal.device
@@ -258,7 +258,7 @@ impl<D: Device, S: Read + Write + From<TcpStream> + Drop> Server<D, S> {
         ensures fault { IfErr result EndsServing }
         ensures counts { self.new.hub.refusals ≡ refusals_after result self.old.hub.refusals }
         // The store's own fault tells why it refused what lines ask for.
-        ensures refused { IfErr result (λ fault. IsTurnRefusal S.remaining self.new.door.found self.old.turned_away
+        ensures refused { IfErr result (λ fault. IsTurnRefusal S.remaining self.old.silence self.new.door.found self.old.turned_away
             self.new.turned_away fault at self.old.hub.store.journal.header.seq self.old.hub.store.failed
             self.old.clients.items self.new.clients.items
             (state_of self.old.hub.sessions self.old.hub.store.table)
@@ -272,7 +272,7 @@ impl<D: Device, S: Read + Write + From<TcpStream> + Drop> Server<D, S> {
         ensures again { OnOk result (self.new.rested ≡ Rested.Not) }
         // Each session hears what its client's stream gave, and what it is given goes to that stream, whatever the streams
         // are. Who came and is no client is counted.
-        ensures served { OnOk result (HasGoneRound S.remaining S.contents self.new.door.found self.old.turned_away
+        ensures served { OnOk result (HasGoneRound S.remaining S.contents self.old.silence self.new.door.found self.old.turned_away
             self.new.turned_away (MayBeAsked self.old.hub.store.failed
             self.old.hub.store.journal.header.seq self.old.hub.store.table.entries) at self.old.clients.items
             self.new.clients.items (state_of self.old.hub.sessions self.old.hub.store.table)
