@@ -185,18 +185,25 @@ silent_reason (Some most) client after sessions at told heard sid holds waits si
       unfinished = subst (λ (l : List ℕ). IsUnfinished l) (sym holds) silent.unfinished;
     })
 
--- a reason by facts that follow
-pub reason_weaker : {P Q R P' Q' R' : Type 0} (closing : Option Closing) → (P → P') → (Q → Q') → (R → R') →
-    IsReason closing P Q R → IsReason closing P' Q' R'
-reason_weaker None p q r is = is
-reason_weaker (Some Fault) p q r is = is
-reason_weaker (Some NoMemory) p q r is = is
-reason_weaker (Some Silence) p q r is = p is
-reason_weaker (Some End) p q r is = q is
-reason_weaker (Some Farewell) p q r is = r is
+-- said of sessions that are as they were
+reason_again : {S : Type 0} (silence : Option ℕ) (client : Client S) (a b : Sessions) (at : ℕ) (closing : Option Closing) →
+    IsUnchanged a b → IsReason closing (IsSomeAnd silence (IsSilent client b at)) ⊥ ⊥ →
+    IsReason closing (IsSomeAnd silence (IsSilent client a at)) ⊥ ⊥
+reason_again silence client a b at None h is = is
+reason_again silence client a b at (Some Fault) h is = is
+reason_again silence client a b at (Some NoMemory) h is = is
+reason_again silence client a b at (Some Silence) h is = silent_again silence client a b at h is
+reason_again silence client a b at (Some End) h is = is
+reason_again silence client a b at (Some Farewell) h is = is
 
-pub reason_of_trouble : {P Q R : Type 0} (closing : Option Closing) → IsTrouble closing → IsReason closing P Q R
-reason_of_trouble closing is = reason_weaker closing (λ no. absurd no) (λ no. absurd no) (λ no. absurd no) is
+-- the connection has failed, or memory was refused
+pub reason_of_trouble : (silent : Type 0) (closing : Option Closing) → IsTrouble closing → IsReason closing silent ⊥ ⊥
+reason_of_trouble silent None is = is
+reason_of_trouble silent (Some Fault) is = is
+reason_of_trouble silent (Some NoMemory) is = is
+reason_of_trouble silent (Some Silence) is = absurd is
+reason_of_trouble silent (Some End) is = is
+reason_of_trouble silent (Some Farewell) is = is
 
 -- a session that is as it was is not closed
 pub not_now : {P : Type 0} (m n : Option SessionState) → n ≡ m → IsSome m → n ≡ None → P
@@ -305,8 +312,7 @@ module _ {S : Type 0} (remaining : S → Option (List ℕ)) (silence : Option �
         let same = read.unread waits in
         (same.0, same.1, unchanged-trans a.sessions b.sessions c.sessions h.0 same.2);
     closed = closed_after client after a.sessions b.sessions c.sessions h.0 read.closed;
-    reason = λ is_open none. reason_weaker after.closing
-        (λ silent. silent_again silence after a.sessions b.sessions at h.0 silent) (λ no. no) (λ no. no)
+    reason = λ is_open none. reason_again silence after a.sessions b.sessions at after.closing h.0
         (read.reason (subst (λ (o : Option SessionState). IsSome o) (sym (h.0 client.sid)) is_open) none);
   }
 

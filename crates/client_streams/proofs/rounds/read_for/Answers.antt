@@ -68,7 +68,8 @@ returns g c =
     let same = c.take_in-any.ensures.unread waits in
     (same.0, same.1, unchanged_by old new same.2))
     (not_closed before _ open_now)
-    (λ was none. reason_of_trouble after.closing (c.take_in-any.ensures.reason none))
+    (λ was none. reason_of_trouble (IsSomeAnd c.args.reading.silence (IsSilent after old c.args.reading.at)) after.closing
+    (c.take_in-any.ensures.reason none))
     (sends room left (rest client.stream) (rest after.stream) (held client.incoming) (held after.incoming) client.sid
     old new before (session_at new client.sid) refl refl open_now c.take_in-any.ensures.taken
     c.take_in-any.ensures.others)

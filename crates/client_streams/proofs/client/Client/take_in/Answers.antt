@@ -53,16 +53,32 @@ returns-in-End-clause-taken g c =
 pub returns-in-Fault-clause-taken : goal.returns-in-Fault-clause-taken
 returns-in-Fault-clause-taken g c =
     let client = c.args.self.now in
-    let after = c.read_more.new.self in
+    let between = c.read_more.new.self in
+    let after = c.close.new.self in
     let room = c.args.room.now.lines in
     let old = c.args.sessions.now in
-    let new = c.close.new.self in
-    let closed = subst (λ (n : ℕ). Changes old new n None) c.read_more.ensures.peer.0 c.close.ensures in
-    takes-in room room (session_at old client.sid) (session_at new client.sid) (g.S.Read.remaining client.stream)
-    (g.S.Read.remaining after.stream) (held client.incoming) (held after.incoming) (held after.incoming)
-    c.read_more.ensures.takes
-    (gives-closed room room (session_at old client.sid) (session_at new client.sid) (held after.incoming) (omega arith)
-    closed.changed)
+    let new = c.close.new.sessions in
+    let rest = g.S.Read.remaining in
+    let closed = subst (λ (n : ℕ). Changes old new n None) c.read_more.ensures.peer.0 c.close.ensures.closed in
+    let (sid, ended, quiet, holds, waits, stream, heard_at) = c.close.ensures.peer in
+    subst (λ (b : Option (List ℕ)). IfSome (session_at old client.sid) (λ s. TakesIn room room (rest client.stream) b
+    (held client.incoming) (held after.incoming) s (session_at new client.sid))) (sym (ap rest stream))
+    (subst (λ (l : List ℕ). IfSome (session_at old client.sid) (λ s. TakesIn room room (rest client.stream)
+    (rest between.stream) (held client.incoming) l s (session_at new client.sid))) (sym holds)
+    (takes-in room room (session_at old client.sid) (session_at new client.sid) (rest client.stream) (rest between.stream)
+    (held client.incoming) (held between.incoming) (held between.incoming) c.read_more.ensures.takes
+    (gives-closed room room (session_at old client.sid) (session_at new client.sid) (held between.incoming) (omega arith)
+    closed.changed)))
+
+pub returns-in-Fault-clause-heard : goal.returns-in-Fault-clause-heard
+returns-in-Fault-clause-heard g c =
+    let client = c.args.self.now in
+    let between = c.read_more.new.self in
+    let after = c.close.new.self in
+    let rest = g.S.Read.remaining in
+    let (sid, ended, quiet, holds, waits, stream, heard_at) = c.close.ensures.peer in
+    heard_on (rest client.stream) (rest between.stream) (rest after.stream) c.args.at client.heard_at between.heard_at
+    after.heard_at c.read_more.ensures.heard (ap rest stream) heard_at
 
 pub returns-in-Bytes-clause-taken : goal.returns-in-Bytes-clause-taken
 returns-in-Bytes-clause-taken g c =
