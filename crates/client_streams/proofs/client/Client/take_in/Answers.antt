@@ -1,9 +1,12 @@
 -- What came is held back, and then the session is given what stands in front.
 use Rattle.std.proofs.Common.{ℕ, List, Option, None, IfSome, ap, refl, subst, sym, arith}
 use Rattle.chess_sessions.specs.Session.{Changes, session_at}
+use Rattle.client_streams.specs.declared.closing.Closing.{Closing}
 use Rattle.client_streams.specs.Clients.{GivesOn, TakesIn}
+use Rattle.client_streams.specs.Closings.{IsTrouble}
 use Rattle.client_streams.specs.Incoming.{held}
 use Rattle.client_streams.proofs.HeardLemmas.{heard_as_before, heard_on}
+use Rattle.client_streams.proofs.RoundLemmas.{not_closed}
 use Rattle.client_streams.proofs.TakingLemmas.{takes-nothing, takes-in, gives-nothing, gives-closed}
 use Rattle.client_streams.proofs.client.Client.take_in.Goals as goal
 
@@ -114,3 +117,24 @@ returns-in-Bytes-clause-heard g c =
     let rest = g.S.Read.remaining in
     heard_on (rest client.stream) (rest between.stream) (rest after.stream) c.args.at client.heard_at between.heard_at
     after.heard_at c.read_more.ensures.heard (ap rest c.hand_on-in-Bytes.ensures.stream) c.hand_on-in-Bytes.ensures.heard
+
+pub returns-then-not-is_empty-clause-reason : goal.returns-then-not-is_empty-clause-reason
+returns-then-not-is_empty-clause-reason g c =
+    not_closed (session_at c.args.sessions.now c.args.self.now.sid) _ c.requires
+
+pub returns-in-Nothing-clause-reason : goal.returns-in-Nothing-clause-reason
+returns-in-Nothing-clause-reason g c =
+    not_closed (session_at c.args.sessions.now c.args.self.now.sid) _ c.requires
+
+pub returns-in-End-clause-reason : goal.returns-in-End-clause-reason
+returns-in-End-clause-reason g c =
+    not_closed (session_at c.args.sessions.now c.args.self.now.sid) _ c.requires
+
+pub returns-in-Fault-clause-reason : goal.returns-in-Fault-clause-reason
+returns-in-Fault-clause-reason g c =
+    λ none. subst (λ (r : Option Closing). IsTrouble r) (sym c.close.ensures.told) tt
+
+pub returns-in-Bytes-clause-reason : goal.returns-in-Bytes-clause-reason
+returns-in-Bytes-clause-reason g c =
+    subst (λ (n : ℕ). session_at c.hand_on-in-Bytes.new.sessions n ≡ None → IsTrouble c.hand_on-in-Bytes.new.self.closing)
+    c.read_more.ensures.peer.0 c.hand_on-in-Bytes.ensures.reason
