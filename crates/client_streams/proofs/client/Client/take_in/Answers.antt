@@ -1,5 +1,5 @@
 -- What came is held back, and then the session is given what stands in front.
-use Rattle.std.proofs.Common.{ℕ, List, Option, None, IfSome, ap, refl, subst, sym, arith}
+use Rattle.std.proofs.Common.{◌≡◌, ℕ, List, Option, None, IfSome, ap, refl, subst, sym, arith}
 use Rattle.chess_sessions.specs.Session.{Changes, session_at}
 use Rattle.client_streams.specs.declared.closing.Closing.{Closing}
 use Rattle.client_streams.specs.Clients.{GivesOn, TakesIn}
