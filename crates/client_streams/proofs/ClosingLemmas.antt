@@ -22,28 +22,28 @@ left_or_not (Some s) P Q R is_open p q r = elim (cases_Bool s.has_left) [
 ]
 
 module _ {S : Type 0} (after : Client S) (session : Option SessionState) (closing : Closing)
-  (told : after.closing ≡ Some closing) where
-    abbrev HasReason : Option Closing → Type 0
-    HasReason reason = IsReason reason ⊥ (HasEnded after) (HasLeft after session)
+    (told : after.closing ≡ Some closing) where
+  abbrev HasReason : Option Closing → Type 0
+  HasReason reason = IsReason reason ⊥ (HasEnded after) (HasLeft after session)
 
-    because : (other : Closing) → closing ≡ other → HasReason (Some other) → HasReason after.closing
-    because other is has = subst HasReason (sym told) (subst (λ (c : Closing). HasReason (Some c)) (sym is) has)
+  because : (other : Closing) → closing ≡ other → HasReason (Some other) → HasReason after.closing
+  because other is has = subst HasReason (sym told) (subst (λ (c : Closing). HasReason (Some c)) (sym is) has)
 
-    pub reason_over : (sent : Sent) (over any : Bool) → over ≡ true → IsSome session → (sent ≡ sents.Part → over ≡ false) →
-        (sent ≡ sents.All → IfSome session (λ s. s.has_left ≡ false →
-        (IsTrue over ↔ ((after.has_ended ≡ true) × (any ≡ false))))) → (sent ≡ sents.Fault → closing ≡ closings.Fault) →
-        (sent ≡ sents.All → IfSome session (λ s. s.has_left ≡ true → closing ≡ closings.Farewell)) →
-        (sent ≡ sents.All → IfSome session (λ s. s.has_left ≡ false → closing ≡ closings.End)) →
-        (sent ≡ sents.All → waiting after.outgoing ≡ []) → HasReason after.closing
-    reason_over sents.Fault over any is is_open part ends fault left ended written =
-        because closings.Fault (fault refl) tt
-    reason_over sents.Part over any is is_open part ends fault left ended written =
-        absurd (false≢true (sym (part refl) ∙ is))
-    reason_over sents.All over any is is_open part ends fault left ended written =
-        elim (left_or_not session (closing ≡ closings.Farewell) (closing ≡ closings.End)
-        (IsTrue over ↔ ((after.has_ended ≡ true) × (any ≡ false))) is_open (left refl) (ended refl) (ends refl)) [
-          | inl (has_left, which) ↦
-              because closings.Farewell which (record { told = has_left; written = written refl })
-          | inr (which, both) ↦
-              because closings.End which (record { no_more = (both.0 is).0; written = written refl })
-        ]
+  pub reason_over : (sent : Sent) (over any : Bool) → over ≡ true → IsSome session → (sent ≡ sents.Part → over ≡ false) →
+      (sent ≡ sents.All → IfSome session (λ s. s.has_left ≡ false →
+      (IsTrue over ↔ ((after.has_ended ≡ true) × (any ≡ false))))) → (sent ≡ sents.Fault → closing ≡ closings.Fault) →
+      (sent ≡ sents.All → IfSome session (λ s. s.has_left ≡ true → closing ≡ closings.Farewell)) →
+      (sent ≡ sents.All → IfSome session (λ s. s.has_left ≡ false → closing ≡ closings.End)) →
+      (sent ≡ sents.All → waiting after.outgoing ≡ []) → HasReason after.closing
+  reason_over sents.Fault over any is is_open part ends fault left ended written =
+      because closings.Fault (fault refl) tt
+  reason_over sents.Part over any is is_open part ends fault left ended written =
+      absurd (false≢true (sym (part refl) ∙ is))
+  reason_over sents.All over any is is_open part ends fault left ended written =
+      elim (left_or_not session (closing ≡ closings.Farewell) (closing ≡ closings.End)
+      (IsTrue over ↔ ((after.has_ended ≡ true) × (any ≡ false))) is_open (left refl) (ended refl) (ends refl)) [
+        | inl (has_left, which) ↦
+            because closings.Farewell which (record { told = has_left; written = written refl })
+        | inr (which, both) ↦
+            because closings.End which (record { no_more = (both.0 is).0; written = written refl })
+      ]

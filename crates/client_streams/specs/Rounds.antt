@@ -60,22 +60,22 @@ Holds old new = IsUnchanged old.sessions new.sessions × (new.room ≡ old.room)
 -- only where there is room. Of a client for which answers wait nothing is read, and nothing that it sent goes on.
 pub record IsRead {S : Type 0} (remaining : S → Option (List ℕ)) (silence : Option ℕ) (at : ℕ) (client after : Client S)
     (old new : Intake) : Type 0 where
-    pub sid : after.sid ≡ client.sid
-    pub outgoing : waiting after.outgoing ≡ waiting client.outgoing
-    pub taken : List ℕ
-    pub consumed : Consumes (remaining client.stream) (remaining after.stream) taken
-    pub unfinished : taken ≢ [] → IsUnfinished (held client.incoming)
-    pub fed : List ℕ
-    pub order : held client.incoming ++ taken ≡ fed ++ held after.incoming
-    pub short : length (held after.incoming) ≤ 4096
-    pub sent : IsSent client.sid fed old.sessions new.sessions
-    pub fewer : new.room ≤ old.room
-    pub dear : IsDearLine fed → new.room + 1 ≤ old.room
-    pub unread : waiting client.outgoing ≢ [] → (after.stream ≡ client.stream)
-        × (held after.incoming ≡ held client.incoming) × IsUnchanged old.sessions new.sessions
-    pub closed : PassesClosed client after old.sessions new.sessions
-    pub reason : IsSome (session_at old.sessions client.sid) → session_at new.sessions client.sid ≡ None
-        → IsReason after.closing (IsSomeAnd silence (IsSilent after old.sessions at)) ⊥ ⊥
+  pub sid : after.sid ≡ client.sid
+  pub outgoing : waiting after.outgoing ≡ waiting client.outgoing
+  pub taken : List ℕ
+  pub consumed : Consumes (remaining client.stream) (remaining after.stream) taken
+  pub unfinished : taken ≢ [] → IsUnfinished (held client.incoming)
+  pub fed : List ℕ
+  pub order : held client.incoming ++ taken ≡ fed ++ held after.incoming
+  pub short : length (held after.incoming) ≤ 4096
+  pub sent : IsSent client.sid fed old.sessions new.sessions
+  pub fewer : new.room ≤ old.room
+  pub dear : IsDearLine fed → new.room + 1 ≤ old.room
+  pub unread : waiting client.outgoing ≢ [] → (after.stream ≡ client.stream)
+      × (held after.incoming ≡ held client.incoming) × IsUnchanged old.sessions new.sessions
+  pub closed : PassesClosed client after old.sessions new.sessions
+  pub reason : IsSome (session_at old.sessions client.sid) → session_at new.sessions client.sid ≡ None
+      → IsReason after.closing (IsSomeAnd silence (IsSilent after old.sessions at)) ⊥ ⊥
 
 -- Each client is read for. A turn has room for one line that asks for much.
 abbrev pub AreRead : {S : Type 0} → (S → Option (List ℕ)) → Option ℕ → ℕ → List (Client S) → List (Client S) → Sessions
