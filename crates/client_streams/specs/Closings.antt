@@ -1,5 +1,5 @@
 -- Why the session of a client is closed.
-use Rattle.std.specs.Prelude.{ℕ, ◌≡◌, true, [], Option, Some, None, IsSomeAnd}
+use Rattle.std.specs.Prelude.{◌≡◌, true, [], Option, Some, None, IsSomeAnd}
 use Rattle.chess_sessions.specs.Session.{SessionState}
 use Rattle.client_streams.specs.declared.client.Client.{Client}
 use Rattle.client_streams.specs.declared.closing.Closing.{Closing}

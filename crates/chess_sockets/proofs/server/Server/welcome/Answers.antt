@@ -1,6 +1,5 @@
 -- Nobody came, or who came is greeted.
 use Rattle.std.proofs.Common.{◌≡◌, refl, sym, ◌∙◌}
-use Rattle.client_streams.specs.declared.door.Found.{Found}
 use Rattle.client_streams.specs.declared.door.Found.TheVariants.{Connection, Nobody}
 use Rattle.chess_sockets.specs.Serving.{state_of}
 use Rattle.chess_sockets.proofs.ServingLemmas.{nobody_came}
