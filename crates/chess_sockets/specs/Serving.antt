@@ -1,6 +1,6 @@
 -- What a turn of the server calls the hub for: where what the sessions hear comes from, and where what they are given
 -- goes.
-use Rattle.std.specs.Prelude.{ℕ, ◌≡◌, ◌+◌, ◌-◌, ◌^◌, min, List, [], ◌∷◌, ◌++◌, Option, None, is_some, filter, ⊤}
+use Rattle.std.specs.Prelude.{ℕ, ◌≡◌, ◌+◌, ◌-◌, ◌^◌, min, List, [], ◌∷◌, ◌++◌, Option, is_some, filter, ⊤}
 use Rattle.std.specs.List.{All}
 use Rattle.chess_entry.specs.State.{TableState}
 use Rattle.chess_entry.specs.declared.commands.Command.{Command}
@@ -18,10 +18,6 @@ use Rattle.client_streams.specs.Sending.{waiting}
 
 abbrev pub state_of : Sessions → TableState → HubState
 state_of sessions table = record { sessions = sessions; table = table }
-
--- what a socket has yet to give, or has taken: no clause of std says it
-abbrev pub unknown : {S : Type 0} → S → Option (List ℕ)
-unknown stream = None
 
 -- These calls lead from one state to another; the newest stands first. Between them nothing changes.
 abbrev pub LeadsOn : HubState → List Call → HubState → Type 0
@@ -96,7 +92,7 @@ away_after found came count = count
 pub record IsWelcomed {S : Type 0} (found : Found) (count counted : ℕ) (clients after : List (Client S))
     (old new : HubState) : Type 0 where
   pub welcomes : Welcomes clients after old new
-  pub counted : counted ≡ away_after found welcomes.came count
+  pub away : counted ≡ away_after found welcomes.came count
 
 -- Each client is read for, and then the hub answers at most 64 lines of what the sessions had sent by then, as one batch
 -- at this moment, which the store may be asked for.

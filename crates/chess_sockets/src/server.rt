@@ -4,7 +4,7 @@ ghost use Rattle.std.specs.Bool.{OnTrue, OnFalse};
 ghost use Rattle.table_commits.specs.Means.{IsKept};
 ghost use Rattle.chess_hub.specs.Faults.{CountsFault, refusals_after};
 ghost use Rattle.chess_hub.specs.Turning.{MayBeAsked, Lasts, IsTried};
-ghost use Rattle.chess_sockets.specs.Serving.{state_of, unknown, Welcomes, IsWelcomed, HasServed, HasGoneRound, open_in};
+ghost use Rattle.chess_sockets.specs.Serving.{state_of, Welcomes, IsWelcomed, HasServed, HasGoneRound, open_in};
 ghost use Rattle.chess_sockets.specs.Turns.{EndsServing, IsRefusal, IsTurnRefusal};
 
 use chess_hub::{Hub, HubFault};
@@ -37,14 +37,14 @@ enum Rested {
     Woken,
 }
 
-/// Serves clients on a port of this machine.
+/// Serves clients on a port of this machine, over streams that are made of their connections.
 #[derive(Drop)]
-pub struct Server<D: Device> {
+pub struct Server<D: Device, S = TcpStream> {
     alloc: Global,
     door: Door,
     port: u16,
     hub: Hub<D>,
-    clients: Vec<Client<TcpStream>>,
+    clients: Vec<Client<S>>,
     watch: Watch,
     rested: Rested,
     /// For how many milliseconds a client may be silent.
@@ -75,7 +75,8 @@ pub(crate) fn serve_clients<S: Read + Write, D: Device>(
     // Want of memory ends serving only where a turn of the hub was refused it.
     ensures counts { hub.new.refusals ≡ refusals_after result hub.old.refusals }
     ensures refused { IfErr result (λ fault. IsRefusal S.remaining fault reading.at hub.old.store.journal.header.seq
-        hub.old.store.failed clients.old.items (state_of hub.old.sessions hub.old.store.table) hub.new.store.table) }
+        hub.old.store.failed clients.old.items clients.new.items (state_of hub.old.sessions hub.old.store.table)
+        (state_of hub.new.sessions hub.new.store.table)) }
     // Each session hears what its client's stream gave, and nothing else, but for what comes behind a line that is too
     // long; and what it is given goes to that stream, as far as that takes it, unless the session is closed.
     ensures served { OnOk result (HasServed S.remaining S.contents (MayBeAsked hub.old.store.failed
@@ -99,7 +100,7 @@ pub(crate) fn serve_clients<S: Read + Write, D: Device>(
     Ok(has_read | has_written)
 }
 
-impl<D: Device> Server<D> {
+impl<D: Device, S: Read + Write + From<TcpStream> + Drop> Server<D, S> {
     /// Listens on a port of 127.0.0.1; of port 0 the system chooses one. The system's error where it cannot be bound or
     /// watched; the hub is then given up. A client from which nothing came for `silence` milliseconds, and for which
     /// nothing waits, is closed; without that none is closed for silence.
@@ -109,7 +110,7 @@ impl<D: Device> Server<D> {
         port: u16,
         silence: Option<u64>,
         hub: Hub<D>,
-    ) -> io::Result<Server<D>>
+    ) -> io::Result<Server<D, S>>
     where
         D: Drop,
         ensures hub { IfOk result (λ server. server.hub ≡ hub) }
@@ -181,7 +182,7 @@ impl<D: Device> Server<D> {
         };
         self.watch.add(stream.as_raw_fd());
         self.clients
-            .push_reserved(Client::new(self.alloc, stream, sid, at));
+            .push_reserved(Client::new(self.alloc, S::from(stream), sid, at));
         true
     }
 
@@ -258,7 +259,7 @@ impl<D: Device> Server<D> {
         ensures fault { IfErr result EndsServing }
         ensures counts { self.new.hub.refusals ≡ refusals_after result self.old.hub.refusals }
         // The store's own fault tells why it refused what lines ask for.
-        ensures refused { IfErr result (λ fault. IsTurnRefusal unknown self.new.door.found self.old.turned_away
+        ensures refused { IfErr result (λ fault. IsTurnRefusal S.remaining self.new.door.found self.old.turned_away
             self.new.turned_away fault at self.old.hub.store.journal.header.seq self.old.hub.store.failed
             self.old.clients.items self.new.clients.items
             (state_of self.old.hub.sessions self.old.hub.store.table)
@@ -270,10 +271,9 @@ impl<D: Device> Server<D> {
             (D.failures self.old.hub.store.journal.device) (D.failures self.new.hub.store.journal.device)) }
         // The next turn reads for every client, unless a rest comes first.
         ensures again { OnOk result (self.new.rested ≡ Rested.Not) }
-        // Each session is fed one piece at most, and what it is given goes to its client. Of which bytes a socket gave and
-        // took std says nothing: they are `unknown` here, and told in `serve_clients`.
-        // Who came and is no client is counted.
-        ensures served { OnOk result (HasGoneRound unknown unknown self.new.door.found self.old.turned_away
+        // Each session hears what its client's stream gave, and what it is given goes to that stream, whatever the streams
+        // are. Who came and is no client is counted.
+        ensures served { OnOk result (HasGoneRound S.remaining S.contents self.new.door.found self.old.turned_away
             self.new.turned_away (MayBeAsked self.old.hub.store.failed
             self.old.hub.store.journal.header.seq self.old.hub.store.table.entries) at self.old.clients.items
             self.new.clients.items (state_of self.old.hub.sessions self.old.hub.store.table)

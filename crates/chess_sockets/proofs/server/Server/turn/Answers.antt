@@ -2,7 +2,7 @@
 use Rattle.std.proofs.Common.{◌∙◌, Ok, ap, refl, sym}
 use Rattle.std.proofs.lemmas.Result.{err_from_is_err_and}
 use Rattle.chess_hub.specs.Faults.{CountsFault}
-use Rattle.chess_sockets.specs.Serving.{state_of, unknown}
+use Rattle.chess_sockets.specs.Serving.{state_of}
 use Rattle.chess_sockets.specs.Turns.{EndsServing, IsTurnRefusal}
 use Rattle.chess_sockets.proofs.StoreLemmas.{lasts_over, lasts_handed, of_fault, counts_refused, counts_done}
 use Rattle.chess_sockets.proofs.ServingLemmas.{welcomed_there, welcomed_on}
@@ -100,7 +100,7 @@ returns-in_err-has_served-clause-refused g c =
     let w = c.welcome-came.new.self in
     let n = c.serve_clients.new in
     of_fault r.result e.0 c.in_err-has_served.field-0.0
-    (λ fault. IsTurnRefusal unknown w.door.found old.turned_away w.turned_away fault c.args.at
+    (λ fault. IsTurnRefusal g.S.Read.remaining w.door.found old.turned_away w.turned_away fault c.args.at
     old.hub.store.journal.header.seq old.hub.store.failed old.clients.items n.clients.items
     (state_of old.hub.sessions old.hub.store.table) (state_of n.hub.sessions n.hub.store.table)) e.1 e.2
     (record {
