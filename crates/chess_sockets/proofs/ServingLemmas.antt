@@ -148,7 +148,7 @@ pub nobody_came : {S : Type 0} (found : Found) (count : ℕ) (clients : List (Cl
     → (found ≡ Connection → ⊥) → IsWelcomed found count count clients clients s s
 nobody_came found count clients s other = record {
   welcomes = nobody_welcomed clients s;
-  away = sym (not_counted found [] count other);
+  away = sym (not_counted found (nobody_welcomed clients s).came count other);
 }
 
 one_away : {S : Type 0} (clients came : List (Client S)) (count : ℕ) → length clients ≡ length clients + length came
