@@ -148,7 +148,7 @@ pub nobody_came : {S : Type 0} (found : Found) (count : ℕ) (clients : List (Cl
     → (found ≡ Connection → ⊥) → IsWelcomed found count count clients clients s s
 nobody_came found count clients s other = record {
   welcomes = nobody_welcomed clients s;
-  counted = sym (not_counted found [] count other);
+  away = sym (not_counted found (nobody_welcomed clients s).came count other);
 }
 
 one_away : {S : Type 0} (clients came : List (Client S)) (count : ℕ) → length clients ≡ length clients + length came
@@ -175,14 +175,14 @@ module _ {S : Type 0} (door after_door : Door) (count counted : ℕ) (clients af
       → IsWelcomed after_door.found count counted clients after old new
   away_counted same is = record {
     welcomes = w;
-    counted = is ∙ sym (at_one ∙ one_away clients w.came count (sym (ap length same) ∙ many));
+    away = is ∙ sym (at_one ∙ one_away clients w.came count (sym (ap length same) ∙ many));
   }
 
   pub client_counted : length after ≡ length clients + 1 → counted ≡ count
       → IsWelcomed after_door.found count counted clients after old new
   client_counted same is = record {
     welcomes = w;
-    counted = is ∙ sym (at_one ∙ one_client clients w.came count (sym same ∙ many));
+    away = is ∙ sym (at_one ∙ one_client clients w.came count (sym same ∙ many));
   }
 
 -- said of a hub, and of a count, that are those from before

@@ -92,7 +92,7 @@ away_after found came count = count
 pub record IsWelcomed {S : Type 0} (found : Found) (count counted : ℕ) (clients after : List (Client S))
     (old new : HubState) : Type 0 where
   pub welcomes : Welcomes clients after old new
-  pub counted : counted ≡ away_after found welcomes.came count
+  pub away : counted ≡ away_after found welcomes.came count
 
 -- Each client is read for, and then the hub answers at most 64 lines of what the sessions had sent by then, as one batch
 -- at this moment, which the store may be asked for.

@@ -74,8 +74,9 @@ pub(crate) fn serve_clients<S: Read + Write, D: Device>(
     ensures fault { IfErr result EndsServing }
     // Want of memory ends serving only where a turn of the hub was refused it.
     ensures counts { hub.new.refusals ≡ refusals_after result hub.old.refusals }
-    ensures refused { IfErr result (λ fault. IsRefusal S.remaining reading.silence fault reading.at hub.old.store.journal.header.seq
-        hub.old.store.failed clients.old.items (state_of hub.old.sessions hub.old.store.table) hub.new.store.table) }
+    ensures refused { IfErr result (λ fault. IsRefusal S.remaining reading.silence fault reading.at
+        hub.old.store.journal.header.seq hub.old.store.failed clients.old.items clients.new.items
+        (state_of hub.old.sessions hub.old.store.table) (state_of hub.new.sessions hub.new.store.table)) }
     // Each session hears what its client's stream gave, and nothing else, but for what comes behind a line that is too
     // long; and what it is given goes to that stream, as far as that takes it, unless the session is closed.
     ensures served { OnOk result (HasServed S.remaining S.contents reading.silence (MayBeAsked hub.old.store.failed

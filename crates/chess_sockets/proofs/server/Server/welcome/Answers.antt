@@ -1,5 +1,6 @@
 -- Nobody came, or who came is greeted.
 use Rattle.std.proofs.Common.{◌≡◌, refl, sym, ◌∙◌}
+use Rattle.std.proofs.lemmas.Bool.{false≢true}
 use Rattle.client_streams.specs.declared.door.Found.TheVariants.{Connection, Nobody}
 use Rattle.chess_sockets.specs.Serving.{state_of}
 use Rattle.chess_sockets.proofs.ServingLemmas.{nobody_came}
@@ -16,4 +17,4 @@ pub returns-in-None-clause-welcomes : goal.returns-in-None-clause-welcomes
 returns-in-None-clause-welcomes g c =
     let s = c.args.self.now in
     nobody_came c.next_connection.new.door.found s.turned_away s.clients.items
-    (state_of s.hub.sessions s.hub.store.table) (λ came. absurd (c.in-None.ensures.1 came))
+    (state_of s.hub.sessions s.hub.store.table) (λ came. false≢true (c.in-None.ensures.1 came))
