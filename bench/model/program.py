@@ -48,7 +48,7 @@ def server_path():
     """The program that CHESS_SERVER names, or this repository's, which is built where it has to be."""
     if 'CHESS_SERVER' in os.environ:
         return os.path.realpath(os.environ['CHESS_SERVER'])
-    subprocess.run([os.path.join(TOP, 'chess-server'), 'board'], stdin=subprocess.DEVNULL, check=True)
+    subprocess.run([os.path.join(TOP, 'chess-server'), '--version'], stdout=subprocess.DEVNULL, check=True)
     return os.path.join(TOP, 'crates/chess_server/out/chess_server')
 
 
