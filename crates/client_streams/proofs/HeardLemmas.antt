@@ -5,7 +5,7 @@ use Rattle.std.proofs.KnownBytes.{Consumes-nil, Consumes-kept}
 use Rattle.client_streams.specs.declared.pieces.Came.{Came}
 use Rattle.client_streams.specs.declared.pieces.Came.TheVariants.{Nothing, Interrupted, Bytes, End, Fault}
 use Rattle.client_streams.specs.Clients.{IsHeardAt, heard_since}
-use Rattle.client_streams.specs.Pieces.{HasCome, IsBrought, Brings}
+use Rattle.client_streams.specs.Pieces.{HasCome, Brings}
 
 none_brought : (before after : Option (List ℕ)) → Keeps before after → Consumes before after []
 none_brought before after kept = Consumes-kept before before after [] (Consumes-nil before) kept

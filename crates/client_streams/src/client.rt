@@ -1,16 +1,18 @@
 //! A connection and its session.
-ghost use Rattle.std.specs.Prelude.{◌≡◌, ◌≢◌, ◌≤◌, ◌++◌, ◌+◌, ◌-◌, ◌↔◌, ◌⊎◌, true, false, [], None, length, IsTrue, IsSome, IfSome, IsSomeAnd, OnOk, OnErr};
+ghost use Rattle.std.specs.Prelude.{◌≡◌, ◌≢◌, ◌≤◌, ◌++◌, ◌+◌, ◌-◌, ◌↔◌, ◌⊎◌, true, false, [], Some, None, length, IsTrue, IsSome, IfSome, IsSomeAnd, IfOk, OnOk, OnErr};
 ghost use Rattle.std.specs.Bool.{OnTrue, OnFalse};
 ghost use Rattle.std.specs.Io.KnownBytes.{Keeps};
-ghost use Rattle.chess_sessions.specs.Session.{said, session_at};
+ghost use Rattle.chess_sessions.specs.Session.{said, session_at, Changes};
 ghost use Rattle.client_streams.specs.Clients.{IsOpen, OthersStay, IsSilent, IsHeardAt, HasHeard, GivesOn, TakesIn, HandsOut, bytes_of, to_go};
+ghost use Rattle.client_streams.specs.Closings.{IsTrouble};
 ghost use Rattle.client_streams.specs.Portions.{IsPortion};
 ghost use Rattle.session_lines.specs.Lines.{IsUnfinished};
 ghost use Rattle.client_streams.specs.Incoming.{held};
 ghost use Rattle.client_streams.specs.Pieces.{Takes};
 ghost use Rattle.client_streams.specs.Sending.{waiting};
-ghost use Rattle.client_streams.specs.Rounds.{AreGiven, IsGivenOut};
+ghost use Rattle.client_streams.specs.Rounds.{AreGiven, IsHandedOut};
 
+use crate::closing::Closing;
 use crate::incoming::Incoming;
 use crate::outgoing::{Outgoing, Sent};
 use crate::pieces::{Came, PIECE_ROOM};
@@ -40,6 +42,8 @@ pub struct Client<S> {
     waited: u32,
     /// For so many turns more it is heard after its farewell.
     patience: u8,
+    /// Why its session was closed.
+    closing: Option<Closing>,
 }
 
 /// For so many turns a client is heard after its farewell, so that this is not lost: a connection that is closed before
@@ -63,6 +67,7 @@ impl<S> Client<S> {
             heard_at: at,
             waited: 0,
             patience: PATIENCE,
+            closing: None,
         }
     }
 
@@ -92,6 +97,19 @@ impl<S> Client<S> {
         ensures { result ≡ self.now.waited }
     {
         self.waited
+    }
+
+    /// Closes its session, for this reason.
+    pub(crate) fn close(&mut self, sessions: &mut Sessions, closing: Closing)
+        ensures closed { Changes sessions.old sessions.new self.old.sid None }
+        ensures told { self.new.closing ≡ Some closing }
+        ensures peer { (self.new.sid ≡ self.old.sid) × (self.new.has_ended ≡ self.old.has_ended)
+            × (self.new.is_quiet ≡ self.old.is_quiet) × (held self.new.incoming ≡ held self.old.incoming)
+            × (waiting self.new.outgoing ≡ waiting self.old.outgoing) × (self.new.stream ≡ self.old.stream)
+            × (self.new.heard_at ≡ self.old.heard_at) }
+    {
+        sessions.close(self.sid);
+        self.closing = Some(closing);
     }
 
     /// Whether nothing came from it for so many milliseconds, by this moment, and nothing waits for it.
@@ -205,6 +223,7 @@ impl<S: Read + Write> Client<S> {
         ensures quiet { self.new.is_quiet ≡ self.old.is_quiet }
         ensures heard { self.new.heard_at ≡ self.old.heard_at }
         ensures stream { self.new.stream ≡ self.old.stream }
+        ensures reason { session_at sessions.new self.old.sid ≡ None → IsTrouble self.new.closing }
         ensures others { OthersStay sessions.old sessions.new self.old.sid }
     {
         if sessions.waiting(self.sid) > 0 {
@@ -219,6 +238,8 @@ impl<S: Read + Write> Client<S> {
         let count = portion.len();
         if feed(sessions, self.sid, portion) {
             self.incoming.give_up(count);
+        } else {
+            self.closing = Some(Closing::NoMemory);
         }
     }
 
@@ -249,6 +270,7 @@ impl<S: Read + Write> Client<S> {
         // Of who doesn't take its answers nothing is read, and nothing that it sent goes on.
         ensures unread { waiting self.old.outgoing ≢ [] → (self.new.stream ≡ self.old.stream)
             × (held self.new.incoming ≡ held self.old.incoming) × (sessions.new ≡ sessions.old) }
+        ensures reason { session_at sessions.new self.old.sid ≡ None → IsTrouble self.new.closing }
         ensures others { OthersStay sessions.old sessions.new self.old.sid }
     {
         self.is_quiet = false;
@@ -263,7 +285,7 @@ impl<S: Read + Write> Client<S> {
             Came::Nothing => return false,
             Came::Bytes(_) | Came::Interrupted => self.hand_on(sessions, room),
             Came::End => {}
-            Came::Fault => sessions.close(self.sid),
+            Came::Fault => self.close(sessions, Closing::Fault),
         }
         true
     }
@@ -278,6 +300,7 @@ impl<S: Read + Write> Client<S> {
             (to_go (session_at sessions.new self.old.sid) (waiting self.new.outgoing))) }
         ensures refused { OnErr result (HandsOut (S.contents self.old.stream) (S.contents self.new.stream)
             (to_go (session_at sessions.old self.old.sid) (waiting self.old.outgoing)) None) }
+        ensures all { IfOk result (λ wrote. wrote.sent ≡ Sent.All → waiting self.new.outgoing ≡ []) }
         ensures given { AreGiven self.old.sid sessions.old sessions.new }
         ensures peer { (self.new.sid ≡ self.old.sid) × (self.new.has_ended ≡ self.old.has_ended)
             × (self.new.is_quiet ≡ self.old.is_quiet) × (held self.new.incoming ≡ held self.old.incoming) }
@@ -321,6 +344,24 @@ impl<S: Read + Write> Client<S> {
         }
     }
 
+    // Why the session is over, where it is, after a write.
+    fn reason(&self, sessions: &Sessions, wrote: Wrote) -> Closing
+        requires { IsOpen sessions.now self.now.sid }
+        ensures fault { wrote.sent ≡ Sent.Fault → result ≡ Closing.Fault }
+        ensures farewell { wrote.sent ≡ Sent.All → IfSome (session_at sessions.now self.now.sid)
+            (λ s. s.has_left ≡ true → result ≡ Closing.Farewell) }
+        ensures end { wrote.sent ≡ Sent.All → IfSome (session_at sessions.now self.now.sid)
+            (λ s. s.has_left ≡ false → result ≡ Closing.End) }
+    {
+        if wrote.sent == Sent::Fault {
+            Closing::Fault
+        } else if sessions.ended(self.sid) {
+            Closing::Farewell
+        } else {
+            Closing::End
+        }
+    }
+
     /// Writes what can be written of the session's answers, after a turn. The session is closed after a fault,
     /// and where memory is refused for it; where the peer sends no more, once its whole lines are answered; and after its
     /// farewell to a line that is too long, once nothing comes behind that line, or after 255 turns. It tells whether there
@@ -330,18 +371,19 @@ impl<S: Read + Write> Client<S> {
         ensures hands { HandsOut (S.contents self.old.stream) (S.contents self.new.stream)
             (to_go (session_at sessions.old self.old.sid) (waiting self.old.outgoing))
             (to_go (session_at sessions.new self.old.sid) (waiting self.new.outgoing)) }
-        ensures given { IsGivenOut self.old.sid sessions.old sessions.new }
+        ensures given { IsHandedOut self.old.sid self.new sessions.old sessions.new }
         ensures peer { (self.new.sid ≡ self.old.sid) × (self.new.has_ended ≡ self.old.has_ended)
             × (self.new.is_quiet ≡ self.old.is_quiet) × (held self.new.incoming ≡ held self.old.incoming) }
         ensures others { OthersStay sessions.old sessions.new self.old.sid }
     {
         let was_stuck = !self.outgoing.is_empty();
         let Ok(wrote) = self.write_out(sessions) else {
-            sessions.close(self.sid);
+            self.close(sessions, Closing::NoMemory);
             return true;
         };
         if self.is_over(sessions, wrote) {
-            sessions.close(self.sid);
+            let reason = self.reason(sessions, wrote);
+            self.close(sessions, reason);
             return true;
         }
         wrote.any || was_stuck && wrote.sent == Sent::All

@@ -1,0 +1,31 @@
+-- Why the session of a client is closed.
+use Rattle.std.specs.Prelude.{◌≡◌, true, [], Option, Some, None, IsSomeAnd}
+use Rattle.chess_sessions.specs.Session.{SessionState}
+use Rattle.client_streams.specs.declared.client.Client.{Client}
+use Rattle.client_streams.specs.declared.closing.Closing.{Closing}
+use Rattle.client_streams.specs.declared.closing.Closing.TheVariants.{Fault, NoMemory, Silence, End, Farewell}
+use Rattle.client_streams.specs.Sending.{waiting}
+
+-- A reason is told, and this holds where it is silence, an end or a farewell. Of a connection that has failed, and of memory
+-- that was refused, nothing more is known.
+abbrev pub IsReason : Option Closing → Type 0 → Type 0 → Type 0 → Type 0
+IsReason None silent ended left = ⊥
+IsReason (Some Fault) silent ended left = Unit {0}
+IsReason (Some NoMemory) silent ended left = Unit {0}
+IsReason (Some Silence) silent ended left = silent
+IsReason (Some End) silent ended left = ended
+IsReason (Some Farewell) silent ended left = left
+
+-- The connection has failed, or memory was refused.
+abbrev pub IsTrouble : Option Closing → Type 0
+IsTrouble closing = IsReason closing ⊥ ⊥ ⊥
+
+-- The peer sends no more, and nothing waits to be written.
+pub record HasEnded {S : Type 0} (client : Client S) : Type 0 where
+  pub no_more : client.has_ended ≡ true
+  pub written : waiting client.outgoing ≡ []
+
+-- The session was given its farewell, and nothing waits to be written.
+pub record HasLeft {S : Type 0} (client : Client S) (session : Option SessionState) : Type 0 where
+  pub told : IsSomeAnd session (λ s. s.has_left ≡ true)
+  pub written : waiting client.outgoing ≡ []
