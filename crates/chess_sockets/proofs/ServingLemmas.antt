@@ -133,8 +133,8 @@ module _ (table : TableState) where
 -- ---- who comes
 
 -- nobody comes
-pub nobody_welcomed : {S : Type 0} (clients : List (Client S)) (s : HubState) → Welcomes clients clients s s
-nobody_welcomed clients s = record { came = []; whole = sym (append-nil clients); welcomed = stays-refl s }
+pub nobody_welcomed : {S : Type 0} (at : ℕ) (clients : List (Client S)) (s : HubState) → Welcomes at clients clients s s
+nobody_welcomed at clients s = record { came = []; whole = sym (append-nil clients); welcomed = stays-refl s }
 
 -- who came and is no client is counted, and nobody else
 not_counted : {S : Type 0} (found : Found) (came : List (Client S)) (count : ℕ) → (found ≡ Connection → ⊥)
@@ -144,11 +144,11 @@ not_counted Nobody came count other = refl
 not_counted Lost came count other = refl
 not_counted Refused came count other = refl
 
-pub nobody_came : {S : Type 0} (found : Found) (count : ℕ) (clients : List (Client S)) (s : HubState)
-    → (found ≡ Connection → ⊥) → IsWelcomed found count count clients clients s s
-nobody_came found count clients s other = record {
-  welcomes = nobody_welcomed clients s;
-  away = sym (not_counted found (nobody_welcomed clients s).came count other);
+pub nobody_came : {S : Type 0} (at : ℕ) (found : Found) (count : ℕ) (clients : List (Client S)) (s : HubState)
+    → (found ≡ Connection → ⊥) → IsWelcomed at found count count clients clients s s
+nobody_came at found count clients s other = record {
+  welcomes = nobody_welcomed at clients s;
+  away = sym (not_counted found (nobody_welcomed at clients s).came count other);
 }
 
 one_away : {S : Type 0} (clients came : List (Client S)) (count : ℕ) → length clients ≡ length clients + length came
@@ -161,8 +161,9 @@ one_client : {S : Type 0} (clients came : List (Client S)) (count : ℕ)
 one_client clients [] count same = absurd (omega (arith, same))
 one_client clients (client ∷ came) count same = refl
 
-module _ {S : Type 0} (door after_door : Door) (count counted : ℕ) (clients after : List (Client S)) (old new : HubState)
-    (same_door : after_door ≡ door) (came : door.found ≡ Connection) (w : Welcomes clients after old new) where
+module _ {S : Type 0} (at : ℕ) (door after_door : Door) (count counted : ℕ) (clients after : List (Client S))
+    (old new : HubState) (same_door : after_door ≡ door) (came : door.found ≡ Connection)
+    (w : Welcomes at clients after old new) where
   many : length after ≡ length clients + length w.came
   many = ap length w.whole ∙ length-append clients w.came
 
@@ -172,32 +173,32 @@ module _ {S : Type 0} (door after_door : Door) (count counted : ℕ) (clients af
       ∙ ap (λ (f : Found). away_after f w.came count) came
 
   pub away_counted : after ≡ clients → counted ≡ min (count + 1) (2 ^ 64 - 1)
-      → IsWelcomed after_door.found count counted clients after old new
+      → IsWelcomed at after_door.found count counted clients after old new
   away_counted same is = record {
     welcomes = w;
     away = is ∙ sym (at_one ∙ one_away clients w.came count (sym (ap length same) ∙ many));
   }
 
   pub client_counted : length after ≡ length clients + 1 → counted ≡ count
-      → IsWelcomed after_door.found count counted clients after old new
+      → IsWelcomed at after_door.found count counted clients after old new
   client_counted same is = record {
     welcomes = w;
     away = is ∙ sym (at_one ∙ one_client clients w.came count (sym same ∙ many));
   }
 
 -- said of a hub, and of a count, that are those from before
-pub welcomed_there : {S H : Type 0} (h k : H) (to : H → HubState) (found : Found) (n m counted : ℕ)
+pub welcomed_there : {S H : Type 0} (at : ℕ) (h k : H) (to : H → HubState) (found : Found) (n m counted : ℕ)
     (kept clients asked : List (Client S)) (begun : HubState) → h ≡ k → kept ≡ clients → n ≡ m
-    → IsWelcomed found n counted kept asked (to h) begun → IsWelcomed found m counted clients asked (to k) begun
-welcomed_there {S = S} {H = H} h k to found n m counted kept clients asked begun same are count w =
-    subst (λ (x : H). IsWelcomed found m counted clients asked (to x) begun) same
-    (subst (λ (l : List (Client S)). IsWelcomed found m counted l asked (to h) begun) are
-    (subst (λ (x : ℕ). IsWelcomed found x counted kept asked (to h) begun) count w))
+    → IsWelcomed at found n counted kept asked (to h) begun → IsWelcomed at found m counted clients asked (to k) begun
+welcomed_there {S = S} {H = H} at h k to found n m counted kept clients asked begun same are count w =
+    subst (λ (x : H). IsWelcomed at found m counted clients asked (to x) begun) same
+    (subst (λ (l : List (Client S)). IsWelcomed at found m counted l asked (to h) begun) are
+    (subst (λ (x : ℕ). IsWelcomed at found x counted kept asked (to h) begun) count w))
 
 -- the same try and the same count
-pub welcomed_on : {S : Type 0} (door next : Door) (n counted after : ℕ) (clients asked : List (Client S)) (s t : HubState) →
-    next ≡ door → after ≡ counted → IsWelcomed door.found n counted clients asked s t →
-    IsWelcomed next.found n after clients asked s t
-welcomed_on door next n counted after clients asked s t same is w =
-    subst (λ (d : Door). IsWelcomed d.found n after clients asked s t) (sym same)
-    (subst (λ (x : ℕ). IsWelcomed door.found n x clients asked s t) (sym is) w)
+pub welcomed_on : {S : Type 0} (at : ℕ) (door next : Door) (n counted after : ℕ) (clients asked : List (Client S))
+    (s t : HubState) → next ≡ door → after ≡ counted → IsWelcomed at door.found n counted clients asked s t →
+    IsWelcomed at next.found n after clients asked s t
+welcomed_on at door next n counted after clients asked s t same is w =
+    subst (λ (d : Door). IsWelcomed at d.found n after clients asked s t) (sym same)
+    (subst (λ (x : ℕ). IsWelcomed at door.found n x clients asked s t) (sym is) w)

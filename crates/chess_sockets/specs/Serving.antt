@@ -1,6 +1,6 @@
 -- What a turn of the server calls the hub for: where what the sessions hear comes from, and where what they are given
 -- goes.
-use Rattle.std.specs.Prelude.{ℕ, ◌≡◌, ◌+◌, ◌-◌, ◌^◌, min, List, [], ◌∷◌, ◌++◌, Option, is_some, filter, ⊤}
+use Rattle.std.specs.Prelude.{ℕ, ◌≡◌, ◌+◌, ◌-◌, ◌^◌, min, false, List, [], ◌∷◌, ◌++◌, Option, is_some, filter, ⊤}
 use Rattle.std.specs.List.{All}
 use Rattle.chess_entry.specs.State.{TableState}
 use Rattle.chess_entry.specs.declared.commands.Command.{Command}
@@ -69,18 +69,24 @@ pub record AreWritten {S : Type 0} (contents : S → Option (List ℕ)) (clients
 abbrev pub open_in : {S : Type 0} → Sessions → List (Client S) → List (Client S)
 open_in sessions clients = filter (λ client. is_some (session_at sessions client.sid)) clients
 
--- At most one client comes: a session begins for it, nothing is held back, and nothing waits for it.
-abbrev pub AreWelcomed : {S : Type 0} → List (Client S) → HubState → HubState → Type 0
-AreWelcomed [] old new = Stays old new
-AreWelcomed (client ∷ []) old new =
-    LeadsOn old (Connected client.sid ∷ []) new × (held client.incoming ≡ []) × (waiting client.outgoing ≡ [])
-AreWelcomed (client ∷ other ∷ more) old new = ⊥
+-- A client begins at this moment: nothing of it is held back, nothing waits for it, and it may send more.
+pub record Begins {S : Type 0} (client : Client S) (at : ℕ) : Type 0 where
+  pub moment : client.heard_at ≡ at
+  pub lasts : client.has_ended ≡ false
+  pub incoming : held client.incoming ≡ []
+  pub outgoing : waiting client.outgoing ≡ []
+
+-- At most one client comes and begins at this moment, and a session begins for it.
+abbrev pub AreWelcomed : {S : Type 0} → ℕ → List (Client S) → HubState → HubState → Type 0
+AreWelcomed at [] old new = Stays old new
+AreWelcomed at (client ∷ []) old new = LeadsOn old (Connected client.sid ∷ []) new × Begins client at
+AreWelcomed at (client ∷ other ∷ more) old new = ⊥
 
 -- Who came stands behind those who were there.
-pub record Welcomes {S : Type 0} (clients after : List (Client S)) (old new : HubState) : Type 0 where
+pub record Welcomes {S : Type 0} (at : ℕ) (clients after : List (Client S)) (old new : HubState) : Type 0 where
   pub came : List (Client S)
   pub whole : after ≡ clients ++ came
-  pub welcomed : AreWelcomed came old new
+  pub welcomed : AreWelcomed at came old new
 
 -- How many connections were turned away, after a try that found this and who came of it, where so many were before: one more
 -- where a connection came and no session began for it.
@@ -89,9 +95,9 @@ away_after Connection [] count = min (count + 1) (2 ^ 64 - 1)
 away_after found came count = count
 
 -- Who came is a client, or is counted as turned away.
-pub record IsWelcomed {S : Type 0} (found : Found) (count counted : ℕ) (clients after : List (Client S))
+pub record IsWelcomed {S : Type 0} (at : ℕ) (found : Found) (count counted : ℕ) (clients after : List (Client S))
     (old new : HubState) : Type 0 where
-  pub welcomes : Welcomes clients after old new
+  pub welcomes : Welcomes at clients after old new
   pub away : counted ≡ away_after found welcomes.came count
 
 -- Each client is read for, and then the hub answers at most 64 lines of what the sessions had sent by then, as one batch
@@ -116,7 +122,7 @@ pub record HasGoneRound {S : Type 0} (remaining contents : S → Option (List �
     (count counted : ℕ) (May : List Command → Type 0) (at : ℕ) (clients left : List (Client S)) (old new : HubState) : Type 0 where
   pub asked : List (Client S)
   pub begun : HubState
-  pub welcomes : IsWelcomed found count counted (open_in old.sessions clients) asked old begun
+  pub welcomes : IsWelcomed at found count counted (open_in old.sessions clients) asked old begun
   pub written : List (Client S)
   pub serves : HasServed remaining contents silence May at asked written begun new
   pub stay : left ≡ open_in new.sessions written

@@ -47,5 +47,5 @@ pub record IsTurnRefusal {S : Type 0} (remaining : S → Option (List ℕ)) (sil
     : Type 0 where
   pub asked : List (Client S)
   pub begun : HubState
-  pub welcomes : IsWelcomed found count counted (open_in old.sessions clients) asked old begun
+  pub welcomes : IsWelcomed at found count counted (open_in old.sessions clients) asked old begun
   pub refusal : IsRefusal remaining silence fault at seq failed asked left begun new

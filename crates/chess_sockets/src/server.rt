@@ -159,7 +159,7 @@ impl<D: Device, S: Read + Write + From<TcpStream> + Drop> Server<D, S> {
     // Begins a session for a connection, and tells whether it did: the connection is dropped where the hub is busy or memory
     // is refused.
     fn admit(&mut self, stream: TcpStream, at: u64) -> bool
-        ensures welcomes { Welcomes self.old.clients.items self.new.clients.items
+        ensures welcomes { Welcomes at self.old.clients.items self.new.clients.items
             (state_of self.old.hub.sessions self.old.hub.store.table)
             (state_of self.new.hub.sessions self.new.hub.store.table) }
         ensures store { self.new.hub.store ≡ self.old.hub.store }
@@ -189,7 +189,7 @@ impl<D: Device, S: Read + Write + From<TcpStream> + Drop> Server<D, S> {
     // Begins a session for a connection that came, or counts it as turned away.
     fn greet(&mut self, stream: TcpStream, at: u64)
         requires { self.old.door.found ≡ Found.Connection }
-        ensures welcomes { IsWelcomed self.new.door.found self.old.turned_away self.new.turned_away
+        ensures welcomes { IsWelcomed at self.new.door.found self.old.turned_away self.new.turned_away
             self.old.clients.items self.new.clients.items
             (state_of self.old.hub.sessions self.old.hub.store.table)
             (state_of self.new.hub.sessions self.new.hub.store.table) }
@@ -207,7 +207,7 @@ impl<D: Device, S: Read + Write + From<TcpStream> + Drop> Server<D, S> {
     // Accepts at most one connection, and tells whether one came; after calm rests none, unless one may wait. One that came
     // and is no client is counted. What fails at it ends nothing, and is no turn's work, so that a rest comes before the next.
     fn welcome(&mut self, at: u64) -> bool
-        ensures welcomes { IsWelcomed self.new.door.found self.old.turned_away self.new.turned_away
+        ensures welcomes { IsWelcomed at self.new.door.found self.old.turned_away self.new.turned_away
             self.old.clients.items self.new.clients.items
             (state_of self.old.hub.sessions self.old.hub.store.table)
             (state_of self.new.hub.sessions self.new.hub.store.table) }

@@ -13,14 +13,15 @@ use Rattle.chess_answer.specs.declared.reads.Reply.{Reply}
 use Rattle.chess_sessions.specs.declared.sessions.Sessions.{Sessions}
 use Rattle.chess_sessions.specs.Session.{Said, said, SessionState, session_at, Changes, IsUnchanged, due, first_due, given_one, farewell, is_done}
 use Rattle.client_streams.specs.declared.client.Client.{Client}
-use Rattle.client_streams.specs.Clients.{OthersStay, IsSilent, TakesIn, HandsOut, to_go}
+use Rattle.client_streams.specs.Clients.{OthersStay, IsSilent, IsHeardAt, IsEndSeen, TakesIn, HandsOut, to_go}
 use Rattle.client_streams.specs.declared.closing.Closing.{Closing}
 use Rattle.client_streams.specs.declared.closing.Closing.TheVariants.{Fault, NoMemory, Silence, End, Farewell}
-use Rattle.client_streams.specs.Closings.{IsReason, IsTrouble, HasEnded, HasLeft}
+use Rattle.client_streams.specs.Closings.{IsReason, IsTrouble, IsOver}
 use Rattle.client_streams.specs.Incoming.{held}
 use Rattle.client_streams.specs.Sending.{waiting}
 use Rattle.client_streams.specs.Portions.{IsDearLine}
 use Rattle.client_streams.proofs.PortionLemmas.{none-dear}
+use Rattle.client_streams.proofs.HeardLemmas.{heard_as_before, end_as_before}
 use Rattle.client_streams.proofs.TakingLemmas.{takes-kept, takes-in, gives-nothing, gives-closed}
 use Rattle.client_streams.specs.Rounds.{Intake, intake, Holds, AreEach, PassesClosed, IsSent, IsRead, AreGivenTo, AreGiven, IsGivenOut, IsHandedOut, IsWritten}
 
@@ -235,6 +236,8 @@ module _ {S : Type 0} (remaining : S → Option (List ℕ)) (silence : Option �
     fewer = omega arith;
     dear = none-dear;
     unread = λ waits. (refl, refl, unchanged-refl s.sessions);
+    heard = heard_as_before (remaining client.stream) at client.heard_at;
+    ended = end_as_before (remaining client.stream) client.has_ended;
     closed = λ none. (refl, unchanged-refl s.sessions);
     reason = λ is_open none. not_closed (session_at s.sessions client.sid) _ is_open none;
   }
@@ -242,11 +245,13 @@ module _ {S : Type 0} (remaining : S → Option (List ℕ)) (silence : Option �
   pub is_read : (client after : Client S) (old new : Intake) → after.sid ≡ client.sid →
       waiting after.outgoing ≡ waiting client.outgoing →
       (waiting client.outgoing ≢ [] → (after.stream ≡ client.stream) × (held after.incoming ≡ held client.incoming)
-      × IsUnchanged old.sessions new.sessions) → PassesClosed client after old.sessions new.sessions →
-      HasReason client after old.sessions new.sessions →
+      × IsUnchanged old.sessions new.sessions) →
+      IsHeardAt (remaining client.stream) (remaining after.stream) at client.heard_at after.heard_at →
+      IsEndSeen (remaining after.stream) client.has_ended after.has_ended →
+      PassesClosed client after old.sessions new.sessions → HasReason client after old.sessions new.sessions →
       Sends old.room new.room (remaining client.stream) (remaining after.stream) (held client.incoming)
       (held after.incoming) client.sid old.sessions new.sessions → IsRead remaining silence at client after old new
-  is_read client after old new sid outgoing unread closed reason sends = record {
+  is_read client after old new sid outgoing unread heard ended closed reason sends = record {
     sid = sid;
     outgoing = outgoing;
     taken = sends.taken;
@@ -259,6 +264,8 @@ module _ {S : Type 0} (remaining : S → Option (List ℕ)) (silence : Option �
     fewer = sends.fewer;
     dear = sends.dear;
     unread = unread;
+    heard = heard;
+    ended = ended;
     closed = closed;
     reason = reason;
   }
@@ -266,15 +273,17 @@ module _ {S : Type 0} (remaining : S → Option (List ℕ)) (silence : Option �
   -- Nothing came of a client. Its session is closed, or all stays.
   pub read_nothing : (client after : Client S) (room : ℕ) (old new : Sessions) (done : Bool) →
       after.sid ≡ client.sid → waiting after.outgoing ≡ waiting client.outgoing →
+      IsHeardAt (remaining client.stream) (remaining after.stream) at client.heard_at after.heard_at →
+      IsEndSeen (remaining after.stream) client.has_ended after.has_ended →
       Keeps (remaining client.stream) (remaining after.stream) → held after.incoming ≡ held client.incoming →
       IsSome (session_at old client.sid) → OnTrue done (waiting client.outgoing ≡ []) →
       (waiting client.outgoing ≢ [] → after.stream ≡ client.stream) → OnTrue done (Changes old new client.sid None) →
       OnTrue done (IsReason after.closing (IsSomeAnd silence (IsSilent after old at)) ⊥ ⊥) →
       OnFalse done (IsUnchanged old new) →
       IsRead remaining silence at client after (intake old room) (intake new room)
-  read_nothing client after room old new true sid outgoing kept same is_open silent stream closed reason stays =
+  read_nothing client after room old new true sid outgoing heard ended kept same is_open silent stream closed reason stays =
       is_read client after (intake old room) (intake new room) sid outgoing
-      (λ waits. absurd (waits silent)) (not_closed (session_at old client.sid) _ is_open) (λ was none. reason)
+      (λ waits. absurd (waits silent)) heard ended (not_closed (session_at old client.sid) _ is_open) (λ was none. reason)
       (sends room room (remaining client.stream) (remaining after.stream) (held client.incoming) (held after.incoming)
       client.sid old new (session_at old client.sid) (session_at new client.sid) refl refl is_open
       (takes-in room room (session_at old client.sid) (session_at new client.sid) (remaining client.stream)
@@ -282,9 +291,9 @@ module _ {S : Type 0} (remaining : S → Option (List ℕ)) (silence : Option �
       (takes-kept (remaining client.stream) (remaining after.stream) (held client.incoming) (held after.incoming) kept same)
       (gives-closed room room (session_at old client.sid) (session_at new client.sid) (held after.incoming) (omega arith)
       closed.changed)) closed.others)
-  read_nothing client after room old new false sid outgoing kept same is_open silent stream closed reason stays =
+  read_nothing client after room old new false sid outgoing heard ended kept same is_open silent stream closed reason stays =
       is_read client after (intake old room) (intake new room) sid outgoing
-      (λ waits. (stream waits, same, stays)) (not_closed (session_at old client.sid) _ is_open)
+      (λ waits. (stream waits, same, stays)) heard ended (not_closed (session_at old client.sid) _ is_open)
       (not_now (session_at old client.sid) (session_at new client.sid) (stays client.sid))
       (sends room room (remaining client.stream) (remaining after.stream) (held client.incoming) (held after.incoming)
       client.sid old new (session_at old client.sid) (session_at new client.sid) refl refl is_open
@@ -311,6 +320,8 @@ module _ {S : Type 0} (remaining : S → Option (List ℕ)) (silence : Option �
     unread = λ waits.
         let same = read.unread waits in
         (same.0, same.1, unchanged-trans a.sessions b.sessions c.sessions h.0 same.2);
+    heard = read.heard;
+    ended = read.ended;
     closed = closed_after client after a.sessions b.sessions c.sessions h.0 read.closed;
     reason = λ is_open none. reason_again silence after a.sessions b.sessions at after.closing h.0
         (read.reason (subst (λ (o : Option SessionState). IsSome o) (sym (h.0 client.sid)) is_open) none);
@@ -464,7 +475,7 @@ closes sid old mid new given closed = record { between = mid; given = given; clo
 -- the session is closed for this reason, or goes on
 module _ {S : Type 0} (sid : ℕ) (after : Client S) (old mid new : Sessions) (given : AreGiven sid old mid) where
   pub closes_for : Changes mid new sid None
-      → IsReason after.closing ⊥ (HasEnded after) (HasLeft after (session_at mid sid)) → IsHandedOut sid after old new
+      → IsOver after (session_at mid sid) → IsHandedOut sid after old new
   closes_for closed reason = record { given = closes sid old mid new given closed; reason = λ none. reason }
 
 pub goes_on_open : {S : Type 0} (sid : ℕ) (after : Client S) (old new : Sessions) → AreGiven sid old new →
@@ -487,6 +498,8 @@ module _ {S : Type 0} (contents : S → Option (List ℕ)) where
   skipped client t = record {
     sid = refl;
     incoming = refl;
+    heard = refl;
+    ended = refl;
     given = goes_on client.sid t t (given_none_yet client.sid t t (unchanged-refl t));
     hands = hands_none (contents client.stream) (to_go (session_at t client.sid) (waiting client.outgoing));
     closed = λ none. (refl, unchanged-refl t);
@@ -498,6 +511,8 @@ module _ {S : Type 0} (contents : S → Option (List ℕ)) where
   written_after client after a b c h written = record {
     sid = written.sid;
     incoming = written.incoming;
+    heard = written.heard;
+    ended = written.ended;
     given = record {
       between = written.given.between;
       given = given_later client.sid a b written.given.between h written.given.given;

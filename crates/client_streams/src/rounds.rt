@@ -47,7 +47,7 @@ fn close_silent<S>(client: &mut Client<S>, sessions: &mut Sessions, reading: Rea
     ensures stays { OnFalse result (sessions.new ≡ sessions.old) }
     ensures peer { (client.new.sid ≡ client.old.sid) × (held client.new.incoming ≡ held client.old.incoming)
         × (waiting client.new.outgoing ≡ waiting client.old.outgoing) × (client.new.stream ≡ client.old.stream)
-        × (client.new.heard_at ≡ client.old.heard_at) }
+        × (client.new.heard_at ≡ client.old.heard_at) × (client.new.has_ended ≡ client.old.has_ended) }
 {
     if !is_over_silent(client, sessions, reading) {
         return false;

@@ -1,5 +1,5 @@
 -- What came is held back, and goes to the session.
-use Rattle.std.proofs.Common.{◌∙◌, None, refl, subst, sym}
+use Rattle.std.proofs.Common.{◌∙◌, None, ap, refl, subst, sym}
 use Rattle.std.specs.Prelude.{IsSome, IsSomeAnd}
 use Rattle.std.specs.Io.KnownBytes.{Keeps}
 use Rattle.std.specs.Bool.{OnTrue}
@@ -8,6 +8,7 @@ use Rattle.client_streams.specs.Clients.{IsSilent}
 use Rattle.client_streams.specs.Closings.{IsReason}
 use Rattle.client_streams.specs.Incoming.{held}
 use Rattle.client_streams.specs.Rounds.{intake, IsRead}
+use Rattle.client_streams.proofs.HeardLemmas.{heard_on, end_on}
 use Rattle.client_streams.proofs.RoundLemmas.{not_closed, passed_over, is_read, read_nothing, sends, unchanged_by, silent_written, silent_reason, reason_of_trouble, on_true, both_true, on_false}
 use Rattle.client_streams.proofs.rounds.read_for.Goals as goal
 
@@ -34,12 +35,16 @@ returns-then-is_quiet g c =
     let silence = c.args.reading.silence in
     let at = c.args.reading.at in
     let peer = c.take_in-any.ensures.peer in
-    let (sid, holds, waits_on, stream, heard_at) = c.close_silent.ensures.peer in
+    let (sid, holds, waits_on, stream, heard_at, has_ended) = c.close_silent.ensures.peer in
     let (idle, kept, same, stays, left) = c.take_in-any.ensures.quiet (sym c.is_quiet.ensures ∙ c.if-is_quiet.true) in
     let open_now = subst (λ sid. IsSome (session_at old sid)) c.sid.ensures
     (c.is_open.ensures.0 c.if-not-is_open.false) in
     subst (λ n. IsRead rest silence at client last (intake old room) (intake new n)) (sym left)
     (read_nothing rest silence at client last room old new done (sid ∙ peer.0) (waits_on ∙ peer.1)
+    (heard_on (rest client.stream) (rest after.stream) (rest last.stream) at client.heard_at after.heard_at last.heard_at
+    c.take_in-any.ensures.heard (ap rest stream) heard_at)
+    (end_on (rest after.stream) (rest last.stream) client.has_ended after.has_ended last.has_ended
+    c.take_in-any.ensures.ended (ap rest stream) has_ended)
     (subst (λ s. Keeps (rest client.stream) (rest s)) (sym stream) kept) (holds ∙ same) open_now
     (on_true done (λ is. sym peer.1 ∙ silent_written silence after between at (c.close_silent.ensures.silent.0 is)))
     (λ waits. stream ∙ (c.take_in-any.ensures.unread waits).0)
@@ -66,7 +71,7 @@ returns g c =
     c.take_in-any.ensures.peer.1
     (λ waits.
     let same = c.take_in-any.ensures.unread waits in
-    (same.0, same.1, unchanged_by old new same.2))
+    (same.0, same.1, unchanged_by old new same.2)) c.take_in-any.ensures.heard c.take_in-any.ensures.ended
     (not_closed before _ open_now)
     (λ was none. reason_of_trouble (IsSomeAnd c.args.reading.silence (IsSilent after old c.args.reading.at)) after.closing
     (c.take_in-any.ensures.reason none))

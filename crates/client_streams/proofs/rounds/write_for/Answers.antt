@@ -16,6 +16,8 @@ returns g c =
     record {
       sid = c.hand_out.ensures.peer.0;
       incoming = c.hand_out.ensures.peer.3;
+      heard = c.hand_out.ensures.peer.4;
+      ended = c.hand_out.ensures.peer.1;
       given = c.hand_out.ensures.given.given;
       reason = λ was none. c.hand_out.ensures.given.reason none;
       hands = c.hand_out.ensures.hands;

@@ -52,9 +52,9 @@ returns-then-came-has_served-clause-served g c =
     record {
       asked = w.clients.items;
       begun = state_of w.hub.sessions w.hub.store.table;
-      welcomes = welcomed_on w.door left.door old.turned_away w.turned_away left.turned_away _ _ _ _
+      welcomes = welcomed_on c.args.at w.door left.door old.turned_away w.turned_away left.turned_away _ _ _ _
           c.part-2.ensures.door c.part-2.ensures.turned_away
-          (welcomed_there c.part.new.self.hub old.hub (λ hub. state_of hub.sessions hub.store.table) w.door.found
+          (welcomed_there c.args.at c.part.new.self.hub old.hub (λ hub. state_of hub.sessions hub.store.table) w.door.found
           c.part.new.self.turned_away old.turned_away w.turned_away _ _ _ _ c.part.ensures.hub c.part.ensures.stay
           c.part.ensures.turned_away c.welcome-came.ensures.welcomes);
       written = n.clients.items;
@@ -72,9 +72,9 @@ returns-else-came-has_served-clause-served g c =
     record {
       asked = w.clients.items;
       begun = state_of w.hub.sessions w.hub.store.table;
-      welcomes = welcomed_on w.door left.door old.turned_away w.turned_away left.turned_away _ _ _ _
+      welcomes = welcomed_on c.args.at w.door left.door old.turned_away w.turned_away left.turned_away _ _ _ _
           c.part-2.ensures.door c.part-2.ensures.turned_away
-          (welcomed_there c.part.new.self.hub old.hub (λ hub. state_of hub.sessions hub.store.table) w.door.found
+          (welcomed_there c.args.at c.part.new.self.hub old.hub (λ hub. state_of hub.sessions hub.store.table) w.door.found
           c.part.new.self.turned_away old.turned_away w.turned_away _ _ _ _ c.part.ensures.hub c.part.ensures.stay
           c.part.ensures.turned_away c.welcome-came.ensures.welcomes);
       written = n.clients.items;
@@ -106,7 +106,7 @@ returns-in_err-has_served-clause-refused g c =
     (record {
       asked = w.clients.items;
       begun = state_of w.hub.sessions w.hub.store.table;
-      welcomes = welcomed_there c.part.new.self.hub old.hub (λ hub. state_of hub.sessions hub.store.table) w.door.found
+      welcomes = welcomed_there c.args.at c.part.new.self.hub old.hub (λ hub. state_of hub.sessions hub.store.table) w.door.found
           c.part.new.self.turned_away old.turned_away w.turned_away _ _ _ _ c.part.ensures.hub c.part.ensures.stay
           c.part.ensures.turned_away c.welcome-came.ensures.welcomes;
       refusal = rw (sym same) c.in_err-has_served.ensures.refused;

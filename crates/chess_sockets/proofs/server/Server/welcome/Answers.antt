@@ -10,11 +10,11 @@ pub returns-then-not-asks_for_one-clause-welcomes : goal.returns-then-not-asks_f
 returns-then-not-asks_for_one-clause-welcomes g c =
     let s = c.args.self.now in
     let none = c.if-not-asks_for_one.ensures.0 refl in
-    nobody_came s.door.found s.turned_away s.clients.items (state_of s.hub.sessions s.hub.store.table)
+    nobody_came c.args.at s.door.found s.turned_away s.clients.items (state_of s.hub.sessions s.hub.store.table)
     (λ came. let bad : Nobody ≡ Connection = sym none.1 ∙ c.found.ensures ∙ came in absurd (cc))
 
 pub returns-in-None-clause-welcomes : goal.returns-in-None-clause-welcomes
 returns-in-None-clause-welcomes g c =
     let s = c.args.self.now in
-    nobody_came c.next_connection.new.door.found s.turned_away s.clients.items
+    nobody_came c.args.at c.next_connection.new.door.found s.turned_away s.clients.items
     (state_of s.hub.sessions s.hub.store.table) (λ came. false≢true (c.in-None.ensures.1 came))

@@ -5,7 +5,7 @@ use Rattle.client_streams.specs.declared.closing.Closing.{Closing}
 use Rattle.client_streams.specs.Clients.{GivesOn, TakesIn}
 use Rattle.client_streams.specs.Closings.{IsTrouble}
 use Rattle.client_streams.specs.Incoming.{held}
-use Rattle.client_streams.proofs.HeardLemmas.{heard_as_before, heard_on}
+use Rattle.client_streams.proofs.HeardLemmas.{heard_as_before, heard_on, end_as_before, end_on}
 use Rattle.client_streams.proofs.RoundLemmas.{not_closed}
 use Rattle.client_streams.proofs.TakingLemmas.{takes-nothing, takes-in, gives-nothing, gives-closed}
 use Rattle.client_streams.proofs.client.Client.take_in.Goals as goal
@@ -117,6 +117,33 @@ returns-in-Bytes-clause-heard g c =
     let rest = g.S.Read.remaining in
     heard_on (rest client.stream) (rest between.stream) (rest after.stream) c.args.at client.heard_at between.heard_at
     after.heard_at c.read_more.ensures.heard (ap rest c.hand_on-in-Bytes.ensures.stream) c.hand_on-in-Bytes.ensures.heard
+
+pub returns-then-not-is_unfinished-clause-ended : goal.returns-then-not-is_unfinished-clause-ended
+returns-then-not-is_unfinished-clause-ended g c =
+    let client = c.args.self.now in
+    let rest = g.S.Read.remaining in
+    let after = c.hand_on.new.self in
+    end_on (rest client.stream) (rest after.stream) client.has_ended client.has_ended after.has_ended
+    (end_as_before (rest client.stream) client.has_ended) (ap rest c.hand_on.ensures.stream) c.hand_on.ensures.ended
+
+pub returns-in-Fault-clause-ended : goal.returns-in-Fault-clause-ended
+returns-in-Fault-clause-ended g c =
+    let client = c.args.self.now in
+    let between = c.read_more.new.self in
+    let after = c.close.new.self in
+    let rest = g.S.Read.remaining in
+    let (sid, ended, quiet, holds, waits, stream, heard_at) = c.close.ensures.peer in
+    end_on (rest between.stream) (rest after.stream) client.has_ended between.has_ended after.has_ended
+    c.read_more.ensures.ended (ap rest stream) ended
+
+pub returns-in-Bytes-clause-ended : goal.returns-in-Bytes-clause-ended
+returns-in-Bytes-clause-ended g c =
+    let client = c.args.self.now in
+    let between = c.read_more.new.self in
+    let after = c.hand_on-in-Bytes.new.self in
+    let rest = g.S.Read.remaining in
+    end_on (rest between.stream) (rest after.stream) client.has_ended between.has_ended after.has_ended
+    c.read_more.ensures.ended (ap rest c.hand_on-in-Bytes.ensures.stream) c.hand_on-in-Bytes.ensures.ended
 
 pub returns-then-not-is_empty-clause-reason : goal.returns-then-not-is_empty-clause-reason
 returns-then-not-is_empty-clause-reason g c =
