@@ -469,7 +469,7 @@ pub goes_on : (sid : ℕ) (old new : Sessions) → AreGiven sid old new → IsGi
 goes_on sid old new given = record { between = new; given = given; closed = inl (unchanged-refl new) }
 
 -- it is closed behind that
-pub closes : (sid : ℕ) (old mid new : Sessions) → AreGiven sid old mid → Changes mid new sid None → IsGivenOut sid old new
+abbrev pub closes : (sid : ℕ) (old mid new : Sessions) → AreGiven sid old mid → Changes mid new sid None → IsGivenOut sid old new
 closes sid old mid new given closed = record { between = mid; given = given; closed = inr closed }
 
 -- the session is closed for this reason, or goes on
