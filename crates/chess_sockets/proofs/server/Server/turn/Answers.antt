@@ -58,7 +58,11 @@ returns-then-came-has_served-clause-served g c =
           c.part.new.self.turned_away old.turned_away w.turned_away _ _ _ _ c.part.ensures.hub c.part.ensures.stay
           c.part.ensures.turned_away c.welcome-came.ensures.welcomes);
       written = n.clients.items;
-      serves = rw (c.part-2.ensures.hub, sym (c.welcome-came.ensures.store ∙ ap (λ h. h.store) c.part.ensures.hub))
+      serves = rw (
+        c.part-2.ensures.hub,
+        sym (c.welcome-came.ensures.store ∙ ap (λ h. h.store) c.part.ensures.hub),
+        sym (c.welcome-came.ensures.silence ∙ c.part.ensures.silence),
+      )
           c.in_ok-has_served.ensures.served;
       stay = rw c.part-2.ensures.hub c.part-2.ensures.stay;
     }
@@ -78,7 +82,11 @@ returns-else-came-has_served-clause-served g c =
           c.part.new.self.turned_away old.turned_away w.turned_away _ _ _ _ c.part.ensures.hub c.part.ensures.stay
           c.part.ensures.turned_away c.welcome-came.ensures.welcomes);
       written = n.clients.items;
-      serves = rw (c.part-2.ensures.hub, sym (c.welcome-came.ensures.store ∙ ap (λ h. h.store) c.part.ensures.hub))
+      serves = rw (
+        c.part-2.ensures.hub,
+        sym (c.welcome-came.ensures.store ∙ ap (λ h. h.store) c.part.ensures.hub),
+        sym (c.welcome-came.ensures.silence ∙ c.part.ensures.silence),
+      )
           c.in_ok-has_served.ensures.served;
       stay = rw c.part-2.ensures.hub c.part-2.ensures.stay;
     }
@@ -109,7 +117,8 @@ returns-in_err-has_served-clause-refused g c =
       welcomes = welcomed_there c.args.at c.part.new.self.hub old.hub (λ hub. state_of hub.sessions hub.store.table) w.door.found
           c.part.new.self.turned_away old.turned_away w.turned_away _ _ _ _ c.part.ensures.hub c.part.ensures.stay
           c.part.ensures.turned_away c.welcome-came.ensures.welcomes;
-      refusal = rw (sym same) c.in_err-has_served.ensures.refused;
+      refusal = rw (sym same, sym (c.welcome-came.ensures.silence ∙ c.part.ensures.silence))
+          c.in_err-has_served.ensures.refused;
     })
 
 pub returns-in_err-has_served-clause-cause_err : goal.returns-in_err-has_served-clause-cause_err
