@@ -1,2 +1,3 @@
 pub mod StoreLemmas
 pub mod ServingLemmas
+pub mod ShortLemmas

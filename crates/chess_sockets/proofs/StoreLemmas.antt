@@ -1,12 +1,13 @@
 -- What a turn leaves of the store.
 use Rattle.std.proofs.Common.{◌≡◌, ◌∙◌, ℕ, List, refl, subst, sym}
-use Rattle.std.specs.Prelude.{Bool, Option, Result, Ok, Err, IfErr, OnOk}
+use Rattle.std.specs.Prelude.{Bool, Option, Result, Ok, Err, IfErr, OnOk, OnErr}
 use Rattle.sector_dev.specs.Device.{State}
 use Rattle.rec_codec.specs.declared.header.Header.{Header}
 use Rattle.sector_journal.specs.declared.compactions.Compaction.{Compaction}
 use Rattle.chess_entry.specs.State.{TableState}
 use Rattle.chess_entry.specs.declared.commands.Command.{Command}
 use Rattle.chess_sessions.specs.declared.sessions.Sessions.{Sessions}
+use Rattle.chess_sessions.specs.Session.{IsUnchanged}
 use Rattle.chess_store.specs.declared.fault.StoreFault.{StoreFault}
 use Rattle.chess_store.specs.declared.fault.StoreFault.TheVariants.{Exists, TooSmall, NotOurs, Damaged, Device, NoMemory, Worn, Failed}
 use Rattle.chess_store.specs.Faults.{IsSubmitFault}
@@ -88,6 +89,10 @@ module _ {S T : Type 0} where
 pub of_answered : {S P : Type 0} (given : Result S HubFault) (x : S) → given ≡ Ok x → OnOk given P → P
 of_answered {S = S} {P = P} given x was holds = subst (λ (r : Result S HubFault). OnOk r P) was holds
 
+-- the same where it was refused
+pub of_refused : {S P : Type 0} (given : Result S HubFault) (fault : HubFault) → given ≡ Err fault → OnErr given P → P
+of_refused {S = S} {P = P} given fault was holds = subst (λ (r : Result S HubFault). OnErr r P) was holds
+
 -- ---- why a turn ends serving
 
 module _ {T : Type 0} where
@@ -123,19 +128,25 @@ module _ (Same : Type 0) (at : ℕ) (sessions : Sessions) (seq : ℕ) (failed : 
   turn_ends (hub.Store fault) why = submit_fault fault seq failed before after _ why.those.why
 
   -- nothing was asked of the store, or it refused
-  pub turn_refusal : {S : Type 0} (remaining : S → Option (List ℕ)) (clients read : List (Client S)) (old : HubState)
-      (table : TableState) → AreRead remaining clients read old (state_of sessions table) → before ≡ old.table →
-      (Same → after ≡ before) → (fault : HubFault) → IsOfTurn fault →
-      IsRefusal remaining fault at seq failed clients old after
-  turn_refusal remaining clients read old table hears same idle hub.Busy why = why
-  turn_refusal remaining clients read old table hears same idle hub.NoMemory why = idle why ∙ same
-  turn_refusal remaining clients read old table hears same idle hub.LineTooLong why = why
-  turn_refusal remaining clients read old table hears same idle (hub.Store fault) why = (
-    read,
-    state_of sessions table,
-    hears,
-    subst (λ (t : TableState). AsksFor at 64 sessions (AreRefused fault seq failed t after)) same why,
-  )
+  pub turn_refusal : {S : Type 0} (remaining : S → Option (List ℕ)) (silence : Option ℕ) (clients read : List (Client S)) (old new : HubState)
+      (table : TableState) → AreRead remaining silence at clients read old (state_of sessions table)
+      → IsUnchanged sessions new.sessions → before ≡ old.table → after ≡ new.table → (Same → after ≡ before)
+      → (fault : HubFault) → IsOfTurn fault → IsRefusal remaining silence fault at seq failed clients read old new
+  turn_refusal remaining silence clients read old new table hears kept same next idle hub.Busy why = why
+  turn_refusal remaining silence clients read old new table hears kept same next idle hub.NoMemory why = record {
+    heard = state_of sessions table;
+    reads = hears;
+    kept = kept;
+    why = sym next ∙ idle why ∙ same;
+  }
+  turn_refusal remaining silence clients read old new table hears kept same next idle hub.LineTooLong why = why
+  turn_refusal remaining silence clients read old new table hears kept same next idle (hub.Store fault) why = record {
+    heard = state_of sessions table;
+    reads = hears;
+    kept = kept;
+    why = subst (λ (t : TableState). AsksFor at 64 sessions (AreRefused fault seq failed old.table t)) next
+        (subst (λ (t : TableState). AsksFor at 64 sessions (AreRefused fault seq failed t after)) same why);
+  }
 
 -- ---- how many turns were refused memory
 

@@ -1,2 +1,3 @@
 pub mod Serving
 pub mod Turns
+pub mod Laws

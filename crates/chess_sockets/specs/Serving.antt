@@ -1,6 +1,6 @@
 -- What a turn of the server calls the hub for: where what the sessions hear comes from, and where what they are given
 -- goes.
-use Rattle.std.specs.Prelude.{ℕ, ◌≡◌, List, [], ◌∷◌, ◌++◌, Option, None, is_some, filter, ⊤}
+use Rattle.std.specs.Prelude.{ℕ, ◌≡◌, ◌+◌, ◌-◌, ◌^◌, min, false, List, [], ◌∷◌, ◌++◌, Option, is_some, filter, ⊤}
 use Rattle.std.specs.List.{All}
 use Rattle.chess_entry.specs.State.{TableState}
 use Rattle.chess_entry.specs.declared.commands.Command.{Command}
@@ -10,16 +10,14 @@ use Rattle.chess_hub.specs.Calls.{Call, Connected, Closed, Fed, Turned, Given}
 use Rattle.chess_hub.specs.Law.{HubState, Steps, Stays}
 use Rattle.chess_hub.specs.Turning.{AsksFor}
 use Rattle.client_streams.specs.declared.client.Client.{Client}
+use Rattle.client_streams.specs.declared.door.Found.{Found}
+use Rattle.client_streams.specs.declared.door.Found.TheVariants.{Connection}
 use Rattle.client_streams.specs.Incoming.{held}
 use Rattle.client_streams.specs.Rounds as rounds
 use Rattle.client_streams.specs.Sending.{waiting}
 
 abbrev pub state_of : Sessions → TableState → HubState
 state_of sessions table = record { sessions = sessions; table = table }
-
--- what a socket has yet to give, or has taken: no clause of std says it
-abbrev pub unknown : {S : Type 0} → S → Option (List ℕ)
-unknown stream = None
 
 -- These calls lead from one state to another; the newest stands first. Between them nothing changes.
 abbrev pub LeadsOn : HubState → List Call → HubState → Type 0
@@ -44,9 +42,9 @@ IsOfReading (Turned at most) = ⊥
 IsOfReading (Given sid answer) = ⊥
 
 -- Each client is read for, and the hub is called for what their sessions hear.
-pub record AreRead {S : Type 0} (remaining : S → Option (List ℕ)) (clients read : List (Client S)) (old new : HubState)
-    : Type 0 where
-  pub each : rounds.AreRead remaining clients read old.sessions new.sessions
+pub record AreRead {S : Type 0} (remaining : S → Option (List ℕ)) (silence : Option ℕ) (at : ℕ)
+    (clients read : List (Client S)) (old new : HubState) : Type 0 where
+  pub each : rounds.AreRead remaining silence at clients read old.sessions new.sessions
   pub calls : IsLedBy IsOfReading old new
 
 -- ---- what goes
@@ -71,42 +69,60 @@ pub record AreWritten {S : Type 0} (contents : S → Option (List ℕ)) (clients
 abbrev pub open_in : {S : Type 0} → Sessions → List (Client S) → List (Client S)
 open_in sessions clients = filter (λ client. is_some (session_at sessions client.sid)) clients
 
--- At most one client comes: a session begins for it, nothing is held back, and nothing waits for it.
-abbrev pub AreWelcomed : {S : Type 0} → List (Client S) → HubState → HubState → Type 0
-AreWelcomed [] old new = Stays old new
-AreWelcomed (client ∷ []) old new =
-    LeadsOn old (Connected client.sid ∷ []) new × (held client.incoming ≡ []) × (waiting client.outgoing ≡ [])
-AreWelcomed (client ∷ other ∷ more) old new = ⊥
+-- A client begins at this moment: nothing of it is held back, nothing waits for it, and it may send more.
+pub record Begins {S : Type 0} (client : Client S) (at : ℕ) : Type 0 where
+  pub moment : client.heard_at ≡ at
+  pub lasts : client.has_ended ≡ false
+  pub incoming : held client.incoming ≡ []
+  pub outgoing : waiting client.outgoing ≡ []
+
+-- At most one client comes and begins at this moment, and a session begins for it.
+abbrev pub AreWelcomed : {S : Type 0} → ℕ → List (Client S) → HubState → HubState → Type 0
+AreWelcomed at [] old new = Stays old new
+AreWelcomed at (client ∷ []) old new = LeadsOn old (Connected client.sid ∷ []) new × Begins client at
+AreWelcomed at (client ∷ other ∷ more) old new = ⊥
 
 -- Who came stands behind those who were there.
-pub record Welcomes {S : Type 0} (clients after : List (Client S)) (old new : HubState) : Type 0 where
+pub record Welcomes {S : Type 0} (at : ℕ) (clients after : List (Client S)) (old new : HubState) : Type 0 where
   pub came : List (Client S)
   pub whole : after ≡ clients ++ came
-  pub welcomed : AreWelcomed came old new
+  pub welcomed : AreWelcomed at came old new
+
+-- How many connections were turned away, after a try that found this and who came of it, where so many were before: one more
+-- where a connection came and no session began for it.
+abbrev pub away_after : {S : Type 0} → Found → List (Client S) → ℕ → ℕ
+away_after Connection [] count = min (count + 1) (2 ^ 64 - 1)
+away_after found came count = count
+
+-- Who came is a client, or is counted as turned away.
+pub record IsWelcomed {S : Type 0} (at : ℕ) (found : Found) (count counted : ℕ) (clients after : List (Client S))
+    (old new : HubState) : Type 0 where
+  pub welcomes : Welcomes at clients after old new
+  pub away : counted ≡ away_after found welcomes.came count
 
 -- Each client is read for, and then the hub answers at most 64 lines of what the sessions had sent by then, as one batch
 -- at this moment, which the store may be asked for.
-pub record HasReadAndAnswered {S : Type 0} (remaining : S → Option (List ℕ)) (May : List Command → Type 0) (at : ℕ)
-    (clients read : List (Client S)) (old answered : HubState) : Type 0 where
+pub record HasReadAndAnswered {S : Type 0} (remaining : S → Option (List ℕ)) (silence : Option ℕ)
+    (May : List Command → Type 0) (at : ℕ) (clients read : List (Client S)) (old answered : HubState) : Type 0 where
   pub heard : HubState
-  pub reads : AreRead remaining clients read old heard
+  pub reads : AreRead remaining silence at clients read old heard
   pub turned : Steps heard (Turned at 64) answered
   pub works : AsksFor at 64 heard.sessions May
 
 -- And then the answers are written.
-pub record HasServed {S : Type 0} (remaining contents : S → Option (List ℕ)) (May : List Command → Type 0) (at : ℕ)
-    (clients written : List (Client S)) (old new : HubState) : Type 0 where
+pub record HasServed {S : Type 0} (remaining contents : S → Option (List ℕ)) (silence : Option ℕ)
+    (May : List Command → Type 0) (at : ℕ) (clients written : List (Client S)) (old new : HubState) : Type 0 where
   pub read : List (Client S)
   pub answered : HubState
-  pub answers : HasReadAndAnswered remaining May at clients read old answered
+  pub answers : HasReadAndAnswered remaining silence May at clients read old answered
   pub writes : AreWritten contents read written answered new
 
 -- A turn of the server: each client whose session is open, and who came, is served. Who is left has an open session.
-pub record HasGoneRound {S : Type 0} (remaining contents : S → Option (List ℕ)) (May : List Command → Type 0) (at : ℕ)
-    (clients left : List (Client S)) (old new : HubState) : Type 0 where
+pub record HasGoneRound {S : Type 0} (remaining contents : S → Option (List ℕ)) (silence : Option ℕ) (found : Found)
+    (count counted : ℕ) (May : List Command → Type 0) (at : ℕ) (clients left : List (Client S)) (old new : HubState) : Type 0 where
   pub asked : List (Client S)
   pub begun : HubState
-  pub welcomes : Welcomes (open_in old.sessions clients) asked old begun
+  pub welcomes : IsWelcomed at found count counted (open_in old.sessions clients) asked old begun
   pub written : List (Client S)
-  pub serves : HasServed remaining contents May at asked written begun new
+  pub serves : HasServed remaining contents silence May at asked written begun new
   pub stay : left ≡ open_in new.sessions written

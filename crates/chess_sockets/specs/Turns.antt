@@ -1,13 +1,15 @@
 -- Which faults end serving.
-use Rattle.std.specs.Prelude.{ℕ, ◌≡◌, ◌+◌, ◌-◌, ◌^◌, min, Bool, List, Option, ⊤}
-use Rattle.chess_entry.specs.State.{TableState}
+use Rattle.std.specs.Prelude.{ℕ, ◌≡◌, Bool, List, Option, ⊤}
+use Rattle.chess_sessions.specs.declared.sessions.Sessions.{Sessions}
+use Rattle.chess_sessions.specs.Session.{IsUnchanged}
 use Rattle.chess_store.specs.Faults.{IsSubmitFault}
 use Rattle.chess_hub.specs.declared.fault.HubFault.{HubFault}
 use Rattle.chess_hub.specs.declared.fault.HubFault.TheVariants.{Busy, NoMemory, LineTooLong, Store}
 use Rattle.chess_hub.specs.Law.{HubState}
 use Rattle.chess_hub.specs.Turning.{AsksFor, AreRefused}
 use Rattle.client_streams.specs.declared.client.Client.{Client}
-use Rattle.chess_sockets.specs.Serving.{AreRead, Welcomes, open_in}
+use Rattle.client_streams.specs.declared.door.Found.{Found}
+use Rattle.chess_sockets.specs.Serving.{AreRead, IsWelcomed, open_in}
 
 -- Memory was refused to the hub, or the store refused a batch. What is one client's trouble, want of memory too, ends
 -- nothing but its session.
@@ -17,26 +19,33 @@ EndsServing (Store fault) = IsSubmitFault fault
 EndsServing Busy = ⊥
 EndsServing LineTooLong = ⊥
 
--- A connection that came is counted as turned away where there are as many clients as before, and else not.
-pub record IsCounted (clients after count counted : ℕ) : Type 0 where
-  pub dropped : after ≡ clients → counted ≡ min (count + 1) (2 ^ 64 - 1)
-  pub taken : after ≡ clients + 1 → counted ≡ count
+-- The clients were read for, and then no line of what their sessions had heard by then was answered: so they are left, and
+-- nothing is lost for who is served again.
+pub record HasReadAlone {S : Type 0} (remaining : S → Option (List ℕ)) (silence : Option ℕ) (at : ℕ)
+    (clients left : List (Client S)) (old new : HubState) (Why : Sessions → Type 0) : Type 0 where
+  pub heard : HubState
+  pub reads : AreRead remaining silence at clients left old heard
+  pub kept : IsUnchanged heard.sessions new.sessions
+  pub why : Why heard.sessions
 
--- Why clients are not served on, and what is left of the table. Where memory was refused to the hub, the table is as it
--- was; a store's fault is that of the commands of at most 64 lines, of what the sessions had sent by then, which went to
--- it as one batch at this moment.
-abbrev pub IsRefusal : {S : Type 0} → (S → Option (List ℕ)) → HubFault → ℕ → ℕ → Bool → List (Client S) → HubState →
-    TableState → Type 0
-IsRefusal remaining NoMemory at seq failed clients old after = after ≡ old.table
-IsRefusal {S = S} remaining (Store fault) at seq failed clients old after =
-    (read : List (Client S)) × (heard : HubState) × AreRead remaining clients read old heard
-    × AsksFor at 64 heard.sessions (AreRefused fault seq failed old.table after)
-IsRefusal remaining Busy at seq failed clients old after = ⊥
-IsRefusal remaining LineTooLong at seq failed clients old after = ⊥
+-- Why clients are not served on, and what is left. Where memory was refused to the hub, the table is as it was; a store's
+-- fault is that of the commands of at most 64 lines, of what the sessions had sent by then, which went to it as one batch
+-- at this moment.
+abbrev pub IsRefusal : {S : Type 0} → (S → Option (List ℕ)) → Option ℕ → HubFault → ℕ → ℕ → Bool → List (Client S) → List (Client S)
+    → HubState → HubState → Type 0
+IsRefusal remaining silence NoMemory at seq failed clients left old new =
+    HasReadAlone remaining silence at clients left old new (λ heard. new.table ≡ old.table)
+IsRefusal remaining silence (Store fault) at seq failed clients left old new =
+    HasReadAlone remaining silence at clients left old new
+    (λ heard. AsksFor at 64 heard (AreRefused fault seq failed old.table new.table))
+IsRefusal remaining silence Busy at seq failed clients left old new = ⊥
+IsRefusal remaining silence LineTooLong at seq failed clients left old new = ⊥
 
 -- Why a turn of the server ended: so it ended for those whose session is open and who came.
-abbrev pub IsTurnRefusal : {S : Type 0} → (S → Option (List ℕ)) → HubFault → ℕ → ℕ → Bool → List (Client S) → HubState
-    → TableState → Type 0
-IsTurnRefusal {S = S} remaining fault at seq failed clients old after =
-    (asked : List (Client S)) × (begun : HubState) × Welcomes (open_in old.sessions clients) asked old begun
-    × IsRefusal remaining fault at seq failed asked begun after
+pub record IsTurnRefusal {S : Type 0} (remaining : S → Option (List ℕ)) (silence : Option ℕ) (found : Found) (count counted : ℕ)
+    (fault : HubFault) (at seq : ℕ) (failed : Bool) (clients left : List (Client S)) (old new : HubState)
+    : Type 0 where
+  pub asked : List (Client S)
+  pub begun : HubState
+  pub welcomes : IsWelcomed at found count counted (open_in old.sessions clients) asked old begun
+  pub refusal : IsRefusal remaining silence fault at seq failed asked left begun new

@@ -4,8 +4,8 @@ ghost use Rattle.std.specs.Bool.{OnTrue, OnFalse};
 ghost use Rattle.table_commits.specs.Means.{IsKept};
 ghost use Rattle.chess_hub.specs.Faults.{CountsFault, refusals_after};
 ghost use Rattle.chess_hub.specs.Turning.{MayBeAsked, Lasts, IsTried};
-ghost use Rattle.chess_sockets.specs.Serving.{state_of, unknown, Welcomes, HasServed, HasGoneRound, open_in};
-ghost use Rattle.chess_sockets.specs.Turns.{EndsServing, IsCounted, IsRefusal, IsTurnRefusal};
+ghost use Rattle.chess_sockets.specs.Serving.{state_of, Welcomes, IsWelcomed, HasServed, HasGoneRound, open_in};
+ghost use Rattle.chess_sockets.specs.Turns.{EndsServing, IsRefusal, IsTurnRefusal};
 
 use chess_hub::{Hub, HubFault};
 use client_streams::{
@@ -37,14 +37,14 @@ enum Rested {
     Woken,
 }
 
-/// Serves clients on a port of this machine.
+/// Serves clients on a port of this machine, over streams that are made of their connections.
 #[derive(Drop)]
-pub struct Server<D: Device> {
+pub struct Server<D: Device, S = TcpStream> {
     alloc: Global,
     door: Door,
     port: u16,
     hub: Hub<D>,
-    clients: Vec<Client<TcpStream>>,
+    clients: Vec<Client<S>>,
     watch: Watch,
     rested: Rested,
     /// For how many milliseconds a client may be silent.
@@ -74,11 +74,12 @@ pub(crate) fn serve_clients<S: Read + Write, D: Device>(
     ensures fault { IfErr result EndsServing }
     // Want of memory ends serving only where a turn of the hub was refused it.
     ensures counts { hub.new.refusals ≡ refusals_after result hub.old.refusals }
-    ensures refused { IfErr result (λ fault. IsRefusal S.remaining fault reading.at hub.old.store.journal.header.seq
-        hub.old.store.failed clients.old.items (state_of hub.old.sessions hub.old.store.table) hub.new.store.table) }
+    ensures refused { IfErr result (λ fault. IsRefusal S.remaining reading.silence fault reading.at
+        hub.old.store.journal.header.seq hub.old.store.failed clients.old.items clients.new.items
+        (state_of hub.old.sessions hub.old.store.table) (state_of hub.new.sessions hub.new.store.table)) }
     // Each session hears what its client's stream gave, and nothing else, but for what comes behind a line that is too
     // long; and what it is given goes to that stream, as far as that takes it, unless the session is closed.
-    ensures served { OnOk result (HasServed S.remaining S.contents (MayBeAsked hub.old.store.failed
+    ensures served { OnOk result (HasServed S.remaining S.contents reading.silence (MayBeAsked hub.old.store.failed
         hub.old.store.journal.header.seq hub.old.store.table.entries) reading.at clients.old.items clients.new.items
         (state_of hub.old.sessions hub.old.store.table) (state_of hub.new.sessions hub.new.store.table)) }
     ensures tried { OnOk result (IsTried D.state D.sector_count D.failures hub.old.store.journal.device
@@ -99,7 +100,7 @@ pub(crate) fn serve_clients<S: Read + Write, D: Device>(
     Ok(has_read | has_written)
 }
 
-impl<D: Device> Server<D> {
+impl<D: Device, S: Read + Write + From<TcpStream> + Drop> Server<D, S> {
     /// Listens on a port of 127.0.0.1; of port 0 the system chooses one. The system's error where it cannot be bound or
     /// watched; the hub is then given up. A client from which nothing came for `silence` milliseconds, and for which
     /// nothing waits, is closed; without that none is closed for silence.
@@ -109,12 +110,13 @@ impl<D: Device> Server<D> {
         port: u16,
         silence: Option<u64>,
         hub: Hub<D>,
-    ) -> io::Result<Server<D>>
+    ) -> io::Result<Server<D, S>>
     where
         D: Drop,
         ensures hub { IfOk result (λ server. server.hub ≡ hub) }
         ensures nobody { IfOk result (λ server. server.clients.items ≡ []) }
         ensures silence { IfOk result (λ server. server.silence ≡ silence) }
+        ensures away { IfOk result (λ server. server.turned_away ≡ 0) }
     {
         let door = Door::listen(net, port)?;
         let mut watch = Watch::new(net, alloc)?;
@@ -157,7 +159,7 @@ impl<D: Device> Server<D> {
     // Begins a session for a connection, and tells whether it did: the connection is dropped where the hub is busy or memory
     // is refused.
     fn admit(&mut self, stream: TcpStream, at: u64) -> bool
-        ensures welcomes { Welcomes self.old.clients.items self.new.clients.items
+        ensures welcomes { Welcomes at self.old.clients.items self.new.clients.items
             (state_of self.old.hub.sessions self.old.hub.store.table)
             (state_of self.new.hub.sessions self.new.hub.store.table) }
         ensures store { self.new.hub.store ≡ self.old.hub.store }
@@ -165,6 +167,7 @@ impl<D: Device> Server<D> {
         ensures port { self.new.port ≡ self.old.port }
         ensures silence { self.new.silence ≡ self.old.silence }
         ensures waits { self.new.watch.calm_waits ≡ self.old.watch.calm_waits }
+        ensures door { self.new.door ≡ self.old.door }
         ensures turned_away { self.new.turned_away ≡ self.old.turned_away }
         ensures came { OnTrue result (length self.new.clients.items ≡ length self.old.clients.items + 1) }
         ensures dropped { OnFalse result (self.new.clients.items ≡ self.old.clients.items) }
@@ -179,14 +182,15 @@ impl<D: Device> Server<D> {
         };
         self.watch.add(stream.as_raw_fd());
         self.clients
-            .push_reserved(Client::new(self.alloc, stream, sid, at));
+            .push_reserved(Client::new(self.alloc, S::from(stream), sid, at));
         true
     }
 
-    // Accepts at most one connection, and tells whether one came; after calm rests none, unless one may wait. One that came
-    // and is no client is counted. What fails at it ends nothing, and is no turn's work, so that a rest comes before the next.
-    fn welcome(&mut self, at: u64) -> bool
-        ensures welcomes { Welcomes self.old.clients.items self.new.clients.items
+    // Begins a session for a connection that came, or counts it as turned away.
+    fn greet(&mut self, stream: TcpStream, at: u64)
+        requires { self.old.door.found ≡ Found.Connection }
+        ensures welcomes { IsWelcomed at self.new.door.found self.old.turned_away self.new.turned_away
+            self.old.clients.items self.new.clients.items
             (state_of self.old.hub.sessions self.old.hub.store.table)
             (state_of self.new.hub.sessions self.new.hub.store.table) }
         ensures store { self.new.hub.store ≡ self.old.hub.store }
@@ -194,18 +198,31 @@ impl<D: Device> Server<D> {
         ensures port { self.new.port ≡ self.old.port }
         ensures silence { self.new.silence ≡ self.old.silence }
         ensures waits { self.new.watch.calm_waits ≡ self.old.watch.calm_waits }
-        ensures counted { OnTrue result (IsCounted (length self.old.clients.items) (length self.new.clients.items)
-            self.old.turned_away self.new.turned_away) }
-        ensures none { OnFalse result (self.new.turned_away ≡ self.old.turned_away) }
+    {
+        if !self.admit(stream, at) {
+            self.turned_away = self.turned_away.saturating_add(1);
+        }
+    }
+
+    // Accepts at most one connection, and tells whether one came; after calm rests none, unless one may wait. One that came
+    // and is no client is counted. What fails at it ends nothing, and is no turn's work, so that a rest comes before the next.
+    fn welcome(&mut self, at: u64) -> bool
+        ensures welcomes { IsWelcomed at self.new.door.found self.old.turned_away self.new.turned_away
+            self.old.clients.items self.new.clients.items
+            (state_of self.old.hub.sessions self.old.hub.store.table)
+            (state_of self.new.hub.sessions self.new.hub.store.table) }
+        ensures store { self.new.hub.store ≡ self.old.hub.store }
+        ensures refusals { self.new.hub.refusals ≡ self.old.hub.refusals }
+        ensures port { self.new.port ≡ self.old.port }
+        ensures silence { self.new.silence ≡ self.old.silence }
+        ensures waits { self.new.watch.calm_waits ≡ self.old.watch.calm_waits }
     {
         if !asks_for_one(self.rested, self.door.found()) {
             return false;
         }
         match next_connection(&mut self.door) {
             Some(stream) => {
-                if !self.admit(stream, at) {
-                    self.turned_away = self.turned_away.saturating_add(1);
-                }
+                self.greet(stream, at);
                 true
             }
             None => false,
@@ -217,6 +234,8 @@ impl<D: Device> Server<D> {
         ensures stay { self.new.clients.items ≡ open_in self.old.hub.sessions self.old.clients.items }
         ensures hub { self.new.hub ≡ self.old.hub }
         ensures rested { self.new.rested ≡ self.old.rested }
+        ensures door { self.new.door ≡ self.old.door }
+        ensures turned_away { self.new.turned_away ≡ self.old.turned_away }
         ensures port { self.new.port ≡ self.old.port }
         ensures silence { self.new.silence ≡ self.old.silence }
         ensures waits { self.new.watch.calm_waits ≡ self.old.watch.calm_waits }
@@ -240,9 +259,11 @@ impl<D: Device> Server<D> {
         ensures fault { IfErr result EndsServing }
         ensures counts { self.new.hub.refusals ≡ refusals_after result self.old.hub.refusals }
         // The store's own fault tells why it refused what lines ask for.
-        ensures refused { IfErr result (λ fault. IsTurnRefusal unknown fault at
-            self.old.hub.store.journal.header.seq self.old.hub.store.failed self.old.clients.items
-            (state_of self.old.hub.sessions self.old.hub.store.table) self.new.hub.store.table) }
+        ensures refused { IfErr result (λ fault. IsTurnRefusal S.remaining self.old.silence self.new.door.found self.old.turned_away
+            self.new.turned_away fault at self.old.hub.store.journal.header.seq self.old.hub.store.failed
+            self.old.clients.items self.new.clients.items
+            (state_of self.old.hub.sessions self.old.hub.store.table)
+            (state_of self.new.hub.sessions self.new.hub.store.table)) }
         ensures tried { OnOk result (IsTried D.state D.sector_count D.failures self.old.hub.store.journal.device
             self.new.hub.store.journal.device (Ok (tt {0})) self.old.hub.store.table self.new.hub.store.table
             self.old.hub.store.failed self.new.hub.store.failed) }
@@ -250,9 +271,10 @@ impl<D: Device> Server<D> {
             (D.failures self.old.hub.store.journal.device) (D.failures self.new.hub.store.journal.device)) }
         // The next turn reads for every client, unless a rest comes first.
         ensures again { OnOk result (self.new.rested ≡ Rested.Not) }
-        // Each session is fed one piece at most, and what it is given goes to its client. Of which bytes a socket gave and
-        // took std says nothing: they are `unknown` here, and told in `serve_clients`.
-        ensures served { OnOk result (HasGoneRound unknown unknown (MayBeAsked self.old.hub.store.failed
+        // Each session hears what its client's stream gave, and what it is given goes to that stream, whatever the streams
+        // are. Who came and is no client is counted.
+        ensures served { OnOk result (HasGoneRound S.remaining S.contents self.old.silence self.new.door.found self.old.turned_away
+            self.new.turned_away (MayBeAsked self.old.hub.store.failed
             self.old.hub.store.journal.header.seq self.old.hub.store.table.entries) at self.old.clients.items
             self.new.clients.items (state_of self.old.hub.sessions self.old.hub.store.table)
             (state_of self.new.hub.sessions self.new.hub.store.table)) }
@@ -292,6 +314,7 @@ impl<D: Device> Server<D> {
         ensures calm { self.new.rested ≡ Rested.Calm
             → self.new.watch.calm_waits ≡ self.old.watch.calm_waits + 1 }
         ensures woken { self.old.rested ≡ Rested.Woken → self.new.rested ≡ Rested.Woken }
+        ensures turned_away { self.new.turned_away ≡ self.old.turned_away }
         ensures port { self.new.port ≡ self.old.port }
         ensures silence { self.new.silence ≡ self.old.silence }
     {

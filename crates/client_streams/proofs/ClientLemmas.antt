@@ -28,6 +28,13 @@ fare_none true true first = refl
 fare_none false true first = refl
 fare_none false false first = refl
 
+-- once none is due it stays so
+fare_empty : (done left : Bool) → None ≡ first_due (fare done left) → fare done (left || done) ≡ []
+fare_empty true false first = absurd (let bad : None ≡ Some farewell = first in cc)
+fare_empty true true first = refl
+fare_empty false true first = refl
+fare_empty false false first = refl
+
 abbrev state : Option (List ℕ) → Heard → List Said → Bool → SessionState
 state name heard answers left = record { name = name; heard = heard; answers = answers; has_left = left }
 
@@ -45,6 +52,18 @@ due_none : (name : Option (List ℕ)) (heard : Heard) (answers : List Said) (lef
     due (given_one (state name heard answers left)) ≡ due (state name heard answers left)
 due_none name heard [] left first = fare_none (is_done heard) left first
 due_none name heard (x ∷ xs) left first = absurd (let bad : None ≡ Some x = first in cc)
+
+due_empty : (name : Option (List ℕ)) (heard : Heard) (answers : List Said) (left : Bool) →
+    None ≡ first_due (due (state name heard answers left)) → due (given_one (state name heard answers left)) ≡ []
+due_empty name heard [] left first = fare_empty (is_done heard) left first
+due_empty name heard (x ∷ xs) left first = absurd (let bad : None ≡ Some x = first in cc)
+
+none_due : (m : Option SessionState) (mid new : Sessions) (sid : ℕ) → IsSome m →
+    IfSome m (λ s. None ≡ first_due (due s)) → IfSome m (λ s. Changes mid new sid (Some (given_one s))) →
+    IfSome (session_at new sid) (λ s. due s ≡ [])
+none_due None mid new sid is_open given after = absurd (let bad : false ≡ true = is_open in cc)
+none_due (Some s) mid new sid is_open given after = subst (λ (o : Option SessionState). IfSome o (λ t. due t ≡ []))
+    (sym after.changed) (due_empty s.name s.heard s.answers s.has_left given)
 
 -- ---- one answer more
 
@@ -93,6 +112,13 @@ pub gives-none : (m : Option SessionState) (mid new : Sessions) (sid : ℕ) (r :
     IsSome m → IfSome m (λ s. option_map said r ≡ first_due (due s)) →
     IfSome m (λ s. Changes mid new sid (Some (given_one s))) → Gives m mid new sid w w
 gives-none m mid new sid r w was is_open given after = given_none m mid new sid w is_open
+    (subst (λ (x : Option Reply). IfSome m (λ s. option_map said x ≡ first_due (due s))) was given) after
+
+-- it gave none, so none is due
+pub gave_all : (m : Option SessionState) (mid new : Sessions) (sid : ℕ) (r : Option Reply) → r ≡ None → IsSome m →
+    IfSome m (λ s. option_map said r ≡ first_due (due s)) → IfSome m (λ s. Changes mid new sid (Some (given_one s))) →
+    IfSome (session_at new sid) (λ s. due s ≡ [])
+gave_all m mid new sid r was is_open given after = none_due m mid new sid is_open
     (subst (λ (x : Option Reply). IfSome m (λ s. option_map said x ≡ first_due (due s))) was given) after
 
 pub others-trans : (a b c : Sessions) (sid : ℕ) → OthersStay a b sid → OthersStay b c sid → OthersStay a c sid

@@ -1,11 +1,11 @@
--- When something came last.
-use Rattle.std.proofs.Common.{◌≡◌, ◌<◌, ◌≤◌, ℕ, zero, suc, List, [], ◌∷◌, Option, length, take, refl, subst, sym, arith}
-use Rattle.std.specs.Io.KnownBytes.{Consumes, Keeps}
+-- When something came last, and whether more comes.
+use Rattle.std.proofs.Common.{◌≡◌, ◌∙◌, ◌<◌, ◌≤◌, ℕ, zero, suc, Bool, true, List, [], ◌∷◌, Option, length, take, refl, subst, sym, arith, inl, inr}
+use Rattle.std.specs.Io.KnownBytes.{Consumes, Keeps, IsAtEnd}
 use Rattle.std.proofs.KnownBytes.{Consumes-nil, Consumes-kept}
 use Rattle.client_streams.specs.declared.pieces.Came.{Came}
 use Rattle.client_streams.specs.declared.pieces.Came.TheVariants.{Nothing, Interrupted, Bytes, End, Fault}
-use Rattle.client_streams.specs.Clients.{IsHeardAt, heard_since}
-use Rattle.client_streams.specs.Pieces.{HasCome, IsBrought, Brings}
+use Rattle.client_streams.specs.Clients.{IsHeardAt, IsEndSeen, heard_since}
+use Rattle.client_streams.specs.Pieces.{HasCome, Brings}
 
 none_brought : (before after : Option (List ℕ)) → Keeps before after → Consumes before after []
 none_brought before after kept = Consumes-kept before before after [] (Consumes-nil before) kept
@@ -79,3 +79,24 @@ pub heard_on : (before mid after : Option (List ℕ)) (at old new next : ℕ) �
 heard_on before mid after at old new next h same still =
     subst (λ (b : Option (List ℕ)). IsHeardAt before b at old next) (sym same)
     (subst (λ (n : ℕ). IsHeardAt before mid at old n) (sym still) h)
+
+-- ---- whether more comes
+
+-- a read that told the end found it
+pub at_end : (before after : Option (List ℕ)) (piece : List ℕ) (came : Came) → HasCome before after piece came → came ≡ End
+    → IsAtEnd after
+at_end before after piece came has is = (subst (λ (c : Came). HasCome before after piece c) is has).1
+
+pub end_now : (after : Option (List ℕ)) (old : Bool) → IsAtEnd after → IsEndSeen after old true
+end_now after old is = λ known. inr is
+
+pub end_as_before : (after : Option (List ℕ)) (old : Bool) → IsEndSeen after old old
+end_as_before after old = λ known. inl known
+
+-- and nothing more was read
+pub end_on : (mid after : Option (List ℕ)) (old new next : Bool) → IsEndSeen mid old new → after ≡ mid → next ≡ new
+    → IsEndSeen after old next
+end_on mid after old new next seen same still = λ known. elim (seen (sym still ∙ known)) [
+  | inl before ↦ inl before
+  | inr is ↦ inr (subst (λ (b : Option (List ℕ)). IsAtEnd b) (sym same) is)
+]

@@ -5,3 +5,4 @@ pub mod TakingLemmas
 pub mod RoundLemmas
 pub mod WaitLemmas
 pub mod HeardLemmas
+pub mod ClosingLemmas

@@ -13,13 +13,17 @@ use Rattle.chess_answer.specs.declared.reads.Reply.{Reply}
 use Rattle.chess_sessions.specs.declared.sessions.Sessions.{Sessions}
 use Rattle.chess_sessions.specs.Session.{Said, said, SessionState, session_at, Changes, IsUnchanged, due, first_due, given_one, farewell, is_done}
 use Rattle.client_streams.specs.declared.client.Client.{Client}
-use Rattle.client_streams.specs.Clients.{OthersStay, IsSilent, TakesIn, HandsOut, to_go}
+use Rattle.client_streams.specs.Clients.{OthersStay, IsSilent, IsHeardAt, IsEndSeen, TakesIn, HandsOut, to_go}
+use Rattle.client_streams.specs.declared.closing.Closing.{Closing}
+use Rattle.client_streams.specs.declared.closing.Closing.TheVariants.{Fault, NoMemory, Silence, End, Farewell}
+use Rattle.client_streams.specs.Closings.{IsReason, IsTrouble, IsOver}
 use Rattle.client_streams.specs.Incoming.{held}
 use Rattle.client_streams.specs.Sending.{waiting}
 use Rattle.client_streams.specs.Portions.{IsDearLine}
 use Rattle.client_streams.proofs.PortionLemmas.{none-dear}
+use Rattle.client_streams.proofs.HeardLemmas.{heard_as_before, end_as_before}
 use Rattle.client_streams.proofs.TakingLemmas.{takes-kept, takes-in, gives-nothing, gives-closed}
-use Rattle.client_streams.specs.Rounds.{Intake, intake, Holds, AreEach, PassesClosed, IsSent, IsRead, AreGivenTo, AreGiven, IsGivenOut, IsWritten}
+use Rattle.client_streams.specs.Rounds.{Intake, intake, Holds, AreEach, PassesClosed, IsSent, IsRead, AreGivenTo, AreGiven, IsGivenOut, IsHandedOut, IsWritten}
 
 -- ---- sessions that are as they were
 
@@ -143,6 +147,10 @@ pub on_true : {P : Type 0} (b : Bool) → (b ≡ true → P) → OnTrue b P
 on_true true p = p refl
 on_true false p = tt
 
+pub both_true : {P Q : Type 0} (b : Bool) → (b ≡ true → P → Q) → OnTrue b P → OnTrue b Q
+both_true true q p = q refl p
+both_true false q p = tt
+
 pub on_false : {P Q : Type 0} (b : Bool) → (P → Q) → OnFalse b P → OnFalse b Q
 on_false true q p = tt
 on_false false q p = q p
@@ -152,13 +160,69 @@ pub silent_written : {S : Type 0} (silence : Option ℕ) (client : Client S) (se
 silent_written None client sessions at silent = absurd silent
 silent_written (Some most) client sessions at silent = silent.written
 
+-- of whom nothing came for so long, where what is asked of its session is as before
+silent_again : {S : Type 0} (silence : Option ℕ) (client : Client S) (a b : Sessions) (at : ℕ) → IsUnchanged a b →
+    IsSomeAnd silence (IsSilent client b at) → IsSomeAnd silence (IsSilent client a at)
+silent_again None client a b at h silent = absurd silent
+silent_again (Some most) client a b at h silent = record {
+  long = silent.long;
+  written = silent.written;
+  answered = subst (λ (o : Option SessionState). IfSome o (λ s. s.heard.bytes ≡ [])) (h client.sid) silent.answered;
+  unfinished = silent.unfinished;
+}
+
+-- it is closed for that
+pub silent_reason : {S : Type 0} (silence : Option ℕ) (client after : Client S) (sessions : Sessions) (at : ℕ) →
+    after.closing ≡ Some Silence → after.heard_at ≡ client.heard_at → after.sid ≡ client.sid →
+    held after.incoming ≡ held client.incoming → waiting after.outgoing ≡ waiting client.outgoing →
+    IsSomeAnd silence (IsSilent client sessions at) →
+    IsReason after.closing (IsSomeAnd silence (IsSilent after sessions at)) ⊥ ⊥
+silent_reason None client after sessions at told heard sid holds waits silent = absurd silent
+silent_reason (Some most) client after sessions at told heard sid holds waits silent =
+    subst (λ (c : Option Closing). IsReason c (IsSilent after sessions at most) ⊥ ⊥) (sym told) (record {
+      long = subst (λ (n : ℕ). n + most ≤ at) (sym heard) silent.long;
+      written = waits ∙ silent.written;
+      answered = subst (λ (n : ℕ). IfSome (session_at sessions n) (λ s. s.heard.bytes ≡ [])) (sym sid) silent.answered;
+      unfinished = subst (λ (l : List ℕ). IsUnfinished l) (sym holds) silent.unfinished;
+    })
+
+-- said of sessions that are as they were
+reason_again : {S : Type 0} (silence : Option ℕ) (client : Client S) (a b : Sessions) (at : ℕ) (closing : Option Closing) →
+    IsUnchanged a b → IsReason closing (IsSomeAnd silence (IsSilent client b at)) ⊥ ⊥ →
+    IsReason closing (IsSomeAnd silence (IsSilent client a at)) ⊥ ⊥
+reason_again silence client a b at None h is = is
+reason_again silence client a b at (Some Fault) h is = is
+reason_again silence client a b at (Some NoMemory) h is = is
+reason_again silence client a b at (Some Silence) h is = silent_again silence client a b at h is
+reason_again silence client a b at (Some End) h is = is
+reason_again silence client a b at (Some Farewell) h is = is
+
+-- the connection has failed, or memory was refused
+pub reason_of_trouble : (silent : Type 0) (closing : Option Closing) → IsTrouble closing → IsReason closing silent ⊥ ⊥
+reason_of_trouble silent None is = is
+reason_of_trouble silent (Some Fault) is = is
+reason_of_trouble silent (Some NoMemory) is = is
+reason_of_trouble silent (Some Silence) is = absurd is
+reason_of_trouble silent (Some End) is = is
+reason_of_trouble silent (Some Farewell) is = is
+
+-- a session that is as it was is not closed
+pub not_now : {P : Type 0} (m n : Option SessionState) → n ≡ m → IsSome m → n ≡ None → P
+not_now {P = P} m n same is_open none = not_closed m P is_open (sym same ∙ none)
+
 -- ---- who is read for
 
 pub holds-refl : (s : Intake) → Holds s s
 holds-refl s = (unchanged-refl s.sessions, refl)
 
-module _ {S : Type 0} (remaining : S → Option (List ℕ)) where
-  pub passed_over : (client : Client S) (s : Intake) → IsRead remaining client client s s
+module _ {S : Type 0} (remaining : S → Option (List ℕ)) (silence : Option ℕ) (at : ℕ) where
+  -- the reason where this client's session is closed
+  abbrev pub HasReason : Client S → Client S → Sessions → Sessions → Type 0
+  HasReason client after old new =
+      IsSome (session_at old client.sid) → session_at new client.sid ≡ None
+      → IsReason after.closing (IsSomeAnd silence (IsSilent after old at)) ⊥ ⊥
+
+  pub passed_over : (client : Client S) (s : Intake) → IsRead remaining silence at client client s s
   passed_over client s = record {
     sid = refl;
     outgoing = refl;
@@ -172,16 +236,22 @@ module _ {S : Type 0} (remaining : S → Option (List ℕ)) where
     fewer = omega arith;
     dear = none-dear;
     unread = λ waits. (refl, refl, unchanged-refl s.sessions);
+    heard = heard_as_before (remaining client.stream) at client.heard_at;
+    ended = end_as_before (remaining client.stream) client.has_ended;
     closed = λ none. (refl, unchanged-refl s.sessions);
+    reason = λ is_open none. not_closed (session_at s.sessions client.sid) _ is_open none;
   }
 
   pub is_read : (client after : Client S) (old new : Intake) → after.sid ≡ client.sid →
       waiting after.outgoing ≡ waiting client.outgoing →
       (waiting client.outgoing ≢ [] → (after.stream ≡ client.stream) × (held after.incoming ≡ held client.incoming)
-      × IsUnchanged old.sessions new.sessions) → PassesClosed client after old.sessions new.sessions →
+      × IsUnchanged old.sessions new.sessions) →
+      IsHeardAt (remaining client.stream) (remaining after.stream) at client.heard_at after.heard_at →
+      IsEndSeen (remaining after.stream) client.has_ended after.has_ended →
+      PassesClosed client after old.sessions new.sessions → HasReason client after old.sessions new.sessions →
       Sends old.room new.room (remaining client.stream) (remaining after.stream) (held client.incoming)
-      (held after.incoming) client.sid old.sessions new.sessions → IsRead remaining client after old new
-  is_read client after old new sid outgoing unread closed sends = record {
+      (held after.incoming) client.sid old.sessions new.sessions → IsRead remaining silence at client after old new
+  is_read client after old new sid outgoing unread heard ended closed reason sends = record {
     sid = sid;
     outgoing = outgoing;
     taken = sends.taken;
@@ -194,19 +264,26 @@ module _ {S : Type 0} (remaining : S → Option (List ℕ)) where
     fewer = sends.fewer;
     dear = sends.dear;
     unread = unread;
+    heard = heard;
+    ended = ended;
     closed = closed;
+    reason = reason;
   }
 
   -- Nothing came of a client. Its session is closed, or all stays.
   pub read_nothing : (client after : Client S) (room : ℕ) (old new : Sessions) (done : Bool) →
       after.sid ≡ client.sid → waiting after.outgoing ≡ waiting client.outgoing →
+      IsHeardAt (remaining client.stream) (remaining after.stream) at client.heard_at after.heard_at →
+      IsEndSeen (remaining after.stream) client.has_ended after.has_ended →
       Keeps (remaining client.stream) (remaining after.stream) → held after.incoming ≡ held client.incoming →
       IsSome (session_at old client.sid) → OnTrue done (waiting client.outgoing ≡ []) →
       (waiting client.outgoing ≢ [] → after.stream ≡ client.stream) → OnTrue done (Changes old new client.sid None) →
-      OnFalse done (IsUnchanged old new) → IsRead remaining client after (intake old room) (intake new room)
-  read_nothing client after room old new true sid outgoing kept same is_open silent stream closed stays =
+      OnTrue done (IsReason after.closing (IsSomeAnd silence (IsSilent after old at)) ⊥ ⊥) →
+      OnFalse done (IsUnchanged old new) →
+      IsRead remaining silence at client after (intake old room) (intake new room)
+  read_nothing client after room old new true sid outgoing heard ended kept same is_open silent stream closed reason stays =
       is_read client after (intake old room) (intake new room) sid outgoing
-      (λ waits. absurd (waits silent)) (not_closed (session_at old client.sid) _ is_open)
+      (λ waits. absurd (waits silent)) heard ended (not_closed (session_at old client.sid) _ is_open) (λ was none. reason)
       (sends room room (remaining client.stream) (remaining after.stream) (held client.incoming) (held after.incoming)
       client.sid old new (session_at old client.sid) (session_at new client.sid) refl refl is_open
       (takes-in room room (session_at old client.sid) (session_at new client.sid) (remaining client.stream)
@@ -214,9 +291,10 @@ module _ {S : Type 0} (remaining : S → Option (List ℕ)) where
       (takes-kept (remaining client.stream) (remaining after.stream) (held client.incoming) (held after.incoming) kept same)
       (gives-closed room room (session_at old client.sid) (session_at new client.sid) (held after.incoming) (omega arith)
       closed.changed)) closed.others)
-  read_nothing client after room old new false sid outgoing kept same is_open silent stream closed stays =
+  read_nothing client after room old new false sid outgoing heard ended kept same is_open silent stream closed reason stays =
       is_read client after (intake old room) (intake new room) sid outgoing
-      (λ waits. (stream waits, same, stays)) (not_closed (session_at old client.sid) _ is_open)
+      (λ waits. (stream waits, same, stays)) heard ended (not_closed (session_at old client.sid) _ is_open)
+      (not_now (session_at old client.sid) (session_at new client.sid) (stays client.sid))
       (sends room room (remaining client.stream) (remaining after.stream) (held client.incoming) (held after.incoming)
       client.sid old new (session_at old client.sid) (session_at new client.sid) refl refl is_open
       (takes-in room room (session_at old client.sid) (session_at new client.sid) (remaining client.stream)
@@ -225,8 +303,8 @@ module _ {S : Type 0} (remaining : S → Option (List ℕ)) where
       (gives-nothing room room (session_at old client.sid) (session_at new client.sid) (held after.incoming) (omega arith)
       (stays client.sid))) (λ other differs. stays other))
 
-  pub read_after : (client after : Client S) (a b c : Intake) → Holds a b → IsRead remaining client after b c →
-      IsRead remaining client after a c
+  pub read_after : (client after : Client S) (a b c : Intake) → Holds a b → IsRead remaining silence at client after b c →
+      IsRead remaining silence at client after a c
   read_after client after a b c h read = record {
     sid = read.sid;
     outgoing = read.outgoing;
@@ -242,7 +320,11 @@ module _ {S : Type 0} (remaining : S → Option (List ℕ)) where
     unread = λ waits.
         let same = read.unread waits in
         (same.0, same.1, unchanged-trans a.sessions b.sessions c.sessions h.0 same.2);
+    heard = read.heard;
+    ended = read.ended;
     closed = closed_after client after a.sessions b.sessions c.sessions h.0 read.closed;
+    reason = λ is_open none. reason_again silence after a.sessions b.sessions at after.closing h.0
+        (read.reason (subst (λ (o : Option SessionState). IsSome o) (sym (h.0 client.sid)) is_open) none);
   }
 
 -- ---- clients one after the other
@@ -387,8 +469,21 @@ pub goes_on : (sid : ℕ) (old new : Sessions) → AreGiven sid old new → IsGi
 goes_on sid old new given = record { between = new; given = given; closed = inl (unchanged-refl new) }
 
 -- it is closed behind that
-pub closes : (sid : ℕ) (old mid new : Sessions) → AreGiven sid old mid → Changes mid new sid None → IsGivenOut sid old new
+abbrev pub closes : (sid : ℕ) (old mid new : Sessions) → AreGiven sid old mid → Changes mid new sid None → IsGivenOut sid old new
 closes sid old mid new given closed = record { between = mid; given = given; closed = inr closed }
+
+-- the session is closed for this reason, or goes on
+module _ {S : Type 0} (sid : ℕ) (after : Client S) (old mid new : Sessions) (given : AreGiven sid old mid) where
+  pub closes_for : Changes mid new sid None
+      → IsOver after (session_at mid sid) → IsHandedOut sid after old new
+  closes_for closed reason = record { given = closes sid old mid new given closed; reason = λ none. reason }
+
+pub goes_on_open : {S : Type 0} (sid : ℕ) (after : Client S) (old new : Sessions) → AreGiven sid old new →
+    IsSome (session_at new sid) → IsHandedOut sid after old new
+goes_on_open sid after old new given is_open = record {
+  given = goes_on sid old new given;
+  reason = λ none. not_closed (session_at new sid) _ is_open none;
+}
 
 module _ {S : Type 0} (contents : S → Option (List ℕ)) where
   hands_none : (b : Option (List ℕ)) (all : Option (List ℕ)) → HandsOut b b all all
@@ -403,9 +498,12 @@ module _ {S : Type 0} (contents : S → Option (List ℕ)) where
   skipped client t = record {
     sid = refl;
     incoming = refl;
+    heard = refl;
+    ended = refl;
     given = goes_on client.sid t t (given_none_yet client.sid t t (unchanged-refl t));
     hands = hands_none (contents client.stream) (to_go (session_at t client.sid) (waiting client.outgoing));
     closed = λ none. (refl, unchanged-refl t);
+    reason = λ is_open none. not_closed (session_at t client.sid) _ is_open none;
   }
 
   pub written_after : (client after : Client S) (a b c : Sessions) → IsUnchanged a b →
@@ -413,6 +511,8 @@ module _ {S : Type 0} (contents : S → Option (List ℕ)) where
   written_after client after a b c h written = record {
     sid = written.sid;
     incoming = written.incoming;
+    heard = written.heard;
+    ended = written.ended;
     given = record {
       between = written.given.between;
       given = given_later client.sid a b written.given.between h written.given.given;
@@ -422,4 +522,6 @@ module _ {S : Type 0} (contents : S → Option (List ℕ)) where
         (to_go o (waiting client.outgoing)) (to_go (session_at c client.sid) (waiting after.outgoing)))
         (h client.sid) written.hands;
     closed = closed_after client after a b c h written.closed;
+    reason = λ is_open none.
+        written.reason (subst (λ (o : Option SessionState). IsSome o) (sym (h client.sid)) is_open) none;
   }

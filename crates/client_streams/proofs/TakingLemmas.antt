@@ -1,6 +1,7 @@
 -- What comes from a peer is held back, and goes to its session.
-use Rattle.std.proofs.Common.{◌≡◌, ◌∙◌, ◌≤◌, ◌+◌, ℕ, List, [], ◌++◌, Option, None, Some, IfSome, length, drop, refl, sym, subst, ap, inl, inr, append-nil}
-use Rattle.std.specs.Prelude.{IsSomeAnd}
+use Rattle.std.proofs.Common.{◌≡◌, ◌∙◌, ◌≤◌, ◌+◌, ℕ, true, false, List, [], ◌++◌, Option, None, Some, IfSome, length, drop, refl, sym, subst, ap, inl, inr, append-nil}
+use Rattle.std.specs.Prelude.{IsSome, IsSomeAnd}
+use Rattle.std.proofs.lemmas.Bool.{false≢true}
 use Rattle.std.specs.Io.KnownBytes.{Keeps}
 use Rattle.std.proofs.KnownBytes.{Consumes-nil, Consumes-kept}
 use Rattle.std.proofs.Math.Seq.{drop-append_seam}
@@ -86,3 +87,10 @@ takes-in room left (Some s) n before after holds between keeps takes gives = rec
   unfinished = takes.unfinished;
   gives = subst (λ l. GivesOn room left l keeps s n) takes.order gives;
 }
+
+-- who has heard something is not closed
+pub heard_open : {Q : Type 0} (m n : Option SessionState) (fed : List ℕ) → IsSome m →
+    IfSome m (λ s. IsSomeAnd n (HasHeard s fed)) → n ≡ None → Q
+heard_open None n fed is_open heard none = absurd (let bad : false ≡ true = is_open in false≢true bad)
+heard_open (Some s) None fed is_open heard none = absurd heard
+heard_open (Some s) (Some r) fed is_open heard none = absurd (let bad : Some r ≡ None = none in cc)

@@ -1,6 +1,6 @@
 -- What a connection does for its session.
-use Rattle.std.specs.Prelude.{ℕ, ◌≡◌, ◌≢◌, ◌≤◌, ◌+◌, ◌⊎◌, true, false, List, [], ◌∷◌, ◌++◌, Option, None, IsSome, IfSome, option_map}
-use Rattle.std.specs.Io.KnownBytes.{Consumes}
+use Rattle.std.specs.Prelude.{ℕ, ◌≡◌, ◌≢◌, ◌≤◌, ◌+◌, ◌⊎◌, Bool, true, false, List, [], ◌∷◌, ◌++◌, Option, None, IsSome, IfSome, option_map}
+use Rattle.std.specs.Io.KnownBytes.{Consumes, IsAtEnd}
 use Rattle.std.specs.List.{All}
 use Rattle.session_lines.specs.Lines.{IsUnfinished}
 use Rattle.session_lines.specs.Heard.{heard_more}
@@ -50,6 +50,10 @@ pub record IsHeardAt (before after : Option (List ℕ)) (at old new : ℕ) : Typ
   pub taken : List ℕ
   pub consumed : Consumes before after taken
   pub moment : new ≡ heard_since taken at old
+
+-- That a peer sends no more is known where its bytes are at their end, or was known before.
+abbrev pub IsEndSeen : Option (List ℕ) → Bool → Bool → Type 0
+IsEndSeen after old new = new ≡ true → (old ≡ true) ⊎ IsAtEnd after
 
 -- ---- what comes
 

@@ -3,4 +3,5 @@ pub mod Portions
 pub mod Incoming
 pub mod Sending
 pub mod Clients
+pub mod Closings
 pub mod Rounds

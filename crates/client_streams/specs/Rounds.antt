@@ -1,13 +1,14 @@
 -- What is done for clients one after the other: where what their sessions hear comes from, and where what these are given
 -- goes.
-use Rattle.std.specs.Prelude.{ℕ, ◌≡◌, ◌≢◌, ◌≤◌, ◌+◌, ◌⊎◌, true, false, List, [], ◌∷◌, ◌++◌, Option, Some, None, IsSomeAnd, length}
+use Rattle.std.specs.Prelude.{ℕ, ◌≡◌, ◌≢◌, ◌≤◌, ◌+◌, ◌⊎◌, true, false, List, [], ◌∷◌, ◌++◌, Option, Some, None, IsSome, IsSomeAnd, length}
 use Rattle.std.specs.Io.KnownBytes.{Consumes}
 use Rattle.session_lines.specs.Lines.{IsUnfinished}
 use Rattle.session_lines.specs.Heard.{heard_more}
 use Rattle.chess_sessions.specs.declared.sessions.Sessions.{Sessions}
 use Rattle.chess_sessions.specs.Session.{Said, SessionState, session_at, Changes, IsUnchanged, due, first_due, given_one}
 use Rattle.client_streams.specs.declared.client.Client.{Client}
-use Rattle.client_streams.specs.Clients.{HandsOut, to_go}
+use Rattle.client_streams.specs.Clients.{IsSilent, IsHeardAt, IsEndSeen, HandsOut, to_go}
+use Rattle.client_streams.specs.Closings.{IsReason, IsOver}
 use Rattle.client_streams.specs.Portions.{IsDearLine, IsPortion}
 use Rattle.client_streams.specs.Incoming.{held}
 use Rattle.client_streams.specs.Sending.{waiting}
@@ -56,29 +57,34 @@ Holds old new = IsUnchanged old.sessions new.sessions × (new.room ≡ old.room)
 
 -- What comes on a client's connection is held back, and its session is given what stands in front of that, and nothing
 -- else. None is read where a line is held back, and no more is held back than a piece. A line that asks for much is given
--- only where there is room. Of a client for which answers wait nothing is read, and nothing that it sent goes on.
-pub record IsRead {S : Type 0} (remaining : S → Option (List ℕ)) (client after : Client S) (old new : Intake) : Type 0
-  where
-    pub sid : after.sid ≡ client.sid
-    pub outgoing : waiting after.outgoing ≡ waiting client.outgoing
-    pub taken : List ℕ
-    pub consumed : Consumes (remaining client.stream) (remaining after.stream) taken
-    pub unfinished : taken ≢ [] → IsUnfinished (held client.incoming)
-    pub fed : List ℕ
-    pub order : held client.incoming ++ taken ≡ fed ++ held after.incoming
-    pub short : length (held after.incoming) ≤ 4096
-    pub sent : IsSent client.sid fed old.sessions new.sessions
-    pub fewer : new.room ≤ old.room
-    pub dear : IsDearLine fed → new.room + 1 ≤ old.room
-    pub unread : waiting client.outgoing ≢ [] → (after.stream ≡ client.stream)
-        × (held after.incoming ≡ held client.incoming) × IsUnchanged old.sessions new.sessions
-    pub closed : PassesClosed client after old.sessions new.sessions
+-- only where there is room. Of a client for which answers wait nothing is read, and nothing that it sent goes on. A session is
+-- closed for a reason: the connection has failed, memory was refused, or it has been silent for longer than it may.
+pub record IsRead {S : Type 0} (remaining : S → Option (List ℕ)) (silence : Option ℕ) (at : ℕ) (client after : Client S)
+    (old new : Intake) : Type 0 where
+  pub sid : after.sid ≡ client.sid
+  pub outgoing : waiting after.outgoing ≡ waiting client.outgoing
+  pub taken : List ℕ
+  pub consumed : Consumes (remaining client.stream) (remaining after.stream) taken
+  pub unfinished : taken ≢ [] → IsUnfinished (held client.incoming)
+  pub fed : List ℕ
+  pub order : held client.incoming ++ taken ≡ fed ++ held after.incoming
+  pub short : length (held after.incoming) ≤ 4096
+  pub sent : IsSent client.sid fed old.sessions new.sessions
+  pub fewer : new.room ≤ old.room
+  pub dear : IsDearLine fed → new.room + 1 ≤ old.room
+  pub unread : waiting client.outgoing ≢ [] → (after.stream ≡ client.stream)
+      × (held after.incoming ≡ held client.incoming) × IsUnchanged old.sessions new.sessions
+  pub heard : IsHeardAt (remaining client.stream) (remaining after.stream) at client.heard_at after.heard_at
+  pub ended : IsEndSeen (remaining after.stream) client.has_ended after.has_ended
+  pub closed : PassesClosed client after old.sessions new.sessions
+  pub reason : IsSome (session_at old.sessions client.sid) → session_at new.sessions client.sid ≡ None
+      → IsReason after.closing (IsSomeAnd silence (IsSilent after old.sessions at)) ⊥ ⊥
 
 -- Each client is read for. A turn has room for one line that asks for much.
-abbrev pub AreRead : {S : Type 0} → (S → Option (List ℕ)) → List (Client S) → List (Client S) → Sessions → Sessions
-    → Type 0
-AreRead remaining clients read old new =
-    (left : ℕ) × AreEach Holds (IsRead remaining) clients read (intake old 1) (intake new left)
+abbrev pub AreRead : {S : Type 0} → (S → Option (List ℕ)) → Option ℕ → ℕ → List (Client S) → List (Client S) → Sessions
+    → Sessions → Type 0
+AreRead remaining silence at clients read old new =
+    (left : ℕ) × AreEach Holds (IsRead remaining silence at) clients read (intake old 1) (intake new left)
 
 -- ---- what goes
 
@@ -107,13 +113,22 @@ pub record IsGivenOut (sid : ℕ) (old new : Sessions) : Type 0 where
   pub given : AreGiven sid old between
   pub closed : IsUnchanged between new ⊎ Changes between new sid None
 
+-- A client's session is given answers, and then it may be closed, for a reason.
+pub record IsHandedOut {S : Type 0} (sid : ℕ) (after : Client S) (old new : Sessions) : Type 0 where
+  pub given : IsGivenOut sid old new
+  pub reason : session_at new sid ≡ None → IsOver after (session_at given.between sid)
+
 -- What a client's session is given goes to its connection, behind what waited and as far as that takes it. What is held
--- back stays.
+-- back, and what is known of the peer's bytes, stays.
 pub record IsWritten {S : Type 0} (contents : S → Option (List ℕ)) (client after : Client S) (old new : Sessions)
     : Type 0 where
   pub sid : after.sid ≡ client.sid
   pub incoming : held after.incoming ≡ held client.incoming
+  pub heard : after.heard_at ≡ client.heard_at
+  pub ended : after.has_ended ≡ client.has_ended
   pub given : IsGivenOut client.sid old new
+  pub reason : IsSome (session_at old client.sid) → session_at new client.sid ≡ None
+      → IsOver after (session_at given.between client.sid)
   pub hands : HandsOut (contents client.stream) (contents after.stream)
       (to_go (session_at old client.sid) (waiting client.outgoing))
       (to_go (session_at new client.sid) (waiting after.outgoing))

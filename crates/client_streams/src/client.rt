@@ -1,16 +1,18 @@
 //! A connection and its session.
-ghost use Rattle.std.specs.Prelude.{◌≡◌, ◌≢◌, ◌≤◌, ◌++◌, ◌+◌, ◌-◌, ◌↔◌, ◌⊎◌, true, false, [], None, length, IsTrue, IsSome, IfSome, IsSomeAnd, OnOk, OnErr};
+ghost use Rattle.std.specs.Prelude.{◌≡◌, ◌≢◌, ◌≤◌, ◌++◌, ◌+◌, ◌-◌, ◌↔◌, ◌⊎◌, true, false, [], Some, None, length, IsTrue, IsSome, IfSome, IsSomeAnd, IfOk, OnOk, OnErr};
 ghost use Rattle.std.specs.Bool.{OnTrue, OnFalse};
 ghost use Rattle.std.specs.Io.KnownBytes.{Keeps};
-ghost use Rattle.chess_sessions.specs.Session.{said, session_at};
-ghost use Rattle.client_streams.specs.Clients.{IsOpen, OthersStay, IsSilent, IsHeardAt, HasHeard, GivesOn, TakesIn, HandsOut, bytes_of, to_go};
+ghost use Rattle.chess_sessions.specs.Session.{said, session_at, due, Changes};
+ghost use Rattle.client_streams.specs.Clients.{IsOpen, OthersStay, IsSilent, IsHeardAt, IsEndSeen, HasHeard, GivesOn, TakesIn, HandsOut, bytes_of, to_go};
+ghost use Rattle.client_streams.specs.Closings.{IsTrouble};
 ghost use Rattle.client_streams.specs.Portions.{IsPortion};
 ghost use Rattle.session_lines.specs.Lines.{IsUnfinished};
 ghost use Rattle.client_streams.specs.Incoming.{held};
 ghost use Rattle.client_streams.specs.Pieces.{Takes};
 ghost use Rattle.client_streams.specs.Sending.{waiting};
-ghost use Rattle.client_streams.specs.Rounds.{AreGiven, IsGivenOut};
+ghost use Rattle.client_streams.specs.Rounds.{AreGiven, IsHandedOut};
 
+use crate::closing::Closing;
 use crate::incoming::Incoming;
 use crate::outgoing::{Outgoing, Sent};
 use crate::pieces::{Came, PIECE_ROOM};
@@ -40,6 +42,8 @@ pub struct Client<S> {
     waited: u32,
     /// For so many turns more it is heard after its farewell.
     patience: u8,
+    /// Why its session was closed.
+    closing: Option<Closing>,
 }
 
 /// For so many turns a client is heard after its farewell, so that this is not lost: a connection that is closed before
@@ -51,6 +55,7 @@ impl<S> Client<S> {
     pub fn new(alloc: Global, stream: S, sid: Sid, at: u64) -> Client<S>
         ensures sid { result.sid ≡ sid }
         ensures heard { result.heard_at ≡ at }
+        ensures lasts { result.has_ended ≡ false }
         ensures nothing { (held result.incoming ≡ []) × (waiting result.outgoing ≡ []) }
     {
         Client {
@@ -63,6 +68,7 @@ impl<S> Client<S> {
             heard_at: at,
             waited: 0,
             patience: PATIENCE,
+            closing: None,
         }
     }
 
@@ -92,6 +98,19 @@ impl<S> Client<S> {
         ensures { result ≡ self.now.waited }
     {
         self.waited
+    }
+
+    /// Closes its session, for this reason.
+    pub(crate) fn close(&mut self, sessions: &mut Sessions, closing: Closing)
+        ensures closed { Changes sessions.old sessions.new self.old.sid None }
+        ensures told { self.new.closing ≡ Some closing }
+        ensures peer { (self.new.sid ≡ self.old.sid) × (self.new.has_ended ≡ self.old.has_ended)
+            × (self.new.is_quiet ≡ self.old.is_quiet) × (held self.new.incoming ≡ held self.old.incoming)
+            × (waiting self.new.outgoing ≡ waiting self.old.outgoing) × (self.new.stream ≡ self.old.stream)
+            × (self.new.heard_at ≡ self.old.heard_at) }
+    {
+        sessions.close(self.sid);
+        self.closing = Some(closing);
     }
 
     /// Whether nothing came from it for so many milliseconds, by this moment, and nothing waits for it.
@@ -137,25 +156,51 @@ fn push(outgoing: &mut Outgoing, reply: &Reply) -> Result<(), AllocError>
     outgoing.push(reply.body.as_bytes())
 }
 
-// Puts the answers of a session behind what waits to be written, and tells whether there were any. Where memory is refused
-// an answer may be lost, and then the session is to be closed.
-fn gather(sessions: &mut Sessions, sid: Sid, outgoing: &mut Outgoing) -> Result<bool, AllocError>
+/// What was gathered of a session's answers.
+#[derive(Clone, Copy)]
+struct Gathered {
+    any: bool,
+    /// Whether no more is due.
+    is_all: bool,
+}
+
+// Puts the answers of a session behind what waits to be written: all, or 4,294,967,295. Where memory is refused an answer
+// may be lost, and then the session is to be closed.
+fn gather(
+    sessions: &mut Sessions,
+    sid: Sid,
+    outgoing: &mut Outgoing,
+) -> Result<Gathered, AllocError>
     requires { IsOpen sessions.old sid }
     ensures open { IsOpen sessions.new sid }
     ensures same { OnOk result (to_go (session_at sessions.new sid) (waiting outgoing.new)
         ≡ to_go (session_at sessions.old sid) (waiting outgoing.old)) }
+    ensures all { IfOk result (λ gathered. gathered.is_all ≡ true
+        → IfSome (session_at sessions.new sid) (λ s. due s ≡ [])) }
     ensures given { AreGiven sid sessions.old sessions.new }
     ensures others { OthersStay sessions.old sessions.new sid }
 {
     let mut any = false;
     for _ in 0..u32::MAX {
         let Some(reply) = sessions.output(sid) else {
-            break;
+            return Ok(Gathered { any, is_all: true });
         };
         push(outgoing, &reply)?;
         any = true;
     }
-    Ok(any)
+    Ok(Gathered { any, is_all: false })
+}
+
+// How far a write came behind which more is due, or all is written.
+fn as_far(sent: Sent, is_all: bool) -> Sent
+    ensures all { result ≡ Sent.All → (sent ≡ Sent.All) × (is_all ≡ true) }
+    ensures fault { result ≡ Sent.Fault ↔ (sent ≡ Sent.Fault) }
+{
+    if sent == Sent::All && !is_all {
+        Sent::Part
+    } else {
+        sent
+    }
 }
 
 /// What a connection wrote.
@@ -167,7 +212,7 @@ struct Wrote {
 }
 
 impl<S: Read + Write> Client<S> {
-    #[tactic(auto, using(crate::proofs::HeardLemmas::heard_as_before, crate::proofs::HeardLemmas::heard_now, crate::proofs::HeardLemmas::heard_nothing, crate::proofs::HeardLemmas::heard_interrupted, crate::proofs::HeardLemmas::heard_end, crate::proofs::HeardLemmas::heard_fault))]
+    #[tactic(auto, using(crate::proofs::HeardLemmas::heard_as_before, crate::proofs::HeardLemmas::heard_now, crate::proofs::HeardLemmas::heard_nothing, crate::proofs::HeardLemmas::heard_interrupted, crate::proofs::HeardLemmas::heard_end, crate::proofs::HeardLemmas::heard_fault, crate::proofs::HeardLemmas::end_now))]
     // Reads at most one piece, unless the peer sends no more, and holds it back. `Nothing` where there is none to read for
     // now.
     fn read_more(&mut self, at: u64, piece: &mut [u8; PIECE_ROOM]) -> Came
@@ -176,6 +221,7 @@ impl<S: Read + Write> Client<S> {
             (held self.new.incoming) }
         ensures heard { IsHeardAt (S.remaining self.old.stream) (S.remaining self.new.stream) at self.old.heard_at
             self.new.heard_at }
+        ensures ended { IsEndSeen (S.remaining self.new.stream) self.old.has_ended self.new.has_ended }
         ensures quiet { self.new.is_quiet ≡ true → (result ≡ Came.Nothing)
             × Keeps (S.remaining self.old.stream) (S.remaining self.new.stream)
             × (held self.new.incoming ≡ held self.old.incoming) }
@@ -204,7 +250,9 @@ impl<S: Read + Write> Client<S> {
         ensures peer { (self.new.sid ≡ self.old.sid) × (waiting self.new.outgoing ≡ waiting self.old.outgoing) }
         ensures quiet { self.new.is_quiet ≡ self.old.is_quiet }
         ensures heard { self.new.heard_at ≡ self.old.heard_at }
+        ensures ended { self.new.has_ended ≡ self.old.has_ended }
         ensures stream { self.new.stream ≡ self.old.stream }
+        ensures reason { session_at sessions.new self.old.sid ≡ None → IsTrouble self.new.closing }
         ensures others { OthersStay sessions.old sessions.new self.old.sid }
     {
         if sessions.waiting(self.sid) > 0 {
@@ -219,6 +267,8 @@ impl<S: Read + Write> Client<S> {
         let count = portion.len();
         if feed(sessions, self.sid, portion) {
             self.incoming.give_up(count);
+        } else {
+            self.closing = Some(Closing::NoMemory);
         }
     }
 
@@ -241,6 +291,7 @@ impl<S: Read + Write> Client<S> {
         ensures peer { (self.new.sid ≡ self.old.sid) × (waiting self.new.outgoing ≡ waiting self.old.outgoing) }
         ensures heard { IsHeardAt (S.remaining self.old.stream) (S.remaining self.new.stream) at self.old.heard_at
             self.new.heard_at }
+        ensures ended { IsEndSeen (S.remaining self.new.stream) self.old.has_ended self.new.has_ended }
         // Who has sent something is asked for more.
         ensures quiet { self.new.is_quiet ≡ true → (result ≡ false)
             × Keeps (S.remaining self.old.stream) (S.remaining self.new.stream)
@@ -249,6 +300,7 @@ impl<S: Read + Write> Client<S> {
         // Of who doesn't take its answers nothing is read, and nothing that it sent goes on.
         ensures unread { waiting self.old.outgoing ≢ [] → (self.new.stream ≡ self.old.stream)
             × (held self.new.incoming ≡ held self.old.incoming) × (sessions.new ≡ sessions.old) }
+        ensures reason { session_at sessions.new self.old.sid ≡ None → IsTrouble self.new.closing }
         ensures others { OthersStay sessions.old sessions.new self.old.sid }
     {
         self.is_quiet = false;
@@ -263,7 +315,7 @@ impl<S: Read + Write> Client<S> {
             Came::Nothing => return false,
             Came::Bytes(_) | Came::Interrupted => self.hand_on(sessions, room),
             Came::End => {}
-            Came::Fault => sessions.close(self.sid),
+            Came::Fault => self.close(sessions, Closing::Fault),
         }
         true
     }
@@ -278,37 +330,46 @@ impl<S: Read + Write> Client<S> {
             (to_go (session_at sessions.new self.old.sid) (waiting self.new.outgoing))) }
         ensures refused { OnErr result (HandsOut (S.contents self.old.stream) (S.contents self.new.stream)
             (to_go (session_at sessions.old self.old.sid) (waiting self.old.outgoing)) None) }
+        ensures all { IfOk result (λ wrote. wrote.sent ≡ Sent.All → waiting self.new.outgoing ≡ []) }
+        ensures due { IfOk result (λ wrote. wrote.sent ≡ Sent.All
+            → IfSome (session_at sessions.new self.old.sid) (λ s. due s ≡ [])) }
         ensures given { AreGiven self.old.sid sessions.old sessions.new }
         ensures peer { (self.new.sid ≡ self.old.sid) × (self.new.has_ended ≡ self.old.has_ended)
-            × (self.new.is_quiet ≡ self.old.is_quiet) × (held self.new.incoming ≡ held self.old.incoming) }
+            × (self.new.is_quiet ≡ self.old.is_quiet) × (held self.new.incoming ≡ held self.old.incoming)
+            × (self.new.heard_at ≡ self.old.heard_at) }
         ensures others { OthersStay sessions.old sessions.new self.old.sid }
     {
         let sent = self.outgoing.write_to(&mut self.stream);
         if sent != Sent::All {
             return Ok(Wrote { any: false, sent });
         }
-        let any = match gather(sessions, self.sid, &mut self.outgoing) {
-            Ok(any) => any,
+        let gathered = match gather(sessions, self.sid, &mut self.outgoing) {
+            Ok(gathered) => gathered,
             Err(refused) => return Err(refused),
         };
         let sent = self.outgoing.write_to(&mut self.stream);
-        Ok(Wrote { any, sent })
+        Ok(Wrote {
+            any: gathered.any,
+            sent: as_far(sent, gathered.is_all),
+        })
     }
 
-    // Whether the session is over, after a write. Where the peer sends no more, that is once its whole lines are answered: a
-    // turn answers a line of every session that has one. After its farewell it is once nothing comes, or after 255 turns.
+    // Whether the session is over, after a write. Where the peer sends no more, that is once its whole lines are answered.
+    // After its farewell it is once nothing comes, or after 255 turns.
     fn is_over(&mut self, sessions: &Sessions, wrote: Wrote) -> bool
         requires { IsOpen sessions.now self.old.sid }
         ensures fault { wrote.sent ≡ Sent.Fault → result ≡ true }
         ensures part { wrote.sent ≡ Sent.Part → result ≡ false }
         ensures answered { wrote.sent ≡ Sent.All → IfSome (session_at sessions.now self.old.sid)
-            (λ s. s.has_left ≡ false → (IsTrue result ↔ ((self.old.has_ended ≡ true) × (wrote.any ≡ false)))) }
+            (λ s. s.has_left ≡ false → (IsTrue result ↔ ((self.old.has_ended ≡ true) × (wrote.any ≡ false)
+            × (s.heard.bytes ≡ []) × IsUnfinished (held self.old.incoming)))) }
         ensures left { wrote.sent ≡ Sent.All → IfSome (session_at sessions.now self.old.sid)
             (λ s. s.has_left ≡ true → (self.new.patience ≡ self.old.patience - 1) × (IsTrue result
             ↔ ((self.old.has_ended ≡ true) ⊎ (self.old.is_quiet ≡ true) ⊎ (self.old.patience ≤ 1)))) }
         ensures peer { (self.new.sid ≡ self.old.sid) × (self.new.has_ended ≡ self.old.has_ended)
             × (self.new.is_quiet ≡ self.old.is_quiet) × (held self.new.incoming ≡ held self.old.incoming)
-            × (waiting self.new.outgoing ≡ waiting self.old.outgoing) × (self.new.stream ≡ self.old.stream) }
+            × (waiting self.new.outgoing ≡ waiting self.old.outgoing) × (self.new.stream ≡ self.old.stream)
+            × (self.new.heard_at ≡ self.old.heard_at) }
     {
         match wrote.sent {
             Sent::Fault => true,
@@ -317,7 +378,30 @@ impl<S: Read + Write> Client<S> {
                 self.patience = self.patience.saturating_sub(1);
                 self.has_ended || self.is_quiet || self.patience == 0
             }
-            Sent::All => self.has_ended && !wrote.any,
+            Sent::All => {
+                self.has_ended
+                    && !wrote.any
+                    && sessions.waiting(self.sid) == 0
+                    && self.incoming.is_unfinished()
+            }
+        }
+    }
+
+    // Why the session is over, where it is, after a write.
+    fn reason(&self, sessions: &Sessions, wrote: Wrote) -> Closing
+        requires { IsOpen sessions.now self.now.sid }
+        ensures fault { wrote.sent ≡ Sent.Fault → result ≡ Closing.Fault }
+        ensures farewell { wrote.sent ≡ Sent.All → IfSome (session_at sessions.now self.now.sid)
+            (λ s. s.has_left ≡ true → result ≡ Closing.Farewell) }
+        ensures end { wrote.sent ≡ Sent.All → IfSome (session_at sessions.now self.now.sid)
+            (λ s. s.has_left ≡ false → result ≡ Closing.End) }
+    {
+        if wrote.sent == Sent::Fault {
+            Closing::Fault
+        } else if sessions.ended(self.sid) {
+            Closing::Farewell
+        } else {
+            Closing::End
         }
     }
 
@@ -330,18 +414,20 @@ impl<S: Read + Write> Client<S> {
         ensures hands { HandsOut (S.contents self.old.stream) (S.contents self.new.stream)
             (to_go (session_at sessions.old self.old.sid) (waiting self.old.outgoing))
             (to_go (session_at sessions.new self.old.sid) (waiting self.new.outgoing)) }
-        ensures given { IsGivenOut self.old.sid sessions.old sessions.new }
+        ensures given { IsHandedOut self.old.sid self.new sessions.old sessions.new }
         ensures peer { (self.new.sid ≡ self.old.sid) × (self.new.has_ended ≡ self.old.has_ended)
-            × (self.new.is_quiet ≡ self.old.is_quiet) × (held self.new.incoming ≡ held self.old.incoming) }
+            × (self.new.is_quiet ≡ self.old.is_quiet) × (held self.new.incoming ≡ held self.old.incoming)
+            × (self.new.heard_at ≡ self.old.heard_at) }
         ensures others { OthersStay sessions.old sessions.new self.old.sid }
     {
         let was_stuck = !self.outgoing.is_empty();
         let Ok(wrote) = self.write_out(sessions) else {
-            sessions.close(self.sid);
+            self.close(sessions, Closing::NoMemory);
             return true;
         };
         if self.is_over(sessions, wrote) {
-            sessions.close(self.sid);
+            let reason = self.reason(sessions, wrote);
+            self.close(sessions, reason);
             return true;
         }
         wrote.any || was_stuck && wrote.sent == Sent::All

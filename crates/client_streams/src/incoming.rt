@@ -2,7 +2,7 @@
 ghost use Rattle.std.specs.Prelude.{ℕ, ◌≡◌, ◌≤◌, ◌↔◌, ◌⊎◌, [], IsTrue, length, take, drop};
 ghost use Rattle.session_lines.specs.Lines.{HasNoFeed, IsUnfinished};
 ghost use Rattle.client_streams.specs.Portions.{is_dear, AreLines, AreFewLines, BeginDear, IsPortionOf};
-ghost use Rattle.std.specs.Io.KnownBytes.{Keeps};
+ghost use Rattle.std.specs.Io.KnownBytes.{Keeps, IsAtEnd};
 ghost use Rattle.client_streams.specs.Pieces.{Brings, Takes};
 
 use crate::pieces::{Came, PIECE_ROOM, read_piece};
@@ -85,12 +85,13 @@ impl Incoming {
         }
     }
 
-    #[tactic(auto, using(crate::proofs::HeardLemmas::brings))]
+    #[tactic(auto, using(crate::proofs::HeardLemmas::brings, crate::proofs::HeardLemmas::at_end))]
     /// Reads once, without waiting where the reader doesn't wait, and holds back what came.
     pub fn read_from<R: Read>(&mut self, reader: &mut R, piece: &mut [u8; PIECE_ROOM]) -> Came
         requires { IsUnfinished (held self.old) }
         ensures takes { Takes (R.remaining reader.old) (R.remaining reader.new) (held self.old) (held self.new) }
         ensures brings { Brings (R.remaining reader.old) (R.remaining reader.new) result }
+        ensures end { result ≡ Came.End → IsAtEnd (R.remaining reader.new) }
         ensures nothing { result ≡ Came.Nothing → Keeps (R.remaining reader.old) (R.remaining reader.new)
             × (held self.new ≡ held self.old) }
     {

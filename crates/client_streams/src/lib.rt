@@ -4,6 +4,7 @@
 #![tactic(auto)]
 
 mod client;
+mod closing;
 mod door;
 mod incoming;
 mod outgoing;
@@ -13,6 +14,7 @@ mod rounds;
 mod watch;
 
 pub use client::Client;
+pub use closing::Closing;
 pub use door::{Door, Found, Listens, may_wait, next_connection};
 pub use rounds::{Reading, hand_out_all, take_in_all};
 pub use watch::Watch;

@@ -1,11 +1,14 @@
 //! What a turn of a server does for all its clients, one after the other.
-ghost use Rattle.std.specs.Prelude.{◌≡◌, ◌≤◌, ◌↔◌, ◌⊎◌, true, None, IsTrue, IsSomeAnd};
+ghost use Rattle.std.specs.Prelude.{◌≡◌, ◌≤◌, ◌↔◌, ◌⊎◌, true, Some, None, IsTrue, IsSomeAnd};
 ghost use Rattle.std.specs.Bool.{OnTrue, OnFalse};
 ghost use Rattle.chess_sessions.specs.Session.{Changes, IsUnchanged};
 ghost use Rattle.client_streams.specs.Clients.{IsOpen, IsSilent, IsLongest};
+ghost use Rattle.client_streams.specs.Incoming.{held};
+ghost use Rattle.client_streams.specs.Sending.{waiting};
 ghost use Rattle.client_streams.specs.Rounds.{intake, AreRead, IsRead, AreWritten, IsWritten};
 
 use crate::client::Client;
+use crate::closing::Closing;
 use crate::pieces::PIECE_ROOM;
 use crate::room::Room;
 use chess_sessions::Sessions;
@@ -35,17 +38,21 @@ fn is_over_silent<S>(client: &Client<S>, sessions: &Sessions, reading: Reading) 
 
 // Closes the session of a client that has been silent for longer than it may, behind a read that found nothing, and tells
 // whether it did.
-fn close_silent<S>(client: &Client<S>, sessions: &mut Sessions, reading: Reading) -> bool
-    requires open { IsOpen sessions.old client.now.sid }
-    requires quiet { client.now.is_quiet ≡ true }
-    ensures silent { IsTrue result ↔ IsSomeAnd reading.silence (IsSilent client.now sessions.old reading.at) }
-    ensures closed { OnTrue result (Changes sessions.old sessions.new client.now.sid None) }
+fn close_silent<S>(client: &mut Client<S>, sessions: &mut Sessions, reading: Reading) -> bool
+    requires open { IsOpen sessions.old client.old.sid }
+    requires quiet { client.old.is_quiet ≡ true }
+    ensures silent { IsTrue result ↔ IsSomeAnd reading.silence (IsSilent client.old sessions.old reading.at) }
+    ensures closed { OnTrue result (Changes sessions.old sessions.new client.old.sid None) }
+    ensures told { OnTrue result (client.new.closing ≡ Some Closing.Silence) }
     ensures stays { OnFalse result (sessions.new ≡ sessions.old) }
+    ensures peer { (client.new.sid ≡ client.old.sid) × (held client.new.incoming ≡ held client.old.incoming)
+        × (waiting client.new.outgoing ≡ waiting client.old.outgoing) × (client.new.stream ≡ client.old.stream)
+        × (client.new.heard_at ≡ client.old.heard_at) × (client.new.has_ended ≡ client.old.has_ended) }
 {
     if !is_over_silent(client, sessions, reading) {
         return false;
     }
-    sessions.close(client.sid());
+    client.close(sessions, Closing::Silence);
     true
 }
 
@@ -65,7 +72,7 @@ fn read_for<S: Read + Write>(
     piece: &mut [u8; PIECE_ROOM],
     room: &mut Room,
 ) -> bool
-    ensures { IsRead S.remaining client.old client.new (intake sessions.old room.old.lines)
+    ensures { IsRead S.remaining reading.silence reading.at client.old client.new (intake sessions.old room.old.lines)
         (intake sessions.new room.new.lines) }
 {
     if !sessions.is_open(client.sid()) {
@@ -114,7 +121,7 @@ pub fn take_in_all<S: Read + Write>(
     sessions: &mut Sessions,
     reading: Reading,
 ) -> bool
-    ensures { AreRead S.remaining clients.old.items clients.new.items sessions.old sessions.new }
+    ensures { AreRead S.remaining reading.silence reading.at clients.old.items clients.new.items sessions.old sessions.new }
 {
     let mut piece = [0u8; PIECE_ROOM];
     let mut room = Room::new(longest_wait(clients, sessions));

@@ -1,5 +1,5 @@
 //! The word that serves players on a port.
-ghost use Rattle.std.specs.Prelude.{IfErr};
+ghost use Rattle.std.specs.Prelude.{◌≡◌, IfOk, IfErr};
 ghost use Rattle.server_playing.specs.Faults.{IsServeFault};
 
 use crate::clock::{SteadyClock, milliseconds_since};
@@ -41,8 +41,31 @@ fn take_turns<R: Clock + Eprint, D: Device>(
     Ok(())
 }
 
+// The server of a hub on the port that is asked for, where a client may be silent for as long as is asked for.
+fn bound<R, D: Device + Drop>(
+    rt: &R,
+    alloc: Global,
+    teller: &Teller<'_, R>,
+    serving: &Serving<'_>,
+    hub: Hub<D>,
+) -> Result<Server<D>, Fault>
+where
+    R: Eprint + Net<Listener = TcpListener, Stream = TcpStream>,
+    ensures hub { IfOk result (λ server. server.hub ≡ hub) }
+    ensures silence { IfOk result (λ server. server.silence ≡ serving.now.silence) }
+    ensures fault { IfErr result IsServeFault }
+{
+    match Server::bind(rt, alloc, serving.port, serving.silence, hub) {
+        Ok(server) => Ok(server),
+        Err(error) => {
+            teller.port_failed(serving.port, &error);
+            Err(Fault::Socket)
+        }
+    }
+}
+
 // Serves players on a port, over the games of a store.
-fn serve_store<R, D: Device + Drop>(
+pub(crate) fn serve_store<R, D: Device + Drop>(
     rt: &R,
     alloc: Global,
     teller: &Teller<'_, R>,
@@ -56,13 +79,7 @@ where
 {
     let found = found_in(&store, took);
     let hub = Hub::new(alloc, store);
-    let mut server = match Server::bind(rt, alloc, serving.port, serving.silence, hub) {
-        Ok(server) => server,
-        Err(error) => {
-            teller.port_failed(serving.port, &error);
-            return Err(Fault::Socket);
-        }
-    };
+    let mut server = bound(rt, alloc, teller, serving, hub)?;
     let port = server.port();
     // At once, since who started it waits for it.
     printed(teller, println!(rt; "port {port}"))?;

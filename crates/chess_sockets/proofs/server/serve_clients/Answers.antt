@@ -4,7 +4,7 @@ use Rattle.chess_hub.specs.Faults.{CountsFault}
 use Rattle.chess_hub.specs.Turning.{AsksFor, AreRefused, IsTurnFault}
 use Rattle.chess_sockets.specs.Serving.{state_of}
 use Rattle.chess_sockets.proofs.ServingLemmas.{are_read, are_written}
-use Rattle.chess_sockets.proofs.StoreLemmas.{lasts_over, lasts_refused, of_answered, at_err, turn_ends, turn_refusal, counts_refused, counts_done}
+use Rattle.chess_sockets.proofs.StoreLemmas.{lasts_over, lasts_refused, of_answered, of_refused, at_err, turn_ends, turn_refusal, counts_refused, counts_done}
 use Rattle.chess_sockets.proofs.server.serve_clients.Goals as goal
 
 -- ---- who is served
@@ -21,7 +21,7 @@ returns-clause-served g c =
       answered = state_of answered.sessions answered.store.table;
       answers = record {
         heard = state_of heard old.store.table;
-        reads = are_read old.store.table g.S.Read.remaining c.args.clients.now.items read old.sessions heard
+        reads = are_read old.store.table g.S.Read.remaining c.args.reading.silence c.args.reading.at c.args.clients.now.items read old.sessions heard
             c.take_in_all-has_read.ensures;
         turned = of_answered c.turn.result tt c.in_default.is c.turn.ensures.turned;
         works = of_answered c.turn.result tt c.in_default.is c.turn.ensures.works;
@@ -66,10 +66,11 @@ returns-in-Err-clause-refused g c =
     let n = c.turn.new.self.store in
     let heard = c.take_in_all-has_read.new.sessions in
     let read = c.take_in_all-has_read.new.clients.items in
-    turn_refusal (n ≡ s) c.args.reading.at heard s.journal.header.seq s.failed s.table n.table _ c.args.clients.now.items
-    read (state_of old.sessions s.table) s.table
-    (are_read s.table g.S.Read.remaining c.args.clients.now.items read old.sessions heard c.take_in_all-has_read.ensures)
-    refl (λ e. ap (λ s. s.table) e) c.in-Err.fault
+    turn_refusal (n ≡ s) c.args.reading.at heard s.journal.header.seq s.failed s.table n.table _ c.args.reading.silence
+    c.args.clients.now.items read (state_of old.sessions s.table) (state_of c.turn.new.self.sessions n.table) s.table
+    (are_read s.table g.S.Read.remaining c.args.reading.silence c.args.reading.at c.args.clients.now.items read old.sessions heard c.take_in_all-has_read.ensures)
+    (of_refused c.turn.result c.in-Err.fault c.in-Err.is c.turn.ensures.unchanged) refl refl
+    (λ e. ap (λ s. s.table) e) c.in-Err.fault
     (at_err c.turn.result c.in-Err.fault (λ fault. IsTurnFault fault (n ≡ s) (λ refused. AsksFor c.args.reading.at 64 heard
     (AreRefused refused s.journal.header.seq s.failed s.table n.table))) c.in-Err.is c.turn.ensures.fault)
 

@@ -4,7 +4,7 @@ use Rattle.chess_sessions.specs.Session.{said, session_at}
 use Rattle.client_streams.specs.Clients.{bytes_of}
 use Rattle.client_streams.specs.Sending.{waiting}
 use Rattle.client_streams.proofs.RoundLemmas.{given_more, output_gives}
-use Rattle.client_streams.proofs.ClientLemmas.{gives, gives-none, others-trans}
+use Rattle.client_streams.proofs.ClientLemmas.{gives, gives-none, gave_all, others-trans}
 use Rattle.client_streams.proofs.client.gather.Goals as goal
 
 pub returns-in_err-push-clause-open : goal.returns-in_err-push-clause-open
@@ -66,6 +66,12 @@ returns-in_default-clause-given c =
     given_more c.args.sid c.args.sessions.now c.loop.sessions c.output.new.self given
     (output_gives (session_at c.loop.sessions c.args.sid) c.loop.sessions c.output.new.self c.args.sid c.output.result refl
     is_open c.output.ensures.given c.output.ensures.after)
+
+pub returns-in_default-clause-all : goal.returns-in_default-clause-all
+returns-in_default-clause-all c =
+    let (is_open, same, others, given) = c.loop.invariant in
+    λ all. gave_all (session_at c.loop.sessions c.args.sid) c.loop.sessions c.output.new.self c.args.sid c.output.result
+    c.in_default.is is_open c.output.ensures.given c.output.ensures.after
 
 pub returns-in_err-push-clause-given : goal.returns-in_err-push-clause-given
 returns-in_err-push-clause-given c =

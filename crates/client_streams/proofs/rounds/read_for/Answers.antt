@@ -1,20 +1,24 @@
 -- What came is held back, and goes to the session.
-use Rattle.std.proofs.Common.{◌∙◌, None, refl, subst, sym}
-use Rattle.std.specs.Prelude.{IsSome}
+use Rattle.std.proofs.Common.{◌∙◌, None, ap, refl, subst, sym}
+use Rattle.std.specs.Prelude.{IsSome, IsSomeAnd}
+use Rattle.std.specs.Io.KnownBytes.{Keeps}
 use Rattle.std.specs.Bool.{OnTrue}
 use Rattle.chess_sessions.specs.Session.{session_at, Changes}
+use Rattle.client_streams.specs.Clients.{IsSilent}
+use Rattle.client_streams.specs.Closings.{IsReason}
 use Rattle.client_streams.specs.Incoming.{held}
 use Rattle.client_streams.specs.Rounds.{intake, IsRead}
-use Rattle.client_streams.proofs.RoundLemmas.{not_closed, passed_over, is_read, read_nothing, sends, unchanged_by, silent_written, on_true, on_false}
+use Rattle.client_streams.proofs.HeardLemmas.{heard_on, end_on}
+use Rattle.client_streams.proofs.RoundLemmas.{not_closed, passed_over, is_read, read_nothing, sends, unchanged_by, silent_written, silent_reason, reason_of_trouble, on_true, both_true, on_false}
 use Rattle.client_streams.proofs.rounds.read_for.Goals as goal
 
 pub returns-then-not-is_open : goal.returns-then-not-is_open
 returns-then-not-is_open g c =
-    passed_over g.S.Read.remaining c.args.client.now (intake c.args.sessions.now c.args.room.now.lines)
+    passed_over g.S.Read.remaining c.args.reading.silence c.args.reading.at c.args.client.now (intake c.args.sessions.now c.args.room.now.lines)
 
 pub returns-then-is_passed_over : goal.returns-then-is_passed_over
 returns-then-is_passed_over g c =
-    passed_over g.S.Read.remaining c.args.client.now (intake c.args.sessions.now c.args.room.now.lines)
+    passed_over g.S.Read.remaining c.args.reading.silence c.args.reading.at c.args.client.now (intake c.args.sessions.now c.args.room.now.lines)
 
 -- Nothing came: the session may be closed.
 pub returns-then-is_quiet : goal.returns-then-is_quiet
@@ -24,20 +28,31 @@ returns-then-is_quiet g c =
     let after = c.take_in-any.new.self in
     let old = c.args.sessions.now in
     let between = c.take_in-any.new.sessions in
+    let last = c.close_silent.new.client in
     let new = c.close_silent.new.sessions in
     let done = c.close_silent.result in
     let room = c.args.room.now.lines in
+    let silence = c.args.reading.silence in
+    let at = c.args.reading.at in
     let peer = c.take_in-any.ensures.peer in
+    let (sid, holds, waits_on, stream, heard_at, has_ended) = c.close_silent.ensures.peer in
     let (idle, kept, same, stays, left) = c.take_in-any.ensures.quiet (sym c.is_quiet.ensures ∙ c.if-is_quiet.true) in
     let open_now = subst (λ sid. IsSome (session_at old sid)) c.sid.ensures
     (c.is_open.ensures.0 c.if-not-is_open.false) in
-    subst (λ n. IsRead rest client after (intake old room) (intake new n)) (sym left)
-    (read_nothing rest client after room old new done peer.0 peer.1 kept same open_now
-    (on_true done (λ is. sym peer.1 ∙ silent_written c.args.reading.silence after between c.args.reading.at
-    (c.close_silent.ensures.silent.0 is)))
-    (λ waits. (c.take_in-any.ensures.unread waits).0)
+    subst (λ n. IsRead rest silence at client last (intake old room) (intake new n)) (sym left)
+    (read_nothing rest silence at client last room old new done (sid ∙ peer.0) (waits_on ∙ peer.1)
+    (heard_on (rest client.stream) (rest after.stream) (rest last.stream) at client.heard_at after.heard_at last.heard_at
+    c.take_in-any.ensures.heard (ap rest stream) heard_at)
+    (end_on (rest after.stream) (rest last.stream) client.has_ended after.has_ended last.has_ended
+    c.take_in-any.ensures.ended (ap rest stream) has_ended)
+    (subst (λ s. Keeps (rest client.stream) (rest s)) (sym stream) kept) (holds ∙ same) open_now
+    (on_true done (λ is. sym peer.1 ∙ silent_written silence after between at (c.close_silent.ensures.silent.0 is)))
+    (λ waits. stream ∙ (c.take_in-any.ensures.unread waits).0)
     (subst (λ s. OnTrue done (Changes s new client.sid None)) stays
     (subst (λ n. OnTrue done (Changes between new n None)) peer.0 c.close_silent.ensures.closed))
+    (subst (λ s. OnTrue done (IsReason last.closing (IsSomeAnd silence (IsSilent last s at)) ⊥ ⊥)) stays
+    (both_true done (λ is told. silent_reason silence after last between at told heard_at sid holds waits_on
+    (c.close_silent.ensures.silent.0 is)) c.close_silent.ensures.told))
     (on_false done (λ e. unchanged_by old new (e ∙ stays)) c.close_silent.ensures.stays))
 
 pub returns : goal.returns
@@ -52,12 +67,14 @@ returns g c =
     let before = session_at old client.sid in
     let open_now = subst (λ sid. IsSome (session_at old sid)) c.sid.ensures
     (c.is_open.ensures.0 c.if-not-is_open.false) in
-    is_read rest client after (intake old room) (intake new left) c.take_in-any.ensures.peer.0
+    is_read rest c.args.reading.silence c.args.reading.at client after (intake old room) (intake new left) c.take_in-any.ensures.peer.0
     c.take_in-any.ensures.peer.1
     (λ waits.
     let same = c.take_in-any.ensures.unread waits in
-    (same.0, same.1, unchanged_by old new same.2))
+    (same.0, same.1, unchanged_by old new same.2)) c.take_in-any.ensures.heard c.take_in-any.ensures.ended
     (not_closed before _ open_now)
+    (λ was none. reason_of_trouble (IsSomeAnd c.args.reading.silence (IsSilent after old c.args.reading.at)) after.closing
+    (c.take_in-any.ensures.reason none))
     (sends room left (rest client.stream) (rest after.stream) (held client.incoming) (held after.incoming) client.sid
     old new before (session_at new client.sid) refl refl open_now c.take_in-any.ensures.taken
     c.take_in-any.ensures.others)

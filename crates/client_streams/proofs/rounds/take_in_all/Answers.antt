@@ -11,7 +11,8 @@ loop-client-preserved g c =
     let items = c.loop-client.client-items in
     let lt : c.loop-client.client-index < length items =
     omega (arith, c.loop-client-test.true, c.loop-client.auto.client-items) in
-    done_further Holds holds-refl (IsRead g.S.Read.remaining) (read_after g.S.Read.remaining) c.args.clients.now.items items
+    done_further Holds holds-refl (IsRead g.S.Read.remaining c.args.reading.silence c.args.reading.at)
+    (read_after g.S.Read.remaining c.args.reading.silence c.args.reading.at) c.args.clients.now.items items
     c.loop-client.client-index c.client-item.result c.read_for-any.new.client (intake c.args.sessions.now 1)
     (intake c.loop-client.sessions c.loop-client.room.lines)
     (intake c.read_for-any.new.sessions c.read_for-any.new.room.lines) lt c.loop-client.invariant c.read_for-any.ensures
@@ -25,8 +26,9 @@ returns g c =
     let new = intake c.loop-client.sessions c.loop-client.room.lines in
     let same = with_items_is clients items (so_far.whole ∙ sym clients.ok.0) in (
       c.loop-client.room.lines,
-      subst (λ (l : List (Client g.row.S.Denot)). AreEach Holds (IsRead g.S.Read.remaining) clients.items l old new)
+      subst (λ (l : List (Client g.row.S.Denot)). AreEach Holds
+          (IsRead g.S.Read.remaining c.args.reading.silence c.args.reading.at) clients.items l old new)
           (sym same)
-          (done_all Holds holds-refl (IsRead g.S.Read.remaining) c.loop-client.client-index clients.items items old new
+          (done_all Holds holds-refl (IsRead g.S.Read.remaining c.args.reading.silence c.args.reading.at) c.loop-client.client-index clients.items items old new
           (omega (arith, c.loop-client-test.false, c.loop-client.auto.client-items)) so_far),
     )

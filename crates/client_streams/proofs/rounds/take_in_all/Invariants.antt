@@ -4,5 +4,5 @@ use Rattle.client_streams.proofs.RoundLemmas.{IsDoneTo}
 use Rattle.client_streams.proofs.rounds.take_in_all.Given as goal
 
 abbrev pub invariant-loop-client : goal.invariant-loop-client
-invariant-loop-client g l = IsDoneTo Holds (IsRead g.S.Read.remaining) l.client-index l.fn.clients.items l.client-items
+invariant-loop-client g l = IsDoneTo Holds (IsRead g.S.Read.remaining l.fn.reading.silence l.fn.reading.at) l.client-index l.fn.clients.items l.client-items
     (intake l.fn.sessions 1) (intake l.sessions l.room.lines)

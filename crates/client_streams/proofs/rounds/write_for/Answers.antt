@@ -16,7 +16,10 @@ returns g c =
     record {
       sid = c.hand_out.ensures.peer.0;
       incoming = c.hand_out.ensures.peer.3;
-      given = c.hand_out.ensures.given;
+      heard = c.hand_out.ensures.peer.4;
+      ended = c.hand_out.ensures.peer.1;
+      given = c.hand_out.ensures.given.given;
+      reason = λ was none. c.hand_out.ensures.given.reason none;
       hands = c.hand_out.ensures.hands;
       closed = not_closed (session_at old c.args.client.now.sid) _ open_now;
     }

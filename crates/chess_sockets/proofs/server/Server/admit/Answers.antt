@@ -16,8 +16,12 @@ returns-clause-welcomes g c =
       welcomed = (
         one_step (state_of old.sessions old.store.table) (state_of new.sessions new.store.table) (Connected client.sid)
             (rw c.new.ensures.sid (c.in-Ok-connect.ensures.new, c.in-Ok-connect.ensures.opened, ap (λ s. s.table) c.connect.ensures.store)),
-        c.new.ensures.nothing.0,
-        c.new.ensures.nothing.1,
+        record {
+          moment = c.new.ensures.heard;
+          lasts = c.new.ensures.lasts;
+          incoming = c.new.ensures.nothing.0;
+          outgoing = c.new.ensures.nothing.1;
+        },
       );
     }
 

@@ -2,10 +2,10 @@
 use Rattle.std.proofs.Common.{◌∙◌, Ok, ap, refl, sym}
 use Rattle.std.proofs.lemmas.Result.{err_from_is_err_and}
 use Rattle.chess_hub.specs.Faults.{CountsFault}
-use Rattle.chess_sockets.specs.Serving.{state_of, unknown}
+use Rattle.chess_sockets.specs.Serving.{state_of}
 use Rattle.chess_sockets.specs.Turns.{EndsServing, IsTurnRefusal}
 use Rattle.chess_sockets.proofs.StoreLemmas.{lasts_over, lasts_handed, of_fault, counts_refused, counts_done}
-use Rattle.chess_sockets.proofs.ServingLemmas.{welcomed_there}
+use Rattle.chess_sockets.proofs.ServingLemmas.{welcomed_there, welcomed_on}
 use Rattle.chess_sockets.proofs.server.Server.turn.Goals as goal
 
 -- ---- what is left of the store
@@ -41,6 +41,56 @@ returns-in_err-has_served-clause-lasts g c =
     (λ kept. lasts_handed r.result e.0 c.in_err-has_served.field-0.0 (state s.journal.device) (state n.journal.device)
     n.journal.header n.journal.compaction s.table n.table e.1 e.2 (c.in_err-has_served.ensures.lasts kept))
 
+-- ---- who is served
+
+pub returns-then-came-has_served-clause-served : goal.returns-then-came-has_served-clause-served
+returns-then-came-has_served-clause-served g c =
+    let old = c.args.self.now in
+    let w = c.welcome-came.new.self in
+    let n = c.serve_clients.new in
+    let left = c.part-2.new.self in
+    record {
+      asked = w.clients.items;
+      begun = state_of w.hub.sessions w.hub.store.table;
+      welcomes = welcomed_on c.args.at w.door left.door old.turned_away w.turned_away left.turned_away _ _ _ _
+          c.part-2.ensures.door c.part-2.ensures.turned_away
+          (welcomed_there c.args.at c.part.new.self.hub old.hub (λ hub. state_of hub.sessions hub.store.table) w.door.found
+          c.part.new.self.turned_away old.turned_away w.turned_away _ _ _ _ c.part.ensures.hub c.part.ensures.stay
+          c.part.ensures.turned_away c.welcome-came.ensures.welcomes);
+      written = n.clients.items;
+      serves = rw (
+        c.part-2.ensures.hub,
+        sym (c.welcome-came.ensures.store ∙ ap (λ h. h.store) c.part.ensures.hub),
+        sym (c.welcome-came.ensures.silence ∙ c.part.ensures.silence),
+      )
+          c.in_ok-has_served.ensures.served;
+      stay = rw c.part-2.ensures.hub c.part-2.ensures.stay;
+    }
+
+pub returns-else-came-has_served-clause-served : goal.returns-else-came-has_served-clause-served
+returns-else-came-has_served-clause-served g c =
+    let old = c.args.self.now in
+    let w = c.welcome-came.new.self in
+    let n = c.serve_clients.new in
+    let left = c.part-2.new.self in
+    record {
+      asked = w.clients.items;
+      begun = state_of w.hub.sessions w.hub.store.table;
+      welcomes = welcomed_on c.args.at w.door left.door old.turned_away w.turned_away left.turned_away _ _ _ _
+          c.part-2.ensures.door c.part-2.ensures.turned_away
+          (welcomed_there c.args.at c.part.new.self.hub old.hub (λ hub. state_of hub.sessions hub.store.table) w.door.found
+          c.part.new.self.turned_away old.turned_away w.turned_away _ _ _ _ c.part.ensures.hub c.part.ensures.stay
+          c.part.ensures.turned_away c.welcome-came.ensures.welcomes);
+      written = n.clients.items;
+      serves = rw (
+        c.part-2.ensures.hub,
+        sym (c.welcome-came.ensures.store ∙ ap (λ h. h.store) c.part.ensures.hub),
+        sym (c.welcome-came.ensures.silence ∙ c.part.ensures.silence),
+      )
+          c.in_ok-has_served.ensures.served;
+      stay = rw c.part-2.ensures.hub c.part-2.ensures.stay;
+    }
+
 -- ---- why it ends
 
 pub returns-in_err-has_served-clause-fault : goal.returns-in_err-has_served-clause-fault
@@ -55,15 +105,21 @@ returns-in_err-has_served-clause-refused g c =
     let r = c.from_residual in
     let e = err_from_is_err_and r.result r.ensures.1 in
     let same = c.welcome-came.ensures.store ∙ ap (λ h. h.store) c.part.ensures.hub in
+    let w = c.welcome-came.new.self in
+    let n = c.serve_clients.new in
     of_fault r.result e.0 c.in_err-has_served.field-0.0
-    (λ fault. IsTurnRefusal unknown fault c.args.at old.hub.store.journal.header.seq old.hub.store.failed
-    old.clients.items (state_of old.hub.sessions old.hub.store.table) c.serve_clients.new.hub.store.table) e.1 e.2 (
-      c.welcome-came.new.self.clients.items,
-      state_of c.welcome-came.new.self.hub.sessions c.welcome-came.new.self.hub.store.table,
-      welcomed_there c.part.new.self.hub c.args.self.now.hub (λ hub. state_of hub.sessions hub.store.table) _ _ _ _
-          c.part.ensures.hub c.part.ensures.stay c.welcome-came.ensures.welcomes,
-      rw (sym same) c.in_err-has_served.ensures.refused,
-    )
+    (λ fault. IsTurnRefusal g.S.Read.remaining old.silence w.door.found old.turned_away w.turned_away fault c.args.at
+    old.hub.store.journal.header.seq old.hub.store.failed old.clients.items n.clients.items
+    (state_of old.hub.sessions old.hub.store.table) (state_of n.hub.sessions n.hub.store.table)) e.1 e.2
+    (record {
+      asked = w.clients.items;
+      begun = state_of w.hub.sessions w.hub.store.table;
+      welcomes = welcomed_there c.args.at c.part.new.self.hub old.hub (λ hub. state_of hub.sessions hub.store.table) w.door.found
+          c.part.new.self.turned_away old.turned_away w.turned_away _ _ _ _ c.part.ensures.hub c.part.ensures.stay
+          c.part.ensures.turned_away c.welcome-came.ensures.welcomes;
+      refusal = rw (sym same, sym (c.welcome-came.ensures.silence ∙ c.part.ensures.silence))
+          c.in_err-has_served.ensures.refused;
+    })
 
 pub returns-in_err-has_served-clause-cause_err : goal.returns-in_err-has_served-clause-cause_err
 returns-in_err-has_served-clause-cause_err g c =

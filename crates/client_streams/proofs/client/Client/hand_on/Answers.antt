@@ -2,7 +2,8 @@
 use Rattle.std.proofs.Common.{refl}
 use Rattle.chess_sessions.specs.Session.{session_at}
 use Rattle.client_streams.specs.Incoming.{held}
-use Rattle.client_streams.proofs.TakingLemmas.{gives-nothing, gives-closed, gives-fed, cut-off}
+use Rattle.client_streams.proofs.TakingLemmas.{gives-nothing, gives-closed, gives-fed, cut-off, heard_open}
+use Rattle.client_streams.proofs.RoundLemmas.{not_closed}
 use Rattle.client_streams.proofs.client.Client.hand_on.Goals as goal
 
 pub returns-then-not-admit-clause-gives : goal.returns-then-not-admit-clause-gives
@@ -29,3 +30,15 @@ returns-else-feed-clause-gives g c =
     gives-closed c.args.room.now.lines c.admit.new.self.lines (session_at c.args.sessions.now sid)
     (session_at c.feed.new.sessions sid) (held c.args.self.now.incoming) c.admit.ensures.fewer
     c.if-feed.ensures.closed
+
+-- who is not refused memory is not closed
+
+pub returns-then-not-admit-clause-reason : goal.returns-then-not-admit-clause-reason
+returns-then-not-admit-clause-reason g c =
+    not_closed (session_at c.args.sessions.now c.args.self.now.sid) _ c.requires
+
+pub returns-then-feed-clause-reason : goal.returns-then-feed-clause-reason
+returns-then-feed-clause-reason g c =
+    heard_open (session_at c.args.sessions.now c.args.self.now.sid)
+    (session_at c.feed.new.sessions c.args.self.now.sid) c.portion-portion.result.now c.requires
+    c.if-feed.ensures.heard

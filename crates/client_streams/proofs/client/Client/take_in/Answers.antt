@@ -1,9 +1,12 @@
 -- What came is held back, and then the session is given what stands in front.
-use Rattle.std.proofs.Common.{ℕ, List, Option, None, IfSome, ap, refl, subst, sym, arith}
+use Rattle.std.proofs.Common.{◌≡◌, ℕ, List, Option, None, IfSome, ap, refl, subst, sym, arith}
 use Rattle.chess_sessions.specs.Session.{Changes, session_at}
+use Rattle.client_streams.specs.declared.closing.Closing.{Closing}
 use Rattle.client_streams.specs.Clients.{GivesOn, TakesIn}
+use Rattle.client_streams.specs.Closings.{IsTrouble}
 use Rattle.client_streams.specs.Incoming.{held}
-use Rattle.client_streams.proofs.HeardLemmas.{heard_as_before, heard_on}
+use Rattle.client_streams.proofs.HeardLemmas.{heard_as_before, heard_on, end_as_before, end_on}
+use Rattle.client_streams.proofs.RoundLemmas.{not_closed}
 use Rattle.client_streams.proofs.TakingLemmas.{takes-nothing, takes-in, gives-nothing, gives-closed}
 use Rattle.client_streams.proofs.client.Client.take_in.Goals as goal
 
@@ -53,16 +56,32 @@ returns-in-End-clause-taken g c =
 pub returns-in-Fault-clause-taken : goal.returns-in-Fault-clause-taken
 returns-in-Fault-clause-taken g c =
     let client = c.args.self.now in
-    let after = c.read_more.new.self in
+    let between = c.read_more.new.self in
+    let after = c.close.new.self in
     let room = c.args.room.now.lines in
     let old = c.args.sessions.now in
-    let new = c.close.new.self in
-    let closed = subst (λ (n : ℕ). Changes old new n None) c.read_more.ensures.peer.0 c.close.ensures in
-    takes-in room room (session_at old client.sid) (session_at new client.sid) (g.S.Read.remaining client.stream)
-    (g.S.Read.remaining after.stream) (held client.incoming) (held after.incoming) (held after.incoming)
-    c.read_more.ensures.takes
-    (gives-closed room room (session_at old client.sid) (session_at new client.sid) (held after.incoming) (omega arith)
-    closed.changed)
+    let new = c.close.new.sessions in
+    let rest = g.S.Read.remaining in
+    let closed = subst (λ (n : ℕ). Changes old new n None) c.read_more.ensures.peer.0 c.close.ensures.closed in
+    let (sid, ended, quiet, holds, waits, stream, heard_at) = c.close.ensures.peer in
+    subst (λ (b : Option (List ℕ)). IfSome (session_at old client.sid) (λ s. TakesIn room room (rest client.stream) b
+    (held client.incoming) (held after.incoming) s (session_at new client.sid))) (sym (ap rest stream))
+    (subst (λ (l : List ℕ). IfSome (session_at old client.sid) (λ s. TakesIn room room (rest client.stream)
+    (rest between.stream) (held client.incoming) l s (session_at new client.sid))) (sym holds)
+    (takes-in room room (session_at old client.sid) (session_at new client.sid) (rest client.stream) (rest between.stream)
+    (held client.incoming) (held between.incoming) (held between.incoming) c.read_more.ensures.takes
+    (gives-closed room room (session_at old client.sid) (session_at new client.sid) (held between.incoming) (omega arith)
+    closed.changed)))
+
+pub returns-in-Fault-clause-heard : goal.returns-in-Fault-clause-heard
+returns-in-Fault-clause-heard g c =
+    let client = c.args.self.now in
+    let between = c.read_more.new.self in
+    let after = c.close.new.self in
+    let rest = g.S.Read.remaining in
+    let (sid, ended, quiet, holds, waits, stream, heard_at) = c.close.ensures.peer in
+    heard_on (rest client.stream) (rest between.stream) (rest after.stream) c.args.at client.heard_at between.heard_at
+    after.heard_at c.read_more.ensures.heard (ap rest stream) heard_at
 
 pub returns-in-Bytes-clause-taken : goal.returns-in-Bytes-clause-taken
 returns-in-Bytes-clause-taken g c =
@@ -98,3 +117,51 @@ returns-in-Bytes-clause-heard g c =
     let rest = g.S.Read.remaining in
     heard_on (rest client.stream) (rest between.stream) (rest after.stream) c.args.at client.heard_at between.heard_at
     after.heard_at c.read_more.ensures.heard (ap rest c.hand_on-in-Bytes.ensures.stream) c.hand_on-in-Bytes.ensures.heard
+
+pub returns-then-not-is_unfinished-clause-ended : goal.returns-then-not-is_unfinished-clause-ended
+returns-then-not-is_unfinished-clause-ended g c =
+    let client = c.args.self.now in
+    let rest = g.S.Read.remaining in
+    let after = c.hand_on.new.self in
+    end_on (rest client.stream) (rest after.stream) client.has_ended client.has_ended after.has_ended
+    (end_as_before (rest client.stream) client.has_ended) (ap rest c.hand_on.ensures.stream) c.hand_on.ensures.ended
+
+pub returns-in-Fault-clause-ended : goal.returns-in-Fault-clause-ended
+returns-in-Fault-clause-ended g c =
+    let client = c.args.self.now in
+    let between = c.read_more.new.self in
+    let after = c.close.new.self in
+    let rest = g.S.Read.remaining in
+    let (sid, ended, quiet, holds, waits, stream, heard_at) = c.close.ensures.peer in
+    end_on (rest between.stream) (rest after.stream) client.has_ended between.has_ended after.has_ended
+    c.read_more.ensures.ended (ap rest stream) ended
+
+pub returns-in-Bytes-clause-ended : goal.returns-in-Bytes-clause-ended
+returns-in-Bytes-clause-ended g c =
+    let client = c.args.self.now in
+    let between = c.read_more.new.self in
+    let after = c.hand_on-in-Bytes.new.self in
+    let rest = g.S.Read.remaining in
+    end_on (rest between.stream) (rest after.stream) client.has_ended between.has_ended after.has_ended
+    c.read_more.ensures.ended (ap rest c.hand_on-in-Bytes.ensures.stream) c.hand_on-in-Bytes.ensures.ended
+
+pub returns-then-not-is_empty-clause-reason : goal.returns-then-not-is_empty-clause-reason
+returns-then-not-is_empty-clause-reason g c =
+    not_closed (session_at c.args.sessions.now c.args.self.now.sid) _ c.requires
+
+pub returns-in-Nothing-clause-reason : goal.returns-in-Nothing-clause-reason
+returns-in-Nothing-clause-reason g c =
+    not_closed (session_at c.args.sessions.now c.args.self.now.sid) _ c.requires
+
+pub returns-in-End-clause-reason : goal.returns-in-End-clause-reason
+returns-in-End-clause-reason g c =
+    not_closed (session_at c.args.sessions.now c.args.self.now.sid) _ c.requires
+
+pub returns-in-Fault-clause-reason : goal.returns-in-Fault-clause-reason
+returns-in-Fault-clause-reason g c =
+    λ none. subst (λ (r : Option Closing). IsTrouble r) (sym c.close.ensures.told) tt
+
+pub returns-in-Bytes-clause-reason : goal.returns-in-Bytes-clause-reason
+returns-in-Bytes-clause-reason g c =
+    subst (λ (n : ℕ). session_at c.hand_on-in-Bytes.new.sessions n ≡ None → IsTrouble c.hand_on-in-Bytes.new.self.closing)
+    c.read_more.ensures.peer.0 c.hand_on-in-Bytes.ensures.reason

@@ -1,0 +1,14 @@
+-- Who came is a client, or is counted.
+use Rattle.std.proofs.Common.{rules}
+use Rattle.chess_sockets.proofs.ServingLemmas.{away_counted, client_counted}
+use Rattle.chess_sockets.proofs.server.Server.greet.Goals as goal
+
+pub returns-then-not-admit-clause-welcomes : goal.returns-then-not-admit-clause-welcomes
+returns-then-not-admit-clause-welcomes g c =
+    away_counted c.args.at _ _ _ _ _ _ _ _ c.admit.ensures.door c.requires c.admit.ensures.welcomes c.if-not-admit.ensures.dropped
+    (search rules)
+
+pub returns-else-not-admit-clause-welcomes : goal.returns-else-not-admit-clause-welcomes
+returns-else-not-admit-clause-welcomes g c =
+    client_counted c.args.at _ _ _ _ _ _ _ _ c.admit.ensures.door c.requires c.admit.ensures.welcomes c.if-not-admit.ensures.came
+    (search rules)
