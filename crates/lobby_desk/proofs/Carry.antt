@@ -9,10 +9,10 @@ use Rattle.lobby_desk.specs.declared.planning.Plan.{Plan}
 use Rattle.lobby_desk.specs.declared.planning.Plan.TheVariants as plans
 use Rattle.lobby_desk.specs.declared.planning.Standing.{Standing}
 use Rattle.lobby_desk.specs.declared.players.Identity.{Identity}
-use Rattle.lobby_desk.specs.Words.{is_drop_sort, is_leave_sort, is_leave_lobby_sort}
+use Rattle.lobby_desk.specs.Words.{is_leave_sort, is_leave_lobby_sort, or_0}
 use Rattle.lobby_desk.specs.Plans.{asked, act_plan, drop_plan, login_plan, numbered_plan, plan_of}
 use Rattle.lobby_desk.specs.Lines.{lines_of, is_said, name_line}
-use Rattle.lobby_desk.specs.Events.{Telling, Owed, Asker, Dropper, owed_last, plan_asker}
+use Rattle.lobby_desk.specs.Events.{Telling, ForItself, ForPositions, ForTable, ForGame, ForAct, Owed, Asker, Dropper, owed_last, plan_asker, sort_asker}
 use Rattle.lobby_desk.specs.Tellings.{is_number, IsToldOrSent}
 use Rattle.lobby_desk.specs.Who.{is_left, is_risen, IsAnswered}
 
@@ -25,12 +25,12 @@ asked_last : (s : Standing) (plan : Plan) (said : Option (List ℕ)) (text : Lis
 asked_last s plan said text c o h =
     elim s.is_here as (λ b. LastIs (if b then plan else plans.Refuse refusals.NoServer) said text c o) [ true ↦ h | false ↦ refl ]
 
-act_last : (s : Standing) (who : Option Identity) (said : Option (List ℕ)) (text : List ℕ) (c : ℕ) → LastIs (act_plan s who) said text c (Asker c)
+act_last : (s : Standing) (who : Option Identity) (said : Option (List ℕ)) (text : List ℕ) (c : ℕ) → LastIs (act_plan s who) said text c (Asker c (ForAct text))
 act_last s None said text c = refl
 act_last s (Some who) said text c =
-    elim s.is_crowded as (λ b. LastIs (if b then asked s (plans.Refuse refusals.TooManyOpen) else asked s (plans.Act who)) said text c (Asker c)) [
-      | true ↦ asked_last s (plans.Refuse refusals.TooManyOpen) said text c (Asker c) refl
-      | false ↦ asked_last s (plans.Act who) said text c (Asker c) refl
+    elim s.is_crowded as (λ b. LastIs (if b then asked s (plans.Refuse refusals.TooManyOpen) else asked s (plans.Act who)) said text c (Asker c (ForAct text))) [
+      | true ↦ asked_last s (plans.Refuse refusals.TooManyOpen) said text c (Asker c (ForAct text)) refl
+      | false ↦ asked_last s (plans.Act who) said text c (Asker c (ForAct text)) refl
     ]
 
 drop_last : (s : Standing) (who : Option Identity) (game : ℕ) (said : Option (List ℕ)) (text : List ℕ) (c : ℕ) →
@@ -42,7 +42,7 @@ drop_last s (Some who) game said text c =
       | false ↦ refl
     ]
 
-login_last : (holder : Option Identity) (said : Option (List ℕ)) (text : List ℕ) (c : ℕ) → LastIs (login_plan holder) said text c (Asker c)
+login_last : (holder : Option Identity) (said : Option (List ℕ)) (text : List ℕ) (c : ℕ) → LastIs (login_plan holder) said text c (Asker c ForItself)
 login_last None said text c = refl
 login_last (Some who) said text c = refl
 
@@ -52,33 +52,33 @@ numbered_last s None said text c = refl
 numbered_last s (Some game) said text c = drop_last s s.who game said text c
 
 watch_last : (s : Standing) (game : Option ℕ) (said : Option (List ℕ)) (text : List ℕ) (c : ℕ) →
-    LastIs (numbered_plan sorts.Watch s game) said text c (Asker c)
+    LastIs (numbered_plan sorts.Watch s game) said text c (Asker c (ForGame (or_0 game)))
 watch_last s None said text c = refl
 watch_last s (Some game) said text c =
-    elim s.is_full as (λ b. LastIs (if b then asked s (plans.Refuse refusals.TooManyWatched) else asked s (plans.Watch game)) said text c (Asker c)) [
-      | true ↦ asked_last s (plans.Refuse refusals.TooManyWatched) said text c (Asker c) refl
-      | false ↦ asked_last s (plans.Watch game) said text c (Asker c) refl
+    elim s.is_full as (λ b. LastIs (if b then asked s (plans.Refuse refusals.TooManyWatched) else asked s (plans.Watch game)) said text c (Asker c (ForGame game))) [
+      | true ↦ asked_last s (plans.Refuse refusals.TooManyWatched) said text c (Asker c (ForGame game)) refl
+      | false ↦ asked_last s (plans.Watch game) said text c (Asker c (ForGame game)) refl
     ]
 
 leave_last : (s : Standing) (game : Option ℕ) (said : Option (List ℕ)) (text : List ℕ) (c : ℕ) →
-    LastIs (numbered_plan sorts.Leave s game) said text c (Asker c)
+    LastIs (numbered_plan sorts.Leave s game) said text c (Asker c ForItself)
 leave_last s None said text c = refl
 leave_last s (Some game) said text c = refl
 
 line_last : (s : Standing) (game : Option ℕ) (said : Option (List ℕ)) (text : List ℕ) (c : ℕ) →
-    LastIs (numbered_plan sorts.Line s game) said text c (Asker c)
+    LastIs (numbered_plan sorts.Line s game) said text c (Asker c ForPositions)
 line_last s None said text c = refl
-line_last s (Some game) said text c = asked_last s (plans.Line game) said text c (Asker c) refl
+line_last s (Some game) said text c = asked_last s (plans.Line game) said text c (Asker c ForPositions) refl
 
 pub planned_last : (m : Bool) (sort : Sort) (s : Standing) (game : Option ℕ) (said : Option (List ℕ)) (text : List ℕ) (c : ℕ) →
-    LastIs (plan_of m sort s game) said text c (if is_drop_sort sort then Dropper c text else Asker c)
+    LastIs (plan_of m sort s game) said text c (sort_asker sort game c text)
 planned_last false sort s game said text c = refl
-planned_last true sorts.Read s game said text c = asked_last s plans.Read said text c (Asker c) refl
+planned_last true sorts.Read s game said text c = asked_last s plans.Read said text c (Asker c ForItself) refl
 planned_last true sorts.Act s game said text c = act_last s s.who said text c
 planned_last true sorts.Drop s game said text c = numbered_last s game said text c
 planned_last true sorts.Login s game said text c = login_last s.holder said text c
 planned_last true sorts.Players s game said text c = refl
-planned_last true sorts.Lobby s game said text c = asked_last s plans.Lobby said text c (Asker c) refl
+planned_last true sorts.Lobby s game said text c = asked_last s plans.Lobby said text c (Asker c ForTable) refl
 planned_last true sorts.LeaveLobby s game said text c = refl
 planned_last true sorts.Watch s game said text c = watch_last s game said text c
 planned_last true sorts.Leave s game said text c = leave_last s game said text c

@@ -15,8 +15,8 @@ use Rattle.lobby_desk.specs.declared.players.Player.{Player}
 use Rattle.lobby_desk.specs.Words.{rest_of, is_message, sort_of, is_act_sort, is_drop_sort, is_name_sort, is_login_sort, number_in}
 use Rattle.lobby_desk.specs.Plans.{asked, act_plan, drop_plan, login_plan, numbered_plan, plan_of}
 use Rattle.lobby_desk.specs.Lines.{lines_of, act_lines, said_after, name_line, game_line, is_said, notice_lines, IsNamed}
-use Rattle.lobby_desk.specs.Events.{Event, Opened, Closed, Said, Hurried, Heard, Gone, Here, Telling, Owed, Nobody, Asker, Dropper, Followers, owed_last, asker, follower}
-use Rattle.lobby_desk.specs.Tellings.{Known, is_whole, answer, is_told, watch_front, table_front, leaves, leaves_table, watches_now, table_now, owed_answered, owed_now, left_now, begun_now, last_now, known_now, presence, lost, IsMadeOf, IsNoticeOrNone, IsToldFor, IsToldNext, IsToldHeard, IsTold}
+use Rattle.lobby_desk.specs.Events.{Event, Opened, Closed, Said, Hurried, Heard, Gone, Here, Telling, to_one, ForItself, ForPositions, ForTable, ForGame, ForAct, Owed, Nobody, Asker, Dropper, Followers, owed_last, sort_asker, asker, follower}
+use Rattle.lobby_desk.specs.Tellings.{Known, is_whole, answer, is_told, watch_front, table_front, leaves, leaves_table, watches_now, table_now, owed_answered, owed_now, left_now, begun_now, last_now, known_now, presence, lost, made_of, IsNoticeOrNone, IsToldFor, IsToldNext, IsToldHeard, IsTold}
 use Rattle.lobby_desk.specs.Who.{View, BeginsView, IsSaid, IsHeard, IsDropped, IsSentFor, IsSentNext, IsSentHeard, IsDone, IsKnown, who_noted}
 use Rattle.lobby_desk.specs.History.{Step, shown_by, player_said, player_after, player_in, is_drop, name_behind, name_through, name_before, name_in, ActsUnder, ActsRight, NoActs, NoDrops, AllRead, IsOf, known_in, IsArbiter, AsksNow, HasAsked, IsDropOf, IsRight, AreWhole, AllRight, AllTold, IsRun}
 use Rattle.lobby_desk.proofs.Found.{and_first, and_second, and_both}
@@ -378,8 +378,8 @@ followers_alike old past alike (Some game) now tells h = notice_alike old past a
 told_for_alike : (old past : Known) → Alike old past → (o : Owed) (now : List ℕ) (lines : List (List ℕ)) (tells : List Telling) →
     IsToldFor old o now lines tells → IsToldFor past o now lines tells
 told_for_alike old past alike Nobody now lines tells h = h
-told_for_alike old past alike (Asker c) now lines tells h =
-    (h.0, subst (λ (last : List ℕ). IsMadeOf last now h.0) alike.last h.1, h.2)
+told_for_alike old past alike (Asker c ask) now lines tells h =
+    h ∙ ap (λ (last : List ℕ). to_one c (made_of ask last now) ∷ []) alike.last
 told_for_alike old past alike (Dropper c text) now [] tells h = h
 told_for_alike old past alike (Dropper c text) now (line ∷ lines) tells h = h
 told_for_alike old past alike (Followers game) now lines tells h = (h.0, followers_alike old past alike game now tells h.1)
@@ -420,7 +420,7 @@ AreAsked players past owed = AllByRecursion (IsAsked players past) owed
 
 asked_later : (players : List Player) (s : Step) (past : List Step) (o : Owed) → IsAsked players past o → IsAsked players (s ∷ past) o
 asked_later players s past Nobody h = tt
-asked_later players s past (Asker c) h = tt
+asked_later players s past (Asker c ask) h = tt
 asked_later players s past (Dropper c text) h = inr h
 asked_later players s past (Followers game) h = tt
 
@@ -439,7 +439,7 @@ wait_last players past o h (line ∷ next ∷ lines) = (tt, wait_last players pa
 
 asked_follower : (players : List Player) (past : List Step) (o : Owed) (lines : List (List ℕ)) → IsAsked players past (follower o lines)
 asked_follower players past Nobody lines = tt
-asked_follower players past (Asker c) lines = tt
+asked_follower players past (Asker c ask) lines = tt
 asked_follower players past (Dropper c text) lines = tt
 asked_follower players past (Followers game) lines = tt
 
@@ -508,15 +508,37 @@ said_asks players old c text lines new h =
     let lined = subst (λ (ls : List (List ℕ)). AsksDrop (is_drop text) ls h.standing.who (is_message text)) (sym h.lines_are) by_plan in
     subst (λ (who : Option Identity). AsksDrop (is_drop text) lines who (is_message text)) h.who lined
 
-asker_asked : (players : List Player) (past : List Step) (c : ℕ) (text : List ℕ) (all lines : List (List ℕ)) (tells : List Telling) (b : Bool) →
-    is_drop text ≡ b → AsksDrop b lines (player_in players past c) (is_message text) →
-    AreAsked players (record { event = Said c text; lines = all; tells = tells } ∷ past) (owed_last (if b then Dropper c text else Asker c) lines)
-asker_asked players past c text all [] tells b is asks = tt
-asker_asked players past c text all (line ∷ lines) tells true is asks =
-    wait_last players (record { event = Said c text; lines = all; tells = tells } ∷ past) (Dropper c text)
-    (inl (refl, refl, asks.0, asks.1, is)) (line ∷ lines)
-asker_asked players past c text all (line ∷ lines) tells false is asks =
-    wait_last players (record { event = Said c text; lines = all; tells = tells } ∷ past) (Asker c) tt (line ∷ lines)
+-- the answer to a message is owed to a drop that was asked for, if to any
+asked_if_drop : (players : List Player) (past : List Step) (c : ℕ) (text : List ℕ) (sort : Sort) (game : Option ℕ) →
+    (is_drop_sort sort ≡ true → HasAsked players past c text) → IsAsked players past (sort_asker sort game c text)
+asked_if_drop players past c text sorts.Read game h = tt
+asked_if_drop players past c text sorts.Act game h = tt
+asked_if_drop players past c text sorts.Drop game h = h refl
+asked_if_drop players past c text sorts.Login game h = tt
+asked_if_drop players past c text sorts.Players game h = tt
+asked_if_drop players past c text sorts.Lobby game h = tt
+asked_if_drop players past c text sorts.LeaveLobby game h = tt
+asked_if_drop players past c text sorts.Watch game h = tt
+asked_if_drop players past c text sorts.Leave game h = tt
+asked_if_drop players past c text sorts.Line game h = tt
+asked_if_drop players past c text sorts.Name game h = tt
+asked_if_drop players past c text sorts.Nothing game h = tt
+
+asked_by : (players : List Player) (past : List Step) (c : ℕ) (text : List ℕ) (all : List (List ℕ)) (line : List ℕ) (lines : List (List ℕ)) (tells : List Telling) →
+    AsksDrop (is_drop text) (line ∷ lines) (player_in players past c) (is_message text) → is_drop text ≡ true →
+    HasAsked players (record { event = Said c text; lines = all; tells = tells } ∷ past) c text
+asked_by players past c text all line lines tells asks is =
+    let by = subst (λ (b : Bool). AsksDrop b (line ∷ lines) (player_in players past c) (is_message text)) is asks in
+    inl (refl, refl, by.0, by.1, is)
+
+asker_asked : (players : List Player) (past : List Step) (c : ℕ) (text : List ℕ) (all lines : List (List ℕ)) (tells : List Telling) →
+    AsksDrop (is_drop text) lines (player_in players past c) (is_message text) →
+    AreAsked players (record { event = Said c text; lines = all; tells = tells } ∷ past) (owed_last (asker c text) lines)
+asker_asked players past c text all [] tells asks = tt
+asker_asked players past c text all (line ∷ lines) tells asks =
+    wait_last players (record { event = Said c text; lines = all; tells = tells } ∷ past) (asker c text)
+    (asked_if_drop players (record { event = Said c text; lines = all; tells = tells } ∷ past) c text (sort_of text) (number_in (rest_of text))
+    (asked_by players past c text all line lines tells asks)) (line ∷ lines)
 
 -- what is seen of the desk is what the past says
 pub record Agrees (players : List Player) (past : List Step) (now : View) : Type 0 where
@@ -624,7 +646,11 @@ sent_for : (players : List Player) (past : List Step) (line : List ℕ) (o : Owe
     IsAsked players past o → (lines : List (List ℕ)) (later : Option (List ℕ)) →
     IsSentFor o (name_in past) (answer (known_in past).begun line) lines later → HeardGood players past line lines later
 sent_for players past line Nobody others waits asked lines later h = heard_none players past line lines later h.1 h.0
-sent_for players past line (Asker c) others waits asked lines later h =
+sent_for players past line (Asker c ForItself) others waits asked lines later h = heard_none players past line lines later h.1 h.0
+sent_for players past line (Asker c ForPositions) others waits asked lines later h = heard_none players past line lines later h.1 h.0
+sent_for players past line (Asker c ForTable) others waits asked lines later h = heard_none players past line lines later h.1 h.0
+sent_for players past line (Asker c (ForGame game)) others waits asked lines later h = heard_none players past line lines later h.1 h.0
+sent_for players past line (Asker c (ForAct text)) others waits asked lines later h =
     let asks = notice_read h.0 h.1 in
     heard_reads players past line lines later h.3 (subst AllRead (sym h.2) asks.0) (subst AreWhole (sym h.2) asks.1)
 sent_for players past line (Dropper c text) others waits asked lines later h =
@@ -706,7 +732,7 @@ asked_then players past old (Said c text) lines tells now agrees step =
     let asks = subst (λ (who : Option Identity). AsksDrop (is_drop text) lines who (is_message text)) (agrees.who c) (said_asks players old c text lines now step) in
     are_asked_both players (record { event = Said c text; lines = lines; tells = tells } ∷ past) old.known.owed (owed_last (asker c text) lines)
     (are_asked_later players (record { event = Said c text; lines = lines; tells = tells }) past old.known.owed agrees.asked)
-    (asker_asked players past c text lines lines tells (is_drop text) refl asks)
+    (asker_asked players past c text lines lines tells asks)
 asked_then players past old (Heard line) lines tells now agrees step =
     asked_heard players (record { event = Heard line; lines = lines; tells = tells } ∷ past) old.known.owed lines
     (are_asked_later players (record { event = Heard line; lines = lines; tells = tells }) past old.known.owed agrees.asked)

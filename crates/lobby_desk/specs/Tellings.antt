@@ -1,11 +1,11 @@
 -- What connections are told.
-use Rattle.std.specs.Prelude.{ℕ, ◌≡◌, ◌⊎◌, Bool, true, false, ◌&&◌, ◌||◌, ◌==◌, List, [], ◌∷◌, ◌++◌, length, take, codes, decimal, Option, None, Some, IfSome, if◌then◌else◌}
+use Rattle.std.specs.Prelude.{ℕ, ◌≡◌, Bool, true, false, ◌&&◌, ◌||◌, ◌==◌, List, [], ◌∷◌, ◌++◌, length, take, codes, decimal, Option, None, Some, IfSome, if◌then◌else◌}
 use Rattle.std.specs.List.{list_all, list_any}
 use Rattle.std.specs.Str.{bytes_eq}
 use Rattle.lobby_desk.specs.Words.{rest_of, is_message, sort_of, is_leave_sort, is_leave_lobby_sort, number_in}
 use Rattle.lobby_desk.specs.Lines.{ended}
-use Rattle.lobby_desk.specs.Answers.{left_after}
-use Rattle.lobby_desk.specs.Events.{Event, Opened, Closed, Said, Hurried, Heard, Gone, Here, Telling, to_one, Owed, Nobody, Asker, Dropper, Followers, owed_last, asker, follower}
+use Rattle.lobby_desk.specs.Answers.{left_after, is_accepted}
+use Rattle.lobby_desk.specs.Events.{Event, Opened, Closed, Said, Hurried, Heard, Gone, Here, Telling, to_one, Ask, ForGame, ForTable, Owed, Nobody, Asker, Dropper, Followers, owed_last, asker, follower}
 
 -- What is known of the connections and of the server: for whom the next answers of the server are, the oldest first; how many
 -- lines of the answer that has begun are still to come, and those that came; the last whole answer; which connections are
@@ -113,11 +113,13 @@ abbrev pub IsToldOrSent : List (List ℕ) → ℕ → List Telling → Type 0
 IsToldOrSent [] c tells = IsToldOne c tells
 IsToldOrSent (line ∷ lines) c tells = tells ≡ []
 
--- What a connection is told for the server's answer to its message: the answer, with `ok lobby` before it, or with `ok watch G`
--- and the answer before it; or the answer before it alone, where that refuses what is to be watched.
-abbrev pub IsMadeOf : List ℕ → List ℕ → List ℕ → Type 0
-IsMadeOf before now text =
-    (text ≡ now) ⊎ ((text ≡ before) ⊎ ((text ≡ table_front ++ now) ⊎ ((game : ℕ) × (text ≡ watch_front game ++ before ++ now))))
+-- What a connection is told for the server's answers to its message, of which this is the last: that answer itself; for the table
+-- `ok lobby` and the answer, which is to `list`. Two lines go out for a game to watch, `show` and `fen`: where the game is shown,
+-- `ok watch G` and both answers; else the first of them.
+abbrev pub made_of : Ask → List ℕ → List ℕ → List ℕ
+made_of ForTable before now = table_front ++ now
+made_of (ForGame game) before now = if is_accepted before then watch_front game ++ before ++ now else before
+made_of _ before now = now
 
 -- a notice: each who is told of it watches the game or is told of the table
 pub record IsNotice (k : Known) (game : ℕ) (now : List ℕ) (t : Telling) : Type 0 where
@@ -133,7 +135,7 @@ IsNoticeOrNone k game now (t ∷ next ∷ tells) = ⊥
 -- what is told for an answer of the server, by whose it is
 abbrev pub IsToldFor : Known → Owed → List ℕ → List (List ℕ) → List Telling → Type 0
 IsToldFor k Nobody now lines tells = (lines ≡ []) × (tells ≡ [])
-IsToldFor k (Asker c) now lines tells = (text : List ℕ) × IsMadeOf k.last now text × (tells ≡ to_one c text ∷ [])
+IsToldFor k (Asker c ask) now lines tells = tells ≡ to_one c (made_of ask k.last now) ∷ []
 IsToldFor k (Dropper c text) now [] tells = tells ≡ to_one c now ∷ []
 IsToldFor k (Dropper c text) now (line ∷ lines) tells = tells ≡ []
 IsToldFor k (Followers game) now lines tells = (lines ≡ []) × IfSome game (λ g. IsNoticeOrNone k g now tells)
@@ -149,7 +151,7 @@ IsToldHeard true k now lines tells = IsToldNext k k.owed now lines tells
 
 -- the connection whose message waits for an answer
 abbrev pub waiter : Owed → Option ℕ
-waiter (Asker c) = Some c
+waiter (Asker c ask) = Some c
 waiter (Dropper c text) = Some c
 waiter _ = None
 

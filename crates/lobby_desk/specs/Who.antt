@@ -20,7 +20,7 @@ use Rattle.lobby_desk.specs.Players.{holder_of}
 use Rattle.lobby_desk.specs.Plans.{plan_of}
 use Rattle.lobby_desk.specs.Lines.{bytes_of, lines_of, act_lines, said_after, notice_lines, IsNamed}
 use Rattle.lobby_desk.specs.Answers.{IsSeated}
-use Rattle.lobby_desk.specs.Events.{Event, Opened, Closed, Said, Hurried, Heard, Gone, Here, Telling, Owed, Asker, Dropper, owed_of, owed_last, plan_asker, follower}
+use Rattle.lobby_desk.specs.Events.{Event, Opened, Closed, Said, Hurried, Heard, Gone, Here, Telling, ForAct, Owed, Asker, Dropper, owed_of, owed_last, plan_asker, follower}
 use Rattle.lobby_desk.specs.Tellings.{Known, is_whole, answer, is_told, watch_front, table_front, watches_now, table_now, owed_now, left_now, begun_now, last_now, owed_answered, IsTold, IsToldOne, IsToldFor, IsToldNext}
 
 -- a line of an answer is taken: the whole answer is given where it was the last
@@ -156,10 +156,10 @@ pub record IsDropped (said : Option (List ℕ)) (now text : List ℕ) (lines : L
   pub lines_are : lines ≡ act_lines said name text
   pub said_is : later ≡ Some name
 
--- What goes out for an answer, by whose it is, and the name that was said last then. For the answer to a message it is at
--- most asked how one game stands; nothing or a drop goes out for the answer that a drop waits for; else nothing does.
+-- What goes out for an answer, by whose it is, and the name that was said last then. For the answer to an act it is at most
+-- asked how one game stands; nothing or a drop goes out for the answer that a drop waits for; else nothing does.
 abbrev pub IsSentFor : Owed → Option (List ℕ) → List ℕ → List (List ℕ) → Option (List ℕ) → Type 0
-IsSentFor (Asker c) said now lines later =
+IsSentFor (Asker c (ForAct text)) said now lines later =
     (game : Option ℕ) × IfSome game (λ g. g < 2 ^ 32) × (lines ≡ notice_lines game) × (later ≡ said)
 IsSentFor (Dropper c text) said now lines later = ((lines ≡ []) × (later ≡ said)) ⊎ IsDropped said now text lines later
 IsSentFor _ said now lines later = (lines ≡ []) × (later ≡ said)

@@ -124,7 +124,7 @@ pub fn send(
     ensures named { OnOk result (IsNamed plan.now) }
 {
     match plan {
-        Plan::Read => line.pass(text, Due::Reply(from, Kind::Whole), wire),
+        Plan::Read => line.pass(text, Due::Reply(from), wire),
         Plan::Act(who) => {
             let act = acting(alloc, from, who, text)?;
             line.act(who.name, text, Due::Act(act), wire)
@@ -138,7 +138,7 @@ pub fn send(
             line.ask("show ", *game, Due::Own, wire)?;
             line.ask("fen ", *game, Due::Watch(from, *game), wire)
         }
-        Plan::Line(game) => line.ask("pgn ", *game, Due::Reply(from, Kind::Line), wire),
+        Plan::Line(game) => line.ask("pgn ", *game, Due::Positions(from), wire),
         _ => Ok(()),
     }
 }
