@@ -139,14 +139,14 @@ act_sent false name text c tells h = h
 
 pub answered_or_sent : (plan : Plan) (said : Option (List ℕ)) (text : List ℕ) (c : ℕ) (tells : List Telling) → IsAnswered plan c tells →
     IsToldOrSent (lines_of plan said text) c tells
-answered_or_sent (plans.Refuse refusal) said text c tells h = h
+answered_or_sent (plans.Refuse refusal) said text c tells h = (h.0, h.2)
 answered_or_sent plans.Read said text c tells h = h
 answered_or_sent (plans.Act who) said text c tells h = act_sent (is_said said who.name) who.name text c tells h
 answered_or_sent (plans.Drop who game) said text c tells h = h
-answered_or_sent (plans.Login who) said text c tells h = h
-answered_or_sent plans.Players said text c tells h = h
+answered_or_sent (plans.Login who) said text c tells h = (h.0, h.2)
+answered_or_sent plans.Players said text c tells h = (h.0, h.2)
 answered_or_sent plans.Lobby said text c tells h = h
-answered_or_sent plans.LeaveLobby said text c tells h = h
+answered_or_sent plans.LeaveLobby said text c tells h = (h.0, h.2)
 answered_or_sent (plans.Watch game) said text c tells h = h
-answered_or_sent (plans.Leave game) said text c tells h = h
+answered_or_sent (plans.Leave game) said text c tells h = (h.0, h.2)
 answered_or_sent (plans.Line game) said text c tells h = h

@@ -1,6 +1,6 @@
 -- For whom connections act.
-use Rattle.std.proofs.Common.{ℕ, ◌≡◌, ◌==◌, Bool, true, false, Option, None, Some, refl, ap, sym, ◌∙◌}
-use Rattle.std.specs.Prelude.{IsSome, IsSomeAnd, if◌then◌else◌, option_and_then, cond}
+use Rattle.std.proofs.Common.{ℕ, ◌≡◌, ◌==◌, Bool, true, false, not, Option, None, Some, refl, ap, sym, ◌∙◌}
+use Rattle.std.specs.Prelude.{◌↔◌, IsSomeAnd, if◌then◌else◌, option_and_then, cond}
 use Rattle.std.specs.Cmp.{nat_cmp_is}
 use Rattle.std.specs.Ordering.{is_eq, nat_cmp}
 use Rattle.std.specs.declared.cmp.Ordering.{Ordering}
@@ -14,9 +14,15 @@ use Rattle.lobby_desk.specs.declared.planning.Plan.{Plan}
 use Rattle.lobby_desk.specs.declared.players.Identity.{Identity}
 use Rattle.lobby_desk.specs.Who.{who_noted}
 
-pub some_of : {X : Type 0} (o : Option X) (P : X → Type 0) → IsSomeAnd o P → IsSome o
-some_of None P h = absurd h
-some_of (Some x) P h = refl
+-- nothing is owed where the test says so
+pub ready_if : (b o : Bool) → b ≡ o → (not b ≡ true) ↔ (o ≡ false)
+ready_if true o is = (λ h. absurd (false≢true h), λ k. absurd (false≢true (sym k ∙ sym is)))
+ready_if false o is = (λ _. sym is, λ _. refl)
+
+-- what holds where something is there
+pub held_of : {X : Type 0} (o : Option X) (P : Type 0) → IsSomeAnd o (λ _. P) → P
+held_of None P h = absurd h
+held_of (Some x) P h = h
 
 noted_at : (f : ℕ → Option Identity) (from c : ℕ) (plan : Plan) (before : Option Identity) → before ≡ f from →
     (b : Bool) → (b ≡ true → from ≡ c) →
@@ -28,16 +34,6 @@ noted_at f from c plan before is false same = refl
 pub noted_is : (f : ℕ → Option Identity) (from c : ℕ) (plan : Plan) (before : Option Identity) → before ≡ f from →
     (if from == c then who_noted plan before else f c) ≡ (if from == c then who_noted plan (f c) else f c)
 noted_is f from c plan before is = noted_at f from c plan before is (from == c) (Decides-eqb from c).0
-
-kept_at : (f : ℕ → Option Identity) (from c : ℕ) (before : Option Identity) → before ≡ f from →
-    (b : Bool) → (b ≡ true → from ≡ c) → (if b then before else f c) ≡ f c
-kept_at f from c before is true same = is ∙ ap f (same refl)
-kept_at f from c before is false same = refl
-
--- the same, where it acts for the same player again
-pub kept_is : (f : ℕ → Option Identity) (from c : ℕ) (before : Option Identity) → before ≡ f from →
-    (if from == c then before else f c) ≡ f c
-kept_is f from c before is = kept_at f from c before is (from == c) (Decides-eqb from c).0
 
 is_equal : (o : Ordering) → is_eq o ≡ true → o ≡ Equal
 is_equal Less h = absurd (false≢true h)

@@ -1,8 +1,9 @@
 -- What is promised holds of each run.
-use Rattle.std.proofs.Common.{ℕ, ◌≡◌, ◌<◌, ◌^◌, ◌⊎◌, inl, inr, Bool, true, false, ◌&&◌, ◌||◌, ◌==◌, List, [], ◌∷◌, ◌++◌, Option, None, Some, IfSome, codes, decimal, refl, sym, ap, ◌∙◌, subst}
+use Rattle.std.proofs.Common.{ℕ, ◌≡◌, ◌<◌, ◌+◌, ◌^◌, ◌⊎◌, inl, inr, Bool, true, false, ◌&&◌, ◌||◌, ◌==◌, List, [], ◌∷◌, ◌++◌, Option, None, Some, IfSome, codes, decimal, refl, sym, ap, ◌∙◌, subst, arith}
 use Rattle.std.specs.Prelude.{if◌then◌else◌}
 use Rattle.std.specs.List.{AllByRecursion, list_all, list_any}
 use Rattle.std.proofs.lemmas.Bool.{false≢true}
+use Rattle.std.proofs.lemmas.Bool.Decides.{Decides-eqb}
 use Rattle.rec_codec.specs.Name.{IsName}
 use Rattle.lobby_desk.specs.declared.words.Sort.{Sort}
 use Rattle.lobby_desk.specs.declared.words.Sort.TheVariants as sorts
@@ -16,9 +17,9 @@ use Rattle.lobby_desk.specs.Words.{rest_of, is_message, sort_of, is_act_sort, is
 use Rattle.lobby_desk.specs.Plans.{asked, act_plan, drop_plan, login_plan, numbered_plan, plan_of}
 use Rattle.lobby_desk.specs.Lines.{lines_of, act_lines, said_after, name_line, game_line, is_said, notice_lines, IsNamed}
 use Rattle.lobby_desk.specs.Events.{Event, Opened, Closed, Said, Hurried, Heard, Gone, Here, Telling, to_one, ForItself, ForPositions, ForTable, ForGame, ForAct, Owed, Nobody, Asker, Dropper, Followers, owed_last, sort_asker, asker, follower}
-use Rattle.lobby_desk.specs.Tellings.{Known, is_whole, answer, is_told, watch_front, table_front, leaves, leaves_table, watches_now, table_now, owed_answered, owed_now, left_now, begun_now, last_now, known_now, presence, lost, made_of, IsNoticeOrNone, IsToldFor, IsToldNext, IsToldHeard, IsTold}
+use Rattle.lobby_desk.specs.Tellings.{Known, owes, is_whole, answer, is_told, watch_front, table_front, leaves, leaves_table, watches_now, table_now, owed_answered, owed_now, left_now, begun_now, last_now, known_now, presence, lost, made_of, IsNoticeOrNone, IsToldFor, IsToldNext, IsToldHeard, IsTold}
 use Rattle.lobby_desk.specs.Who.{View, BeginsView, IsSaid, IsHeard, IsDropped, IsSentFor, IsSentNext, IsSentHeard, IsDone, IsKnown, who_noted}
-use Rattle.lobby_desk.specs.History.{Step, shown_by, player_said, player_after, player_in, is_drop, name_behind, name_through, name_before, name_in, ActsUnder, ActsRight, NoActs, NoDrops, AllRead, IsOf, known_in, IsArbiter, AsksNow, HasAsked, IsDropOf, IsRight, AreWhole, AllRight, AllTold, IsRun}
+use Rattle.lobby_desk.specs.History.{Step, comes, has_come, shown_by, player_said, player_after, player_in, is_drop, name_behind, name_through, name_before, name_in, ActsUnder, ActsRight, NoActs, NoDrops, AllRead, IsOf, known_in, IsArbiter, AsksNow, HasAsked, IsDropOf, IsRight, AreWhole, AllRight, AllTold, IsRun}
 use Rattle.lobby_desk.proofs.Found.{and_first, and_second, and_both}
 use Rattle.lobby_desk.proofs.Numbers.{number_small}
 use Rattle.lobby_desk.proofs.Sent.{is_said_same}
@@ -289,9 +290,9 @@ plan_good text s said game true sorts.Name message is small named = none_good te
 plan_good text s said game true sorts.Nothing message is small named = none_good text s.who said
 
 -- a message
-said_good : (players : List Player) (old : View) (c : ℕ) (text : List ℕ) (lines : List (List ℕ)) (new : View) →
-    IsSaid players old c text lines new → Good text (old.who c) old.said lines new.said
-said_good players old c text lines new h =
+said_good : (players : List Player) (old : View) (c : ℕ) (text : List ℕ) (lines : List (List ℕ)) (tells : List Telling) (new : View) →
+    IsSaid players old c text lines tells new → Good text (old.who c) old.said lines new.said
+said_good players old c text lines tells new h =
     let game = number_in (rest_of text) in
     let named : IsNamed (plan_of (is_message text) (sort_of text) h.standing (number_in (rest_of text))) = subst IsNamed h.planned h.named in
     let planned = plan_good text h.standing old.said game (is_message text) (sort_of text) refl refl (number_small (rest_of text)) named in
@@ -400,8 +401,8 @@ told_alike : (event : Event) (lines : List (List ℕ)) (tells : List Telling) (o
     IsTold event lines tells old → IsTold event lines tells past
 told_alike (Opened c) lines tells old past alike h = h
 told_alike (Closed c) lines tells old past alike h = h
-told_alike (Said c text) lines tells old past alike h = h
-told_alike (Hurried c) lines tells old past alike h = h
+told_alike (Said c text) lines tells old past alike h = (subst (λ (owed : List Owed). owes owed c ≡ false) alike.owed h.0, h.1)
+told_alike (Hurried c) lines tells old past alike h = (subst (λ (owed : List Owed). owes owed c ≡ false) alike.owed h.0, h.1)
 told_alike (Heard line) lines tells old past alike h =
     let here = told_heard_alike old past alike (is_whole old.left line) (answer old.begun line) lines tells h in
     let begun = subst (λ (begun : List ℕ). IsToldHeard (is_whole old.left line) past (answer begun line) lines tells) alike.begun here in
@@ -500,9 +501,9 @@ asks_at true sorts.Line s game said text = tt
 asks_at true sorts.Name s game said text = tt
 asks_at true sorts.Nothing s game said text = tt
 
-said_asks : (players : List Player) (old : View) (c : ℕ) (text : List ℕ) (lines : List (List ℕ)) (new : View) →
-    IsSaid players old c text lines new → AsksDrop (is_drop text) lines (old.who c) (is_message text)
-said_asks players old c text lines new h =
+said_asks : (players : List Player) (old : View) (c : ℕ) (text : List ℕ) (lines : List (List ℕ)) (tells : List Telling) (new : View) →
+    IsSaid players old c text lines tells new → AsksDrop (is_drop text) lines (old.who c) (is_message text)
+said_asks players old c text lines tells new h =
     let planned = asks_at (is_message text) (sort_of text) h.standing (number_in (rest_of text)) old.said text in
     let by_plan = subst (λ (plan : Plan). AsksDrop (is_drop text) (lines_of plan old.said text) h.standing.who (is_message text)) (sym h.planned) planned in
     let lined = subst (λ (ls : List (List ℕ)). AsksDrop (is_drop text) ls h.standing.who (is_message text)) (sym h.lines_are) by_plan in
@@ -546,6 +547,7 @@ pub record Agrees (players : List Player) (past : List Step) (now : View) : Type
   pub said : now.said ≡ name_in past
   pub alike : Alike now.known (known_in past)
   pub asked : AreAsked players past now.known.owed
+  pub came : (c : ℕ) → has_come past c ≡ true → c < now.next
 
 record DoneGood (players : List Player) (past : List Step) (event : Event) (lines : List (List ℕ)) (now : View) : Type 0 where
   who : (c : ℕ) → now.who c ≡ player_after players event c (player_in players past c)
@@ -553,9 +555,9 @@ record DoneGood (players : List Player) (past : List Step) (event : Event) (line
   right : IsRight players past event lines
   whole : AreWhole lines
 
-said_who : (players : List Player) (old : View) (c : ℕ) (text : List ℕ) (lines : List (List ℕ)) (new : View) →
-    IsSaid players old c text lines new → (d : ℕ) → new.who d ≡ player_after players (Said c text) d (old.who d)
-said_who players old c text lines new h d =
+said_who : (players : List Player) (old : View) (c : ℕ) (text : List ℕ) (lines : List (List ℕ)) (tells : List Telling) (new : View) →
+    IsSaid players old c text lines tells new → (d : ℕ) → new.who d ≡ player_after players (Said c text) d (old.who d)
+said_who players old c text lines tells new h d =
     let plan : who_noted h.plan (old.who d) ≡ player_said players text (old.who d) =
     ap (λ (plan : Plan). who_noted plan (old.who d)) h.planned
     ∙ (planned_who (is_message text) (sort_of text) h.standing (number_in (rest_of text)) (old.who d)
@@ -679,6 +681,28 @@ heard_good players past old line lines now agrees h =
     let begun = subst (λ (t : List ℕ). IsSentHeard (is_whole old.known.left line) old.known.owed (name_in past) (answer t line) lines now.said) agrees.alike.begun said in
     sent_heard players past line old.known.owed (sym agrees.alike.owed) agrees.asked lines now.said (is_whole old.known.left line) begun
 
+-- no number comes that came before
+not_come : (b : Bool) (c : ℕ) → (b ≡ true → c < c) → b ≡ false
+not_come false c h = refl
+not_come true c h = let less : c < c = h refl in absurd (omega (arith, less))
+
+-- each number that came is below the next
+came_more : (a b : Bool) (d c old now : ℕ) → d ≡ old → now ≡ d + 1 → (a ≡ true → d ≡ c) → (b ≡ true → c < old) → (a || b) ≡ true → c < now
+came_more true b d c old now is next same before h = let one : d ≡ c = same refl in omega (arith, is, next, one)
+came_more false b d c old now is next same before h = let less : c < old = before h in omega (arith, is, next, less)
+
+came_then : (players : List Player) (past : List Step) (old : View) (event : Event) (lines : List (List ℕ)) (tells : List Telling) (now : View) →
+    Agrees players past old → IsDone players old event lines tells now →
+    (c : ℕ) → (comes event c || has_come past c) ≡ true → c < now.next
+came_then players past old (Opened d) lines tells now agrees step c h =
+    came_more (d == c) (has_come past c) d c old.next now.next step.number step.next_is (Decides-eqb d c).0 (agrees.came c) h
+came_then players past old (Closed d) lines tells now agrees step c h = subst (λ (n : ℕ). c < n) (sym step.next_is) (agrees.came c h)
+came_then players past old (Said d text) lines tells now agrees step c h = subst (λ (n : ℕ). c < n) (sym step.next_is) (agrees.came c h)
+came_then players past old (Hurried d) lines tells now agrees step c h = subst (λ (n : ℕ). c < n) (sym step.next_is) (agrees.came c h)
+came_then players past old (Heard line) lines tells now agrees step c h = subst (λ (n : ℕ). c < n) (sym step.next_is) (agrees.came c h)
+came_then players past old Gone lines tells now agrees step c h = subst (λ (n : ℕ). c < n) (sym step.next_is) (agrees.came c h)
+came_then players past old Here lines tells now agrees step c h = subst (λ (n : ℕ). c < n) (sym step.next_is) (agrees.came c h)
+
 none_done : (players : List Player) (past : List Step) (event : Event) (lines : List (List ℕ)) (now : View) →
     (lines ≡ [] → IsRight players past event lines) → lines ≡ [] → now.said ≡ name_before event (name_in past) →
     ((c : ℕ) → now.who c ≡ player_after players event c (player_in players past c)) → DoneGood players past event lines now
@@ -689,21 +713,22 @@ none_done players past event lines now right none said who = record {
   whole = subst AreWhole (sym none) tt;
 }
 
-done_good : (players : List Player) (past : List Step) (old : View) (event : Event) (lines : List (List ℕ)) (now : View) →
-    Agrees players past old → IsDone players old event lines now → DoneGood players past event lines now
-done_good players past old (Opened c) lines now agrees step =
-    none_done players past (Opened c) lines now (λ none. none) step.none (step.said_is ∙ agrees.said)
-    (λ d. step.who_is d ∙ ap (λ (before : Option Identity). if c == d then None else before) (agrees.who d))
-done_good players past old (Closed c) lines now agrees step =
-    none_done players past (Closed c) lines now (λ none. none) step.none (step.said_is ∙ agrees.said)
-    (λ d. step.who_is d ∙ ap (λ (before : Option Identity). if c == d then None else before) (agrees.who d))
-done_good players past old (Hurried c) lines now agrees step =
+done_good : (players : List Player) (past : List Step) (old : View) (event : Event) (lines : List (List ℕ)) (tells : List Telling) (now : View) →
+    Agrees players past old → IsDone players old event lines tells now → DoneGood players past event lines now
+done_good players past old (Opened c) lines tells now agrees step =
+    none_done players past (Opened c) lines now
+    (λ none. (none, not_come (has_come past c) c (λ h. subst (λ (n : ℕ). c < n) (sym step.number) (agrees.came c h)))) step.moved.none (step.moved.said_is ∙ agrees.said)
+    (λ d. step.moved.who_is d ∙ ap (λ (before : Option Identity). if c == d then None else before) (agrees.who d))
+done_good players past old (Closed c) lines tells now agrees step =
+    none_done players past (Closed c) lines now (λ none. none) step.moved.none (step.moved.said_is ∙ agrees.said)
+    (λ d. step.moved.who_is d ∙ ap (λ (before : Option Identity). if c == d then None else before) (agrees.who d))
+done_good players past old (Hurried c) lines tells now agrees step =
     none_done players past (Hurried c) lines now (λ none. none) step.none (step.said_is ∙ agrees.said)
     (λ d. step.who_is d ∙ agrees.who d)
-done_good players past old (Said c text) lines now agrees step =
-    let good = said_good players old c text lines now step in
+done_good players past old (Said c text) lines tells now agrees step =
+    let good = said_good players old c text lines tells now step in
     record {
-      who = λ d. said_who players old c text lines now step d ∙ ap (λ (before : Option Identity). player_after players (Said c text) d before) (agrees.who d);
+      who = λ d. said_who players old c text lines tells now step d ∙ ap (λ (before : Option Identity). player_after players (Said c text) d before) (agrees.who d);
       said = good.name ∙ ap (λ (n : Option (List ℕ)). name_through n lines) agrees.said;
       right = (
         subst (λ (n : Option (List ℕ)). ActsRight (player_in players past c) n lines) agrees.said
@@ -713,23 +738,23 @@ done_good players past old (Said c text) lines now agrees step =
       );
       whole = good.whole;
     }
-done_good players past old (Heard line) lines now agrees step =
+done_good players past old (Heard line) lines tells now agrees step =
     let good = heard_good players past old line lines now agrees step in
     record { who = λ d. step.who_is d ∙ agrees.who d; said = good.said; right = good.right; whole = good.whole }
-done_good players past old Gone lines now agrees step =
+done_good players past old Gone lines tells now agrees step =
     none_done players past Gone lines now (λ none. none) step.none step.said_is (λ d. step.who_is d ∙ agrees.who d)
-done_good players past old Here lines now agrees step =
+done_good players past old Here lines tells now agrees step =
     none_done players past Here lines now (λ none. none) step.none step.said_is (λ d. step.who_is d ∙ agrees.who d)
 
 -- each drop that waits then was asked for
 asked_then : (players : List Player) (past : List Step) (old : View) (event : Event) (lines : List (List ℕ)) (tells : List Telling) (now : View) →
-    Agrees players past old → IsDone players old event lines now →
+    Agrees players past old → IsDone players old event lines tells now →
     AreAsked players (record { event = event; lines = lines; tells = tells } ∷ past) (owed_now event lines old.known.left old.known.owed)
 asked_then players past old (Opened c) lines tells now agrees step = are_asked_later players (record { event = Opened c; lines = lines; tells = tells }) past old.known.owed agrees.asked
 asked_then players past old (Closed c) lines tells now agrees step = are_asked_later players (record { event = Closed c; lines = lines; tells = tells }) past old.known.owed agrees.asked
 asked_then players past old (Hurried c) lines tells now agrees step = are_asked_later players (record { event = Hurried c; lines = lines; tells = tells }) past old.known.owed agrees.asked
 asked_then players past old (Said c text) lines tells now agrees step =
-    let asks = subst (λ (who : Option Identity). AsksDrop (is_drop text) lines who (is_message text)) (agrees.who c) (said_asks players old c text lines now step) in
+    let asks = subst (λ (who : Option Identity). AsksDrop (is_drop text) lines who (is_message text)) (agrees.who c) (said_asks players old c text lines tells now step) in
     are_asked_both players (record { event = Said c text; lines = lines; tells = tells } ∷ past) old.known.owed (owed_last (asker c text) lines)
     (are_asked_later players (record { event = Said c text; lines = lines; tells = tells }) past old.known.owed agrees.asked)
     (asker_asked players past c text lines lines tells asks)
@@ -757,20 +782,21 @@ pub record RunGood (players : List Player) (steps : List Step) (now : View) : Ty
 
 pub run_good : (players : List Player) (steps : List Step) (now : View) → IsRun players steps now → RunGood players steps now
 run_good players [] now run = record {
-  agrees = record { who = run.who; said = run.said; alike = begins_alike now run; asked = subst (AreAsked players []) (sym run.owed) tt };
+  agrees = record { who = run.who; said = run.said; alike = begins_alike now run; asked = subst (AreAsked players []) (sym run.owed) tt; came = λ c h. absurd (false≢true h) };
   right = tt;
   told = tt;
 }
 run_good players (s ∷ past) now run =
     let before = run_good players past run.0 run.1 in
     let step = run.2 in
-    let good = done_good players past run.0 s.event s.lines now before.agrees step.done in
+    let good = done_good players past run.0 s.event s.lines s.tells now before.agrees step.done in
     record {
       agrees = record {
         who = good.who;
         said = good.said;
         alike = alike_then s.event s.lines s.tells run.0.known now.known (known_in past) step.known before.agrees.alike;
         asked = subst (AreAsked players (s ∷ past)) (sym step.known.owed) (asked_then players past run.0 s.event s.lines s.tells now before.agrees step.done);
+        came = came_then players past run.0 s.event s.lines s.tells now before.agrees step.done;
       };
       right = (good.right, good.whole, before.right);
       told = (told_alike s.event s.lines s.tells run.0.known (known_in past) before.agrees.alike step.told, before.told);

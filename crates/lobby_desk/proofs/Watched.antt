@@ -5,13 +5,13 @@ use Rattle.std.specs.List.{list_any, list_all, filter}
 use Rattle.std.specs.Str.{bytes_eq}
 use Rattle.std.proofs.lemmas.Bool.Decides.{Decides-eqb}
 use Rattle.std.proofs.Math.Seq.{take-append_seam}
-use Rattle.std.proofs.lemmas.List.Folds.{list_any_at, list_all-append}
+use Rattle.std.proofs.lemmas.List.Folds.{list_any_at, list_any-append, list_all-append}
 use Rattle.std.proofs.lemmas.Slice.Eq.{bytes_eq-Decides}
 use Rattle.std.proofs.lemmas.Map.Views.{any-filter_same}
 use Rattle.lobby_desk.specs.declared.watching.Watch.{Watch}
 use Rattle.lobby_desk.specs.declared.server_line.Due.{Due}
 use Rattle.lobby_desk.specs.Events.{Telling, to_one, owed_of}
-use Rattle.lobby_desk.specs.Tellings.{begins, is_told, watch_front, table_front, waiter, lost_of, lost}
+use Rattle.lobby_desk.specs.Tellings.{is_number, owes, begins, is_told, watch_front, table_front, waiter, lost_of, lost}
 use Rattle.lobby_desk.specs.Who.{is_watch, watched, at_table}
 use Rattle.lobby_desk.proofs.Found.{same_test, and_first, and_second, and_both}
 
@@ -101,6 +101,19 @@ watch_more false to game c g text rest is h =
     ap (λ (t : List ℕ). list_any (is_told c (watch_front g)) (to_one to t ∷ [])) is
     ∙ (ap (λ (n : ℕ). list_any (is_told c (watch_front g)) (to_one n (watch_front game ++ rest) ∷ [])) same
     ∙ (ap (λ (n : ℕ). list_any (is_told c (watch_front g)) (to_one c (watch_front n ++ rest) ∷ [])) of ∙ told_so c (watch_front g) rest))
+
+-- the answers that are owed, in two parts
+owes_map : (dues : List Due) (c : ℕ) → owes (map owed_of dues) c ≡ list_any (λ due. is_number c (waiter (owed_of due))) dues
+owes_map [] c = refl
+owes_map (d ∷ ds) c = ap (λ t. is_number c (waiter (owed_of d)) || t) (owes_map ds c)
+
+pub owes_both : (dues first second : List Due) (c : ℕ) → first ++ second ≡ dues →
+    owes (map owed_of dues) c
+    ≡ (list_any (λ due. is_number c (waiter (owed_of due))) first || list_any (λ due. is_number c (waiter (owed_of due))) second)
+owes_both dues first second c is =
+    owes_map dues c
+    ∙ (ap (list_any (λ (due : Due). is_number c (waiter (owed_of due)))) (sym is)
+    ∙ list_any-append (λ (due : Due). is_number c (waiter (owed_of due))) first second)
 
 -- answers are lost one by one
 pub lose_more : (dues rest : List Due) (r : Option Due) (due : Due) (told now : List Telling) → dues ≡ option_to_list r ++ rest → r ≡ Some due →

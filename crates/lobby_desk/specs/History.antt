@@ -1,5 +1,5 @@
 -- What is promised of whatever came in and went out.
-use Rattle.std.specs.Prelude.{ℕ, ◌≡◌, ◌⊎◌, Bool, true, false, ◌&&◌, ◌==◌, List, [], ◌∷◌, Option, None, Some, if◌then◌else◌}
+use Rattle.std.specs.Prelude.{ℕ, ◌≡◌, ◌⊎◌, Bool, true, false, ◌&&◌, ◌||◌, ◌==◌, List, [], ◌∷◌, Option, None, Some, if◌then◌else◌}
 use Rattle.std.specs.List.{AllByRecursion}
 use Rattle.lobby_desk.specs.declared.words.Sort.TheVariants as sorts
 use Rattle.lobby_desk.specs.declared.players.Identity.{Identity}
@@ -125,11 +125,21 @@ pub record IsDropOf (players : List Player) (past : List Step) (line : List ℕ)
   pub acts : ActsUnder (name_in past) lines name
   pub of_text : AllByRecursion (IsOf text) lines
 
--- what goes out for an event
+-- whether a connection of this number has come
+abbrev pub comes : Event → ℕ → Bool
+comes (Opened d) c = d == c
+comes _ c = false
+
+abbrev pub has_come : List Step → ℕ → Bool
+has_come [] c = false
+has_come (s ∷ past) c = comes s.event c || has_come past c
+
+-- What goes out for an event. A connection that comes has a number that none had before.
 abbrev pub IsRight : List Player → List Step → Event → List (List ℕ) → Type 0
 IsRight players past (Said c text) lines =
     ActsRight (player_in players past c) (name_in past) lines × NoDrops lines × AllByRecursion (IsOf text) lines
 IsRight players past (Heard line) lines = AllRead lines ⊎ IsDropOf players past line lines
+IsRight players past (Opened c) lines = (lines ≡ []) × (has_come past c ≡ false)
 IsRight players past _ lines = lines ≡ []
 
 -- a line that has 1 to 255 bytes, each of them 32 to 126, so that no line feed is in it

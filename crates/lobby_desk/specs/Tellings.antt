@@ -155,6 +155,10 @@ waiter (Asker c ask) = Some c
 waiter (Dropper c text) = Some c
 waiter _ = None
 
+-- whether the answer to a message of a connection is owed
+abbrev pub owes : List Owed → ℕ → Bool
+owes owed c = list_any (λ o. is_number c (waiter o)) owed
+
 -- `lost` to each connection whose message waits, in the order of the messages
 abbrev pub lost_of : Option ℕ → List Telling
 lost_of None = []
@@ -169,12 +173,13 @@ abbrev pub presence : Bool → List ℕ
 presence true = codes "server here\n"
 presence false = codes "server gone\n"
 
--- what connections are told for an event, where this is known before it and these lines go out
+-- What connections are told for an event, where this is known before it and these lines go out. A connection says a message
+-- where no answer is owed to it, so that its answers come in the order of its messages.
 abbrev pub IsTold : Event → List (List ℕ) → List Telling → Known → Type 0
 IsTold (Opened c) lines tells k = IsToldOne c tells
 IsTold (Closed c) lines tells k = tells ≡ []
-IsTold (Said c text) lines tells k = IsToldOrSent lines c tells
-IsTold (Hurried c) lines tells k = tells ≡ to_one c (codes "no 34 TooFast\n") ∷ []
+IsTold (Said c text) lines tells k = (owes k.owed c ≡ false) × IsToldOrSent lines c tells
+IsTold (Hurried c) lines tells k = (owes k.owed c ≡ false) × (tells ≡ to_one c (codes "no 34 TooFast\n") ∷ [])
 IsTold (Heard line) lines tells k = IsToldHeard (is_whole k.left line) k (answer k.begun line) lines tells
 IsTold Gone lines tells k = (to : List ℕ) × (tells ≡ lost k.owed ++ record { to = to; text = presence false } ∷ [])
 IsTold Here lines tells k = (to : List ℕ) × (tells ≡ record { to = to; text = presence true } ∷ [])

@@ -1,6 +1,7 @@
 -- For whom connections act, and what a step of the desk does.
-use Rattle.std.specs.Prelude.{ℕ, ◌≡◌, ◌<◌, ◌^◌, ◌⊎◌, Bool, true, false, ◌&&◌, ◌||◌, ◌==◌, List, [], ◌∷◌, ◌++◌, map, Option, None, Some, IsSome, IsSomeAnd, IfSome, option_and_then, if◌then◌else◌}
+use Rattle.std.specs.Prelude.{ℕ, ◌≡◌, ◌<◌, ◌^◌, ◌⊎◌, Bool, true, false, ◌&&◌, ◌||◌, ◌==◌, List, [], ◌∷◌, ◌++◌, ◌+◌, codes, decimal, map, Option, None, Some, IsSome, IsSomeAnd, IfSome, option_and_then, if◌then◌else◌}
 use Rattle.std.specs.List.{list_any}
+use Rattle.std.specs.Str.{bytes_eq}
 use Rattle.std.specs.BTreeMap.{BTreeMap, get}
 use Rattle.std.specs.Ordering.{nat_cmp}
 use Rattle.std.specs.String.{string_bytes}
@@ -15,13 +16,13 @@ use Rattle.lobby_desk.specs.declared.players.Player.{Player}
 use Rattle.lobby_desk.specs.declared.players.Visitor.{Visitor}
 use Rattle.lobby_desk.specs.declared.watching.Watch.{Watch}
 use Rattle.lobby_desk.specs.declared.desk.Desk.{Desk}
-use Rattle.lobby_desk.specs.Words.{rest_of, is_message, sort_of, number_in}
+use Rattle.lobby_desk.specs.Words.{word_of, rest_of, is_message, sort_of, number_in}
 use Rattle.lobby_desk.specs.Players.{holder_of}
-use Rattle.lobby_desk.specs.Plans.{plan_of}
+use Rattle.lobby_desk.specs.Plans.{refusal_text, plan_of}
 use Rattle.lobby_desk.specs.Lines.{bytes_of, lines_of, act_lines, said_after, notice_lines, IsNamed}
 use Rattle.lobby_desk.specs.Answers.{IsSeated}
-use Rattle.lobby_desk.specs.Events.{Event, Opened, Closed, Said, Hurried, Heard, Gone, Here, Telling, ForAct, Owed, Asker, Dropper, owed_of, owed_last, plan_asker, follower}
-use Rattle.lobby_desk.specs.Tellings.{Known, is_whole, answer, is_told, watch_front, table_front, watches_now, table_now, owed_now, left_now, begun_now, last_now, owed_answered, IsTold, IsToldOne, IsToldFor, IsToldNext}
+use Rattle.lobby_desk.specs.Events.{Event, Opened, Closed, Said, Hurried, Heard, Gone, Here, Telling, to_one, ForAct, Owed, Asker, Dropper, owed_of, owed_last, plan_asker, follower}
+use Rattle.lobby_desk.specs.Tellings.{Known, is_whole, answer, is_told, watch_front, table_front, owes, watches_now, table_now, owed_now, left_now, begun_now, last_now, owed_answered, presence, IsTold, IsToldFor, IsToldNext}
 
 -- a line of an answer is taken: the whole answer is given where it was the last
 abbrev pub IsTaken : {A : Type 0} → Coming → List ℕ → Option (String A) → Coming → Type 0
@@ -48,10 +49,6 @@ until_of desk c = until_at (get nat_cmp desk.visitors c)
 abbrev pub IsOpen : Desk → ℕ → Type 0
 IsOpen desk c = IsSome (get nat_cmp desk.visitors c)
 
--- the connection is open, and no line of it waits for the server
-abbrev pub IsReady : Desk → ℕ → Type 0
-IsReady desk c = IsSomeAnd (get nat_cmp desk.visitors c) (λ (v : Visitor). v.waits ≡ false)
-
 -- the player for whom a connection acts, after the plan for a message of it
 abbrev pub who_noted : Plan → Option Identity → Option Identity
 who_noted (plans.Login who) before = Some who
@@ -75,12 +72,19 @@ is_own plans.LeaveLobby = true
 is_own (plans.Leave game) = true
 is_own _ = false
 
-abbrev pub IsAnsweredIf : Bool → ℕ → List Telling → Type 0
-IsAnsweredIf true c tells = IsToldOne c tells
-IsAnsweredIf false c tells = tells ≡ []
+-- Such an answer: a refusal says why, and what is left is named; the texts for `login` and `players` are not told here.
+abbrev pub IsOwnText : Plan → List ℕ → Type 0
+IsOwnText (plans.Refuse refusal) text = text ≡ refusal_text refusal
+IsOwnText plans.LeaveLobby text = text ≡ codes "ok leave lobby\n"
+IsOwnText (plans.Leave game) text = text ≡ codes "ok leave " ++ decimal game ++ codes "\n"
+IsOwnText _ text = Unit {0}
+
+abbrev pub IsAnsweredIf : Bool → Plan → ℕ → List Telling → Type 0
+IsAnsweredIf true plan c tells = (text : List ℕ) × IsOwnText plan text × (tells ≡ to_one c text ∷ [])
+IsAnsweredIf false plan c tells = tells ≡ []
 
 abbrev pub IsAnswered : Plan → ℕ → List Telling → Type 0
-IsAnswered plan c tells = IsAnsweredIf (is_own plan) c tells
+IsAnswered plan c tells = IsAnsweredIf (is_own plan) plan c tells
 
 -- whether a connection watches a game
 abbrev pub is_watch : ℕ → ℕ → Watch → Bool
@@ -103,19 +107,25 @@ known desk = record {
   table = λ c. at_table desk.table.items c;
 }
 
--- what is seen of a desk: for whom each connection acts, the name that was said last to the server, whether that is there,
--- and what is known
+-- the connection is open, and no answer is owed to it
+abbrev pub IsReady : Desk → ℕ → Type 0
+IsReady desk c = IsSomeAnd (get nat_cmp desk.visitors c) (λ _. owes (known desk).owed c ≡ false)
+
+-- what is seen of a desk: the number of the connection that comes next, for whom each connection acts, the name that was said
+-- last to the server, whether that is there, and what is known
 pub record View : Type 0 where
+  pub next : ℕ
   pub who : ℕ → Option Identity
   pub said : Option (List ℕ)
   pub here : Bool
   pub known : Known
 
 abbrev pub view : Desk → View
-view desk = record { who = who_of desk; said = desk.line.said; here = desk.line.is_here; known = known desk }
+view desk = record { next = desk.next; who = who_of desk; said = desk.line.said; here = desk.line.is_here; known = known desk }
 
 -- A desk that begins: no connection has come, and nothing was said.
 pub record BeginsView (now : View) : Type 0 where
+  pub next : now.next ≡ 0
   pub who : (c : ℕ) → now.who c ≡ None
   pub said : now.said ≡ None
   pub owed : now.known.owed ≡ []
@@ -134,16 +144,19 @@ said_event true c text = Hurried c
 said_event false c text = Said c text
 
 -- The plan for a message is carried out: these lines go out, and of the players for whom connections act no more changes
--- than a login says.
-pub record IsSaid (players : List Player) (old : View) (c : ℕ) (text : List ℕ) (lines : List (List ℕ)) (new : View) : Type 0 where
+-- than a login says. That too many games wait for a second player is said to `open` alone.
+pub record IsSaid (players : List Player) (old : View) (c : ℕ) (text : List ℕ) (lines : List (List ℕ)) (tells : List Telling) (new : View) : Type 0 where
   pub standing : Standing
   pub who : standing.who ≡ old.who c
   pub holder : standing.holder ≡ holder_of players (rest_of text)
   pub here : standing.is_here ≡ old.here
+  pub crowded : standing.is_crowded ≡ true → bytes_eq (word_of text) (codes "open") ≡ true
   pub plan : Plan
   pub planned : plan ≡ plan_of (is_message text) (sort_of text) standing (number_in (rest_of text))
   pub named : IsNamed plan
   pub lines_are : lines ≡ lines_of plan old.said text
+  pub answers : IsAnswered plan c tells
+  pub next_is : new.next ≡ old.next
   pub said_is : new.said ≡ said_after plan old.said
   pub here_is : new.here ≡ old.here
   pub who_is : (d : ℕ) → new.who d ≡ (if c == d then who_noted plan (old.who d) else old.who d)
@@ -175,6 +188,7 @@ IsSentHeard true owed said now lines later = IsSentNext owed said now lines late
 -- a line of the server is taken
 pub record IsHeard (old : View) (line : List ℕ) (lines : List (List ℕ)) (new : View) : Type 0 where
   pub sent : IsSentHeard (is_whole old.known.left line) old.known.owed old.said (answer old.known.begun line) lines new.said
+  pub next_is : new.next ≡ old.next
   pub here_is : new.here ≡ old.here
   pub who_is : (d : ℕ) → new.who d ≡ old.who d
 
@@ -185,9 +199,22 @@ pub record IsMoved (old : View) (c : ℕ) (lines : List (List ℕ)) (new : View)
   pub here_is : new.here ≡ old.here
   pub who_is : (d : ℕ) → new.who d ≡ (if c == d then None else old.who d)
 
+-- A connection came: it has the number that comes next, which none had before, and is told whether the server is there.
+pub record IsOpened (old : View) (c : ℕ) (lines : List (List ℕ)) (tells : List Telling) (new : View) : Type 0 where
+  pub told : tells ≡ to_one c (presence old.here) ∷ []
+  pub moved : IsMoved old c lines new
+  pub number : c ≡ old.next
+  pub next_is : new.next ≡ c + 1
+
+-- A connection is gone: its number is not given again.
+pub record IsClosed (old : View) (c : ℕ) (lines : List (List ℕ)) (new : View) : Type 0 where
+  pub moved : IsMoved old c lines new
+  pub next_is : new.next ≡ old.next
+
 -- A message came too fast: nothing goes out, and nothing changes.
 pub record IsHurried (old : View) (lines : List (List ℕ)) (new : View) : Type 0 where
   pub none : lines ≡ []
+  pub next_is : new.next ≡ old.next
   pub said_is : new.said ≡ old.said
   pub here_is : new.here ≡ old.here
   pub who_is : (d : ℕ) → new.who d ≡ old.who d
@@ -195,19 +222,20 @@ pub record IsHurried (old : View) (lines : List (List ℕ)) (new : View) : Type 
 -- The server is gone, or is there again: nothing goes out, and no name was said on the connection that comes next.
 pub record IsTurned (old : View) (here : Bool) (lines : List (List ℕ)) (new : View) : Type 0 where
   pub none : lines ≡ []
+  pub next_is : new.next ≡ old.next
   pub said_is : new.said ≡ None
   pub here_is : new.here ≡ here
   pub who_is : (d : ℕ) → new.who d ≡ old.who d
 
 -- what the desk does about an event: the lines that go out, and for whom connections act then
-abbrev pub IsDone : List Player → View → Event → List (List ℕ) → View → Type 0
-IsDone players old (Opened c) lines new = IsMoved old c lines new
-IsDone players old (Closed c) lines new = IsMoved old c lines new
-IsDone players old (Said c text) lines new = IsSaid players old c text lines new
-IsDone players old (Hurried c) lines new = IsHurried old lines new
-IsDone players old (Heard line) lines new = IsHeard old line lines new
-IsDone players old Gone lines new = IsTurned old false lines new
-IsDone players old Here lines new = IsTurned old true lines new
+abbrev pub IsDone : List Player → View → Event → List (List ℕ) → List Telling → View → Type 0
+IsDone players old (Opened c) lines tells new = IsOpened old c lines tells new
+IsDone players old (Closed c) lines tells new = IsClosed old c lines new
+IsDone players old (Said c text) lines tells new = IsSaid players old c text lines tells new
+IsDone players old (Hurried c) lines tells new = IsHurried old lines new
+IsDone players old (Heard line) lines tells new = IsHeard old line lines new
+IsDone players old Gone lines tells new = IsTurned old false lines new
+IsDone players old Here lines tells new = IsTurned old true lines new
 
 -- What is known then. Of a connection that is told of a game, or of the table, what came and went says that it is.
 pub record IsKnown (event : Event) (lines : List (List ℕ)) (tells : List Telling) (old new : Known) : Type 0 where
@@ -220,7 +248,7 @@ pub record IsKnown (event : Event) (lines : List (List ℕ)) (tells : List Telli
 
 -- a step: what comes in, the lines that go to the server, and what connections are told
 pub record IsStep (players : List Player) (old : View) (event : Event) (lines : List (List ℕ)) (tells : List Telling) (new : View) : Type 0 where
-  pub done : IsDone players old event lines new
+  pub done : IsDone players old event lines tells new
   pub known : IsKnown event lines tells old.known new.known
   pub told : IsTold event lines tells old.known
 
@@ -249,6 +277,7 @@ pub record Carried (old : Desk) (from : ℕ) (text : List ℕ) (plan : Plan) (be
   pub coming : new.coming ≡ old.coming
   pub last : new.last ≡ old.last
   pub players : new.players ≡ old.players
+  pub next : new.next ≡ old.next
 
 -- An answer of the server is taken, by whose it is; the first that was owed is taken off before.
 pub record AnswersTo (o : Owed) (now : List ℕ) (old : Desk) (before after : List ℕ) (told_before told_after : List Telling) (new : Desk) : Type 0 where
@@ -266,6 +295,7 @@ pub record AnswersTo (o : Owed) (now : List ℕ) (old : Desk) (before after : Li
   pub coming : new.coming ≡ old.coming
   pub last : new.last ≡ old.last
   pub players : new.players ≡ old.players
+  pub next : new.next ≡ old.next
 
 -- the same of the first that is owed
 pub record Answered (now : List ℕ) (old : Desk) (before after : List ℕ) (told_before told_after : List Telling) (new : Desk) : Type 0 where
@@ -283,3 +313,4 @@ pub record Answered (now : List ℕ) (old : Desk) (before after : List ℕ) (tol
   pub coming : new.coming ≡ old.coming
   pub last : new.last ≡ old.last
   pub players : new.players ≡ old.players
+  pub next : new.next ≡ old.next
