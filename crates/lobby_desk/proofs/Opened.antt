@@ -1,6 +1,6 @@
 -- For whom connections act.
-use Rattle.std.proofs.Common.{ℕ, ◌≡◌, ◌==◌, Bool, true, false, not, Option, None, Some, refl, ap, sym, ◌∙◌}
-use Rattle.std.specs.Prelude.{◌↔◌, IsSomeAnd, if◌then◌else◌, option_and_then, cond}
+use Rattle.std.proofs.Common.{ℕ, ◌≡◌, ◌==◌, ◌&&◌, ◌||◌, Bool, true, false, not, Option, None, Some, refl, ap, sym, ◌∙◌}
+use Rattle.std.specs.Prelude.{◌↔◌, is_some, if◌then◌else◌, option_and_then, cond}
 use Rattle.std.specs.Cmp.{nat_cmp_is}
 use Rattle.std.specs.Ordering.{is_eq, nat_cmp}
 use Rattle.std.specs.declared.cmp.Ordering.{Ordering}
@@ -14,15 +14,19 @@ use Rattle.lobby_desk.specs.declared.planning.Plan.{Plan}
 use Rattle.lobby_desk.specs.declared.players.Identity.{Identity}
 use Rattle.lobby_desk.specs.Who.{who_noted}
 
--- nothing is owed where the test says so
-pub ready_if : (b o : Bool) → b ≡ o → (not b ≡ true) ↔ (o ≡ false)
-ready_if true o is = (λ h. absurd (false≢true h), λ k. absurd (false≢true (sym k ∙ sym is)))
-ready_if false o is = (λ _. sym is, λ _. refl)
+-- one test passes and the other does not
+pub ready_if : (a b x y : Bool) → a ≡ x → b ≡ y → ((a && not b) ≡ true) ↔ ((x ≡ true) × (y ≡ false))
+ready_if true true x y p q = (λ h. absurd (false≢true h), λ k. absurd (false≢true (sym k.1 ∙ sym q)))
+ready_if true false x y p q = (λ _. (sym p, sym q), λ _. refl)
+ready_if false b x y p q = (λ h. absurd (false≢true h), λ k. absurd (false≢true (p ∙ k.0)))
 
--- what holds where something is there
-pub held_of : {X : Type 0} (o : Option X) (P : Type 0) → IsSomeAnd o (λ _. P) → P
-held_of None P h = absurd h
-held_of (Some x) P h = h
+-- who is open stays so
+open_at : (opens : ℕ → Bool) (from c : ℕ) → opens from ≡ true → (b : Bool) → (b ≡ true → from ≡ c) → (b || opens c) ≡ opens c
+open_at opens from c is true same = sym is ∙ ap opens (same refl)
+open_at opens from c is false same = refl
+
+pub still_open : (opens : ℕ → Bool) (from c : ℕ) → opens from ≡ true → (from == c || opens c) ≡ opens c
+still_open opens from c is = open_at opens from c is (from == c) (Decides-eqb from c).0
 
 noted_at : (f : ℕ → Option Identity) (from c : ℕ) (plan : Plan) (before : Option Identity) → before ≡ f from →
     (b : Bool) → (b ≡ true → from ≡ c) →
@@ -66,3 +70,14 @@ removed_who k q o =
       | true ↦ refl
       | false ↦ refl
     ]
+
+-- whether connection q is open, where one is put at k, or taken off
+pub put_open : (k q : ℕ) (v : Visitor) (o : Option Visitor) → is_some (cond (is_eq (nat_cmp k q)) (Some v) o) ≡ (k == q || is_some o)
+put_open k q v o =
+    ap (λ b. is_some (cond b (Some v) o)) (same_key k q)
+    ∙ elim (k == q) as (λ b. is_some (cond b (Some v) o) ≡ (b || is_some o)) [ true ↦ refl | false ↦ refl ]
+
+pub removed_open : (k q : ℕ) (o : Option Visitor) → is_some (cond (is_eq (nat_cmp k q)) None o) ≡ (if k == q then false else is_some o)
+removed_open k q o =
+    ap (λ b. is_some (cond b None o)) (same_key k q)
+    ∙ elim (k == q) as (λ b. is_some (cond b None o) ≡ (if b then false else is_some o)) [ true ↦ refl | false ↦ refl ]
