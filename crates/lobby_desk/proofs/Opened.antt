@@ -1,8 +1,9 @@
 -- For whom connections act.
-use Rattle.std.proofs.Common.{ℕ, ◌≡◌, ◌==◌, ◌&&◌, ◌||◌, Bool, true, false, not, Option, None, Some, refl, ap, sym, ◌∙◌}
+use Rattle.std.proofs.Common.{ℕ, ◌≡◌, ◌==◌, ◌&&◌, ◌||◌, Bool, true, false, not, List, [], ◌∷◌, Option, None, Some, refl, ap, sym, ◌∙◌}
 use Rattle.std.specs.Prelude.{◌↔◌, is_some, if◌then◌else◌, option_and_then, cond}
 use Rattle.std.specs.Cmp.{nat_cmp_is}
-use Rattle.std.specs.Ordering.{is_eq, nat_cmp}
+use Rattle.std.specs.Ordering.{is_eq, nat_cmp, eq_by_cmp}
+use Rattle.std.specs.Set.{is_member}
 use Rattle.std.specs.declared.cmp.Ordering.{Ordering}
 use Rattle.std.specs.declared.cmp.Ordering.TheVariants.{Less, Equal, Greater}
 use Rattle.std.proofs.lemmas.Bool.{false≢true}
@@ -12,6 +13,7 @@ use Rattle.lobby_desk.proofs.Found.{same_test}
 use Rattle.std.proofs.lemmas.Bool.Decides.{Decides-eqb}
 use Rattle.lobby_desk.specs.declared.planning.Plan.{Plan}
 use Rattle.lobby_desk.specs.declared.players.Identity.{Identity}
+use Rattle.lobby_desk.specs.Watching.{at_table}
 use Rattle.lobby_desk.specs.Who.{who_noted}
 
 -- one test passes and the other does not
@@ -81,3 +83,12 @@ pub removed_open : (k q : ℕ) (o : Option Visitor) → is_some (cond (is_eq (na
 removed_open k q o =
     ap (λ b. is_some (cond b None o)) (same_key k q)
     ∙ elim (k == q) as (λ b. is_some (cond b None o) ≡ (if b then false else is_some o)) [ true ↦ refl | false ↦ refl ]
+
+swap : (a b : ℕ) → (a == b) ≡ (b == a)
+swap a b = same_test (a == b) (b == a) (λ h. (Decides-eqb b a).1 (sym ((Decides-eqb a b).0 h))) (λ h. (Decides-eqb a b).1 (sym ((Decides-eqb b a).0 h)))
+
+-- whether a number is among others
+pub member_is : (xs : List ℕ) (q : ℕ) → is_member (eq_by_cmp nat_cmp) xs q ≡ at_table xs q
+member_is [] q = refl
+member_is (x ∷ xs) q =
+    ap (λ b. b || is_member (eq_by_cmp nat_cmp) xs q) (same_key q x ∙ swap q x) ∙ ap (λ b. x == q || b) (member_is xs q)
