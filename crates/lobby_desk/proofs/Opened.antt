@@ -14,7 +14,7 @@ use Rattle.std.proofs.lemmas.Bool.Decides.{Decides-eqb}
 use Rattle.lobby_desk.specs.declared.planning.Plan.{Plan}
 use Rattle.lobby_desk.specs.declared.players.Identity.{Identity}
 use Rattle.lobby_desk.specs.Watching.{at_table}
-use Rattle.lobby_desk.specs.Who.{who_noted}
+use Rattle.lobby_desk.specs.Who.{who_noted, until_at}
 
 -- one test passes and the other does not
 pub ready_if : (a b x y : Bool) → a ≡ x → b ≡ y → ((a && not b) ≡ true) ↔ ((x ≡ true) × (y ≡ false))
@@ -92,3 +92,21 @@ pub member_is : (xs : List ℕ) (q : ℕ) → is_member (eq_by_cmp nat_cmp) xs q
 member_is [] q = refl
 member_is (x ∷ xs) q =
     ap (λ b. b || is_member (eq_by_cmp nat_cmp) xs q) (same_key q x ∙ swap q x) ∙ ap (λ b. x == q || b) (member_is xs q)
+
+-- until when the time of connection q is taken, where this is put at k, or taken off
+pub put_until : (k q : ℕ) (v : Visitor) (o : Option Visitor) →
+    until_at (cond (is_eq (nat_cmp k q)) (Some v) o) ≡ (if k == q then v.until else until_at o)
+put_until k q v o =
+    ap (λ b. until_at (cond b (Some v) o)) (same_key k q)
+    ∙ elim (k == q) as (λ b. until_at (cond b (Some v) o) ≡ (if b then v.until else until_at o)) [ true ↦ refl | false ↦ refl ]
+
+pub removed_until : (k q : ℕ) (o : Option Visitor) → (k == q) ≡ false → until_at (cond (is_eq (nat_cmp k q)) None o) ≡ until_at o
+removed_until k q o other =
+    ap (λ b. until_at (cond b None o)) (same_key k q ∙ other)
+
+-- the choice for another, and for oneself
+pub for_other : (b : Bool) (x y : ℕ) → b ≡ false → (if b then x else y) ≡ y
+for_other b x y other = ap (λ t. if t then x else y) other
+
+pub for_self : (k x y : ℕ) → (if k == k then x else y) ≡ x
+for_self k x y = ap (λ t. if t then x else y) ((Decides-eqb k k).1 refl)

@@ -43,8 +43,18 @@ abbrev pub until_at : Option Visitor → ℕ
 until_at None = 0
 until_at (Some v) = v.until
 
+abbrev pub until_in : BTreeMap ℕ Visitor → ℕ → ℕ
+until_in visitors c = until_at (get nat_cmp visitors c)
+
 abbrev pub until_of : Desk → ℕ → ℕ
-until_of desk c = until_at (get nat_cmp desk.visitors c)
+until_of desk c = until_in desk.visitors c
+
+-- whether an event is of this connection
+abbrev pub is_of : Event → ℕ → Bool
+is_of (Opened d) c = d == c
+is_of (Closed d) c = d == c
+is_of (Said d text) c = d == c
+is_of _ c = false
 
 -- whether a connection is open
 abbrev pub open_in_map : BTreeMap ℕ Visitor → ℕ → Bool
@@ -263,7 +273,8 @@ pub record IsStep (players : List Player) (old : View) (event : Event) (lines : 
   pub known : IsKnown event (speaker old.who event) lines old.is_open old.known new.known
   pub told : IsTold event lines tells old.is_open old.known
 
--- the same of the desk, of the bytes that go to the server, and of what connections are told
+-- The same of the desk, of the bytes that go to the server, and of what connections are told. The time of no other connection is
+-- taken.
 pub record Steps (old : Desk) (event : Event) (before after : List ℕ) (told_before told_after : List Telling) (new : Desk) : Type 0 where
   pub lines : List (List ℕ)
   pub tells : List Telling
@@ -271,9 +282,10 @@ pub record Steps (old : Desk) (event : Event) (before after : List ℕ) (told_be
   pub told : told_after ≡ told_before ++ tells
   pub step : IsStep old.players.items (view old) event lines tells (view new)
   pub players : new.players.items ≡ old.players.items
+  pub untils : (c : ℕ) → is_of event c ≡ false → until_of new c ≡ until_of old c
 
 -- a plan for a message is carried out
-pub record Carried (old : Desk) (from : ℕ) (text : List ℕ) (plan : Plan) (before after : List ℕ) (told_before told_after : List Telling) (new : Desk) : Type 0 where
+pub record Carried (old : Desk) (from : ℕ) (text : List ℕ) (plan : Plan) (until : ℕ) (before after : List ℕ) (told_before told_after : List Telling) (new : Desk) : Type 0 where
   pub tells : List Telling
   pub sent : after ≡ before ++ bytes_of (lines_of plan old.line.said text)
   pub told : told_after ≡ told_before ++ tells
@@ -284,6 +296,7 @@ pub record Carried (old : Desk) (from : ℕ) (text : List ℕ) (plan : Plan) (be
   pub who_is : (c : ℕ) → who_of new c ≡ (if from == c then who_noted plan (who_of old c) else who_of old c)
   pub owed : (known new).owed ≡ (known old).owed ++ owed_last (plan_asker plan from text) (lines_of plan old.line.said text)
   pub opens : (c : ℕ) → open_of new c ≡ (from == c || open_of old c)
+  pub untils : (c : ℕ) → until_of new c ≡ (if from == c then until else until_of old c)
   pub watches : new.watches.items ≡ plan_watches plan from old.watches.items
   pub table : new.table.items ≡ plan_table plan from old.table.items
   pub coming : new.coming ≡ old.coming

@@ -3,7 +3,7 @@ ghost use Rattle.std.specs.Prelude.{ℕ, List, ◌≡◌, ◌++◌, ◌==◌, �
 ghost use Rattle.std.specs.String.{string_bytes};
 ghost use Rattle.lobby_desk.specs.Lines.{bytes_of, lines_of, said_after, IsNamed};
 ghost use Rattle.lobby_desk.specs.Events.{Telling, tellings, owed_of, owed_last, plan_asker};
-ghost use Rattle.lobby_desk.specs.Who.{who_in, open_in_map, who_noted, plan_watches, plan_table, is_own, IsOwnText, IsAnswered};
+ghost use Rattle.lobby_desk.specs.Who.{who_in, open_in_map, until_in, who_noted, plan_watches, plan_table, is_own, IsOwnText, IsAnswered};
 
 use crate::planning::Plan;
 use crate::players::{Identity, Player, Visitor};
@@ -173,6 +173,7 @@ pub fn put(
 ) -> Result<(), AllocError>
     ensures who { OnOk result ((c : ℕ) → who_in visitors.new c ≡ (if connection == c then who else who_in visitors.old c)) }
     ensures opens { OnOk result ((c : ℕ) → open_in_map visitors.new c ≡ (connection == c || open_in_map visitors.old c)) }
+    ensures untils { OnOk result ((c : ℕ) → until_in visitors.new c ≡ (if connection == c then until else until_in visitors.old c)) }
 {
     let visitor = Visitor { who, until };
     visitors.insert(connection, visitor)?;
@@ -188,6 +189,7 @@ pub fn note(
 ) -> Result<(), AllocError>
     ensures who { OnOk result ((c : ℕ) → who_in visitors.new c ≡ (if from == c then who_noted plan.now (who_in visitors.old c) else who_in visitors.old c)) }
     ensures opens { OnOk result ((c : ℕ) → open_in_map visitors.new c ≡ (from == c || open_in_map visitors.old c)) }
+    ensures untils { OnOk result ((c : ℕ) → until_in visitors.new c ≡ (if from == c then until else until_in visitors.old c)) }
 {
     let before = who_acts(visitors, from);
     put(visitors, from, who_noted(before, plan), until)?;
