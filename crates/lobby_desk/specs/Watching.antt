@@ -1,5 +1,5 @@
 -- Who watches which game, and who is told of the table.
-use Rattle.std.specs.Prelude.{ℕ, Bool, ◌&&◌, ◌==◌, not, List, [], ◌∷◌, ◌++◌, map, filter, Option, None, Some, if◌then◌else◌}
+use Rattle.std.specs.Prelude.{ℕ, Bool, false, ◌&&◌, ◌==◌, not, nat_le, List, [], ◌∷◌, ◌++◌, length, map, filter, Option, None, Some, if◌then◌else◌}
 use Rattle.std.specs.List.{list_any}
 use Rattle.lobby_desk.specs.declared.watching.Watch.{Watch}
 
@@ -13,6 +13,12 @@ watched watches c game = list_any (is_watch c game) watches
 -- whether a connection is told of the table
 abbrev pub at_table : List ℕ → ℕ → Bool
 at_table table c = list_any (λ one. one == c) table
+
+-- whether a connection watches as many games as may be, and this is another
+abbrev pub is_full : List Watch → ℕ → Option ℕ → Bool
+is_full watches c None = false
+is_full watches c (Some game) =
+    nat_le 16 (length (filter (λ (w : Watch). w.by == c) watches)) && not (watched watches c game)
 
 -- A connection watches a game more, the last of all, if it may and does not watch it.
 abbrev pub watch_if : Bool → ℕ → ℕ → List Watch → List Watch

@@ -20,7 +20,7 @@ use Rattle.lobby_desk.specs.Players.{holder_of}
 use Rattle.lobby_desk.specs.Plans.{refusal_text, plan_of}
 use Rattle.lobby_desk.specs.Lines.{bytes_of, lines_of, act_lines, said_after, notice_lines, IsNamed}
 use Rattle.lobby_desk.specs.Answers.{IsSeated, IsSeatless, act_game}
-use Rattle.lobby_desk.specs.Watching.{unwatched, risen}
+use Rattle.lobby_desk.specs.Watching.{unwatched, risen, is_full}
 pub use Rattle.lobby_desk.specs.Watching.{at_table}
 use Rattle.lobby_desk.specs.Events.{Event, Opened, Closed, Said, Hurried, Heard, Gone, Here, Telling, to_one, ForAct, Owed, Asker, Dropper, owed_of, owed_last, plan_asker, follower}
 use Rattle.lobby_desk.specs.Tellings.{Known, is_whole, answer, open_now, watch_heard, watch_next, table_heard, table_next, watches_now, table_now, owed_now, left_now, begun_now, last_now, owed_answered, owes, presence, IsTold, IsToldFor, IsToldNext}
@@ -165,6 +165,7 @@ pub record IsSaid (players : List Player) (old : View) (c : ℕ) (text : List �
   pub who : standing.who ≡ old.who c
   pub holder : standing.holder ≡ holder_of players (rest_of text)
   pub here : standing.is_here ≡ old.here
+  pub full : standing.is_full ≡ is_full old.known.watches c (number_in (rest_of text))
   pub crowded : standing.is_crowded ≡ true → bytes_eq (word_of text) (codes "open") ≡ true
   pub plan : Plan
   pub planned : plan ≡ plan_of (is_message text) (sort_of text) standing (number_in (rest_of text))

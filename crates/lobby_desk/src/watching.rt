@@ -1,5 +1,5 @@
 //! Who is told of what.
-ghost use Rattle.std.specs.Prelude.{◌≡◌, ◌++◌, [], ◌∷◌, OnOk, IfOk, if◌then◌else◌};
+ghost use Rattle.std.specs.Prelude.{◌≡◌, ◌==◌, nat_le, length, filter, ◌++◌, [], ◌∷◌, OnOk, IfOk, if◌then◌else◌};
 ghost use Rattle.lobby_desk.specs.Watching.{is_watch, watched, at_table, watch_if, sit_if, unwatched, none_watched, risen, followers};
 
 use std::alloc::{AllocError, Global};
@@ -31,7 +31,9 @@ pub fn is_watched(watches: &[Watch], by: u64, game: u32) -> bool
 }
 
 /// Whether a connection may watch no game but those that it watches.
-pub fn is_full(watches: &[Watch], by: u64) -> bool {
+pub fn is_full(watches: &[Watch], by: u64) -> bool
+    ensures { result ≡ nat_le 16 (length (filter (λ (watch : Watch). watch.by == by) watches.now)) }
+{
     watches.iter().filter(|watch| watch.by == by).count() >= WATCH_ROOM
 }
 
