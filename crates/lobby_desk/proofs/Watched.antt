@@ -27,7 +27,7 @@ pub watching_more : (watches : List Watch) (game i : ℕ) (d : Watch) → i < le
 watching_more watches game i d short =
     ap (map (λ (w : Watch). w.by)) (filter_more (λ (w : Watch). w.game == game) watches i d short)
     ∙ (map-append (λ (w : Watch). w.by) (filter (λ (w : Watch). w.game == game) (take i watches))
-      (if (get_or watches i d).game == game then get_or watches i d ∷ [] else [])
+    (if (get_or watches i d).game == game then get_or watches i d ∷ [] else [])
     ∙ ap (λ (xs : List ℕ). watching game (take i watches) ++ xs) (one_more (get_or watches i d) ((get_or watches i d).game == game)))
 
 -- the answers that are owed, in two parts
