@@ -154,7 +154,7 @@ impl ServerLine {
         wire: &mut Vec<u8>,
     ) -> Result<(), AllocError>
         ensures sent { OnOk result (wire.new.items ≡ wire.old.items ++ bytes_of (act_lines self.old.said name (string_bytes act.text))) }
-        ensures owed { OnOk result (map owed_of self.new.queue.items ≡ map owed_of self.old.queue.items ++ owed_last (Asker act.from (ForAct (string_bytes act.text))) (act_lines self.old.said name (string_bytes act.text))) }
+        ensures owed { OnOk result (map owed_of self.new.queue.items ≡ map owed_of self.old.queue.items ++ owed_last (Asker act.from (ForAct act.who (string_bytes act.text))) (act_lines self.old.said name (string_bytes act.text))) }
         ensures said { OnOk result (self.new.said ≡ Some name) }
         ensures here { OnOk result (self.new.is_here ≡ self.old.is_here) }
     {
