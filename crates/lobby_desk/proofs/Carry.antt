@@ -1,20 +1,22 @@
 -- What a plan leaves and tells.
 use Rattle.std.proofs.Common.{ℕ, ◌≡◌, Bool, true, false, ◌&&◌, List, [], ◌∷◌, Option, None, Some, refl}
 use Rattle.std.specs.Prelude.{if◌then◌else◌}
-use Rattle.std.proofs.lemmas.Bool.{false≢true}
 use Rattle.lobby_desk.specs.declared.words.Sort.{Sort}
 use Rattle.lobby_desk.specs.declared.words.Sort.TheVariants as sorts
+use Rattle.lobby_desk.specs.declared.refusals.Refusal.{Refusal}
 use Rattle.lobby_desk.specs.declared.refusals.Refusal.TheVariants as refusals
 use Rattle.lobby_desk.specs.declared.planning.Plan.{Plan}
 use Rattle.lobby_desk.specs.declared.planning.Plan.TheVariants as plans
 use Rattle.lobby_desk.specs.declared.planning.Standing.{Standing}
 use Rattle.lobby_desk.specs.declared.players.Identity.{Identity}
-use Rattle.lobby_desk.specs.Words.{is_drop_sort, is_leave_sort, is_leave_lobby_sort}
+use Rattle.lobby_desk.specs.declared.watching.Watch.{Watch}
+use Rattle.lobby_desk.specs.Words.{is_leave_sort, is_leave_lobby_sort, or_0}
 use Rattle.lobby_desk.specs.Plans.{asked, act_plan, drop_plan, login_plan, numbered_plan, plan_of}
 use Rattle.lobby_desk.specs.Lines.{lines_of, is_said, name_line}
-use Rattle.lobby_desk.specs.Events.{Telling, Owed, Asker, Dropper, owed_last, plan_asker}
-use Rattle.lobby_desk.specs.Tellings.{is_number, IsToldOrSent}
-use Rattle.lobby_desk.specs.Who.{is_left, is_risen, IsAnswered}
+use Rattle.lobby_desk.specs.Events.{Telling, ForItself, ForPositions, ForTable, ForGame, ForAct, Owed, Asker, Dropper, owed_last, plan_asker, sort_asker}
+use Rattle.lobby_desk.specs.Watching.{risen}
+use Rattle.lobby_desk.specs.Tellings.{left_game, IsToldOrSent}
+use Rattle.lobby_desk.specs.Who.{name_of, plan_watches, plan_table, IsAnswered}
 
 -- whose the answer to a plan's last line is
 abbrev pub LastIs : Plan → Option (List ℕ) → List ℕ → ℕ → Owed → Type 0
@@ -25,60 +27,60 @@ asked_last : (s : Standing) (plan : Plan) (said : Option (List ℕ)) (text : Lis
 asked_last s plan said text c o h =
     elim s.is_here as (λ b. LastIs (if b then plan else plans.Refuse refusals.NoServer) said text c o) [ true ↦ h | false ↦ refl ]
 
-act_last : (s : Standing) (who : Option Identity) (said : Option (List ℕ)) (text : List ℕ) (c : ℕ) → LastIs (act_plan s who) said text c (Asker c)
+act_last : (s : Standing) (who : Option Identity) (said : Option (List ℕ)) (text : List ℕ) (c : ℕ) → LastIs (act_plan s who) said text c (Asker c (ForAct (name_of who) text))
 act_last s None said text c = refl
 act_last s (Some who) said text c =
-    elim s.is_crowded as (λ b. LastIs (if b then asked s (plans.Refuse refusals.TooManyOpen) else asked s (plans.Act who)) said text c (Asker c)) [
-      | true ↦ asked_last s (plans.Refuse refusals.TooManyOpen) said text c (Asker c) refl
-      | false ↦ asked_last s (plans.Act who) said text c (Asker c) refl
+    elim s.is_crowded as (λ b. LastIs (if b then asked s (plans.Refuse refusals.TooManyOpen) else asked s (plans.Act who)) said text c (Asker c (ForAct who.name text))) [
+      | true ↦ asked_last s (plans.Refuse refusals.TooManyOpen) said text c (Asker c (ForAct who.name text)) refl
+      | false ↦ asked_last s (plans.Act who) said text c (Asker c (ForAct who.name text)) refl
     ]
 
 drop_last : (s : Standing) (who : Option Identity) (game : ℕ) (said : Option (List ℕ)) (text : List ℕ) (c : ℕ) →
-    LastIs (drop_plan s who game) said text c (Dropper c text)
+    LastIs (drop_plan s who game) said text c (Dropper c (name_of who) text)
 drop_last s None game said text c = refl
 drop_last s (Some who) game said text c =
-    elim who.is_arbiter as (λ b. LastIs (if b then asked s (plans.Drop who game) else plans.Refuse refusals.NotArbiter) said text c (Dropper c text)) [
-      | true ↦ asked_last s (plans.Drop who game) said text c (Dropper c text) refl
+    elim who.is_arbiter as (λ b. LastIs (if b then asked s (plans.Drop who game) else plans.Refuse refusals.NotArbiter) said text c (Dropper c who.name text)) [
+      | true ↦ asked_last s (plans.Drop who game) said text c (Dropper c who.name text) refl
       | false ↦ refl
     ]
 
-login_last : (holder : Option Identity) (said : Option (List ℕ)) (text : List ℕ) (c : ℕ) → LastIs (login_plan holder) said text c (Asker c)
+login_last : (holder : Option Identity) (said : Option (List ℕ)) (text : List ℕ) (c : ℕ) → LastIs (login_plan holder) said text c (Asker c ForItself)
 login_last None said text c = refl
 login_last (Some who) said text c = refl
 
 numbered_last : (s : Standing) (game : Option ℕ) (said : Option (List ℕ)) (text : List ℕ) (c : ℕ) →
-    LastIs (numbered_plan sorts.Drop s game) said text c (Dropper c text)
+    LastIs (numbered_plan sorts.Drop s game) said text c (Dropper c (name_of s.who) text)
 numbered_last s None said text c = refl
 numbered_last s (Some game) said text c = drop_last s s.who game said text c
 
 watch_last : (s : Standing) (game : Option ℕ) (said : Option (List ℕ)) (text : List ℕ) (c : ℕ) →
-    LastIs (numbered_plan sorts.Watch s game) said text c (Asker c)
+    LastIs (numbered_plan sorts.Watch s game) said text c (Asker c (ForGame (or_0 game)))
 watch_last s None said text c = refl
 watch_last s (Some game) said text c =
-    elim s.is_full as (λ b. LastIs (if b then asked s (plans.Refuse refusals.TooManyWatched) else asked s (plans.Watch game)) said text c (Asker c)) [
-      | true ↦ asked_last s (plans.Refuse refusals.TooManyWatched) said text c (Asker c) refl
-      | false ↦ asked_last s (plans.Watch game) said text c (Asker c) refl
+    elim s.is_full as (λ b. LastIs (if b then asked s (plans.Refuse refusals.TooManyWatched) else asked s (plans.Watch game)) said text c (Asker c (ForGame game))) [
+      | true ↦ asked_last s (plans.Refuse refusals.TooManyWatched) said text c (Asker c (ForGame game)) refl
+      | false ↦ asked_last s (plans.Watch game) said text c (Asker c (ForGame game)) refl
     ]
 
 leave_last : (s : Standing) (game : Option ℕ) (said : Option (List ℕ)) (text : List ℕ) (c : ℕ) →
-    LastIs (numbered_plan sorts.Leave s game) said text c (Asker c)
+    LastIs (numbered_plan sorts.Leave s game) said text c (Asker c ForItself)
 leave_last s None said text c = refl
 leave_last s (Some game) said text c = refl
 
 line_last : (s : Standing) (game : Option ℕ) (said : Option (List ℕ)) (text : List ℕ) (c : ℕ) →
-    LastIs (numbered_plan sorts.Line s game) said text c (Asker c)
+    LastIs (numbered_plan sorts.Line s game) said text c (Asker c ForPositions)
 line_last s None said text c = refl
-line_last s (Some game) said text c = asked_last s (plans.Line game) said text c (Asker c) refl
+line_last s (Some game) said text c = asked_last s (plans.Line game) said text c (Asker c ForPositions) refl
 
 pub planned_last : (m : Bool) (sort : Sort) (s : Standing) (game : Option ℕ) (said : Option (List ℕ)) (text : List ℕ) (c : ℕ) →
-    LastIs (plan_of m sort s game) said text c (if is_drop_sort sort then Dropper c text else Asker c)
+    LastIs (plan_of m sort s game) said text c (sort_asker sort game c (name_of s.who) text)
 planned_last false sort s game said text c = refl
-planned_last true sorts.Read s game said text c = asked_last s plans.Read said text c (Asker c) refl
+planned_last true sorts.Read s game said text c = asked_last s plans.Read said text c (Asker c ForItself) refl
 planned_last true sorts.Act s game said text c = act_last s s.who said text c
 planned_last true sorts.Drop s game said text c = numbered_last s game said text c
 planned_last true sorts.Login s game said text c = login_last s.holder said text c
 planned_last true sorts.Players s game said text c = refl
-planned_last true sorts.Lobby s game said text c = asked_last s plans.Lobby said text c (Asker c) refl
+planned_last true sorts.Lobby s game said text c = asked_last s plans.Lobby said text c (Asker c ForTable) refl
 planned_last true sorts.LeaveLobby s game said text c = refl
 planned_last true sorts.Watch s game said text c = watch_last s game said text c
 planned_last true sorts.Leave s game said text c = leave_last s game said text c
@@ -86,50 +88,100 @@ planned_last true sorts.Line s game said text c = line_last s game said text c
 planned_last true sorts.Name s game said text c = refl
 planned_last true sorts.Nothing s game said text c = refl
 
--- a message that leaves a game has the plan to leave it
-left_game : (s : Standing) (game : Option ℕ) (g : ℕ) → is_number g game ≡ true → is_left (numbered_plan sorts.Leave s game) g ≡ true
-left_game s None g h = absurd (false≢true h)
-left_game s (Some n) g h = h
+-- what each plan does that may be for a message
+asked_does : (P : Plan → Type 0) (s : Standing) (plan : Plan) → P (plans.Refuse refusals.NoServer) → P plan → P (asked s plan)
+asked_does P s plan none h = elim s.is_here as (λ b. P (if b then plan else plans.Refuse refusals.NoServer)) [ true ↦ h | false ↦ none ]
 
-pub planned_left : (m : Bool) (sort : Sort) (s : Standing) (game : Option ℕ) (g : ℕ) →
-    (m && is_leave_sort sort && is_number g game) ≡ true → is_left (plan_of m sort s game) g ≡ true
-planned_left false sort s game g h = absurd (false≢true h)
-planned_left true sorts.Read s game g h = absurd (false≢true h)
-planned_left true sorts.Act s game g h = absurd (false≢true h)
-planned_left true sorts.Drop s game g h = absurd (false≢true h)
-planned_left true sorts.Login s game g h = absurd (false≢true h)
-planned_left true sorts.Players s game g h = absurd (false≢true h)
-planned_left true sorts.Lobby s game g h = absurd (false≢true h)
-planned_left true sorts.LeaveLobby s game g h = absurd (false≢true h)
-planned_left true sorts.Watch s game g h = absurd (false≢true h)
-planned_left true sorts.Leave s game g h = left_game s game g h
-planned_left true sorts.Line s game g h = absurd (false≢true h)
-planned_left true sorts.Name s game g h = absurd (false≢true h)
-planned_left true sorts.Nothing s game g h = absurd (false≢true h)
+act_does : (P : Plan → Type 0) (s : Standing) (who : Option Identity) → ((r : Refusal) → P (plans.Refuse r)) → ((one : Identity) → P (plans.Act one)) →
+    P (act_plan s who)
+act_does P s None none h = none refusals.NoToken
+act_does P s (Some who) none h =
+    elim s.is_crowded as (λ b. P (if b then asked s (plans.Refuse refusals.TooManyOpen) else asked s (plans.Act who))) [
+      | true ↦ asked_does P s (plans.Refuse refusals.TooManyOpen) (none refusals.NoServer) (none refusals.TooManyOpen)
+      | false ↦ asked_does P s (plans.Act who) (none refusals.NoServer) (h who)
+    ]
 
-pub planned_risen : (m : Bool) (sort : Sort) (s : Standing) (game : Option ℕ) →
-    (m && is_leave_lobby_sort sort) ≡ true → is_risen (plan_of m sort s game) ≡ true
-planned_risen false sort s game h = absurd (false≢true h)
-planned_risen true sorts.Read s game h = absurd (false≢true h)
-planned_risen true sorts.Act s game h = absurd (false≢true h)
-planned_risen true sorts.Drop s game h = absurd (false≢true h)
-planned_risen true sorts.Login s game h = absurd (false≢true h)
-planned_risen true sorts.Players s game h = absurd (false≢true h)
-planned_risen true sorts.Lobby s game h = absurd (false≢true h)
-planned_risen true sorts.LeaveLobby s game h = refl
-planned_risen true sorts.Watch s game h = absurd (false≢true h)
-planned_risen true sorts.Leave s game h = absurd (false≢true h)
-planned_risen true sorts.Line s game h = absurd (false≢true h)
-planned_risen true sorts.Name s game h = absurd (false≢true h)
-planned_risen true sorts.Nothing s game h = absurd (false≢true h)
+drop_does : (P : Plan → Type 0) (s : Standing) (who : Option Identity) (game : ℕ) → ((r : Refusal) → P (plans.Refuse r)) →
+    ((one : Identity) → P (plans.Drop one game)) → P (drop_plan s who game)
+drop_does P s None game none h = none refusals.NoToken
+drop_does P s (Some who) game none h =
+    elim who.is_arbiter as (λ b. P (if b then asked s (plans.Drop who game) else plans.Refuse refusals.NotArbiter)) [
+      | true ↦ asked_does P s (plans.Drop who game) (none refusals.NoServer) (h who)
+      | false ↦ none refusals.NotArbiter
+    ]
 
--- who is still told has not left
-pub kept_told : (same left leaves before : Bool) → (leaves ≡ true → left ≡ true) → (if same && left then false else before) ≡ true →
-    (if same && leaves then false else before) ≡ true
-kept_told false left leaves before f h = h
-kept_told true true leaves before f h = absurd (false≢true h)
-kept_told true false true before f h = absurd (false≢true (f refl))
-kept_told true false false before f h = h
+dropped_does : (P : Plan → Type 0) (s : Standing) (game : Option ℕ) → ((r : Refusal) → P (plans.Refuse r)) →
+    ((one : Identity) (g : ℕ) → P (plans.Drop one g)) → P (numbered_plan sorts.Drop s game)
+dropped_does P s None none h = none refusals.BadLine
+dropped_does P s (Some game) none h = drop_does P s s.who game none (λ one. h one game)
+
+login_does : (P : Plan → Type 0) (holder : Option Identity) → ((r : Refusal) → P (plans.Refuse r)) → ((one : Identity) → P (plans.Login one)) →
+    P (login_plan holder)
+login_does P None none h = none refusals.BadToken
+login_does P (Some who) none h = h who
+
+watch_does : (P : Plan → Type 0) (s : Standing) (game : Option ℕ) → ((r : Refusal) → P (plans.Refuse r)) → ((g : ℕ) → P (plans.Watch g)) →
+    P (numbered_plan sorts.Watch s game)
+watch_does P s None none h = none refusals.BadLine
+watch_does P s (Some game) none h =
+    elim s.is_full as (λ b. P (if b then asked s (plans.Refuse refusals.TooManyWatched) else asked s (plans.Watch game))) [
+      | true ↦ asked_does P s (plans.Refuse refusals.TooManyWatched) (none refusals.NoServer) (none refusals.TooManyWatched)
+      | false ↦ asked_does P s (plans.Watch game) (none refusals.NoServer) (h game)
+    ]
+
+line_does : (P : Plan → Type 0) (s : Standing) (game : Option ℕ) → ((r : Refusal) → P (plans.Refuse r)) → ((g : ℕ) → P (plans.Line g)) →
+    P (numbered_plan sorts.Line s game)
+line_does P s None none h = none refusals.BadLine
+line_does P s (Some game) none h = asked_does P s (plans.Line game) (none refusals.NoServer) (h game)
+
+-- who watches after the plan for a message
+abbrev pub WatchesStay : ℕ → List Watch → Plan → Type 0
+WatchesStay c watches plan = plan_watches plan c watches ≡ watches
+
+leave_watches : (s : Standing) (game : Option ℕ) (c : ℕ) (watches : List Watch) →
+    plan_watches (numbered_plan sorts.Leave s game) c watches ≡ left_game c game watches
+leave_watches s None c watches = refl
+leave_watches s (Some game) c watches = refl
+
+pub planned_watches : (m : Bool) (sort : Sort) (s : Standing) (game : Option ℕ) (c : ℕ) (watches : List Watch) →
+    plan_watches (plan_of m sort s game) c watches ≡ (if m && is_leave_sort sort then left_game c game watches else watches)
+planned_watches false sort s game c watches = refl
+planned_watches true sorts.Read s game c watches = asked_does (WatchesStay c watches) s plans.Read refl refl
+planned_watches true sorts.Act s game c watches = act_does (WatchesStay c watches) s s.who (λ _. refl) (λ _. refl)
+planned_watches true sorts.Drop s game c watches = dropped_does (WatchesStay c watches) s game (λ _. refl) (λ _ _. refl)
+planned_watches true sorts.Login s game c watches = login_does (WatchesStay c watches) s.holder (λ _. refl) (λ _. refl)
+planned_watches true sorts.Players s game c watches = refl
+planned_watches true sorts.Lobby s game c watches = asked_does (WatchesStay c watches) s plans.Lobby refl refl
+planned_watches true sorts.LeaveLobby s game c watches = refl
+planned_watches true sorts.Watch s game c watches = watch_does (WatchesStay c watches) s game (λ _. refl) (λ _. refl)
+planned_watches true sorts.Leave s game c watches = leave_watches s game c watches
+planned_watches true sorts.Line s game c watches = line_does (WatchesStay c watches) s game (λ _. refl) (λ _. refl)
+planned_watches true sorts.Name s game c watches = refl
+planned_watches true sorts.Nothing s game c watches = refl
+
+-- who is told of the table after it
+abbrev pub TableStays : ℕ → List ℕ → Plan → Type 0
+TableStays c table plan = plan_table plan c table ≡ table
+
+leave_table : (s : Standing) (game : Option ℕ) (c : ℕ) (table : List ℕ) → plan_table (numbered_plan sorts.Leave s game) c table ≡ table
+leave_table s None c table = refl
+leave_table s (Some game) c table = refl
+
+pub planned_table : (m : Bool) (sort : Sort) (s : Standing) (game : Option ℕ) (c : ℕ) (table : List ℕ) →
+    plan_table (plan_of m sort s game) c table ≡ (if m && is_leave_lobby_sort sort then risen c table else table)
+planned_table false sort s game c table = refl
+planned_table true sorts.Read s game c table = asked_does (TableStays c table) s plans.Read refl refl
+planned_table true sorts.Act s game c table = act_does (TableStays c table) s s.who (λ _. refl) (λ _. refl)
+planned_table true sorts.Drop s game c table = dropped_does (TableStays c table) s game (λ _. refl) (λ _ _. refl)
+planned_table true sorts.Login s game c table = login_does (TableStays c table) s.holder (λ _. refl) (λ _. refl)
+planned_table true sorts.Players s game c table = refl
+planned_table true sorts.Lobby s game c table = asked_does (TableStays c table) s plans.Lobby refl refl
+planned_table true sorts.LeaveLobby s game c table = refl
+planned_table true sorts.Watch s game c table = watch_does (TableStays c table) s game (λ _. refl) (λ _. refl)
+planned_table true sorts.Leave s game c table = leave_table s game c table
+planned_table true sorts.Line s game c table = line_does (TableStays c table) s game (λ _. refl) (λ _. refl)
+planned_table true sorts.Name s game c table = refl
+planned_table true sorts.Nothing s game c table = refl
 
 -- a message is answered at once where nothing goes out by its plan
 act_sent : (b : Bool) (name text : List ℕ) (c : ℕ) (tells : List Telling) → tells ≡ [] →
@@ -139,14 +191,14 @@ act_sent false name text c tells h = h
 
 pub answered_or_sent : (plan : Plan) (said : Option (List ℕ)) (text : List ℕ) (c : ℕ) (tells : List Telling) → IsAnswered plan c tells →
     IsToldOrSent (lines_of plan said text) c tells
-answered_or_sent (plans.Refuse refusal) said text c tells h = h
+answered_or_sent (plans.Refuse refusal) said text c tells h = (h.0, h.2)
 answered_or_sent plans.Read said text c tells h = h
 answered_or_sent (plans.Act who) said text c tells h = act_sent (is_said said who.name) who.name text c tells h
 answered_or_sent (plans.Drop who game) said text c tells h = h
-answered_or_sent (plans.Login who) said text c tells h = h
-answered_or_sent plans.Players said text c tells h = h
+answered_or_sent (plans.Login who) said text c tells h = (h.0, h.2)
+answered_or_sent plans.Players said text c tells h = (h.0, h.2)
 answered_or_sent plans.Lobby said text c tells h = h
-answered_or_sent plans.LeaveLobby said text c tells h = h
+answered_or_sent plans.LeaveLobby said text c tells h = (h.0, h.2)
 answered_or_sent (plans.Watch game) said text c tells h = h
-answered_or_sent (plans.Leave game) said text c tells h = h
+answered_or_sent (plans.Leave game) said text c tells h = (h.0, h.2)
 answered_or_sent (plans.Line game) said text c tells h = h

@@ -1,8 +1,9 @@
 -- For whom connections act.
-use Rattle.std.proofs.Common.{ℕ, ◌≡◌, ◌==◌, Bool, true, false, Option, None, Some, refl, ap, sym, ◌∙◌}
-use Rattle.std.specs.Prelude.{IsSome, IsSomeAnd, if◌then◌else◌, option_and_then, cond}
+use Rattle.std.proofs.Common.{ℕ, ◌≡◌, ◌==◌, ◌&&◌, ◌||◌, Bool, true, false, not, List, [], ◌∷◌, Option, None, Some, refl, ap, sym, ◌∙◌}
+use Rattle.std.specs.Prelude.{◌↔◌, is_some, if◌then◌else◌, option_and_then, cond}
 use Rattle.std.specs.Cmp.{nat_cmp_is}
-use Rattle.std.specs.Ordering.{is_eq, nat_cmp}
+use Rattle.std.specs.Ordering.{is_eq, nat_cmp, eq_by_cmp}
+use Rattle.std.specs.Set.{is_member}
 use Rattle.std.specs.declared.cmp.Ordering.{Ordering}
 use Rattle.std.specs.declared.cmp.Ordering.TheVariants.{Less, Equal, Greater}
 use Rattle.std.proofs.lemmas.Bool.{false≢true}
@@ -12,11 +13,22 @@ use Rattle.lobby_desk.proofs.Found.{same_test}
 use Rattle.std.proofs.lemmas.Bool.Decides.{Decides-eqb}
 use Rattle.lobby_desk.specs.declared.planning.Plan.{Plan}
 use Rattle.lobby_desk.specs.declared.players.Identity.{Identity}
-use Rattle.lobby_desk.specs.Who.{who_noted}
+use Rattle.lobby_desk.specs.Watching.{at_table}
+use Rattle.lobby_desk.specs.Who.{who_noted, until_at}
 
-pub some_of : {X : Type 0} (o : Option X) (P : X → Type 0) → IsSomeAnd o P → IsSome o
-some_of None P h = absurd h
-some_of (Some x) P h = refl
+-- one test passes and the other does not
+pub ready_if : (a b x y : Bool) → a ≡ x → b ≡ y → ((a && not b) ≡ true) ↔ ((x ≡ true) × (y ≡ false))
+ready_if true true x y p q = (λ h. absurd (false≢true h), λ k. absurd (false≢true (sym k.1 ∙ sym q)))
+ready_if true false x y p q = (λ _. (sym p, sym q), λ _. refl)
+ready_if false b x y p q = (λ h. absurd (false≢true h), λ k. absurd (false≢true (p ∙ k.0)))
+
+-- who is open stays so
+open_at : (opens : ℕ → Bool) (from c : ℕ) → opens from ≡ true → (b : Bool) → (b ≡ true → from ≡ c) → (b || opens c) ≡ opens c
+open_at opens from c is true same = sym is ∙ ap opens (same refl)
+open_at opens from c is false same = refl
+
+pub still_open : (opens : ℕ → Bool) (from c : ℕ) → opens from ≡ true → (from == c || opens c) ≡ opens c
+still_open opens from c is = open_at opens from c is (from == c) (Decides-eqb from c).0
 
 noted_at : (f : ℕ → Option Identity) (from c : ℕ) (plan : Plan) (before : Option Identity) → before ≡ f from →
     (b : Bool) → (b ≡ true → from ≡ c) →
@@ -28,16 +40,6 @@ noted_at f from c plan before is false same = refl
 pub noted_is : (f : ℕ → Option Identity) (from c : ℕ) (plan : Plan) (before : Option Identity) → before ≡ f from →
     (if from == c then who_noted plan before else f c) ≡ (if from == c then who_noted plan (f c) else f c)
 noted_is f from c plan before is = noted_at f from c plan before is (from == c) (Decides-eqb from c).0
-
-kept_at : (f : ℕ → Option Identity) (from c : ℕ) (before : Option Identity) → before ≡ f from →
-    (b : Bool) → (b ≡ true → from ≡ c) → (if b then before else f c) ≡ f c
-kept_at f from c before is true same = is ∙ ap f (same refl)
-kept_at f from c before is false same = refl
-
--- the same, where it acts for the same player again
-pub kept_is : (f : ℕ → Option Identity) (from c : ℕ) (before : Option Identity) → before ≡ f from →
-    (if from == c then before else f c) ≡ f c
-kept_is f from c before is = kept_at f from c before is (from == c) (Decides-eqb from c).0
 
 is_equal : (o : Ordering) → is_eq o ≡ true → o ≡ Equal
 is_equal Less h = absurd (false≢true h)
@@ -70,3 +72,41 @@ removed_who k q o =
       | true ↦ refl
       | false ↦ refl
     ]
+
+-- whether connection q is open, where one is put at k, or taken off
+pub put_open : (k q : ℕ) (v : Visitor) (o : Option Visitor) → is_some (cond (is_eq (nat_cmp k q)) (Some v) o) ≡ (k == q || is_some o)
+put_open k q v o =
+    ap (λ b. is_some (cond b (Some v) o)) (same_key k q)
+    ∙ elim (k == q) as (λ b. is_some (cond b (Some v) o) ≡ (b || is_some o)) [ true ↦ refl | false ↦ refl ]
+
+pub removed_open : (k q : ℕ) (o : Option Visitor) → is_some (cond (is_eq (nat_cmp k q)) None o) ≡ (if k == q then false else is_some o)
+removed_open k q o =
+    ap (λ b. is_some (cond b None o)) (same_key k q)
+    ∙ elim (k == q) as (λ b. is_some (cond b None o) ≡ (if b then false else is_some o)) [ true ↦ refl | false ↦ refl ]
+
+swap : (a b : ℕ) → (a == b) ≡ (b == a)
+swap a b = same_test (a == b) (b == a) (λ h. (Decides-eqb b a).1 (sym ((Decides-eqb a b).0 h))) (λ h. (Decides-eqb a b).1 (sym ((Decides-eqb b a).0 h)))
+
+-- whether a number is among others
+pub member_is : (xs : List ℕ) (q : ℕ) → is_member (eq_by_cmp nat_cmp) xs q ≡ at_table xs q
+member_is [] q = refl
+member_is (x ∷ xs) q =
+    ap (λ b. b || is_member (eq_by_cmp nat_cmp) xs q) (same_key q x ∙ swap q x) ∙ ap (λ b. x == q || b) (member_is xs q)
+
+-- until when the time of connection q is taken, where this is put at k, or taken off
+pub put_until : (k q : ℕ) (v : Visitor) (o : Option Visitor) →
+    until_at (cond (is_eq (nat_cmp k q)) (Some v) o) ≡ (if k == q then v.until else until_at o)
+put_until k q v o =
+    ap (λ b. until_at (cond b (Some v) o)) (same_key k q)
+    ∙ elim (k == q) as (λ b. until_at (cond b (Some v) o) ≡ (if b then v.until else until_at o)) [ true ↦ refl | false ↦ refl ]
+
+pub removed_until : (k q : ℕ) (o : Option Visitor) → (k == q) ≡ false → until_at (cond (is_eq (nat_cmp k q)) None o) ≡ until_at o
+removed_until k q o other =
+    ap (λ b. until_at (cond b None o)) (same_key k q ∙ other)
+
+-- the choice for another, and for oneself
+pub for_other : (b : Bool) (x y : ℕ) → b ≡ false → (if b then x else y) ≡ y
+for_other b x y other = ap (λ t. if t then x else y) other
+
+pub for_self : (k x y : ℕ) → (if k == k then x else y) ≡ x
+for_self k x y = ap (λ t. if t then x else y) ((Decides-eqb k k).1 refl)

@@ -1,8 +1,10 @@
 -- What is promised holds of each run.
-use Rattle.std.proofs.Common.{ℕ, ◌≡◌, ◌<◌, ◌^◌, ◌⊎◌, inl, inr, Bool, true, false, ◌&&◌, ◌||◌, ◌==◌, List, [], ◌∷◌, ◌++◌, Option, None, Some, IfSome, codes, decimal, refl, sym, ap, ◌∙◌, subst}
+use Rattle.std.proofs.Common.{ℕ, ◌≡◌, ◌<◌, ◌+◌, ◌^◌, ◌⊎◌, inl, inr, Bool, true, false, ◌&&◌, ◌||◌, ◌==◌, List, [], ◌∷◌, ◌++◌, Option, None, Some, IfSome, codes, refl, sym, ap, ◌∙◌, subst, arith}
 use Rattle.std.specs.Prelude.{if◌then◌else◌}
-use Rattle.std.specs.List.{AllByRecursion, list_all, list_any}
+use Rattle.std.specs.List.{AllByRecursion}
+use Rattle.std.specs.Str.{bytes_eq}
 use Rattle.std.proofs.lemmas.Bool.{false≢true}
+use Rattle.std.proofs.lemmas.Bool.Decides.{Decides-eqb}
 use Rattle.rec_codec.specs.Name.{IsName}
 use Rattle.lobby_desk.specs.declared.words.Sort.{Sort}
 use Rattle.lobby_desk.specs.declared.words.Sort.TheVariants as sorts
@@ -12,14 +14,16 @@ use Rattle.lobby_desk.specs.declared.planning.Plan.TheVariants as plans
 use Rattle.lobby_desk.specs.declared.planning.Standing.{Standing}
 use Rattle.lobby_desk.specs.declared.players.Identity.{Identity}
 use Rattle.lobby_desk.specs.declared.players.Player.{Player}
-use Rattle.lobby_desk.specs.Words.{rest_of, is_message, sort_of, is_act_sort, is_drop_sort, is_name_sort, is_login_sort, number_in}
+use Rattle.lobby_desk.specs.declared.watching.Watch.{Watch}
+use Rattle.lobby_desk.specs.Words.{word_of, rest_of, is_message, sort_of, is_act_sort, is_drop_sort, is_name_sort, is_login_sort, number_in}
 use Rattle.lobby_desk.specs.Plans.{asked, act_plan, drop_plan, login_plan, numbered_plan, plan_of}
 use Rattle.lobby_desk.specs.Lines.{lines_of, act_lines, said_after, name_line, game_line, is_said, notice_lines, IsNamed}
-use Rattle.lobby_desk.specs.Events.{Event, Opened, Closed, Said, Hurried, Heard, Gone, Here, Telling, Owed, Nobody, Asker, Dropper, Followers, owed_last, asker, follower}
-use Rattle.lobby_desk.specs.Tellings.{Known, is_whole, answer, is_told, watch_front, table_front, leaves, leaves_table, watches_now, table_now, owed_answered, owed_now, left_now, begun_now, last_now, known_now, presence, lost, IsMadeOf, IsNoticeOrNone, IsToldFor, IsToldNext, IsToldHeard, IsTold}
-use Rattle.lobby_desk.specs.Who.{View, BeginsView, IsSaid, IsHeard, IsDropped, IsSentFor, IsSentNext, IsSentHeard, IsDone, IsKnown, who_noted}
-use Rattle.lobby_desk.specs.History.{Step, shown_by, player_said, player_after, player_in, is_drop, name_behind, name_through, name_before, name_in, ActsUnder, ActsRight, NoActs, NoDrops, AllRead, IsOf, known_in, IsArbiter, AsksNow, HasAsked, IsDropOf, IsRight, AreWhole, AllRight, AllTold, IsRun}
-use Rattle.lobby_desk.proofs.Found.{and_first, and_second, and_both}
+use Rattle.lobby_desk.specs.Answers.{is_accepted, first_line, act_game}
+use Rattle.lobby_desk.specs.Watching.{watch_if, sit_if}
+use Rattle.lobby_desk.specs.Events.{Event, Opened, Closed, Said, Hurried, Heard, Gone, Here, Telling, ForItself, ForPositions, ForTable, ForGame, ForAct, Owed, Nobody, Asker, Dropper, Followers, owed_last, sort_asker, asker, followers_of, follower}
+use Rattle.lobby_desk.specs.Tellings.{Known, is_whole, answer, open_now, watch_heard, watch_next, watches_now, table_heard, table_next, table_now, owed_answered, owed_now, known_now, presence, lost, AreToldAll, IsTold}
+use Rattle.lobby_desk.specs.Who.{View, BeginsView, IsSaid, IsHeard, IsDropped, IsSentFor, IsSentNext, IsSentHeard, IsDone, IsKnown, who_noted, name_of, speaker}
+use Rattle.lobby_desk.specs.History.{Step, comes, has_come, shown_by, player_said, player_after, player_in, is_drop, name_behind, name_through, name_before, name_in, ActsUnder, ActsRight, NoActs, NoDrops, AllRead, IsOf, open_in, known_in, IsArbiter, AsksNow, HasAsked, IsDropOf, IsRight, AreWhole, AllRight, AllTold, IsRun}
 use Rattle.lobby_desk.proofs.Numbers.{number_small}
 use Rattle.lobby_desk.proofs.Sent.{is_said_same}
 use Rattle.lobby_desk.proofs.Lines.{show_whole, fen_whole, pgn_whole, list_whole, name_whole, show_reads, fen_reads, pgn_reads, list_reads, name_names}
@@ -289,9 +293,9 @@ plan_good text s said game true sorts.Name message is small named = none_good te
 plan_good text s said game true sorts.Nothing message is small named = none_good text s.who said
 
 -- a message
-said_good : (players : List Player) (old : View) (c : ℕ) (text : List ℕ) (lines : List (List ℕ)) (new : View) →
-    IsSaid players old c text lines new → Good text (old.who c) old.said lines new.said
-said_good players old c text lines new h =
+said_good : (players : List Player) (old : View) (c : ℕ) (text : List ℕ) (lines : List (List ℕ)) (tells : List Telling) (new : View) →
+    IsSaid players old c text lines tells new → Good text (old.who c) old.said lines new.said
+said_good players old c text lines tells new h =
     let game = number_in (rest_of text) in
     let named : IsNamed (plan_of (is_message text) (sort_of text) h.standing (number_in (rest_of text))) = subst IsNamed h.planned h.named in
     let planned = plan_good text h.standing old.said game (is_message text) (sort_of text) refl refl (number_small (rest_of text)) named in
@@ -300,119 +304,113 @@ said_good players old c text lines new h =
     let lined = subst (λ (ls : List (List ℕ)). Good text (old.who c) old.said ls (said_after h.plan old.said)) (sym h.lines_are) by in
     subst (λ (n : Option (List ℕ)). Good text (old.who c) old.said lines n) (sym h.said_is) lined
 
--- what is known of the connections and of the server is what the past says
-pub record Alike (now past : Known) : Type 0 where
-  pub owed : now.owed ≡ past.owed
-  pub left : now.left ≡ past.left
-  pub begun : now.begun ≡ past.begun
-  pub last : now.last ≡ past.last
-  pub watches : (c game : ℕ) → now.watches c game ≡ true → past.watches c game ≡ true
-  pub table : (c : ℕ) → now.table c ≡ true → past.table c ≡ true
+-- what is known is the same if each part of it is
+abbrev known_of : List Owed → ℕ → List ℕ → List ℕ → List Watch → List ℕ → Known
+known_of owed left begun last watches table =
+    record { owed = owed; left = left; begun = begun; last = last; watches = watches; table = table }
 
-or_more : (a b x y : Bool) → (a ≡ true → x ≡ true) → (b ≡ true → y ≡ true) → (a || b) ≡ true → (x || y) ≡ true
-or_more true b x y p q h = ap (λ t. t || y) (p refl)
-or_more false b true y p q h = refl
-or_more false b false y p q h = q h
+same_known : (a b : Known) → a.owed ≡ b.owed → a.left ≡ b.left → a.begun ≡ b.begun → a.last ≡ b.last → a.watches ≡ b.watches →
+    a.table ≡ b.table → a ≡ b
+same_known a b owed left begun last watches table =
+    ap (λ (x : List Owed). known_of x a.left a.begun a.last a.watches a.table) owed
+    ∙ (ap (λ (x : ℕ). known_of b.owed x a.begun a.last a.watches a.table) left
+    ∙ (ap (λ (x : List ℕ). known_of b.owed b.left x a.last a.watches a.table) begun
+    ∙ (ap (λ (x : List ℕ). known_of b.owed b.left b.begun x a.watches a.table) last
+    ∙ (ap (λ (x : List Watch). known_of b.owed b.left b.begun b.last x a.table) watches
+    ∙ ap (λ (x : List ℕ). known_of b.owed b.left b.begun b.last b.watches x) table))))
 
--- whether a connection is told of a game then is whether it is now, unless what comes and goes says otherwise
-watch_more : (event : Event) (tells : List Telling) (c game : ℕ) (a b : Bool) → (a ≡ true → b ≡ true) →
-    watches_now event tells c game a ≡ true → watches_now event tells c game b ≡ true
-watch_more (Opened d) tells c game a b more = more
-watch_more (Closed d) tells c game a b more =
-    elim (d == c) as (λ t. (if t then false else a) ≡ true → (if t then false else b) ≡ true) [ true ↦ λ h. h | false ↦ more ]
-watch_more (Said d text) tells c game a b more =
-    elim (d == c && leaves text game) as (λ t. (if t then false else a) ≡ true → (if t then false else b) ≡ true) [ true ↦ λ h. h | false ↦ more ]
-watch_more (Hurried d) tells c game a b more = more
-watch_more (Heard line) tells c game a b more =
-    or_more a (list_any (is_told c (watch_front game)) tells) b (list_any (is_told c (watch_front game)) tells) more (λ h. h)
-watch_more Gone tells c game a b more = more
-watch_more Here tells c game a b more = more
+-- who watches depends on who is open alone
+watch_alike : (f g : ℕ → Bool) → ((c : ℕ) → f c ≡ g c) → (before : List ℕ) (o : Owed) (watches : List Watch) →
+    watch_heard f before o watches ≡ watch_heard g before o watches
+watch_alike f g same before Nobody watches = refl
+watch_alike f g same before (Asker c ForItself) watches = refl
+watch_alike f g same before (Asker c ForPositions) watches = refl
+watch_alike f g same before (Asker c ForTable) watches = refl
+watch_alike f g same before (Asker c (ForGame game)) watches = ap (λ (b : Bool). watch_if (is_accepted before && b) c game watches) (same c)
+watch_alike f g same before (Asker c (ForAct by text)) watches = refl
+watch_alike f g same before (Dropper c by text) watches = refl
+watch_alike f g same before (Followers game act is_table) watches = refl
 
-table_more : (event : Event) (tells : List Telling) (c : ℕ) (a b : Bool) → (a ≡ true → b ≡ true) →
-    table_now event tells c a ≡ true → table_now event tells c b ≡ true
-table_more (Opened d) tells c a b more = more
-table_more (Closed d) tells c a b more =
-    elim (d == c) as (λ t. (if t then false else a) ≡ true → (if t then false else b) ≡ true) [ true ↦ λ h. h | false ↦ more ]
-table_more (Said d text) tells c a b more =
-    elim (d == c && leaves_table text) as (λ t. (if t then false else a) ≡ true → (if t then false else b) ≡ true) [ true ↦ λ h. h | false ↦ more ]
-table_more (Hurried d) tells c a b more = more
-table_more (Heard line) tells c a b more =
-    or_more a (list_any (is_told c table_front) tells) b (list_any (is_told c table_front) tells) more (λ h. h)
-table_more Gone tells c a b more = more
-table_more Here tells c a b more = more
+watch_next_alike : (f g : ℕ → Bool) → ((c : ℕ) → f c ≡ g c) → (before : List ℕ) (owed : List Owed) (watches : List Watch) →
+    watch_next f before owed watches ≡ watch_next g before owed watches
+watch_next_alike f g same before [] watches = refl
+watch_next_alike f g same before (o ∷ owed) watches = watch_alike f g same before o watches
 
-alike_then : (event : Event) (lines : List (List ℕ)) (tells : List Telling) (old new past : Known) →
-    IsKnown event lines tells old new → Alike old past → Alike new (known_now event lines tells past)
-alike_then event lines tells old new past known alike = record {
-  owed = known.owed ∙ (ap (λ n. owed_now event lines n old.owed) alike.left ∙ ap (owed_now event lines past.left) alike.owed);
-  left = known.left ∙ ap (left_now event) alike.left;
-  begun = known.begun ∙ (ap (λ n. begun_now event n old.begun) alike.left ∙ ap (begun_now event past.left) alike.begun);
-  last = known.last ∙ (ap (λ n. last_now event n old.begun old.last) alike.left
-      ∙ (ap (λ t. last_now event past.left t old.last) alike.begun ∙ ap (last_now event past.left past.begun) alike.last));
-  watches = λ c game h. watch_more event tells c game (old.watches c game) (past.watches c game) (alike.watches c game) (known.watches c game h);
-  table = λ c h. table_more event tells c (old.table c) (past.table c) (alike.table c) (known.table c h);
-}
+watches_alike : (event : Event) (f g : ℕ → Bool) → ((c : ℕ) → f c ≡ g c) → (k : Known) → watches_now event f k ≡ watches_now event g k
+watches_alike (Opened c) f g same k = refl
+watches_alike (Closed c) f g same k = refl
+watches_alike (Said c text) f g same k = refl
+watches_alike (Hurried c) f g same k = refl
+watches_alike (Heard line) f g same k =
+    ap (λ (watches : List Watch). if is_whole k.left line then watches else k.watches) (watch_next_alike f g same k.last k.owed k.watches)
+watches_alike Gone f g same k = refl
+watches_alike Here f g same k = refl
 
--- who is told of a notice watches, as far as the past says
-all_more : (f g : ℕ → Bool) → ((c : ℕ) → f c ≡ true → g c ≡ true) → (to : List ℕ) → list_all f to ≡ true → list_all g to ≡ true
-all_more f g more [] h = refl
-all_more f g more (c ∷ cs) h =
-    and_both (g c) (list_all g cs) (more c (and_first (f c) (list_all f cs) h)) (all_more f g more cs (and_second (f c) (list_all f cs) h))
+-- and so does who is told of the table
+table_alike : (f g : ℕ → Bool) → ((c : ℕ) → f c ≡ g c) → (o : Owed) (table : List ℕ) → table_heard f o table ≡ table_heard g o table
+table_alike f g same Nobody table = refl
+table_alike f g same (Asker c ForItself) table = refl
+table_alike f g same (Asker c ForPositions) table = refl
+table_alike f g same (Asker c ForTable) table = ap (λ (b : Bool). sit_if b c table) (same c)
+table_alike f g same (Asker c (ForGame game)) table = refl
+table_alike f g same (Asker c (ForAct by text)) table = refl
+table_alike f g same (Dropper c by text) table = refl
+table_alike f g same (Followers game act is_table) table = refl
 
-notice_alike : (old past : Known) → Alike old past → (game : ℕ) (now : List ℕ) (tells : List Telling) →
-    IsNoticeOrNone old game now tells → IsNoticeOrNone past game now tells
-notice_alike old past alike game now [] h = tt
-notice_alike old past alike game now (t ∷ []) h = record {
-  to = all_more (λ c. old.watches c game || old.table c) (λ c. past.watches c game || past.table c)
-      (λ c. or_more (old.watches c game) (old.table c) (past.watches c game) (past.table c) (alike.watches c game) (alike.table c)) t.to h.to;
-  act = h.act;
-  text = h.text ∙ ap (λ (last : List ℕ). codes "told " ++ decimal game ++ codes "\n" ++ h.act ++ last ++ now) alike.last;
-}
-notice_alike old past alike game now (t ∷ next ∷ tells) h = h
+table_next_alike : (f g : ℕ → Bool) → ((c : ℕ) → f c ≡ g c) → (owed : List Owed) (table : List ℕ) → table_next f owed table ≡ table_next g owed table
+table_next_alike f g same [] table = refl
+table_next_alike f g same (o ∷ owed) table = table_alike f g same o table
 
-followers_alike : (old past : Known) → Alike old past → (game : Option ℕ) (now : List ℕ) (tells : List Telling) →
-    IfSome game (λ g. IsNoticeOrNone old g now tells) → IfSome game (λ g. IsNoticeOrNone past g now tells)
-followers_alike old past alike None now tells h = h
-followers_alike old past alike (Some game) now tells h = notice_alike old past alike game now tells h
+tables_alike : (event : Event) (f g : ℕ → Bool) → ((c : ℕ) → f c ≡ g c) → (k : Known) → table_now event f k ≡ table_now event g k
+tables_alike (Opened c) f g same k = refl
+tables_alike (Closed c) f g same k = refl
+tables_alike (Said c text) f g same k = refl
+tables_alike (Hurried c) f g same k = refl
+tables_alike (Heard line) f g same k =
+    ap (λ (table : List ℕ). if is_whole k.left line then table else k.table) (table_next_alike f g same k.owed k.table)
+tables_alike Gone f g same k = refl
+tables_alike Here f g same k = refl
 
-told_for_alike : (old past : Known) → Alike old past → (o : Owed) (now : List ℕ) (lines : List (List ℕ)) (tells : List Telling) →
-    IsToldFor old o now lines tells → IsToldFor past o now lines tells
-told_for_alike old past alike Nobody now lines tells h = h
-told_for_alike old past alike (Asker c) now lines tells h =
-    (h.0, subst (λ (last : List ℕ). IsMadeOf last now h.0) alike.last h.1, h.2)
-told_for_alike old past alike (Dropper c text) now [] tells h = h
-told_for_alike old past alike (Dropper c text) now (line ∷ lines) tells h = h
-told_for_alike old past alike (Followers game) now lines tells h = (h.0, followers_alike old past alike game now tells h.1)
+known_alike : (event : Event) (by : List ℕ) (lines : List (List ℕ)) (f g : ℕ → Bool) → ((c : ℕ) → f c ≡ g c) → (k : Known) →
+    known_now event by lines f k ≡ known_now event by lines g k
+known_alike event by lines f g same k =
+    same_known (known_now event by lines f k) (known_now event by lines g k) refl refl refl refl (watches_alike event f g same k) (tables_alike event f g same k)
 
-told_next_alike : (old past : Known) → Alike old past → (owed : List Owed) (now : List ℕ) (lines : List (List ℕ)) (tells : List Telling) →
-    IsToldNext old owed now lines tells → IsToldNext past owed now lines tells
-told_next_alike old past alike [] now lines tells h = h
-told_next_alike old past alike (o ∷ owed) now lines tells h = told_for_alike old past alike o now lines tells h
+-- what is known of the connections and of the server then is what the past says
+known_then : (event : Event) (by : List ℕ) (lines : List (List ℕ)) (f g : ℕ → Bool) → ((c : ℕ) → f c ≡ g c) → (old new past : Known) →
+    IsKnown event by lines f old new → old ≡ past → new ≡ known_now event by lines g past
+known_then event by lines f g same old new past known is =
+    same_known new (known_now event by lines f old) known.owed known.left known.begun known.last known.watches known.table
+    ∙ (known_alike event by lines f g same old ∙ ap (λ (k : Known). known_now event by lines g k) is)
 
-told_heard_alike : (old past : Known) → Alike old past → (b : Bool) (now : List ℕ) (lines : List (List ℕ)) (tells : List Telling) →
-    IsToldHeard b old now lines tells → IsToldHeard b past now lines tells
-told_heard_alike old past alike false now lines tells h = h
-told_heard_alike old past alike true now lines tells h =
-    subst (λ (owed : List Owed). IsToldNext past owed now lines tells) alike.owed (told_next_alike old past alike old.owed now lines tells h)
+-- for whom a connection acts that speaks
+speaker_alike : (f g : ℕ → Option Identity) → ((c : ℕ) → f c ≡ g c) → (event : Event) → speaker f event ≡ speaker g event
+speaker_alike f g same (Opened c) = refl
+speaker_alike f g same (Closed c) = refl
+speaker_alike f g same (Said c text) = ap name_of (same c)
+speaker_alike f g same (Hurried c) = refl
+speaker_alike f g same (Heard line) = refl
+speaker_alike f g same Gone = refl
+speaker_alike f g same Here = refl
 
 -- what connections are told is right by what the past says
-told_alike : (event : Event) (lines : List (List ℕ)) (tells : List Telling) (old past : Known) → Alike old past →
-    IsTold event lines tells old → IsTold event lines tells past
-told_alike (Opened c) lines tells old past alike h = h
-told_alike (Closed c) lines tells old past alike h = h
-told_alike (Said c text) lines tells old past alike h = h
-told_alike (Hurried c) lines tells old past alike h = h
-told_alike (Heard line) lines tells old past alike h =
-    let here = told_heard_alike old past alike (is_whole old.left line) (answer old.begun line) lines tells h in
-    let begun = subst (λ (begun : List ℕ). IsToldHeard (is_whole old.left line) past (answer begun line) lines tells) alike.begun here in
-    subst (λ (left : ℕ). IsToldHeard (is_whole left line) past (answer past.begun line) lines tells) alike.left begun
-told_alike Gone lines tells old past alike h =
-    (h.0, h.1 ∙ ap (λ (owed : List Owed). lost owed ++ record { to = h.0; text = presence false } ∷ []) alike.owed)
-told_alike Here lines tells old past alike h = h
+all_alike : (f g : ℕ → Bool) → ((c : ℕ) → f c ≡ g c) → (first : List Telling) (text : List ℕ) (tells : List Telling) →
+    AreToldAll f first text tells → AreToldAll g first text tells
+all_alike f g same first text tells h = (h.0, λ c. h.1 c ∙ same c, h.2)
+
+told_alike : (event : Event) (lines : List (List ℕ)) (tells : List Telling) (f g : ℕ → Bool) → ((c : ℕ) → f c ≡ g c) → (k : Known) →
+    IsTold event lines tells f k → IsTold event lines tells g k
+told_alike (Opened c) lines tells f g same k h = h
+told_alike (Closed c) lines tells f g same k h = h
+told_alike (Said c text) lines tells f g same k h = (sym (same c) ∙ h.0, h.1, h.2)
+told_alike (Hurried c) lines tells f g same k h = (sym (same c) ∙ h.0, h.1, h.2)
+told_alike (Heard line) lines tells f g same k h = h
+told_alike Gone lines tells f g same k h = all_alike f g same (lost k.owed) (presence false) tells h
+told_alike Here lines tells f g same k h = all_alike f g same (lost k.owed) (presence true) tells h
 
 -- each drop that waits was asked for
 abbrev pub IsAsked : List Player → List Step → Owed → Type 0
-IsAsked players past (Dropper c text) = HasAsked players past c text
+IsAsked players past (Dropper c by text) = HasAsked players past c text
 IsAsked players past _ = Unit {0}
 
 abbrev pub AreAsked : List Player → List Step → List Owed → Type 0
@@ -420,9 +418,9 @@ AreAsked players past owed = AllByRecursion (IsAsked players past) owed
 
 asked_later : (players : List Player) (s : Step) (past : List Step) (o : Owed) → IsAsked players past o → IsAsked players (s ∷ past) o
 asked_later players s past Nobody h = tt
-asked_later players s past (Asker c) h = tt
-asked_later players s past (Dropper c text) h = inr h
-asked_later players s past (Followers game) h = tt
+asked_later players s past (Asker c ask) h = tt
+asked_later players s past (Dropper c by text) h = inr h
+asked_later players s past (Followers game act is_table) h = tt
 
 are_asked_later : (players : List Player) (s : Step) (past : List Step) (owed : List Owed) → AreAsked players past owed → AreAsked players (s ∷ past) owed
 are_asked_later players s past [] h = tt
@@ -437,23 +435,31 @@ wait_last players past o h [] = tt
 wait_last players past o h (line ∷ []) = (h, tt)
 wait_last players past o h (line ∷ next ∷ lines) = (tt, wait_last players past o h (next ∷ lines))
 
-asked_follower : (players : List Player) (past : List Step) (o : Owed) (lines : List (List ℕ)) → IsAsked players past (follower o lines)
-asked_follower players past Nobody lines = tt
-asked_follower players past (Asker c) lines = tt
-asked_follower players past (Dropper c text) lines = tt
-asked_follower players past (Followers game) lines = tt
+asked_followers : (players : List Player) (past : List Step) (game : Option ℕ) (by text now : List ℕ) → IsAsked players past (followers_of game by text now)
+asked_followers players past None by text now = tt
+asked_followers players past (Some game) by text now = tt
 
-asked_answered : (players : List Player) (past : List Step) (owed : List Owed) (lines : List (List ℕ)) → AreAsked players past owed →
-    AreAsked players past (owed_answered owed lines)
-asked_answered players past [] lines h = tt
-asked_answered players past (o ∷ owed) lines h =
-    are_asked_both players past owed (owed_last (follower o lines) lines) h.1
-    (wait_last players past (follower o lines) (asked_follower players past o lines) lines)
+asked_follower : (players : List Player) (past : List Step) (o : Owed) (now : List ℕ) → IsAsked players past (follower o now)
+asked_follower players past Nobody now = tt
+asked_follower players past (Asker c ForItself) now = tt
+asked_follower players past (Asker c ForPositions) now = tt
+asked_follower players past (Asker c ForTable) now = tt
+asked_follower players past (Asker c (ForGame game)) now = tt
+asked_follower players past (Asker c (ForAct by text)) now = asked_followers players past (act_game now) by text now
+asked_follower players past (Dropper c by text) now = tt
+asked_follower players past (Followers game act is_table) now = tt
 
-asked_heard : (players : List Player) (past : List Step) (owed : List Owed) (lines : List (List ℕ)) → AreAsked players past owed →
-    (b : Bool) → AreAsked players past (if b then owed_answered owed lines else owed)
-asked_heard players past owed lines h true = asked_answered players past owed lines h
-asked_heard players past owed lines h false = h
+asked_answered : (players : List Player) (past : List Step) (owed : List Owed) (now : List ℕ) (lines : List (List ℕ)) → AreAsked players past owed →
+    AreAsked players past (owed_answered owed now lines)
+asked_answered players past [] now lines h = tt
+asked_answered players past (o ∷ owed) now lines h =
+    are_asked_both players past owed (owed_last (follower o now) lines) h.1
+    (wait_last players past (follower o now) (asked_follower players past o now) lines)
+
+asked_heard : (players : List Player) (past : List Step) (owed : List Owed) (now : List ℕ) (lines : List (List ℕ)) → AreAsked players past owed →
+    (b : Bool) → AreAsked players past (if b then owed_answered owed now lines else owed)
+asked_heard players past owed now lines h true = asked_answered players past owed now lines h
+asked_heard players past owed now lines h false = h
 
 -- where something goes out for a message that asks for a drop, an arbiter asks
 abbrev pub AsksDrop : Bool → List (List ℕ) → Option Identity → Bool → Type 0
@@ -500,30 +506,54 @@ asks_at true sorts.Line s game said text = tt
 asks_at true sorts.Name s game said text = tt
 asks_at true sorts.Nothing s game said text = tt
 
-said_asks : (players : List Player) (old : View) (c : ℕ) (text : List ℕ) (lines : List (List ℕ)) (new : View) →
-    IsSaid players old c text lines new → AsksDrop (is_drop text) lines (old.who c) (is_message text)
-said_asks players old c text lines new h =
+said_asks : (players : List Player) (old : View) (c : ℕ) (text : List ℕ) (lines : List (List ℕ)) (tells : List Telling) (new : View) →
+    IsSaid players old c text lines tells new → AsksDrop (is_drop text) lines (old.who c) (is_message text)
+said_asks players old c text lines tells new h =
     let planned = asks_at (is_message text) (sort_of text) h.standing (number_in (rest_of text)) old.said text in
     let by_plan = subst (λ (plan : Plan). AsksDrop (is_drop text) (lines_of plan old.said text) h.standing.who (is_message text)) (sym h.planned) planned in
     let lined = subst (λ (ls : List (List ℕ)). AsksDrop (is_drop text) ls h.standing.who (is_message text)) (sym h.lines_are) by_plan in
     subst (λ (who : Option Identity). AsksDrop (is_drop text) lines who (is_message text)) h.who lined
 
-asker_asked : (players : List Player) (past : List Step) (c : ℕ) (text : List ℕ) (all lines : List (List ℕ)) (tells : List Telling) (b : Bool) →
-    is_drop text ≡ b → AsksDrop b lines (player_in players past c) (is_message text) →
-    AreAsked players (record { event = Said c text; lines = all; tells = tells } ∷ past) (owed_last (if b then Dropper c text else Asker c) lines)
-asker_asked players past c text all [] tells b is asks = tt
-asker_asked players past c text all (line ∷ lines) tells true is asks =
-    wait_last players (record { event = Said c text; lines = all; tells = tells } ∷ past) (Dropper c text)
-    (inl (refl, refl, asks.0, asks.1, is)) (line ∷ lines)
-asker_asked players past c text all (line ∷ lines) tells false is asks =
-    wait_last players (record { event = Said c text; lines = all; tells = tells } ∷ past) (Asker c) tt (line ∷ lines)
+-- the answer to a message is owed to a drop that was asked for, if to any
+asked_if_drop : (players : List Player) (past : List Step) (c : ℕ) (by text : List ℕ) (sort : Sort) (game : Option ℕ) →
+    (is_drop_sort sort ≡ true → HasAsked players past c text) → IsAsked players past (sort_asker sort game c by text)
+asked_if_drop players past c by text sorts.Read game h = tt
+asked_if_drop players past c by text sorts.Act game h = tt
+asked_if_drop players past c by text sorts.Drop game h = h refl
+asked_if_drop players past c by text sorts.Login game h = tt
+asked_if_drop players past c by text sorts.Players game h = tt
+asked_if_drop players past c by text sorts.Lobby game h = tt
+asked_if_drop players past c by text sorts.LeaveLobby game h = tt
+asked_if_drop players past c by text sorts.Watch game h = tt
+asked_if_drop players past c by text sorts.Leave game h = tt
+asked_if_drop players past c by text sorts.Line game h = tt
+asked_if_drop players past c by text sorts.Name game h = tt
+asked_if_drop players past c by text sorts.Nothing game h = tt
+
+asked_by : (players : List Player) (past : List Step) (c : ℕ) (text : List ℕ) (all : List (List ℕ)) (line : List ℕ) (lines : List (List ℕ)) (tells : List Telling) →
+    AsksDrop (is_drop text) (line ∷ lines) (player_in players past c) (is_message text) → is_drop text ≡ true →
+    HasAsked players (record { event = Said c text; lines = all; tells = tells } ∷ past) c text
+asked_by players past c text all line lines tells asks is =
+    let by = subst (λ (b : Bool). AsksDrop b (line ∷ lines) (player_in players past c) (is_message text)) is asks in
+    inl (refl, refl, by.0, by.1, is)
+
+asker_asked : (players : List Player) (past : List Step) (c : ℕ) (by text : List ℕ) (all lines : List (List ℕ)) (tells : List Telling) →
+    AsksDrop (is_drop text) lines (player_in players past c) (is_message text) →
+    AreAsked players (record { event = Said c text; lines = all; tells = tells } ∷ past) (owed_last (asker c by text) lines)
+asker_asked players past c by text all [] tells asks = tt
+asker_asked players past c by text all (line ∷ lines) tells asks =
+    wait_last players (record { event = Said c text; lines = all; tells = tells } ∷ past) (asker c by text)
+    (asked_if_drop players (record { event = Said c text; lines = all; tells = tells } ∷ past) c by text (sort_of text) (number_in (rest_of text))
+    (asked_by players past c text all line lines tells asks)) (line ∷ lines)
 
 -- what is seen of the desk is what the past says
 pub record Agrees (players : List Player) (past : List Step) (now : View) : Type 0 where
   pub who : (c : ℕ) → now.who c ≡ player_in players past c
   pub said : now.said ≡ name_in past
-  pub alike : Alike now.known (known_in past)
+  pub opens : (c : ℕ) → now.is_open c ≡ open_in past c
+  pub known : now.known ≡ known_in players past
   pub asked : AreAsked players past now.known.owed
+  pub came : (c : ℕ) → has_come past c ≡ true → c < now.next
 
 record DoneGood (players : List Player) (past : List Step) (event : Event) (lines : List (List ℕ)) (now : View) : Type 0 where
   who : (c : ℕ) → now.who c ≡ player_after players event c (player_in players past c)
@@ -531,9 +561,9 @@ record DoneGood (players : List Player) (past : List Step) (event : Event) (line
   right : IsRight players past event lines
   whole : AreWhole lines
 
-said_who : (players : List Player) (old : View) (c : ℕ) (text : List ℕ) (lines : List (List ℕ)) (new : View) →
-    IsSaid players old c text lines new → (d : ℕ) → new.who d ≡ player_after players (Said c text) d (old.who d)
-said_who players old c text lines new h d =
+said_who : (players : List Player) (old : View) (c : ℕ) (text : List ℕ) (lines : List (List ℕ)) (tells : List Telling) (new : View) →
+    IsSaid players old c text lines tells new → (d : ℕ) → new.who d ≡ player_after players (Said c text) d (old.who d)
+said_who players old c text lines tells new h d =
     let plan : who_noted h.plan (old.who d) ≡ player_said players text (old.who d) =
     ap (λ (plan : Plan). who_noted plan (old.who d)) h.planned
     ∙ (planned_who (is_message text) (sort_of text) h.standing (number_in (rest_of text)) (old.who d)
@@ -543,6 +573,17 @@ said_who players old c text lines new h d =
 notice_read : (game : Option ℕ) → IfSome game (λ g. g < 2 ^ 32) → AllRead (notice_lines game) × AreWhole (notice_lines game)
 notice_read None small = (tt, tt)
 notice_read (Some game) small = ((show_reads game, (fen_reads game, tt)), (show_whole game small, (fen_whole game small, tt)))
+
+-- the game that an answer names is small
+game_small : (a b : Bool) (x y : List ℕ) → IfSome (if a then number_in x else (if b then number_in y else None)) (λ g. g < 2 ^ 32)
+game_small true b x y = number_small x
+game_small false true x y = number_small y
+game_small false false x y = tt
+
+act_game_small : (now : List ℕ) → IfSome (act_game now) (λ g. g < 2 ^ 32)
+act_game_small now =
+    let line = first_line now in
+    game_small (bytes_eq (word_of line) (codes "ok")) (bytes_eq (word_of line) (codes "fallen")) (word_of (rest_of (rest_of line))) (word_of (rest_of line))
 
 -- what goes out for an answer
 record HeardGood (players : List Player) (past : List Step) (line : List ℕ) (lines : List (List ℕ)) (later : Option (List ℕ)) : Type 0 where
@@ -597,17 +638,18 @@ drop_names_none sorts.Line h = absurd (false≢true h)
 drop_names_none sorts.Name h = absurd (false≢true h)
 drop_names_none sorts.Nothing h = absurd (false≢true h)
 
-dropped_heard : (players : List Player) (past : List Step) (line : List ℕ) (c : ℕ) (text : List ℕ) (others : List Owed) →
-    (known_in past).owed ≡ Dropper c text ∷ others → HasAsked players past c text →
-    (lines : List (List ℕ)) (later : Option (List ℕ)) → IsDropped (name_in past) (answer (known_in past).begun line) text lines later →
+dropped_heard : (players : List Player) (past : List Step) (line : List ℕ) (c : ℕ) (by text : List ℕ) (others : List Owed) →
+    (known_in players past).owed ≡ Dropper c by text ∷ others → HasAsked players past c text →
+    (lines : List (List ℕ)) (later : Option (List ℕ)) → IsDropped (name_in past) (answer (known_in players past).begun line) text lines later →
     HeardGood players past line lines later
-dropped_heard players past line c text others waits asked lines later h =
+dropped_heard players past line c by text others waits asked lines later h =
     let was = was_asked players past c text asked in
     let under = act_under text h.name (name_in past) (sort_of text) was.message refl (drop_names_none (sort_of text) was.drop) h.named in
     record {
       said = h.said_is ∙ (under.later ∙ ap (name_through (name_in past)) (sym h.lines_are));
       right = inr (record {
         c = c;
+        by = by;
         text = text;
         asked = asked;
         others = others;
@@ -620,38 +662,66 @@ dropped_heard players past line c text others waits asked lines later h =
       whole = subst AreWhole (sym h.lines_are) under.whole;
     }
 
-sent_for : (players : List Player) (past : List Step) (line : List ℕ) (o : Owed) (others : List Owed) → (known_in past).owed ≡ o ∷ others →
+sent_for : (players : List Player) (past : List Step) (line : List ℕ) (o : Owed) (others : List Owed) → (known_in players past).owed ≡ o ∷ others →
     IsAsked players past o → (lines : List (List ℕ)) (later : Option (List ℕ)) →
-    IsSentFor o (name_in past) (answer (known_in past).begun line) lines later → HeardGood players past line lines later
+    IsSentFor o (name_in past) (answer (known_in players past).begun line) lines later → HeardGood players past line lines later
 sent_for players past line Nobody others waits asked lines later h = heard_none players past line lines later h.1 h.0
-sent_for players past line (Asker c) others waits asked lines later h =
-    let asks = notice_read h.0 h.1 in
-    heard_reads players past line lines later h.3 (subst AllRead (sym h.2) asks.0) (subst AreWhole (sym h.2) asks.1)
-sent_for players past line (Dropper c text) others waits asked lines later h =
+sent_for players past line (Asker c ForItself) others waits asked lines later h = heard_none players past line lines later h.1 h.0
+sent_for players past line (Asker c ForPositions) others waits asked lines later h = heard_none players past line lines later h.1 h.0
+sent_for players past line (Asker c ForTable) others waits asked lines later h = heard_none players past line lines later h.1 h.0
+sent_for players past line (Asker c (ForGame game)) others waits asked lines later h = heard_none players past line lines later h.1 h.0
+sent_for players past line (Asker c (ForAct by text)) others waits asked lines later h =
+    let now = answer (known_in players past).begun line in
+    let asks = notice_read (act_game now) (act_game_small now) in
+    heard_reads players past line lines later h.1 (subst AllRead (sym h.0) asks.0) (subst AreWhole (sym h.0) asks.1)
+sent_for players past line (Dropper c by text) others waits asked lines later h =
     elim h [
-      | inl none ↦ heard_none players past line lines later none.1 none.0
-      | inr goes ↦ dropped_heard players past line c text others waits asked lines later goes
+      | inl none ↦ heard_none players past line lines later none.said_is none.none
+      | inr goes ↦ dropped_heard players past line c by text others waits asked lines later goes
     ]
-sent_for players past line (Followers game) others waits asked lines later h = heard_none players past line lines later h.1 h.0
+sent_for players past line (Followers game act is_table) others waits asked lines later h = heard_none players past line lines later h.1 h.0
 
-sent_next : (players : List Player) (past : List Step) (line : List ℕ) (owed : List Owed) → (known_in past).owed ≡ owed →
+sent_next : (players : List Player) (past : List Step) (line : List ℕ) (owed : List Owed) → (known_in players past).owed ≡ owed →
     AreAsked players past owed → (lines : List (List ℕ)) (later : Option (List ℕ)) →
-    IsSentNext owed (name_in past) (answer (known_in past).begun line) lines later → HeardGood players past line lines later
+    IsSentNext owed (name_in past) (answer (known_in players past).begun line) lines later → HeardGood players past line lines later
 sent_next players past line [] waits asked lines later h = heard_none players past line lines later h.1 h.0
 sent_next players past line (o ∷ owed) waits asked lines later h = sent_for players past line o owed waits asked.0 lines later h
 
-sent_heard : (players : List Player) (past : List Step) (line : List ℕ) (owed : List Owed) → (known_in past).owed ≡ owed →
+sent_heard : (players : List Player) (past : List Step) (line : List ℕ) (owed : List Owed) → (known_in players past).owed ≡ owed →
     AreAsked players past owed → (lines : List (List ℕ)) (later : Option (List ℕ)) (b : Bool) →
-    IsSentHeard b owed (name_in past) (answer (known_in past).begun line) lines later → HeardGood players past line lines later
+    IsSentHeard b owed (name_in past) (answer (known_in players past).begun line) lines later → HeardGood players past line lines later
 sent_heard players past line owed waits asked lines later false h = heard_none players past line lines later h.1 h.0
 sent_heard players past line owed waits asked lines later true h = sent_next players past line owed waits asked lines later h
 
 heard_good : (players : List Player) (past : List Step) (old : View) (line : List ℕ) (lines : List (List ℕ)) (now : View) →
     Agrees players past old → IsHeard old line lines now → HeardGood players past line lines now.said
 heard_good players past old line lines now agrees h =
+    let k = known_in players past in
     let said = subst (λ (n : Option (List ℕ)). IsSentHeard (is_whole old.known.left line) old.known.owed n (answer old.known.begun line) lines now.said) agrees.said h.sent in
-    let begun = subst (λ (t : List ℕ). IsSentHeard (is_whole old.known.left line) old.known.owed (name_in past) (answer t line) lines now.said) agrees.alike.begun said in
-    sent_heard players past line old.known.owed (sym agrees.alike.owed) agrees.asked lines now.said (is_whole old.known.left line) begun
+    let known = subst (λ (k : Known). IsSentHeard (is_whole k.left line) k.owed (name_in past) (answer k.begun line) lines now.said) agrees.known said in
+    sent_heard players past line k.owed refl (subst (λ (k : Known). AreAsked players past k.owed) agrees.known agrees.asked) lines now.said (is_whole k.left line) known
+
+-- no number comes that came before
+not_come : (b : Bool) (c : ℕ) → (b ≡ true → c < c) → b ≡ false
+not_come false c h = refl
+not_come true c h = let less : c < c = h refl in absurd (omega (arith, less))
+
+-- each number that came is below the next
+came_more : (a b : Bool) (d c old now : ℕ) → d ≡ old → now ≡ d + 1 → (a ≡ true → d ≡ c) → (b ≡ true → c < old) → (a || b) ≡ true → c < now
+came_more true b d c old now is next same before h = let one : d ≡ c = same refl in omega (arith, is, next, one)
+came_more false b d c old now is next same before h = let less : c < old = before h in omega (arith, is, next, less)
+
+came_then : (players : List Player) (past : List Step) (old : View) (event : Event) (lines : List (List ℕ)) (tells : List Telling) (now : View) →
+    Agrees players past old → IsDone players old event lines tells now →
+    (c : ℕ) → (comes event c || has_come past c) ≡ true → c < now.next
+came_then players past old (Opened d) lines tells now agrees step c h =
+    came_more (d == c) (has_come past c) d c old.next now.next step.number step.next_is (Decides-eqb d c).0 (agrees.came c) h
+came_then players past old (Closed d) lines tells now agrees step c h = subst (λ (n : ℕ). c < n) (sym step.next_is) (agrees.came c h)
+came_then players past old (Said d text) lines tells now agrees step c h = subst (λ (n : ℕ). c < n) (sym step.next_is) (agrees.came c h)
+came_then players past old (Hurried d) lines tells now agrees step c h = subst (λ (n : ℕ). c < n) (sym step.next_is) (agrees.came c h)
+came_then players past old (Heard line) lines tells now agrees step c h = subst (λ (n : ℕ). c < n) (sym step.next_is) (agrees.came c h)
+came_then players past old Gone lines tells now agrees step c h = subst (λ (n : ℕ). c < n) (sym step.next_is) (agrees.came c h)
+came_then players past old Here lines tells now agrees step c h = subst (λ (n : ℕ). c < n) (sym step.next_is) (agrees.came c h)
 
 none_done : (players : List Player) (past : List Step) (event : Event) (lines : List (List ℕ)) (now : View) →
     (lines ≡ [] → IsRight players past event lines) → lines ≡ [] → now.said ≡ name_before event (name_in past) →
@@ -663,21 +733,22 @@ none_done players past event lines now right none said who = record {
   whole = subst AreWhole (sym none) tt;
 }
 
-done_good : (players : List Player) (past : List Step) (old : View) (event : Event) (lines : List (List ℕ)) (now : View) →
-    Agrees players past old → IsDone players old event lines now → DoneGood players past event lines now
-done_good players past old (Opened c) lines now agrees step =
-    none_done players past (Opened c) lines now (λ none. none) step.none (step.said_is ∙ agrees.said)
-    (λ d. step.who_is d ∙ ap (λ (before : Option Identity). if c == d then None else before) (agrees.who d))
-done_good players past old (Closed c) lines now agrees step =
-    none_done players past (Closed c) lines now (λ none. none) step.none (step.said_is ∙ agrees.said)
-    (λ d. step.who_is d ∙ ap (λ (before : Option Identity). if c == d then None else before) (agrees.who d))
-done_good players past old (Hurried c) lines now agrees step =
+done_good : (players : List Player) (past : List Step) (old : View) (event : Event) (lines : List (List ℕ)) (tells : List Telling) (now : View) →
+    Agrees players past old → IsDone players old event lines tells now → DoneGood players past event lines now
+done_good players past old (Opened c) lines tells now agrees step =
+    none_done players past (Opened c) lines now
+    (λ none. (none, not_come (has_come past c) c (λ h. subst (λ (n : ℕ). c < n) (sym step.number) (agrees.came c h)))) step.moved.none (step.moved.said_is ∙ agrees.said)
+    (λ d. step.moved.who_is d ∙ ap (λ (before : Option Identity). if c == d then None else before) (agrees.who d))
+done_good players past old (Closed c) lines tells now agrees step =
+    none_done players past (Closed c) lines now (λ none. none) step.moved.none (step.moved.said_is ∙ agrees.said)
+    (λ d. step.moved.who_is d ∙ ap (λ (before : Option Identity). if c == d then None else before) (agrees.who d))
+done_good players past old (Hurried c) lines tells now agrees step =
     none_done players past (Hurried c) lines now (λ none. none) step.none (step.said_is ∙ agrees.said)
     (λ d. step.who_is d ∙ agrees.who d)
-done_good players past old (Said c text) lines now agrees step =
-    let good = said_good players old c text lines now step in
+done_good players past old (Said c text) lines tells now agrees step =
+    let good = said_good players old c text lines tells now step in
     record {
-      who = λ d. said_who players old c text lines now step d ∙ ap (λ (before : Option Identity). player_after players (Said c text) d before) (agrees.who d);
+      who = λ d. said_who players old c text lines tells now step d ∙ ap (λ (before : Option Identity). player_after players (Said c text) d before) (agrees.who d);
       said = good.name ∙ ap (λ (n : Option (List ℕ)). name_through n lines) agrees.said;
       right = (
         subst (λ (n : Option (List ℕ)). ActsRight (player_in players past c) n lines) agrees.said
@@ -687,65 +758,68 @@ done_good players past old (Said c text) lines now agrees step =
       );
       whole = good.whole;
     }
-done_good players past old (Heard line) lines now agrees step =
+done_good players past old (Heard line) lines tells now agrees step =
     let good = heard_good players past old line lines now agrees step in
     record { who = λ d. step.who_is d ∙ agrees.who d; said = good.said; right = good.right; whole = good.whole }
-done_good players past old Gone lines now agrees step =
+done_good players past old Gone lines tells now agrees step =
     none_done players past Gone lines now (λ none. none) step.none step.said_is (λ d. step.who_is d ∙ agrees.who d)
-done_good players past old Here lines now agrees step =
+done_good players past old Here lines tells now agrees step =
     none_done players past Here lines now (λ none. none) step.none step.said_is (λ d. step.who_is d ∙ agrees.who d)
 
 -- each drop that waits then was asked for
 asked_then : (players : List Player) (past : List Step) (old : View) (event : Event) (lines : List (List ℕ)) (tells : List Telling) (now : View) →
-    Agrees players past old → IsDone players old event lines now →
-    AreAsked players (record { event = event; lines = lines; tells = tells } ∷ past) (owed_now event lines old.known.left old.known.owed)
+    Agrees players past old → IsDone players old event lines tells now →
+    AreAsked players (record { event = event; lines = lines; tells = tells } ∷ past) (owed_now event (speaker old.who event) lines old.known)
 asked_then players past old (Opened c) lines tells now agrees step = are_asked_later players (record { event = Opened c; lines = lines; tells = tells }) past old.known.owed agrees.asked
 asked_then players past old (Closed c) lines tells now agrees step = are_asked_later players (record { event = Closed c; lines = lines; tells = tells }) past old.known.owed agrees.asked
 asked_then players past old (Hurried c) lines tells now agrees step = are_asked_later players (record { event = Hurried c; lines = lines; tells = tells }) past old.known.owed agrees.asked
 asked_then players past old (Said c text) lines tells now agrees step =
-    let asks = subst (λ (who : Option Identity). AsksDrop (is_drop text) lines who (is_message text)) (agrees.who c) (said_asks players old c text lines now step) in
-    are_asked_both players (record { event = Said c text; lines = lines; tells = tells } ∷ past) old.known.owed (owed_last (asker c text) lines)
+    let asks = subst (λ (who : Option Identity). AsksDrop (is_drop text) lines who (is_message text)) (agrees.who c) (said_asks players old c text lines tells now step) in
+    are_asked_both players (record { event = Said c text; lines = lines; tells = tells } ∷ past) old.known.owed (owed_last (asker c (name_of (old.who c)) text) lines)
     (are_asked_later players (record { event = Said c text; lines = lines; tells = tells }) past old.known.owed agrees.asked)
-    (asker_asked players past c text lines lines tells (is_drop text) refl asks)
+    (asker_asked players past c (name_of (old.who c)) text lines lines tells asks)
 asked_then players past old (Heard line) lines tells now agrees step =
-    asked_heard players (record { event = Heard line; lines = lines; tells = tells } ∷ past) old.known.owed lines
+    asked_heard players (record { event = Heard line; lines = lines; tells = tells } ∷ past) old.known.owed (answer old.known.begun line) lines
     (are_asked_later players (record { event = Heard line; lines = lines; tells = tells }) past old.known.owed agrees.asked)
     (is_whole old.known.left line)
 asked_then players past old Gone lines tells now agrees step = tt
 asked_then players past old Here lines tells now agrees step = tt
 
-begins_alike : (now : View) → BeginsView now → Alike now.known (known_in [])
-begins_alike now begins = record {
-  owed = begins.owed;
-  left = begins.left;
-  begun = begins.begun;
-  last = begins.last;
-  watches = λ c game h. absurd (false≢true (sym (begins.watches c game) ∙ h));
-  table = λ c h. absurd (false≢true (sym (begins.table c) ∙ h));
-}
+begins_known : (players : List Player) (now : View) → BeginsView now → now.known ≡ known_in players []
+begins_known players now begins =
+    same_known now.known (known_in players []) begins.owed begins.left begins.begun begins.last begins.watches begins.table
 
 pub record RunGood (players : List Player) (steps : List Step) (now : View) : Type 0 where
   pub agrees : Agrees players steps now
   pub right : AllRight players steps
-  pub told : AllTold steps
+  pub told : AllTold players steps
 
 pub run_good : (players : List Player) (steps : List Step) (now : View) → IsRun players steps now → RunGood players steps now
 run_good players [] now run = record {
-  agrees = record { who = run.who; said = run.said; alike = begins_alike now run; asked = subst (AreAsked players []) (sym run.owed) tt };
+  agrees = record { who = run.who; said = run.said; opens = run.none_open; known = begins_known players now run; asked = subst (AreAsked players []) (sym run.owed) tt; came = λ c h. absurd (false≢true h) };
   right = tt;
   told = tt;
 }
 run_good players (s ∷ past) now run =
     let before = run_good players past run.0 run.1 in
     let step = run.2 in
-    let good = done_good players past run.0 s.event s.lines now before.agrees step.done in
+    let good = done_good players past run.0 s.event s.lines s.tells now before.agrees step.done in
     record {
       agrees = record {
         who = good.who;
         said = good.said;
-        alike = alike_then s.event s.lines s.tells run.0.known now.known (known_in past) step.known before.agrees.alike;
+        opens = λ c. step.opens c ∙ ap (open_now s.event c) (before.agrees.opens c);
+        known = known_then s.event (speaker run.0.who s.event) s.lines run.0.is_open (open_in past) before.agrees.opens run.0.known now.known
+            (known_in players past) step.known before.agrees.known
+            ∙ ap (λ (by : List ℕ). known_now s.event by s.lines (open_in past) (known_in players past))
+            (speaker_alike run.0.who (player_in players past) before.agrees.who s.event);
         asked = subst (AreAsked players (s ∷ past)) (sym step.known.owed) (asked_then players past run.0 s.event s.lines s.tells now before.agrees step.done);
+        came = came_then players past run.0 s.event s.lines s.tells now before.agrees step.done;
       };
       right = (good.right, good.whole, before.right);
-      told = (told_alike s.event s.lines s.tells run.0.known (known_in past) before.agrees.alike step.told, before.told);
+      told = (
+        told_alike s.event s.lines s.tells run.0.is_open (open_in past) before.agrees.opens (known_in players past)
+            (subst (λ (k : Known). IsTold s.event s.lines s.tells run.0.is_open k) before.agrees.known step.told),
+        before.told,
+      );
     }

@@ -1,7 +1,9 @@
 -- The answers that come from the server.
-use Rattle.std.specs.Prelude.{ℕ, ◌≡◌, ◌-◌, ◌⊎◌, ◌==◌, List, codes, if◌then◌else◌}
+use Rattle.std.specs.Prelude.{ℕ, ◌≡◌, ◌-◌, ◌⊎◌, ◌==◌, ◌||◌, Bool, not, List, ◌++◌, codes, Option, None, if◌then◌else◌}
+use Rattle.std.specs.List.{starts_with, ends_with, before_first}
 use Rattle.std.specs.Str.{bytes_eq}
-use Rattle.lobby_desk.specs.Words.{word_of, rest_of, number_or_0}
+use Rattle.rec_codec.specs.Name.{IsName}
+use Rattle.lobby_desk.specs.Words.{word_of, rest_of, number_in, number_or_0}
 
 -- how many lines stand behind the first line of an answer: as many as `ok list K` and `ok pgn G K` say, and else none
 abbrev pub lines_behind : List ℕ → ℕ
@@ -16,9 +18,43 @@ lines_behind line =
 abbrev pub left_after : ℕ → List ℕ → ℕ
 left_after left line = if left == 0 then lines_behind line else left - 1
 
+-- whether the server does what it was asked
+abbrev pub is_accepted : List ℕ → Bool
+is_accepted answer = starts_with (λ a b. a == b) answer (codes "ok ")
+
 -- The answer to `show` says that this name has a seat in this game: `ok show G WHITE BLACK ..`.
 pub record IsSeated (answer game name : List ℕ) : Type 0 where
   pub accepted : word_of answer ≡ codes "ok"
   pub shows : word_of (rest_of answer) ≡ codes "show"
   pub numbered : word_of (rest_of (rest_of answer)) ≡ game
   pub seat : (name ≡ word_of (rest_of (rest_of (rest_of answer)))) ⊎ (name ≡ word_of (rest_of (rest_of (rest_of (rest_of answer)))))
+
+-- The answer to `show` names nobody who has a seat in this game.
+abbrev pub IsSeatless : List ℕ → List ℕ → Type 0
+IsSeatless answer game = (name : List ℕ) → IsName name → IsSeated answer game name → ⊥
+
+-- what stands before the first line feed
+abbrev pub first_line : List ℕ → List ℕ
+first_line answer = before_first (λ b. b == 10) answer
+
+-- the game in which an act was done, as its answer says: `ok WORD G ..`, or `fallen G ..`
+abbrev pub game_in : List ℕ → Option ℕ
+game_in line =
+    if bytes_eq (word_of line) (codes "ok") then number_in (word_of (rest_of (rest_of line)))
+    else (if bytes_eq (word_of line) (codes "fallen") then number_in (word_of (rest_of line)) else None)
+
+abbrev pub act_game : List ℕ → Option ℕ
+act_game answer = game_in (first_line answer)
+
+-- whether a game is over, as the answer to `show` says: its last field is the article, and `-` while the game goes on
+abbrev pub is_over : List ℕ → Bool
+is_over shown = not (ends_with (λ a b. a == b) shown (codes " -\n"))
+
+-- the lines of a notice that tell of an act: who did it, what it was, and what the server answered
+abbrev pub act_told : List ℕ → List ℕ → List ℕ → List ℕ
+act_told by text answer = codes "by " ++ by ++ codes " " ++ text ++ codes "\n" ++ answer
+
+-- whether those who are told of the table are told of an act whatever comes of it
+abbrev pub is_table_act : List ℕ → Bool
+is_table_act text =
+    bytes_eq (word_of text) (codes "open") || bytes_eq (word_of text) (codes "join") || bytes_eq (word_of text) (codes "drop")

@@ -1,5 +1,5 @@
 -- What is promised of whatever came in and went out.
-use Rattle.std.specs.Prelude.{ℕ, ◌≡◌, ◌⊎◌, Bool, true, false, ◌&&◌, ◌==◌, List, [], ◌∷◌, Option, None, Some, if◌then◌else◌}
+use Rattle.std.specs.Prelude.{ℕ, ◌≡◌, ◌⊎◌, Bool, true, false, ◌&&◌, ◌||◌, ◌==◌, List, [], ◌∷◌, Option, None, Some, if◌then◌else◌}
 use Rattle.std.specs.List.{AllByRecursion}
 use Rattle.lobby_desk.specs.declared.words.Sort.TheVariants as sorts
 use Rattle.lobby_desk.specs.declared.players.Identity.{Identity}
@@ -8,8 +8,8 @@ use Rattle.lobby_desk.specs.Words.{rest_of, is_message, sort_of, is_act_sort, is
 use Rattle.lobby_desk.specs.Players.{holder_of}
 use Rattle.lobby_desk.specs.Answers.{IsSeated}
 use Rattle.lobby_desk.specs.Events.{Event, Opened, Closed, Said, Heard, Gone, Here, Telling, Owed, Dropper}
-use Rattle.lobby_desk.specs.Tellings.{Known, known_now, answer, IsTold}
-use Rattle.lobby_desk.specs.Who.{View, BeginsView, IsStep}
+use Rattle.lobby_desk.specs.Tellings.{Known, known_now, open_now, answer, IsTold}
+use Rattle.lobby_desk.specs.Who.{View, BeginsView, IsStep, speaker}
 
 -- one event, the lines that went to the server for it, and what connections were told
 pub record Step : Type 0 where
@@ -92,10 +92,16 @@ ActsRight (Some who) said lines = ActsUnder said lines who.name
 abbrev pub IsOf : List ℕ → List ℕ → Type 0
 IsOf text line = (line ≡ text) ⊎ (sort_of line ≡ sorts.Name) ⊎ (sort_of line ≡ sorts.Read)
 
+-- whether a connection is open behind a past
+abbrev pub open_in : List Step → ℕ → Bool
+open_in [] c = false
+open_in (s ∷ past) c = open_now s.event c (open_in past c)
+
 -- what is known of the connections and of the server behind a past
-abbrev pub known_in : List Step → Known
-known_in [] = record { owed = []; left = 0; begun = []; last = []; watches = λ _ _. false; table = λ _. false }
-known_in (s ∷ past) = known_now s.event s.lines s.tells (known_in past)
+abbrev pub known_in : List Player → List Step → Known
+known_in players [] = record { owed = []; left = 0; begun = []; last = []; watches = []; table = [] }
+known_in players (s ∷ past) =
+    known_now s.event (speaker (player_in players past) s.event) s.lines (open_in past) (known_in players past)
 
 abbrev pub IsArbiter : Option Identity → Type 0
 IsArbiter None = ⊥
@@ -116,20 +122,31 @@ HasAsked players (s ∷ past) c text = AsksNow players past s.event c text ⊎ H
 -- answer says, has a seat in the game.
 pub record IsDropOf (players : List Player) (past : List Step) (line : List ℕ) (lines : List (List ℕ)) : Type 0 where
   pub c : ℕ
+  pub by : List ℕ
   pub text : List ℕ
   pub asked : HasAsked players past c text
   pub others : List Owed
-  pub waits : (known_in past).owed ≡ Dropper c text ∷ others
+  pub waits : (known_in players past).owed ≡ Dropper c by text ∷ others
   pub name : List ℕ
-  pub seated : IsSeated (answer (known_in past).begun line) (rest_of text) name
+  pub seated : IsSeated (answer (known_in players past).begun line) (rest_of text) name
   pub acts : ActsUnder (name_in past) lines name
   pub of_text : AllByRecursion (IsOf text) lines
 
--- what goes out for an event
+-- whether a connection of this number has come
+abbrev pub comes : Event → ℕ → Bool
+comes (Opened d) c = d == c
+comes _ c = false
+
+abbrev pub has_come : List Step → ℕ → Bool
+has_come [] c = false
+has_come (s ∷ past) c = comes s.event c || has_come past c
+
+-- What goes out for an event. A connection that comes has a number that none had before.
 abbrev pub IsRight : List Player → List Step → Event → List (List ℕ) → Type 0
 IsRight players past (Said c text) lines =
     ActsRight (player_in players past c) (name_in past) lines × NoDrops lines × AllByRecursion (IsOf text) lines
 IsRight players past (Heard line) lines = AllRead lines ⊎ IsDropOf players past line lines
+IsRight players past (Opened c) lines = (lines ≡ []) × (has_come past c ≡ false)
 IsRight players past _ lines = lines ≡ []
 
 -- a line that has 1 to 255 bytes, each of them 32 to 126, so that no line feed is in it
@@ -142,9 +159,9 @@ AllRight players [] = Unit {0}
 AllRight players (s ∷ past) = IsRight players past s.event s.lines × AreWhole s.lines × AllRight players past
 
 -- at each step, by what came and went before it
-abbrev pub AllTold : List Step → Type 0
-AllTold [] = Unit {0}
-AllTold (s ∷ past) = IsTold s.event s.lines s.tells (known_in past) × AllTold past
+abbrev pub AllTold : List Player → List Step → Type 0
+AllTold players [] = Unit {0}
+AllTold players (s ∷ past) = IsTold s.event s.lines s.tells (open_in past) (known_in players past) × AllTold players past
 
 -- a desk that begins, and steps of it
 abbrev pub IsRun : List Player → List Step → View → Type 0

@@ -2,6 +2,7 @@ pub mod Words
 pub mod Players
 pub mod Lines
 pub mod Answers
+pub mod Watching
 pub mod Plans
 pub mod Pace
 pub mod Events

@@ -11,6 +11,14 @@ abbrev pub paced : ℕ → ℕ → Option ℕ
 paced until now =
     if nat_le (later until now - now) 950 && nat_le (later until now) 18446744073709551565 then Some (later until now + 50) else None
 
+-- until when it is taken after a message at this moment, which may come too fast
+abbrev pub or_before : ℕ → Option ℕ → ℕ
+or_before until None = until
+or_before until (Some later) = later
+
+abbrev pub until_after : ℕ → ℕ → ℕ
+until_after until now = or_before until (paced until now)
+
 abbrev pub is_some_moment : Option ℕ → Bool
 is_some_moment None = false
 is_some_moment (Some until) = true

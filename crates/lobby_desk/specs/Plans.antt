@@ -1,12 +1,23 @@
 -- What is done about a message.
-use Rattle.std.specs.Prelude.{ℕ, Bool, true, false, Option, None, Some, if◌then◌else◌}
+use Rattle.std.specs.Prelude.{ℕ, Bool, true, false, List, codes, Option, None, Some, if◌then◌else◌}
 use Rattle.lobby_desk.specs.declared.words.Sort.{Sort}
 use Rattle.lobby_desk.specs.declared.words.Sort.TheVariants as sorts
 use Rattle.lobby_desk.specs.declared.players.Identity.{Identity}
+use Rattle.lobby_desk.specs.declared.refusals.Refusal.{Refusal}
 use Rattle.lobby_desk.specs.declared.refusals.Refusal.TheVariants as refusals
 use Rattle.lobby_desk.specs.declared.planning.Plan.{Plan}
 use Rattle.lobby_desk.specs.declared.planning.Plan.TheVariants as plans
 use Rattle.lobby_desk.specs.declared.planning.Standing.{Standing}
+
+-- the line that says why a message is refused
+abbrev pub refusal_text : Refusal → List ℕ
+refusal_text refusals.BadLine = codes "no 1 BadLine\n"
+refusal_text refusals.NoToken = codes "no 31 NoToken\n"
+refusal_text refusals.BadToken = codes "no 32 BadToken\n"
+refusal_text refusals.NotArbiter = codes "no 33 NotArbiter\n"
+refusal_text refusals.TooManyOpen = codes "no 35 TooManyOpen\n"
+refusal_text refusals.NoServer = codes "no 36 NoServer\n"
+refusal_text refusals.TooManyWatched = codes "no 37 TooManyWatched\n"
 
 -- what asks for the server
 abbrev pub asked : Standing → Plan → Plan

@@ -1,22 +1,25 @@
 -- What connections are told.
-use Rattle.std.specs.Prelude.{ℕ, ◌≡◌, ◌⊎◌, Bool, true, false, ◌&&◌, ◌||◌, ◌==◌, List, [], ◌∷◌, ◌++◌, length, take, codes, decimal, Option, None, Some, IfSome, if◌then◌else◌}
-use Rattle.std.specs.List.{list_all, list_any}
-use Rattle.std.specs.Str.{bytes_eq}
+use Rattle.std.specs.Prelude.{ℕ, ◌≡◌, Bool, true, false, ◌&&◌, ◌||◌, ◌==◌, List, [], ◌∷◌, ◌++◌, codes, decimal, Option, None, Some, if◌then◌else◌}
+use Rattle.std.specs.List.{list_any}
+use Rattle.lobby_desk.specs.declared.watching.Watch.{Watch}
+use Rattle.lobby_desk.specs.declared.telling.Kind.{Kind}
+use Rattle.lobby_desk.specs.declared.telling.Kind.TheVariants as kinds
 use Rattle.lobby_desk.specs.Words.{rest_of, is_message, sort_of, is_leave_sort, is_leave_lobby_sort, number_in}
 use Rattle.lobby_desk.specs.Lines.{ended}
-use Rattle.lobby_desk.specs.Answers.{left_after}
-use Rattle.lobby_desk.specs.Events.{Event, Opened, Closed, Said, Hurried, Heard, Gone, Here, Telling, to_one, Owed, Nobody, Asker, Dropper, Followers, owed_last, asker, follower}
+use Rattle.lobby_desk.specs.Answers.{left_after, is_accepted, is_over}
+use Rattle.lobby_desk.specs.Watching.{at_table, watch_if, sit_if, unwatched, none_watched, risen, followers}
+use Rattle.lobby_desk.specs.Events.{Event, Opened, Closed, Said, Hurried, Heard, Gone, Here, Telling, to_one, to_one_as, Ask, ForPositions, ForGame, ForTable, Owed, Nobody, Asker, Dropper, Followers, owed_last, asker, follower}
 
 -- What is known of the connections and of the server: for whom the next answers of the server are, the oldest first; how many
--- lines of the answer that has begun are still to come, and those that came; the last whole answer; which connections are
--- told of a game, and which of the table.
+-- lines of the answer that has begun are still to come, and those that came; the last whole answer; who watches which game, and
+-- who is told of the table, each in the order in which they came to.
 pub record Known : Type 0 where
   pub owed : List Owed
   pub left : ℕ
   pub begun : List ℕ
   pub last : List ℕ
-  pub watches : ℕ → ℕ → Bool
-  pub table : ℕ → Bool
+  pub watches : List Watch
+  pub table : List ℕ
 
 -- whether a line ends an answer where so many lines were still to come, and the answer behind these lines
 abbrev pub is_whole : ℕ → List ℕ → Bool
@@ -25,13 +28,6 @@ is_whole left line = left_after left line == 0
 abbrev pub answer : List ℕ → List ℕ → List ℕ
 answer begun line = begun ++ ended line
 
--- whether the message is for this connection alone, and begins so
-abbrev pub begins : List ℕ → List ℕ → Bool
-begins front text = bytes_eq (take (length front) text) front
-
-abbrev pub is_told : ℕ → List ℕ → Telling → Bool
-is_told c front t = bytes_eq t.to (c ∷ []) && begins front t.text
-
 -- the front of the answer to a `watch` that is accepted, and of that to `lobby`
 abbrev pub watch_front : ℕ → List ℕ
 watch_front game = codes "ok watch " ++ decimal game ++ codes "\n"
@@ -39,69 +35,92 @@ watch_front game = codes "ok watch " ++ decimal game ++ codes "\n"
 abbrev pub table_front : List ℕ
 table_front = codes "ok lobby\n"
 
-abbrev pub is_number : ℕ → Option ℕ → Bool
-is_number n None = false
-is_number n (Some m) = n == m
+-- Whether a connection is open from now on: since it came until it is gone.
+abbrev pub open_now : Event → ℕ → Bool → Bool
+open_now (Opened d) c before = d == c || before
+open_now (Closed d) c before = if d == c then false else before
+open_now _ c before = before
 
--- whether a message leaves a game, and whether it leaves the table
-abbrev pub leaves : List ℕ → ℕ → Bool
-leaves text game = is_message text && is_leave_sort (sort_of text) && is_number game (number_in (rest_of text))
-
+-- whether a message leaves the table; who watches after one that leaves a game
 abbrev pub leaves_table : List ℕ → Bool
 leaves_table text = is_message text && is_leave_lobby_sort (sort_of text)
 
--- Whether a connection is told of a game from now on: from the answer `ok watch G` until it says `leave G` or is gone.
-abbrev pub watches_now : Event → List Telling → ℕ → ℕ → Bool → Bool
-watches_now (Closed d) tells c game before = if d == c then false else before
-watches_now (Said d text) tells c game before = if d == c && leaves text game then false else before
-watches_now (Heard line) tells c game before = before || list_any (is_told c (watch_front game)) tells
-watches_now _ tells c game before = before
+abbrev pub left_game : ℕ → Option ℕ → List Watch → List Watch
+left_game c None watches = watches
+left_game c (Some game) watches = unwatched c game watches
 
--- the same of the table: from the answer `ok lobby` until it says `leave lobby` or is gone
-abbrev pub table_now : Event → List Telling → ℕ → Bool → Bool
-table_now (Closed d) tells c before = if d == c then false else before
-table_now (Said d text) tells c before = if d == c && leaves_table text then false else before
-table_now (Heard line) tells c before = before || list_any (is_told c table_front) tells
-table_now _ tells c before = before
+-- Who watches after an answer, by whose it is: whose `watch` it is, if its connection is open and the answer before it shows the
+-- game.
+abbrev pub watch_heard : (ℕ → Bool) → List ℕ → Owed → List Watch → List Watch
+watch_heard is_open before (Asker c (ForGame game)) watches = watch_if (is_accepted before && is_open c) c game watches
+watch_heard is_open before _ watches = watches
 
--- the first of them is answered, and these lines go out for it
-abbrev pub owed_answered : List Owed → List (List ℕ) → List Owed
-owed_answered [] lines = []
-owed_answered (o ∷ owed) lines = owed ++ owed_last (follower o lines) lines
+abbrev pub watch_next : (ℕ → Bool) → List ℕ → List Owed → List Watch → List Watch
+watch_next is_open before [] watches = watches
+watch_next is_open before (o ∷ owed) watches = watch_heard is_open before o watches
+
+-- A connection watches a game from the answer to its `watch G` until it says `leave G` or is gone.
+abbrev pub watches_now : Event → (ℕ → Bool) → Known → List Watch
+watches_now (Closed c) is_open k = none_watched c k.watches
+watches_now (Said c text) is_open k =
+    if is_message text && is_leave_sort (sort_of text) then left_game c (number_in (rest_of text)) k.watches else k.watches
+watches_now (Heard line) is_open k = if is_whole k.left line then watch_next is_open k.last k.owed k.watches else k.watches
+watches_now _ is_open k = k.watches
+
+-- the same of the table: from the answer to its `lobby` until it says `leave lobby` or is gone
+abbrev pub table_heard : (ℕ → Bool) → Owed → List ℕ → List ℕ
+table_heard is_open (Asker c ForTable) table = sit_if (is_open c) c table
+table_heard is_open _ table = table
+
+abbrev pub table_next : (ℕ → Bool) → List Owed → List ℕ → List ℕ
+table_next is_open [] table = table
+table_next is_open (o ∷ owed) table = table_heard is_open o table
+
+abbrev pub table_now : Event → (ℕ → Bool) → Known → List ℕ
+table_now (Closed c) is_open k = risen c k.table
+table_now (Said c text) is_open k = if leaves_table text then risen c k.table else k.table
+table_now (Heard line) is_open k = if is_whole k.left line then table_next is_open k.owed k.table else k.table
+table_now _ is_open k = k.table
+
+-- the first of them is answered so, and these lines go out for it
+abbrev pub owed_answered : List Owed → List ℕ → List (List ℕ) → List Owed
+owed_answered [] now lines = []
+owed_answered (o ∷ owed) now lines = owed ++ owed_last (follower o now) lines
 
 -- For whom the next answers are: the server answers each line, in the order in which the lines went to it.
-abbrev pub owed_now : Event → List (List ℕ) → ℕ → List Owed → List Owed
-owed_now (Said c text) lines left owed = owed ++ owed_last (asker c text) lines
-owed_now (Heard line) lines left owed = if is_whole left line then owed_answered owed lines else owed
-owed_now Gone lines left owed = []
-owed_now Here lines left owed = []
-owed_now _ lines left owed = owed
+abbrev pub owed_now : Event → List ℕ → List (List ℕ) → Known → List Owed
+owed_now (Said c text) by lines k = k.owed ++ owed_last (asker c by text) lines
+owed_now (Heard line) by lines k = if is_whole k.left line then owed_answered k.owed (answer k.begun line) lines else k.owed
+owed_now Gone by lines k = []
+owed_now Here by lines k = []
+owed_now _ by lines k = k.owed
 
-abbrev pub left_now : Event → ℕ → ℕ
-left_now (Heard line) left = left_after left line
-left_now Gone left = 0
-left_now Here left = 0
-left_now _ left = left
+abbrev pub left_now : Event → Known → ℕ
+left_now (Heard line) k = left_after k.left line
+left_now Gone k = 0
+left_now Here k = 0
+left_now _ k = k.left
 
-abbrev pub begun_now : Event → ℕ → List ℕ → List ℕ
-begun_now (Heard line) left begun = if is_whole left line then [] else answer begun line
-begun_now Gone left begun = []
-begun_now Here left begun = []
-begun_now _ left begun = begun
+abbrev pub begun_now : Event → Known → List ℕ
+begun_now (Heard line) k = if is_whole k.left line then [] else answer k.begun line
+begun_now Gone k = []
+begun_now Here k = []
+begun_now _ k = k.begun
 
-abbrev pub last_now : Event → ℕ → List ℕ → List ℕ → List ℕ
-last_now (Heard line) left begun last = if is_whole left line then answer begun line else last
-last_now _ left begun last = last
+abbrev pub last_now : Event → Known → List ℕ
+last_now (Heard line) k = if is_whole k.left line then answer k.begun line else k.last
+last_now _ k = k.last
 
--- what is known after an event
-abbrev pub known_now : Event → List (List ℕ) → List Telling → Known → Known
-known_now event lines tells k = record {
-  owed = owed_now event lines k.left k.owed;
-  left = left_now event k.left;
-  begun = begun_now event k.left k.begun;
-  last = last_now event k.left k.begun k.last;
-  watches = λ c game. watches_now event tells c game (k.watches c game);
-  table = λ c. table_now event tells c (k.table c);
+-- What is known after an event, for which these lines went out; `by` is the name of the player for whom a connection acts that
+-- has spoken.
+abbrev pub known_now : Event → List ℕ → List (List ℕ) → (ℕ → Bool) → Known → Known
+known_now event by lines is_open k = record {
+  owed = owed_now event by lines k;
+  left = left_now event k;
+  begun = begun_now event k;
+  last = last_now event k;
+  watches = watches_now event is_open k;
+  table = table_now event is_open k;
 }
 
 -- one message, to this connection
@@ -113,45 +132,67 @@ abbrev pub IsToldOrSent : List (List ℕ) → ℕ → List Telling → Type 0
 IsToldOrSent [] c tells = IsToldOne c tells
 IsToldOrSent (line ∷ lines) c tells = tells ≡ []
 
--- What a connection is told for the server's answer to its message: the answer, with `ok lobby` before it, or with `ok watch G`
--- and the answer before it; or the answer before it alone, where that refuses what is to be watched.
-abbrev pub IsMadeOf : List ℕ → List ℕ → List ℕ → Type 0
-IsMadeOf before now text =
-    (text ≡ now) ⊎ ((text ≡ before) ⊎ ((text ≡ table_front ++ now) ⊎ ((game : ℕ) × (text ≡ watch_front game ++ before ++ now))))
+-- What a connection is told for the server's answers to its message, of which this is the last: that answer itself; for the table
+-- `ok lobby` and the answer, which is to `list`. Two lines go out for a game to watch, `show` and `fen`: where the game is shown,
+-- `ok watch G` and both answers; else the first of them.
+abbrev pub made_of : Ask → List ℕ → List ℕ → List ℕ
+made_of ForTable before now = table_front ++ now
+made_of (ForGame game) before now = if is_accepted before then watch_front game ++ before ++ now else before
+made_of _ before now = now
 
--- a notice: each who is told of it watches the game or is told of the table
-pub record IsNotice (k : Known) (game : ℕ) (now : List ℕ) (t : Telling) : Type 0 where
-  pub to : list_all (λ c. k.watches c game || k.table c) t.to ≡ true
-  pub act : List ℕ
-  pub text : t.text ≡ codes "told " ++ decimal game ++ codes "\n" ++ act ++ k.last ++ now
+-- what is still to be done with a text that ends with the answer to `fen`, and with the answer to `pgn` for `line`
+abbrev pub position_kind : List ℕ → Kind
+position_kind now = if is_accepted now then kinds.Position else kinds.Whole
 
-abbrev pub IsNoticeOrNone : Known → ℕ → List ℕ → List Telling → Type 0
-IsNoticeOrNone k game now [] = Unit {0}
-IsNoticeOrNone k game now (t ∷ []) = IsNotice k game now t
-IsNoticeOrNone k game now (t ∷ next ∷ tells) = ⊥
+abbrev pub positions_kind : List ℕ → Kind
+positions_kind now = if is_accepted now then kinds.Line else kinds.Whole
+
+-- what is still to be done with what is told for a message
+abbrev pub kind_of : Ask → List ℕ → List ℕ → Kind
+kind_of ForPositions before now = positions_kind now
+kind_of (ForGame game) before now = if is_accepted before then position_kind now else kinds.Whole
+kind_of _ before now = kinds.Whole
+
+-- A notice of an act, with the answers to `show` and `fen`: to all who watch the game, and to the table where that is told of the
+-- act or the game is over.
+abbrev pub notice : List Watch → List ℕ → ℕ → List ℕ → Bool → List ℕ → List ℕ → Telling
+notice watches table game act is_table before now = record {
+  to = followers watches table game (is_table || is_over before);
+  kind = position_kind now;
+  text = codes "told " ++ decimal game ++ codes "\n" ++ act ++ before ++ now;
+}
 
 -- what is told for an answer of the server, by whose it is
-abbrev pub IsToldFor : Known → Owed → List ℕ → List (List ℕ) → List Telling → Type 0
-IsToldFor k Nobody now lines tells = (lines ≡ []) × (tells ≡ [])
-IsToldFor k (Asker c) now lines tells = (text : List ℕ) × IsMadeOf k.last now text × (tells ≡ to_one c text ∷ [])
-IsToldFor k (Dropper c text) now [] tells = tells ≡ to_one c now ∷ []
-IsToldFor k (Dropper c text) now (line ∷ lines) tells = tells ≡ []
-IsToldFor k (Followers game) now lines tells = (lines ≡ []) × IfSome game (λ g. IsNoticeOrNone k g now tells)
+abbrev pub IsToldFor : List ℕ → List Watch → List ℕ → Owed → List ℕ → List (List ℕ) → List Telling → Type 0
+IsToldFor before watches table Nobody now lines tells = (lines ≡ []) × (tells ≡ [])
+IsToldFor before watches table (Asker c ask) now lines tells = tells ≡ to_one_as c (kind_of ask before now) (made_of ask before now) ∷ []
+IsToldFor before watches table (Dropper c by text) now [] tells = tells ≡ to_one c now ∷ []
+IsToldFor before watches table (Dropper c by text) now (line ∷ lines) tells = tells ≡ []
+IsToldFor before watches table (Followers game act is_table) now lines tells =
+    (lines ≡ []) × (tells ≡ notice watches table game act is_table before now ∷ [])
 
 -- the same of the first that is owed; what nobody asked for is told to nobody
 abbrev pub IsToldNext : Known → List Owed → List ℕ → List (List ℕ) → List Telling → Type 0
 IsToldNext k [] now lines tells = (lines ≡ []) × (tells ≡ [])
-IsToldNext k (o ∷ owed) now lines tells = IsToldFor k o now lines tells
+IsToldNext k (o ∷ owed) now lines tells = IsToldFor k.last k.watches k.table o now lines tells
 
 abbrev pub IsToldHeard : Bool → Known → List ℕ → List (List ℕ) → List Telling → Type 0
 IsToldHeard false k now lines tells = (lines ≡ []) × (tells ≡ [])
 IsToldHeard true k now lines tells = IsToldNext k k.owed now lines tells
 
+abbrev pub is_number : ℕ → Option ℕ → Bool
+is_number n None = false
+is_number n (Some m) = n == m
+
 -- the connection whose message waits for an answer
 abbrev pub waiter : Owed → Option ℕ
-waiter (Asker c) = Some c
-waiter (Dropper c text) = Some c
+waiter (Asker c ask) = Some c
+waiter (Dropper c by text) = Some c
 waiter _ = None
+
+-- whether the answer to a message of a connection is owed
+abbrev pub owes : List Owed → ℕ → Bool
+owes owed c = list_any (λ o. is_number c (waiter o)) owed
 
 -- `lost` to each connection whose message waits, in the order of the messages
 abbrev pub lost_of : Option ℕ → List Telling
@@ -167,12 +208,19 @@ abbrev pub presence : Bool → List ℕ
 presence true = codes "server here\n"
 presence false = codes "server gone\n"
 
--- what connections are told for an event, where this is known before it and these lines go out
-abbrev pub IsTold : Event → List (List ℕ) → List Telling → Known → Type 0
-IsTold (Opened c) lines tells k = IsToldOne c tells
-IsTold (Closed c) lines tells k = tells ≡ []
-IsTold (Said c text) lines tells k = IsToldOrSent lines c tells
-IsTold (Hurried c) lines tells k = tells ≡ to_one c (codes "no 34 TooFast\n") ∷ []
-IsTold (Heard line) lines tells k = IsToldHeard (is_whole k.left line) k (answer k.begun line) lines tells
-IsTold Gone lines tells k = (to : List ℕ) × (tells ≡ lost k.owed ++ record { to = to; text = presence false } ∷ [])
-IsTold Here lines tells k = (to : List ℕ) × (tells ≡ record { to = to; text = presence true } ∷ [])
+-- these messages, and behind them one to every connection that is open
+abbrev pub AreToldAll : (ℕ → Bool) → List Telling → List ℕ → List Telling → Type 0
+AreToldAll is_open first text tells =
+    (to : List ℕ) × ((c : ℕ) → at_table to c ≡ is_open c) × (tells ≡ first ++ record { to = to; kind = kinds.Whole; text = text } ∷ [])
+
+-- What connections are told for an event, where these are open and this is known before it, and these lines go out. A connection
+-- says a message where it is open and no answer is owed to it, so that its answers come in the order of its messages.
+abbrev pub IsTold : Event → List (List ℕ) → List Telling → (ℕ → Bool) → Known → Type 0
+IsTold (Opened c) lines tells is_open k = IsToldOne c tells
+IsTold (Closed c) lines tells is_open k = tells ≡ []
+IsTold (Said c text) lines tells is_open k = (is_open c ≡ true) × (owes k.owed c ≡ false) × IsToldOrSent lines c tells
+IsTold (Hurried c) lines tells is_open k =
+    (is_open c ≡ true) × (owes k.owed c ≡ false) × (tells ≡ to_one c (codes "no 34 TooFast\n") ∷ [])
+IsTold (Heard line) lines tells is_open k = IsToldHeard (is_whole k.left line) k (answer k.begun line) lines tells
+IsTold Gone lines tells is_open k = AreToldAll is_open (lost k.owed) (presence false) tells
+IsTold Here lines tells is_open k = AreToldAll is_open (lost k.owed) (presence true) tells

@@ -1,9 +1,9 @@
 //! What is done by a plan for a message.
-ghost use Rattle.std.specs.Prelude.{ℕ, List, ◌≡◌, ◌++◌, ◌==◌, ◌&&◌, false, IfOk, OnOk, map, is_some, if◌then◌else◌};
+ghost use Rattle.std.specs.Prelude.{ℕ, List, ◌≡◌, ◌++◌, ◌==◌, ◌||◌, IfOk, IfSome, OnOk, map, is_some, if◌then◌else◌};
 ghost use Rattle.std.specs.String.{string_bytes};
 ghost use Rattle.lobby_desk.specs.Lines.{bytes_of, lines_of, said_after, IsNamed};
 ghost use Rattle.lobby_desk.specs.Events.{Telling, tellings, owed_of, owed_last, plan_asker};
-ghost use Rattle.lobby_desk.specs.Who.{who_in, who_noted, is_left, is_risen, is_own, watched, at_table, IsAnswered};
+ghost use Rattle.lobby_desk.specs.Who.{who_in, open_in_map, until_in, who_noted, plan_watches, plan_table, is_own, IsOwnText, IsAnswered};
 
 use crate::planning::Plan;
 use crate::players::{Identity, Player, Visitor};
@@ -16,8 +16,8 @@ use std::collections::BTreeMap;
 
 /// A connection is told no more of what it leaves.
 pub fn forget(watches: &mut Vec<Watch>, table: &mut Vec<u64>, from: u64, plan: &Plan)
-    ensures watches { (c game : ℕ) → watched watches.new.items c game ≡ (if from == c && is_left plan.now game then false else watched watches.old.items c game) }
-    ensures table { (c : ℕ) → at_table table.new.items c ≡ (if from == c && is_risen plan.now then false else at_table table.old.items c) }
+    ensures watches { watches.new.items ≡ plan_watches plan.now from watches.old.items }
+    ensures table { table.new.items ≡ plan_table plan.now from table.old.items }
 {
     match plan {
         Plan::LeaveLobby => rise(table, from),
@@ -44,7 +44,8 @@ pub fn answer_plan(
 
 // The line that a connection is answered for a plan by which nothing is sent.
 fn own_answer(alloc: Global, plan: &Plan, players: &[Player]) -> Result<Option<String>, AllocError>
-    ensures { IfOk result (λ answer. is_some answer ≡ is_own plan.now) }
+    ensures own { IfOk result (λ answer. is_some answer ≡ is_own plan.now) }
+    ensures text { IfOk result (λ answer. IfSome answer (λ text. IsOwnText plan.now (string_bytes text))) }
 {
     match plan {
         Plan::Refuse(refusal) => Ok(Some(String::from_str(alloc, refusal.line())?)),
@@ -99,7 +100,7 @@ fn player_rows(alloc: Global, players: &[Player]) -> Result<String, AllocError> 
 
 // A connection's act, as it waits.
 fn acting(alloc: Global, from: u64, who: &Identity, text: &str) -> Result<Acting, AllocError>
-    ensures { IfOk result (λ act. (act.from ≡ from) × (string_bytes act.text ≡ text.now)) }
+    ensures { IfOk result (λ act. (act.from ≡ from) × (act.who ≡ who.now.name) × (string_bytes act.text ≡ text.now)) }
 {
     Ok(Acting {
         from,
@@ -124,7 +125,7 @@ pub fn send(
     ensures named { OnOk result (IsNamed plan.now) }
 {
     match plan {
-        Plan::Read => line.pass(text, Due::Reply(from, Kind::Whole), wire),
+        Plan::Read => line.pass(text, Due::Reply(from), wire),
         Plan::Act(who) => {
             let act = acting(alloc, from, who, text)?;
             line.act(who.name, text, Due::Act(act), wire)
@@ -138,17 +139,8 @@ pub fn send(
             line.ask("show ", *game, Due::Own, wire)?;
             line.ask("fen ", *game, Due::Watch(from, *game), wire)
         }
-        Plan::Line(game) => line.ask("pgn ", *game, Due::Reply(from, Kind::Line), wire),
+        Plan::Line(game) => line.ask("pgn ", *game, Due::Positions(from), wire),
         _ => Ok(()),
-    }
-}
-
-// Whether a connection that was ready waits after a plan.
-fn waits_noted(plan: &Plan) -> bool {
-    match plan {
-        Plan::Refuse(_) | Plan::Login(_) | Plan::Players | Plan::LeaveLobby | Plan::Leave(_) =>
-            false,
-        _ => true,
     }
 }
 
@@ -177,27 +169,29 @@ pub fn put(
     visitors: &mut BTreeMap<u64, Visitor>,
     connection: u64,
     who: Option<Identity>,
-    waits: bool,
     until: u64,
 ) -> Result<(), AllocError>
-    ensures { OnOk result ((c : ℕ) → who_in visitors.new c ≡ (if connection == c then who else who_in visitors.old c)) }
+    ensures who { OnOk result ((c : ℕ) → who_in visitors.new c ≡ (if connection == c then who else who_in visitors.old c)) }
+    ensures opens { OnOk result ((c : ℕ) → open_in_map visitors.new c ≡ (connection == c || open_in_map visitors.old c)) }
+    ensures untils { OnOk result ((c : ℕ) → until_in visitors.new c ≡ (if connection == c then until else until_in visitors.old c)) }
 {
-    let visitor = Visitor { who, waits, until };
+    let visitor = Visitor { who, until };
     visitors.insert(connection, visitor)?;
     Ok(())
 }
 
-/// What stays of a plan: for whom the connection acts, whether it waits, and until when its time is taken.
+/// What stays of a plan: for whom the connection acts, and until when its time is taken.
 pub fn note(
     visitors: &mut BTreeMap<u64, Visitor>,
     from: u64,
     plan: &Plan,
     until: u64,
 ) -> Result<(), AllocError>
-    ensures { OnOk result ((c : ℕ) → who_in visitors.new c ≡ (if from == c then who_noted plan.now (who_in visitors.old c) else who_in visitors.old c)) }
+    ensures who { OnOk result ((c : ℕ) → who_in visitors.new c ≡ (if from == c then who_noted plan.now (who_in visitors.old c) else who_in visitors.old c)) }
+    ensures opens { OnOk result ((c : ℕ) → open_in_map visitors.new c ≡ (from == c || open_in_map visitors.old c)) }
+    ensures untils { OnOk result ((c : ℕ) → until_in visitors.new c ≡ (if from == c then until else until_in visitors.old c)) }
 {
     let before = who_acts(visitors, from);
-    let waits = waits_noted(plan);
-    put(visitors, from, who_noted(before, plan), waits, until)?;
+    put(visitors, from, who_noted(before, plan), until)?;
     Ok(())
 }

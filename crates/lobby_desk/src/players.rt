@@ -28,8 +28,6 @@ pub struct Identity {
 pub struct Visitor {
     /// For whom it acts.
     pub who: Option<Identity>,
-    /// Whether a line of it waits for the server's answer.
-    pub waits: bool,
     /// Until when its time is taken by what it said.
     pub until: u64,
 }

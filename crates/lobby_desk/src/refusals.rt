@@ -1,4 +1,6 @@
 //! What the lobby itself refuses.
+ghost use Rattle.std.specs.Prelude.{◌≡◌};
+ghost use Rattle.lobby_desk.specs.Plans.{refusal_text};
 
 /// Why the lobby does not do what a message asks.
 #[derive(Clone, Copy, Debug, PartialEq, Eq)]
@@ -21,7 +23,9 @@ pub enum Refusal {
 
 impl Refusal {
     /// The line that says so.
-    pub fn line(self) -> &'static str {
+    pub fn line(self) -> &'static str
+        ensures { result.now ≡ refusal_text self }
+    {
         match self {
             Refusal::BadLine => "no 1 BadLine\n",
             Refusal::NoToken => "no 31 NoToken\n",

@@ -2,11 +2,10 @@
 ghost use Rattle.std.specs.Prelude.{◌≡◌, ◌++◌, [], ◌∷◌, map, Some, None, OnOk};
 ghost use Rattle.rec_codec.specs.Name.{IsName};
 ghost use Rattle.std.specs.String.{string_bytes};
-ghost use Rattle.lobby_desk.specs.Events.{owed_of, owed_last, Asker};
+ghost use Rattle.lobby_desk.specs.Events.{owed_of, owed_last, Asker, ForAct};
 ghost use Rattle.lobby_desk.specs.Lines as lines;
 ghost use Rattle.lobby_desk.specs.Lines.{ended, bytes_of, act_lines, game_line};
 
-use crate::telling::Kind;
 use itoa::Buffer;
 use rec_codec::Name;
 use std::alloc::{AllocError, Global};
@@ -34,7 +33,9 @@ pub enum Due {
     /// The desk's own line: nobody is told of it by itself.
     Own,
     /// A connection's line.
-    Reply(u64, Kind),
+    Reply(u64),
+    /// The `pgn G` of a connection that asks for the positions of the game.
+    Positions(u64),
     /// The `list` of a connection that will be told of the table.
     Table(u64),
     /// A connection's act.
@@ -153,7 +154,7 @@ impl ServerLine {
         wire: &mut Vec<u8>,
     ) -> Result<(), AllocError>
         ensures sent { OnOk result (wire.new.items ≡ wire.old.items ++ bytes_of (act_lines self.old.said name (string_bytes act.text))) }
-        ensures owed { OnOk result (map owed_of self.new.queue.items ≡ map owed_of self.old.queue.items ++ owed_last (Asker act.from) (act_lines self.old.said name (string_bytes act.text))) }
+        ensures owed { OnOk result (map owed_of self.new.queue.items ≡ map owed_of self.old.queue.items ++ owed_last (Asker act.from (ForAct act.who (string_bytes act.text))) (act_lines self.old.said name (string_bytes act.text))) }
         ensures said { OnOk result (self.new.said ≡ Some name) }
         ensures here { OnOk result (self.new.is_here ≡ self.old.is_here) }
     {

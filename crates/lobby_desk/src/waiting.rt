@@ -1,4 +1,8 @@
 //! The games that wait for a second player, as far as the server's answers have told.
+ghost use Rattle.std.specs.Prelude.{◌≡◌, codes};
+ghost use Rattle.std.specs.Str.{bytes_eq};
+ghost use Rattle.lobby_desk.specs.Words.{word_of};
+
 use crate::server_line::{Acting, Due};
 use crate::words::{cut, number_named};
 use rec_codec::Name;
@@ -16,7 +20,9 @@ pub struct Waiting {
 }
 
 /// Whether a message opens a game.
-pub fn is_open(text: &str) -> bool {
+pub fn is_open(text: &str) -> bool
+    ensures { result ≡ bytes_eq (word_of text.now) (codes "open") }
+{
     let (word, _) = cut(text);
     word == "open"
 }

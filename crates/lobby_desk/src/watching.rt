@@ -1,7 +1,6 @@
 //! Who is told of what.
-ghost use Rattle.std.specs.Prelude.{ℕ, ◌≡◌, ◌==◌, Bool, true, false, ◌&&◌, ◌||◌, OnOk, IfOk, if◌then◌else◌};
-ghost use Rattle.std.specs.List.{list_all};
-ghost use Rattle.lobby_desk.specs.Who.{is_watch, watched, at_table};
+ghost use Rattle.std.specs.Prelude.{◌≡◌, ◌==◌, nat_le, length, filter, ◌++◌, [], ◌∷◌, OnOk, IfOk, if◌then◌else◌};
+ghost use Rattle.lobby_desk.specs.Watching.{is_watch, watched, at_table, watch_if, sit_if, unwatched, none_watched, risen, followers};
 
 use std::alloc::{AllocError, Global};
 
@@ -32,7 +31,9 @@ pub fn is_watched(watches: &[Watch], by: u64, game: u32) -> bool
 }
 
 /// Whether a connection may watch no game but those that it watches.
-pub fn is_full(watches: &[Watch], by: u64) -> bool {
+pub fn is_full(watches: &[Watch], by: u64) -> bool
+    ensures { result ≡ nat_le 16 (length (filter (λ (watch : Watch). watch.by == by) watches.now)) }
+{
     watches.iter().filter(|watch| watch.by == by).count() >= WATCH_ROOM
 }
 
@@ -50,49 +51,54 @@ pub fn add_watch(
     by: u64,
     game: u32,
 ) -> Result<(), AllocError>
-    ensures { OnOk result ((c g : ℕ) → watched watches.new.items c g ≡ true → (watched watches.old.items c g || (by == c && game == g)) ≡ true) }
+    ensures { OnOk result (watches.new.items ≡ watch_if is_open by game watches.old.items) }
 {
-    if is_open && !is_watched(watches.as_slice(), by, game) {
+    let is_new = !is_watched(watches.as_slice(), by, game);
+    if is_open & is_new {
         watches.push(Watch { by, game })?;
+        Ok(())
+    } else {
+        Ok(())
     }
-    Ok(())
 }
 
 /// A connection is told of the table from now on, if it is open.
 pub fn sit(table: &mut Vec<u64>, is_open: bool, by: u64) -> Result<(), AllocError>
-    ensures { OnOk result ((c : ℕ) → at_table table.new.items c ≡ true → (at_table table.old.items c || by == c) ≡ true) }
+    ensures { OnOk result (table.new.items ≡ sit_if is_open by table.old.items) }
 {
-    if is_open && !is_at_table(table.as_slice(), by) {
+    let is_new = !is_at_table(table.as_slice(), by);
+    if is_open & is_new {
         table.push(by)?;
+        Ok(())
+    } else {
+        Ok(())
     }
-    Ok(())
 }
 
 /// A connection is told no more of a game.
 pub fn unwatch(watches: &mut Vec<Watch>, by: u64, game: u32)
-    ensures { (c g : ℕ) → watched watches.new.items c g ≡ (if by == c && game == g then false else watched watches.old.items c g) }
+    ensures { watches.new.items ≡ unwatched by game watches.old.items }
 {
     watches.retain(|watch| !is_watch(watch, by, game));
 }
 
 /// A connection is told no more of any game.
 pub fn unwatch_all(watches: &mut Vec<Watch>, by: u64)
-    ensures { (c g : ℕ) → watched watches.new.items c g ≡ (if by == c then false else watched watches.old.items c g) }
+    ensures { watches.new.items ≡ none_watched by watches.old.items }
 {
     watches.retain(|watch| watch.by != by);
 }
 
 /// A connection is told no more of the table.
 pub fn rise(table: &mut Vec<u64>, by: u64)
-    ensures { (c : ℕ) → at_table table.new.items c ≡ (if by == c then false else at_table table.old.items c) }
+    ensures { table.new.items ≡ risen by table.old.items }
 {
     table.retain(|one| *one != by);
 }
 
 // Adds a connection, if that is so.
-#[tactic(auto, using(crate::proofs::Watched::all_more))]
 fn add_if(to: &mut Vec<u64>, is_so: bool, one: u64) -> Result<(), AllocError>
-    ensures { OnOk result ((p : ℕ → Bool) → list_all p to.old.items ≡ true → (is_so ≡ true → p one ≡ true) → list_all p to.new.items ≡ true) }
+    ensures { OnOk result (to.new.items ≡ to.old.items ++ (if is_so then one ∷ [] else [])) }
 {
     if is_so {
         to.push(one)?;
@@ -110,7 +116,7 @@ pub fn followers(
     game: u32,
     is_table: bool,
 ) -> Result<Vec<u64>, AllocError>
-    ensures { IfOk result (λ to. list_all (λ c. watched watches.now c game || at_table table.now c) to.items ≡ true) }
+    ensures { IfOk result (λ to. to.items ≡ followers watches.now table.now game is_table) }
 {
     let mut to = Vec::new(alloc);
     for watch in watches {

@@ -94,6 +94,6 @@ pub record IsRightLife {S : Type 0} (players : List Player) (past : List (Happen
   pub steps : List Step
   pub run : IsRun players steps (view now.talk.desk)
   pub lines : AllRight players steps
-  pub tells : AllTold steps
+  pub tells : AllTold players steps
   pub sent : sent_in steps ≡ written_in past ++ now.talk.wire.items
   pub own : AreOwn now.talk.next (numbers now.guests.items)

@@ -1,10 +1,11 @@
-use Rattle.std.proofs.Common.{◌≡◌, true, ◌||◌}
-use Rattle.std.specs.List.{list_all}
-use Rattle.lobby_desk.specs.Who.{watched, at_table}
+use Rattle.std.proofs.Common.{◌≡◌, ◌++◌, ◌&&◌, not, take, filter}
+use Rattle.lobby_desk.specs.Watching.{watched}
+use Rattle.lobby_desk.proofs.Watched.{watching}
 use Rattle.lobby_desk.proofs.watching.followers.Given as goal
 
 abbrev pub invariant-loop-watch : goal.invariant-loop-watch
-invariant-loop-watch l = list_all (λ c. watched l.watches c l.game || at_table l.table c) l.to.items ≡ true
+invariant-loop-watch l = l.to.items ≡ watching l.game (take l.watch-index l.watches)
 
 abbrev pub invariant-loop-one : goal.invariant-loop-one
-invariant-loop-one l = list_all (λ c. watched l.watches c l.game || at_table l.table c) l.to.items ≡ true
+invariant-loop-one l =
+    l.to.items ≡ watching l.game l.watches ++ filter (λ c. l.is_table && not (watched l.watches c l.game)) (take l.one-index l.table)
