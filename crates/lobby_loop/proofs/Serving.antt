@@ -151,19 +151,19 @@ zip_both R (x ∷ xs) us (y ∷ ys) vs (one, more) all = (one, zip_both R xs us 
 told_further : (steps : List Step) (out : List Telling) (c : ℕ) (t : Telling) (texts : List (List ℕ)) (p q : List Doing) →
     texts_told q ≡ texts_told p ++ texts → AllZip IsToldAs (told_for c (t ∷ [])) texts → IsToldOf steps out c p →
     IsToldOf steps (out ++ t ∷ []) c q
-told_further steps out c t texts p q are as told = record {
+told_further steps out c t texts p q are new told = record {
   before = told.before;
   since = told.since ++ t ∷ [];
   split = ap (λ (l : List Telling). l ++ t ∷ []) told.split ∙ append_assoc told.before told.since (t ∷ []);
   early = told.early;
   told = subst (λ (l : List (List ℕ)). AllZip IsToldAs (told_for c (told.since ++ t ∷ [])) l) (sym are)
       (subst (λ (l : List Telling). AllZip IsToldAs l (texts_told p ++ texts)) (sym (told_for_both c told.since (t ∷ [])))
-      (zip_both IsToldAs (told_for c told.since) (told_for c (t ∷ [])) (texts_told p) texts told.told as));
+      (zip_both IsToldAs (told_for c told.since) (told_for c (t ∷ [])) (texts_told p) texts told.told new));
 }
 
 for_it : (c : ℕ) (t : Telling) (text : List ℕ) → at_table t.to c ≡ true → IsToldAs t text →
     AllZip IsToldAs (told_for c (t ∷ [])) (text ∷ [])
-for_it c t text is as = subst (λ (b : Bool). AllZip IsToldAs (if b then t ∷ [] else []) (text ∷ [])) (sym is) (as, tt)
+for_it c t text is made = subst (λ (b : Bool). AllZip IsToldAs (if b then t ∷ [] else []) (text ∷ [])) (sym is) (made, tt)
 
 not_for_it : (c : ℕ) (t : Telling) → at_table t.to c ≡ false → AllZip IsToldAs (told_for c (t ∷ [])) []
 not_for_it c t is = subst (λ (b : Bool). AllZip IsToldAs (if b then t ∷ [] else []) []) (sym is) tt
@@ -195,9 +195,9 @@ module _ {S : Type 0} (remaining contents : S → Option (List ℕ)) (site : Sit
 
   pub served_before : (steps : List Step) (out : List Telling) (old new : Guest S) → IsAsBefore old new →
       Served steps out old.number (spot old) → Served steps out new.number (spot new)
-  served_before steps out old new as was =
-      subst (λ (n : Option ℕ). Served steps out n (spot new)) (sym as.number)
-      (stays_at steps out old.number old new as.browser as.stream was)
+  served_before steps out old new same was =
+      subst (λ (n : Option ℕ). Served steps out n (spot new)) (sym same.number)
+      (stays_at steps out old.number old new same.browser same.stream was)
 
   pub served_read : (steps : List Step) (out : List Telling) (old new : Guest S) → IsRead remaining site old new →
       Served steps out old.number (spot old) → Served steps out new.number (spot new)

@@ -19,17 +19,15 @@ struct Trial {
 // So many things at most are heard of a browser, and written to it, at once.
 const MOST: usize = 64;
 
-fn begun(rt: &HostRuntime) -> Trial {
-    let alloc = rt.alloc();
-    Trial {
-        browser: Browser::new(alloc, RandomState::new(rt).expect(rt, "keys")),
-        said: Vec::new(alloc),
-        written: Vec::new(alloc),
-    }
+/// Where browsers are tried, before a page at `/` under the host `a:1`.
+#[derive(Drop)]
+struct Lab {
+    alloc: Global,
+    keys: RandomState,
+    site: Site,
 }
 
-// A page at `/`, under the host `a:1`.
-fn site_of(rt: &impl Abort, alloc: Global) -> Site {
+fn lab_of(rt: &impl Abort, alloc: Global, keys: RandomState) -> Lab {
     let mut hosts = Vec::new(alloc);
     hosts.push(b"a:1".to_vec(alloc).expect(rt, "memory")).expect(rt, "memory");
     let mut files = Vec::new(alloc);
@@ -39,7 +37,19 @@ fn site_of(rt: &impl Abort, alloc: Global) -> Site {
         bytes: Bytes::from_static(b"the page"),
     };
     files.push(file).expect(rt, "memory");
-    Site::new(hosts, files)
+    Lab {
+        alloc,
+        keys,
+        site: Site::new(hosts, files),
+    }
+}
+
+fn begun(lab: &Lab) -> Trial {
+    Trial {
+        browser: Browser::new(lab.alloc, lab.keys),
+        said: Vec::new(lab.alloc),
+        written: Vec::new(lab.alloc),
+    }
 }
 
 // What it says is heard.
@@ -78,17 +88,17 @@ fn give(rt: &impl Abort, trial: &mut Trial, site: &Site, piece: &[u8]) {
 }
 
 // A browser of which these bytes came at once.
-fn whole(rt: &HostRuntime, site: &Site, bytes: &[u8]) -> Trial {
-    let mut trial = begun(rt);
-    give(rt, &mut trial, site, bytes);
+fn whole(rt: &impl Abort, lab: &Lab, bytes: &[u8]) -> Trial {
+    let mut trial = begun(lab);
+    give(rt, &mut trial, &lab.site, bytes);
     trial
 }
 
 // A browser of which they came one by one.
-fn single(rt: &HostRuntime, site: &Site, bytes: &[u8]) -> Trial {
-    let mut trial = begun(rt);
+fn single(rt: &impl Abort, lab: &Lab, bytes: &[u8]) -> Trial {
+    let mut trial = begun(lab);
     for byte in bytes {
-        give(rt, &mut trial, site, &[*byte]);
+        give(rt, &mut trial, &lab.site, &[*byte]);
     }
     trial
 }
@@ -102,9 +112,9 @@ fn has(trial: &Trial, said: &[u8], answer: &[u8], is_over: bool) -> bool {
 }
 
 // Whether what these bytes bring is this, in whatever pieces they come.
-fn brings(rt: &HostRuntime, site: &Site, bytes: &[u8], said: &[u8], answer: &[u8], is_over: bool) -> bool {
-    let at_once = whole(rt, site, bytes);
-    let one_by_one = single(rt, site, bytes);
+fn brings(rt: &impl Abort, lab: &Lab, bytes: &[u8], said: &[u8], answer: &[u8], is_over: bool) -> bool {
+    let at_once = whole(rt, lab, bytes);
+    let one_by_one = single(rt, lab, bytes);
     has(&at_once, said, answer, is_over)
         && has(&one_by_one, said, answer, is_over)
         && one_by_one.written.as_slice() == at_once.written.as_slice()
@@ -112,7 +122,7 @@ fn brings(rt: &HostRuntime, site: &Site, bytes: &[u8], said: &[u8], answer: &[u8
 
 #[test]
 fn a_request_is_answered_or_refused(rt: HostRuntime) {
-    let site = site_of(&rt, rt.alloc());
+    let lab = lab_of(&rt, rt.alloc(), RandomState::new(&rt).expect(&rt, "keys"));
     let cases: [(&[u8], &[u8], bool); 22] = [
         (b"GET / HTTP/1.1\r\nHost: a:1\r\n\r\n", b"HTTP/1.1 200 OK\r\n", false),
         (b"HEAD / HTTP/1.1\r\nHost: a:1\r\n\r\n", b"HTTP/1.1 200 OK\r\n", false),
@@ -158,39 +168,39 @@ fn a_request_is_answered_or_refused(rt: HostRuntime) {
         ),
     ];
     for (request, answer, is_over) in cases {
-        assert!(rt; brings(&rt, &site, request, b"", answer, is_over));
+        assert!(rt; brings(&rt, &lab, request, b"", answer, is_over));
     }
 }
 
 // A request whose part behind this front is so long.
-fn long(rt: &HostRuntime, front: &[u8], count: usize) -> Vec<u8> {
-    let mut request = front.to_vec(rt.alloc()).expect(rt, "memory");
+fn long(rt: &impl Abort, lab: &Lab, front: &[u8], count: usize) -> Vec<u8> {
+    let mut request = front.to_vec(lab.alloc).expect(rt, "memory");
     request.resize(count, b'a').expect(rt, "memory");
     request
 }
 
 #[test]
 fn a_head_too_long_is_refused(rt: HostRuntime) {
-    let site = site_of(&rt, rt.alloc());
+    let lab = lab_of(&rt, rt.alloc(), RandomState::new(&rt).expect(&rt, "keys"));
     let fronts: [(&[u8], &[u8]); 2] = [
         (b"GET / HTTP/1.1\r\nHost: a:1\r\nX: ", b"HTTP/1.1 431 "),
         (b"GET /", b"HTTP/1.1 414 "),
     ];
     for (front, answer) in fronts {
-        let mut trial = whole(&rt, &site, &long(&rt, front, 16_384));
-        give(&rt, &mut trial, &site, b"a");
+        let mut trial = whole(&rt, &lab, &long(&rt, &lab, front, 16_384));
+        give(&rt, &mut trial, &lab.site, b"a");
         assert!(rt; has(&trial, b"", answer, true));
     }
     // (more than is taken at once)
-    let more = long(&rt, b"GET /", MOST_AT_ONCE + 1);
-    assert!(rt; has(&whole(&rt, &site, &more), b"", b"", true));
+    let more = long(&rt, &lab, b"GET /", MOST_AT_ONCE + 1);
+    assert!(rt; has(&whole(&rt, &lab, &more), b"", b"", true));
 }
 
 #[test]
 fn half_a_head_and_then_nothing_is_the_end(rt: HostRuntime) {
-    let site = site_of(&rt, rt.alloc());
-    let mut trial = whole(&rt, &site, b"GET / HTTP/1.1\r\nHost: a:1\r\n");
-    give(&rt, &mut trial, &site, b"");
+    let lab = lab_of(&rt, rt.alloc(), RandomState::new(&rt).expect(&rt, "keys"));
+    let mut trial = whole(&rt, &lab, b"GET / HTTP/1.1\r\nHost: a:1\r\n");
+    give(&rt, &mut trial, &lab.site, b"");
     assert!(rt; has(&trial, b"", b"HTTP/1.1 400 ", true));
 }
 
@@ -202,24 +212,24 @@ const SWITCH: &[u8] =
     b"HTTP/1.1 101 Switching Protocols\r\nconnection: Upgrade\r\nupgrade: websocket\r\nsec-websocket-accept: s3pPLMBiTxaQ9kYGzzhZRbK+xOo=\r\n\r\n";
 
 // One behind the other.
-fn joined(rt: &HostRuntime, front: &[u8], rest: &[u8]) -> Vec<u8> {
-    let mut all = front.to_vec(rt.alloc()).expect(rt, "memory");
+fn joined(rt: &impl Abort, lab: &Lab, front: &[u8], rest: &[u8]) -> Vec<u8> {
+    let mut all = front.to_vec(lab.alloc).expect(rt, "memory");
     all.extend_from_slice(rest).expect(rt, "memory");
     all
 }
 
 // Whether what these frames bring behind an upgrade is this, in whatever pieces they come, also right behind the head.
-fn bring(rt: &HostRuntime, site: &Site, frames: &[u8], said: &[u8], answer: &[u8], is_over: bool) -> bool {
-    let bytes = joined(rt, UPGRADE, frames);
-    let written = joined(rt, SWITCH, answer);
-    let told = joined(rt, b"open\n", said);
-    brings(rt, site, &bytes, &told, &written, is_over)
-        && whole(rt, site, &bytes).written.as_slice() == written.as_slice()
+fn bring(rt: &impl Abort, lab: &Lab, frames: &[u8], said: &[u8], answer: &[u8], is_over: bool) -> bool {
+    let bytes = joined(rt, lab, UPGRADE, frames);
+    let written = joined(rt, lab, SWITCH, answer);
+    let told = joined(rt, lab, b"open\n", said);
+    brings(rt, lab, &bytes, &told, &written, is_over)
+        && whole(rt, lab, &bytes).written.as_slice() == written.as_slice()
 }
 
 #[test]
 fn frames_are_heard_or_refused(rt: HostRuntime) {
-    let site = site_of(&rt, rt.alloc());
+    let lab = lab_of(&rt, rt.alloc(), RandomState::new(&rt).expect(&rt, "keys"));
     let cases: [(&[u8], &[u8], &[u8], bool); 26] = [
         (b"", b"", b"", false),
         (b"\x81\x84\0\0\0\0list", b"list\n", b"", false),
@@ -258,7 +268,7 @@ fn frames_are_heard_or_refused(rt: HostRuntime) {
         (b"\x8a\x80\0\0\0\0", b"", b"", false),
     ];
     for (frames, said, answer, is_over) in cases {
-        assert!(rt; bring(&rt, &site, frames, said, answer, is_over));
+        assert!(rt; bring(&rt, &lab, frames, said, answer, is_over));
     }
 }
 
@@ -274,26 +284,26 @@ fn say_often(trial: &mut Trial, text: &[u8], count: usize) -> bool {
 
 #[test]
 fn who_takes_nothing_is_closed(rt: HostRuntime) {
-    let site = site_of(&rt, rt.alloc());
-    let mut slow = whole(&rt, &site, UPGRADE);
-    let text = long(&rt, b"", 65_536);
-    // 17 frames of 65,546 bytes are more than 1,048,576.
-    assert!(rt; say_often(&mut slow, &text, 16));
+    let lab = lab_of(&rt, rt.alloc(), RandomState::new(&rt).expect(&rt, "keys"));
+    let mut slow = whole(&rt, &lab, UPGRADE);
+    let text = long(&rt, &lab, b"", 65_536);
+    // 16 frames of 65,546 bytes are more than 1,048,576.
+    assert!(rt; say_often(&mut slow, &text, 15));
     assert!(rt; slow.browser.say(b"more") == Ok(()) && !slow.browser.is_over());
-    let mut slower = whole(&rt, &site, UPGRADE);
-    assert!(rt; say_often(&mut slower, &text, 17));
+    let mut slower = whole(&rt, &lab, UPGRADE);
+    assert!(rt; say_often(&mut slower, &text, 16));
     assert!(rt; slower.browser.say(b"more") == Err(Unsaid::Slow) && slower.browser.is_over());
 }
 
 #[test]
 fn a_flood_is_not_taken(rt: HostRuntime) {
-    let site = site_of(&rt, rt.alloc());
-    let mut trial = whole(&rt, &site, UPGRADE);
+    let lab = lab_of(&rt, rt.alloc(), RandomState::new(&rt).expect(&rt, "keys"));
+    let mut trial = whole(&rt, &lab, UPGRADE);
     // (a frame that is said to have 4,096 bytes)
-    let flood = long(&rt, b"\x81\x84\0\0\0\0list\x81\xfe\x10\0\0\0\0\0", 8_191);
-    trial.browser.take(&site, &flood);
+    let flood = long(&rt, &lab, b"\x81\x84\0\0\0\0list\x81\xfe\x10\0\0\0\0\0", 8_191);
+    trial.browser.take(&lab.site, &flood);
     assert!(rt; trial.browser.wants_read());
-    trial.browser.take(&site, b"a");
+    trial.browser.take(&lab.site, b"a");
     assert!(rt; !trial.browser.wants_read());
     hear(&rt, &mut trial);
     assert!(rt; trial.browser.is_over() && trial.said.as_slice().starts_with(b"open\nlist\naaaa"));
