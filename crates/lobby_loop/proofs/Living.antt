@@ -816,7 +816,7 @@ module _ {S : Type 0} (remaining contents : S → Option (List ℕ)) (players : 
   reached_life : (old new : Hall S) → IsReached old new → IsSomeLife old → IsSomeLife new
   reached_life old new (inl same) (past, life) =
       (past, subst (λ (h : Hall S). IsLife remaining contents players past h) (sym same) life)
-  reached_life old new (inr (none, stream, comes)) (past, life) = (ServerCame stream ∷ past, (old, life, comes))
+  reached_life old new (inr (none, (stream, comes))) (past, life) = (ServerCame stream ∷ past, (old, life, comes))
 
   welcomed_life : (streams : List S) (old new : Hall S) → AreAdmitted streams old new → IsSomeLife old → IsSomeLife new
   welcomed_life [] old new same (past, life) =

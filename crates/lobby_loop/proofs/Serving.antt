@@ -248,7 +248,7 @@ module _ {S : Type 0} (remaining contents : S → Option (List ℕ)) (site : Sit
     past = Gave (Some heards.Opened) ∷ was.past;
     done = (a, was.done, does);
     said = (refl, was.said.1);
-    told = was.told;
+    told = told_same (Some c) steps out was.past (Gave (Some heards.Opened) ∷ was.past) refl was.told;
   }
 
   pub gave_early : (steps : List Step) (out : List Telling) (text : Vec ℕ Global) (a b : Spot S) →

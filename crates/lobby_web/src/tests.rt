@@ -230,7 +230,7 @@ fn bring(rt: &impl Abort, lab: &Lab, frames: &[u8], said: &[u8], answer: &[u8], 
 #[test]
 fn frames_are_heard_or_refused(rt: HostRuntime) {
     let lab = lab_of(&rt, rt.alloc(), RandomState::new(&rt).expect(&rt, "keys"));
-    let cases: [(&[u8], &[u8], &[u8], bool); 26] = [
+    let cases: [(&[u8], &[u8], &[u8], bool); 25] = [
         (b"", b"", b"", false),
         (b"\x81\x84\0\0\0\0list", b"list\n", b"", false),
         (b"\x81\x84\x01\x02\x03\x04mkpp", b"list\n", b"", false),
@@ -243,8 +243,7 @@ fn frames_are_heard_or_refused(rt: HostRuntime) {
         (b"\xc1\x84\0\0\0\0list", b"", b"\x88\x02\x03\xea", true),
         (b"\x91\x84\0\0\0\0list", b"", b"\x88\x02\x03\xea", true),
         (b"\x83\x84\0\0\0\0list", b"", b"\x88\x02\x03\xea", true),
-        // a ping of 126 bytes, and one that is cut in two
-        (b"\x89\xfe\0\x7e\0\0\0\0", b"", b"\x88\x02\x03\xea", true),
+        // a ping that is cut in two
         (b"\x09\x82\0\0\0\0hi", b"", b"\x88\x02\x03\xea", true),
         // no UTF-8
         (b"\x81\x82\0\0\0\0\xc3\x28", b"", b"\x88\x02\x03\xef", true),
@@ -263,13 +262,20 @@ fn frames_are_heard_or_refused(rt: HostRuntime) {
         (b"\x88\x82\0\0\0\0\x03\xe8", b"", b"\x88\x02\x03\xe8", true),
         (b"\x88\x80\0\0\0\0", b"", b"\x88\0", true),
         (b"\x88\x81\0\0\0\0\x03", b"", b"\x88\x02\x03\xea", true),
-        (b"\x88\x82\0\0\0\0\x03\xed", b"", b"\x88\x02\x03\xea", true),
+        (b"\x88\x82\0\0\0\0\x03\xed", b"", b"\x88\x14\x03\xeaProtocol violation", true),
         (b"\x88\x80\0\0\0\0\x81\x84\0\0\0\0list", b"", b"\x88\0", true),
         (b"\x8a\x80\0\0\0\0", b"", b"", false),
     ];
     for (frames, said, answer, is_over) in cases {
         assert!(rt; bring(&rt, &lab, frames, said, answer, is_over));
     }
+}
+
+#[test]
+fn a_control_frame_too_long_is_refused(rt: HostRuntime) {
+    let lab = lab_of(&rt, rt.alloc(), RandomState::new(&rt).expect(&rt, "keys"));
+    let ping = long(&rt, &lab, b"\x89\xfe\0\x7e\0\0\0\0", 8 + 126);
+    assert!(rt; bring(&rt, &lab, &ping, b"", b"\x88\x02\x03\xea", true));
 }
 
 // It is told a text of so many bytes so often; true where it took all.
