@@ -174,10 +174,12 @@ module _ {S : Type 0} (remaining contents : S → Option (List ℕ)) (site : Sit
       IsFurther players (left gone written) out (Keeps out guests) old new
   parted written out guests false server after old new so_far (is, same) =
       same_talk players written out (Keeps out guests) old new so_far same
-  parted written out guests true server after old new so_far (is, anew) =
-      (at_anew players written out (Keeps out guests) (Keeps out guests) _ _ _ _ old.desk new.desk Gone (λ bytes. refl)
-      (goes_on out (tellings old.told.items) Gone guests (all_apart Gone (λ c. tt) (numbers guests))) so_far anew.steps
-      anew.nothing, anew.next)
+  parted written out guests true server after old new so_far (is, anew) = (
+    at_anew players written out (Keeps out guests) (Keeps out guests) _ _ _ _ old.desk new.desk Gone (λ bytes. refl)
+        (goes_on out (tellings old.told.items) Gone guests (all_apart Gone (λ c. tt) (numbers guests))) so_far anew.steps
+        anew.nothing,
+    anew.next,
+  )
 
   closed_if : (written : List ℕ) (out : List Telling) (guests : List (Guest S)) (lost : Bool) (number : Option ℕ)
       (old new : Talk) → IsTalkAt players written out (Keeps out guests) old → IsClosedIf lost number old new →
@@ -367,11 +369,13 @@ module _ {S : Type 0} (remaining contents : S → Option (List ℕ)) (site : Sit
       IsHeardAs heard at number after s t →
       IsTalkAt players written out (Three done rest after b) t × Numbered s.next number after t.next
   heard_as done rest None at number after a b s t before own owns so_far does (same_number, same) =
-      let so = same_talk players written out (Three done rest number a) s t so_far same in
-      (subst (λ (n : Option ℕ). IsTalkAt players written out (Three done rest n b) t) (sym same_number)
-      (at_with players written out (Three done rest number a) (Three done rest number b) t.desk t.wire.items
-      (tellings t.told.items) (with_one done rest number number a b
-      (λ steps was. gave_nothing remaining contents site came steps out number a b does was)) so.0), inl (same_number, so.1))
+      let so = same_talk players written out (Three done rest number a) s t so_far same in (
+        subst (λ (n : Option ℕ). IsTalkAt players written out (Three done rest n b) t) (sym same_number)
+            (at_with players written out (Three done rest number a) (Three done rest number b) t.desk t.wire.items
+            (tellings t.told.items) (with_one done rest number number a b
+            (λ steps was. gave_nothing remaining contents site came steps out number a b does was)) so.0),
+        inl (same_number, so.1),
+      )
   heard_as done rest (Some heards.Opened) at None after a b s t before own owns so_far does (c, is, opens) = (
     subst (λ (n : Option ℕ). IsTalkAt players written out (Three done rest n b) t) (sym is)
         (at_more players written out (Three done rest None a) (Three done rest (Some c) b) _ _ _ _ s.desk t.desk (Opened c)
@@ -387,17 +391,21 @@ module _ {S : Type 0} (remaining contents : S → Option (List ℕ)) (site : Sit
     inr (c, is, opens.fresh, opens.next),
   )
   heard_as done rest (Some heards.Opened) at (Some d) after a b s t before own owns so_far does (is, same) =
-      let so = same_talk players written out (Three done rest (Some d) a) s t so_far same in
-      (subst (λ (n : Option ℕ). IsTalkAt players written out (Three done rest n b) t) (sym is)
-      (at_with players written out (Three done rest (Some d) a) (Three done rest (Some d) b) t.desk t.wire.items
-      (tellings t.told.items) (with_one done rest (Some d) (Some d) a b
-      (λ steps was. gave_again remaining contents site came steps out d a b does was)) so.0), inl (is, so.1))
+      let so = same_talk players written out (Three done rest (Some d) a) s t so_far same in (
+        subst (λ (n : Option ℕ). IsTalkAt players written out (Three done rest n b) t) (sym is)
+            (at_with players written out (Three done rest (Some d) a) (Three done rest (Some d) b) t.desk t.wire.items
+            (tellings t.told.items) (with_one done rest (Some d) (Some d) a b
+            (λ steps was. gave_again remaining contents site came steps out d a b does was)) so.0),
+        inl (is, so.1),
+      )
   heard_as done rest (Some (heards.Text text)) at None after a b s t before own owns so_far does (is, same) =
-      let so = same_talk players written out (Three done rest None a) s t so_far same in
-      (subst (λ (n : Option ℕ). IsTalkAt players written out (Three done rest n b) t) (sym is)
-      (at_with players written out (Three done rest None a) (Three done rest None b) t.desk t.wire.items
-      (tellings t.told.items) (with_one done rest None None a b
-      (λ steps was. gave_early remaining contents site came steps out text a b does was)) so.0), inl (is, so.1))
+      let so = same_talk players written out (Three done rest None a) s t so_far same in (
+        subst (λ (n : Option ℕ). IsTalkAt players written out (Three done rest n b) t) (sym is)
+            (at_with players written out (Three done rest None a) (Three done rest None b) t.desk t.wire.items
+            (tellings t.told.items) (with_one done rest None None a b
+            (λ steps was. gave_early remaining contents site came steps out text a b does was)) so.0),
+        inl (is, so.1),
+      )
   heard_as done rest (Some (heards.Text text)) at (Some d) after a b s t before own owns so_far does
       (is, (shown, a_text, no_text, moves)) =
       let fast = is_too_fast (until_of s.desk d) at in
@@ -454,15 +462,17 @@ module _ {S : Type 0} (remaining contents : S → Option (List ℕ)) (site : Sit
       AreAttended remaining site at guests after s t →
       IsTalkAt players written out (Two done after) t × AreNumbered s.next (numbers guests) (numbers after) t.next
   attended_all at done [] after s t before owns so_far (none, same) =
-      let so = same_talk players written out (Two done []) s t so_far same in
-      (subst (λ (l : List (Guest S)). IsTalkAt players written out (Two done l) t) (sym none) so.0,
-      subst (λ (l : List (Guest S)). AreNumbered s.next [] (numbers l) t.next) (sym none) so.1)
+      let so = same_talk players written out (Two done []) s t so_far same in (
+        subst (λ (l : List (Guest S)). IsTalkAt players written out (Two done l) t) (sym none) so.0,
+        subst (λ (l : List (Guest S)). AreNumbered s.next [] (numbers l) t.next) (sym none) so.1,
+      )
   attended_all at done (guest ∷ guests) after s t before (own, owns) so_far (next, rest, between, whole, is, are) =
       let one = attended_one at done guests guest next s between before own owns so_far is in
       let up : s.next ≤ between.next = up_one s.next guest.number next.number between.next one.1 in
-      let all = attended_all at (next ∷ done) guests rest between t
-      (own_next s.next guest.number next.number between.next (numbers guests) own owns one.1,
-      all_own_tail s.next between.next (numbers done) guest.number (numbers guests) up before)
+      let all = attended_all at (next ∷ done) guests rest between t (
+        own_next s.next guest.number next.number between.next (numbers guests) own owns one.1,
+        all_own_tail s.next between.next (numbers done) guest.number (numbers guests) up before,
+      )
       (own_up s.next between.next (numbers guests) up owns) one.0 are in (
         subst (λ (l : List (Guest S)). IsTalkAt players written out (Two done l) t) (sym whole)
             (at_with players written out (Two (next ∷ done) rest) (Two done (next ∷ rest)) t.desk t.wire.items
@@ -828,9 +838,10 @@ module _ {S : Type 0} (remaining contents : S → Option (List ℕ)) (players : 
   turned_life : (at : ℕ) (old new : Hall S) → IsLobbyTurn remaining contents at old new → IsSomeLife old → IsSomeLife new
   turned_life at old new turn so_far =
       let so = welcomed_life turn.streams turn.reached turn.welcomed turn.welcomes
-      (reached_life old turn.reached turn.reaches so_far) in
-      (Turned at turn.turns.is_gone turn.turns.front ∷ so.0,
-      (turn.welcomed, so.1, record { turned = turn.turns; gone = refl; front_is = refl }))
+      (reached_life old turn.reached turn.reaches so_far) in (
+        Turned at turn.turns.is_gone turn.turns.front ∷ so.0,
+        (turn.welcomed, so.1, record { turned = turn.turns; gone = refl; front_is = refl }),
+      )
 
   lobby_life : (passed : List Passing) (now : Hall S) → IsLobbyLife remaining contents players passed now → IsSomeLife now
   lobby_life [] now begins = ([], begins)

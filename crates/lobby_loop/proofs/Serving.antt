@@ -27,10 +27,10 @@ use Rattle.lobby_loop.specs.Doing.{Doing, Took, Tried, Gave, WasTold, Wrote, Spo
 -- ---- events of other connections
 
 differs : (d c : ℕ) → d ≢ c → (d == c) ≡ false
-differs d c other = elim (eqb_tells d c) [ | inl both ↦ absurd (other both.1) | inr both ↦ both.0 ]
+differs d c other = elim (eqb_tells d c) [ inl both ↦ absurd (other both.1) | inr both ↦ both.0 ]
 
 pub is_same : (c : ℕ) → (c == c) ≡ true
-is_same c = elim (eqb_tells c c) [ | inl both ↦ both.0 | inr both ↦ absurd (both.1 refl) ]
+is_same c = elim (eqb_tells c c) [ inl both ↦ both.0 | inr both ↦ absurd (both.1 refl) ]
 
 -- an event that says nothing of what a connection said, and does not open it
 abbrev pub IsApart : ℕ → Event → Type 0
@@ -204,9 +204,11 @@ module _ {S : Type 0} (remaining contents : S → Option (List ℕ)) (site : Sit
   served_read steps out old new reads was =
       subst (λ (n : Option ℕ). Served steps out n (spot new)) (sym reads.number) (elim reads.takes [
         | inl none ↦ done_more steps out old.number Tried (spot old) (spot new)
-            (λ past. record { opened = refl; given = refl; told = refl })
-            (ap (λ (b : Browser). b.stage) none.0, inl (subst (λ (l : List ℕ). Consumes (remaining old.stream) (remaining new.stream) l)
-            none.1 reads.consumed)) was
+            (λ past. record { opened = refl; given = refl; told = refl }) (
+              ap (λ (b : Browser). b.stage) none.0,
+              inl (subst (λ (l : List ℕ). Consumes (remaining old.stream) (remaining new.stream) l)
+                  none.1 reads.consumed),
+            ) was
         | inr takes ↦ done_more steps out old.number (Took reads.taken) (spot old) (spot new)
             (λ past. record { opened = refl; given = refl; told = refl }) (reads.consumed, takes) was
       ])
@@ -225,9 +227,10 @@ module _ {S : Type 0} (remaining contents : S → Option (List ℕ)) (site : Sit
   served_written steps out old new written was =
       subst (λ (n : Option ℕ). Served steps out n (spot new)) (sym written.number) (elim written.goes [
         | inl none ↦ done_more steps out old.number Tried (spot old) (spot new)
-            (λ past. record { opened = refl; given = refl; told = refl })
-            (ap (λ (b : Browser). b.stage) none.0,
-            inr (subst (λ (k : ℕ). Appends (contents old.stream) (contents new.stream) (take k (pending old.browser.stage))) none.1 written.written)) was
+            (λ past. record { opened = refl; given = refl; told = refl }) (
+              ap (λ (b : Browser). b.stage) none.0,
+              inr (subst (λ (k : ℕ). Appends (contents old.stream) (contents new.stream) (take k (pending old.browser.stage))) none.1 written.written),
+            ) was
         | inr writes ↦ done_more steps out old.number (Wrote (take written.count (pending old.browser.stage))) (spot old) (spot new)
             (λ past. record { opened = refl; given = refl; told = refl })
             (written.count, written.within, refl, written.written, writes) was
@@ -450,15 +453,18 @@ module _ {S : Type 0} (remaining contents : S → Option (List ℕ)) (site : Sit
   pub all_came : (stream : S) (steps : List Step) (out : List Telling) (guests : List (Guest S)) →
       AreServed remaining contents site came steps out guests → AreServed remaining contents site (stream ∷ came) steps out guests
   all_came stream steps out [] were = tt
-  all_came stream steps out (x ∷ xs) (was, were) = (record {
-    first = was.first;
-    new = was.new;
-    among = inr was.among;
-    past = was.past;
-    done = was.done;
-    said = was.said;
-    told = was.told;
-  }, all_came stream steps out xs were)
+  all_came stream steps out (x ∷ xs) (was, were) = (
+    record {
+      first = was.first;
+      new = was.new;
+      among = inr was.among;
+      past = was.past;
+      done = was.done;
+      said = was.said;
+      told = was.told;
+    },
+    all_came stream steps out xs were,
+  )
 
   pub served_new : (stream : S) (steps : List Step) (out : List Telling) (guest : Guest S) → IsNewGuest stream guest →
       IsServed remaining contents site (stream ∷ came) steps out guest.number (spot guest)

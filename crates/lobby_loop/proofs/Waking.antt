@@ -1,11 +1,11 @@
--- Sockets that may be ready, one after the other.
-use Rattle.std.proofs.Common.{◌≡◌, List, [], ◌∷◌, Option, None, Some, refl, ◌∙◌, subst}
+-- Browsers that come, and sockets that may be ready, one after the other.
+use Rattle.std.proofs.Common.{◌≡◌, ◌++◌, inl, inr, List, [], ◌∷◌, Option, None, Some, refl, ap, ◌∙◌, subst}
 use Rattle.std.specs.List.{AllZip}
 use Rattle.lobby_loop.specs.declared.guest.Guest.{Guest}
 use Rattle.lobby_loop.specs.declared.hall.Hall.{Hall}
 use Rattle.lobby_loop.specs.declared.link.Link.{Link}
 use Rattle.lobby_loop.specs.Guests.{IsAsBefore}
-use Rattle.lobby_loop.specs.Turning.{IsServerAsBefore}
+use Rattle.lobby_loop.specs.Turning.{IsServerAsBefore, IsHallAsBefore, Admits}
 use Rattle.lobby_loop.specs.Living.{IsWoken}
 
 module _ {S : Type 0} where
@@ -31,11 +31,15 @@ module _ {S : Type 0} where
   server_twice : (a b c : Option (Link S)) → IsServerAsBefore a b → IsServerAsBefore b c → IsServerAsBefore a c
   server_twice None b c is more = subst (λ (s : Option (Link S)). IsServerAsBefore s c) is more
   server_twice (Some link) b c (next, is, stream, kept) more =
-      let (last, is_last, last_stream, last_kept) = subst (λ (s : Option (Link S)). IsServerAsBefore s c) is more in
-      (last, is_last, last_stream ∙ stream, record {
-        held = last_kept.held ∙ kept.held;
-        lost = λ goes. kept.lost (last_kept.lost goes);
-      })
+      let (last, is_last, last_stream, last_kept) = subst (λ (s : Option (Link S)). IsServerAsBefore s c) is more in (
+        last,
+        is_last,
+        last_stream ∙ stream,
+        record {
+          held = last_kept.held ∙ kept.held;
+          lost = λ goes. kept.lost (last_kept.lost goes);
+        },
+      )
 
   pub woken_none : (hall : Hall S) → IsWoken hall hall
   woken_none hall = record {
@@ -51,4 +55,25 @@ module _ {S : Type 0} where
     talk = next.talk ∙ one.talk;
     server = server_twice a.server b.server c.server one.server next.server;
     site = next.site ∙ one.site;
+  }
+
+  -- a browser comes to a hall that is as before
+  pub admits_behind : (stream : S) (a b c : Hall S) → IsHallAsBefore a b → Admits stream b c → Admits stream a c
+  admits_behind stream a b c same admits = record {
+    guests = elim admits.guests [
+      | inl none ↦ inl (none ∙ ap (λ gs. gs.items) same.guests)
+      | inr more ↦ inr (more.0, more.1, more.2 ∙ ap (λ gs. gs.items ++ more.0 ∷ []) same.guests)
+    ];
+    talk = admits.talk ∙ same.talk;
+    server = admits.server ∙ same.server;
+    site = admits.site ∙ same.site;
+  }
+
+  -- or is turned away
+  pub turned_away : (stream : S) (a b c : Hall S) → IsHallAsBefore a b → IsHallAsBefore b c → Admits stream a c
+  turned_away stream a b c same away = record {
+    guests = inl (ap (λ gs. gs.items) (away.guests ∙ same.guests));
+    talk = away.talk ∙ same.talk;
+    server = away.server ∙ same.server;
+    site = away.site ∙ same.site;
   }

@@ -185,7 +185,12 @@ fn what_is_no_line_is_refused_and_goes_nowhere(rt: HostRuntime) -> Result<(), Fa
     let browser = &[Gives::Bytes(UPGRADE), Gives::Bytes(NONE), Gives::Nothing];
     let hall = played(&rt, browser, &[Gives::Nothing], 1_000)?;
     assert!(rt; is_asked(&hall, b""));
-    assert!(rt; is_told(&hall, b"\x81\x0cserver here\n\x81\x0dno 1 BadLine\n\x81\x0dno 1 BadLine\n\x81\x0dno 1 BadLine\n\x81\x0dno 1 BadLine\n"));
+    assert!(rt;
+        is_told(
+            &hall,
+            b"\x81\x0cserver here\n\x81\x0dno 1 BadLine\n\x81\x0dno 1 BadLine\n\x81\x0dno 1 BadLine\n\x81\x0dno 1 BadLine\n"
+        )
+    );
     Ok(())
 }
 
@@ -202,7 +207,12 @@ const FLOOD: &[u8] =
 fn who_says_too_much_is_refused(rt: HostRuntime) -> Result<(), Fail> {
     let browser = &[Gives::Bytes(UPGRADE), Gives::Bytes(FLOOD), Gives::Nothing];
     let hall = played(&rt, browser, &[Gives::Nothing], 1_000)?;
-    assert!(rt; is_told(&hall, b"\x81\x0fok leave lobby\n\x81\x0eno 34 TooFast\n\x81\x0eno 34 TooFast\n"));
+    assert!(rt;
+        is_told(
+            &hall,
+            b"\x81\x0fok leave lobby\n\x81\x0eno 34 TooFast\n\x81\x0eno 34 TooFast\n"
+        )
+    );
     Ok(())
 }
 
@@ -220,7 +230,10 @@ fn who_is_silent_is_asked_and_then_let_go(rt: HostRuntime) -> Result<(), Fail> {
 
 #[test]
 fn half_a_head_and_then_nothing_is_let_go(rt: HostRuntime) -> Result<(), Fail> {
-    let half = &[Gives::Bytes(b"GET /ws HTTP/1.1\r\nHost: a:1\r\n"), Gives::Nothing];
+    let half = &[
+        Gives::Bytes(b"GET /ws HTTP/1.1\r\nHost: a:1\r\n"),
+        Gives::Nothing,
+    ];
     let there = played_for(&rt, half, &[Gives::Nothing], 1_000, 59, 1_000)?;
     assert!(rt; there.len() == 1);
     let gone = played_for(&rt, half, &[Gives::Nothing], 1_000, 67, 1_000)?;

@@ -29,7 +29,9 @@ struct Lab {
 
 fn lab_of(rt: &impl Abort, alloc: Global, keys: RandomState) -> Lab {
     let mut hosts = Vec::new(alloc);
-    hosts.push(b"a:1".to_vec(alloc).expect(rt, "memory")).expect(rt, "memory");
+    hosts
+        .push(b"a:1".to_vec(alloc).expect(rt, "memory"))
+        .expect(rt, "memory");
     let mut files = Vec::new(alloc);
     let file = File {
         path: b"/".to_vec(alloc).expect(rt, "memory"),
@@ -59,7 +61,10 @@ fn hear(rt: &impl Abort, trial: &mut Trial) {
             None => return,
             Some(Heard::Opened) => trial.said.extend_from_slice(b"open\n").expect(rt, "memory"),
             Some(Heard::Text(text)) => {
-                trial.said.extend_from_slice(text.as_slice()).expect(rt, "memory");
+                trial
+                    .said
+                    .extend_from_slice(text.as_slice())
+                    .expect(rt, "memory");
                 trial.said.push(b'\n').expect(rt, "memory");
             }
         }
@@ -73,7 +78,10 @@ fn write(rt: &impl Abort, trial: &mut Trial, site: &Site) {
         if count == 0 {
             return;
         }
-        trial.written.extend_from_slice(trial.browser.out()).expect(rt, "memory");
+        trial
+            .written
+            .extend_from_slice(trial.browser.out())
+            .expect(rt, "memory");
         trial.browser.written(site, count);
     }
 }
@@ -112,7 +120,14 @@ fn has(trial: &Trial, said: &[u8], answer: &[u8], is_over: bool) -> bool {
 }
 
 // Whether what these bytes bring is this, in whatever pieces they come.
-fn brings(rt: &impl Abort, lab: &Lab, bytes: &[u8], said: &[u8], answer: &[u8], is_over: bool) -> bool {
+fn brings(
+    rt: &impl Abort,
+    lab: &Lab,
+    bytes: &[u8],
+    said: &[u8],
+    answer: &[u8],
+    is_over: bool,
+) -> bool {
     let at_once = whole(rt, lab, bytes);
     let one_by_one = single(rt, lab, bytes);
     has(&at_once, said, answer, is_over)
@@ -124,28 +139,88 @@ fn brings(rt: &impl Abort, lab: &Lab, bytes: &[u8], said: &[u8], answer: &[u8], 
 fn a_request_is_answered_or_refused(rt: HostRuntime) {
     let lab = lab_of(&rt, rt.alloc(), RandomState::new(&rt).expect(&rt, "keys"));
     let cases: [(&[u8], &[u8], bool); 22] = [
-        (b"GET / HTTP/1.1\r\nHost: a:1\r\n\r\n", b"HTTP/1.1 200 OK\r\n", false),
-        (b"HEAD / HTTP/1.1\r\nHost: a:1\r\n\r\n", b"HTTP/1.1 200 OK\r\n", false),
+        (
+            b"GET / HTTP/1.1\r\nHost: a:1\r\n\r\n",
+            b"HTTP/1.1 200 OK\r\n",
+            false,
+        ),
+        (
+            b"HEAD / HTTP/1.1\r\nHost: a:1\r\n\r\n",
+            b"HTTP/1.1 200 OK\r\n",
+            false,
+        ),
         (b"GET / HTTP/1.1\r\n\r\n", b"HTTP/1.1 400 ", true),
-        (b"GET / HTTP/1.1\r\nHost: a:1\r\nHost: a:1\r\n\r\n", b"HTTP/1.1 400 ", true),
-        (b"GET / HTTP/1.1\r\nHost: b:1\r\n\r\n", b"HTTP/1.1 403 ", false),
-        (b"GET / HTTP/1.1\r\nHost: a\r\n\r\n", b"HTTP/1.1 403 ", false),
-        (b"GET http://a:1/ HTTP/1.1\r\nHost: a:1\r\n\r\n", b"HTTP/1.1 403 ", false),
-        (b"POST / HTTP/1.1\r\nHost: a:1\r\nContent-Length: 1\r\n\r\nx", b"HTTP/1.1 413 ", true),
+        (
+            b"GET / HTTP/1.1\r\nHost: a:1\r\nHost: a:1\r\n\r\n",
+            b"HTTP/1.1 400 ",
+            true,
+        ),
+        (
+            b"GET / HTTP/1.1\r\nHost: b:1\r\n\r\n",
+            b"HTTP/1.1 403 ",
+            false,
+        ),
+        (
+            b"GET / HTTP/1.1\r\nHost: a\r\n\r\n",
+            b"HTTP/1.1 403 ",
+            false,
+        ),
+        (
+            b"GET http://a:1/ HTTP/1.1\r\nHost: a:1\r\n\r\n",
+            b"HTTP/1.1 403 ",
+            false,
+        ),
+        (
+            b"POST / HTTP/1.1\r\nHost: a:1\r\nContent-Length: 1\r\n\r\nx",
+            b"HTTP/1.1 413 ",
+            true,
+        ),
         (
             b"GET / HTTP/1.1\r\nHost: a:1\r\nTransfer-Encoding: chunked\r\n\r\n1\r\nx\r\n0\r\n\r\n",
             b"HTTP/1.1 413 ",
             true,
         ),
-        (b"POST / HTTP/1.1\r\nHost: a:1\r\n\r\n", b"HTTP/1.1 405 ", false),
-        (b"DELETE / HTTP/1.1\r\nHost: a:1\r\n\r\n", b"HTTP/1.1 405 ", false),
-        (b"GET /../club.players HTTP/1.1\r\nHost: a:1\r\n\r\n", b"HTTP/1.1 404 ", false),
-        (b"GET /%2e%2e/club.players HTTP/1.1\r\nHost: a:1\r\n\r\n", b"HTTP/1.1 404 ", false),
-        (b"GET //etc/passwd HTTP/1.1\r\nHost: a:1\r\n\r\n", b"HTTP/1.1 404 ", false),
+        (
+            b"POST / HTTP/1.1\r\nHost: a:1\r\n\r\n",
+            b"HTTP/1.1 405 ",
+            false,
+        ),
+        (
+            b"DELETE / HTTP/1.1\r\nHost: a:1\r\n\r\n",
+            b"HTTP/1.1 405 ",
+            false,
+        ),
+        (
+            b"GET /../club.players HTTP/1.1\r\nHost: a:1\r\n\r\n",
+            b"HTTP/1.1 404 ",
+            false,
+        ),
+        (
+            b"GET /%2e%2e/club.players HTTP/1.1\r\nHost: a:1\r\n\r\n",
+            b"HTTP/1.1 404 ",
+            false,
+        ),
+        (
+            b"GET //etc/passwd HTTP/1.1\r\nHost: a:1\r\n\r\n",
+            b"HTTP/1.1 404 ",
+            false,
+        ),
         (b"GET / HTTP/1.1\r\nHost: a:1\r\n", b"", false),
-        (b"\x16\x03\x01\x02\0\x01\0\x01\xfc\x03\x03\r\n\r\n", b"HTTP/1.1 400 ", true),
-        (b"GET /ws HTTP/1.1\r\nHost: a:1\r\n\r\n", b"HTTP/1.1 403 ", false),
-        (b"GET /ws HTTP/1.1\r\nHost: a:1\r\nOrigin: http://a:1\r\n\r\n", b"HTTP/1.1 400 ", false),
+        (
+            b"\x16\x03\x01\x02\0\x01\0\x01\xfc\x03\x03\r\n\r\n",
+            b"HTTP/1.1 400 ",
+            true,
+        ),
+        (
+            b"GET /ws HTTP/1.1\r\nHost: a:1\r\n\r\n",
+            b"HTTP/1.1 403 ",
+            false,
+        ),
+        (
+            b"GET /ws HTTP/1.1\r\nHost: a:1\r\nOrigin: http://a:1\r\n\r\n",
+            b"HTTP/1.1 400 ",
+            false,
+        ),
         (
             b"GET /ws HTTP/1.1\r\nHost: a:1\r\nOrigin: http://b:1\r\nConnection: Upgrade\r\nUpgrade: websocket\r\nSec-WebSocket-Version: 13\r\nSec-WebSocket-Key: AAAAAAAAAAAAAAAAAAAAAA==\r\n\r\n",
             b"HTTP/1.1 403 ",
@@ -219,7 +294,14 @@ fn joined(rt: &impl Abort, lab: &Lab, front: &[u8], rest: &[u8]) -> Vec<u8> {
 }
 
 // Whether what these frames bring behind an upgrade is this, in whatever pieces they come, also right behind the head.
-fn bring(rt: &impl Abort, lab: &Lab, frames: &[u8], said: &[u8], answer: &[u8], is_over: bool) -> bool {
+fn bring(
+    rt: &impl Abort,
+    lab: &Lab,
+    frames: &[u8],
+    said: &[u8],
+    answer: &[u8],
+    is_over: bool,
+) -> bool {
     let bytes = joined(rt, lab, UPGRADE, frames);
     let written = joined(rt, lab, SWITCH, answer);
     let told = joined(rt, lab, b"open\n", said);
@@ -249,21 +331,56 @@ fn frames_are_heard_or_refused(rt: HostRuntime) {
         (b"\x81\x82\0\0\0\0\xc3\x28", b"", b"\x88\x02\x03\xef", true),
         // 4,097 bytes, and 2^32
         (b"\x81\xfe\x10\x01\0\0\0\0", b"", b"\x88\x02\x03\xf1", true),
-        (b"\x81\xff\0\0\0\x01\0\0\0\0\0\0\0\0", b"", b"\x88\x02\x03\xf1", true),
+        (
+            b"\x81\xff\0\0\0\x01\0\0\0\0\0\0\0\0",
+            b"",
+            b"\x88\x02\x03\xf1",
+            true,
+        ),
         // no text
         (b"\x82\x81\0\0\0\0x", b"", b"\x88\x02\x03\xeb", true),
         // fragments: of nothing, broken by a message, whole, with a ping between them, with a letter that they cut
         (b"\x80\x81\0\0\0\0x", b"", b"\x88\x02\x03\xea", true),
-        (b"\x01\x81\0\0\0\0a\x81\x81\0\0\0\0b", b"", b"\x88\x02\x03\xea", true),
-        (b"\x01\x82\0\0\0\0li\x80\x82\0\0\0\0st", b"list\n", b"", false),
-        (b"\x01\x82\0\0\0\0li\x89\x81\0\0\0\0p\x80\x82\0\0\0\0st", b"list\n", b"\x8a\x01p", false),
-        (b"\x01\x81\0\0\0\0\xc3\x80\x81\0\0\0\0\xa4", b"\xc3\xa4\n", b"", false),
+        (
+            b"\x01\x81\0\0\0\0a\x81\x81\0\0\0\0b",
+            b"",
+            b"\x88\x02\x03\xea",
+            true,
+        ),
+        (
+            b"\x01\x82\0\0\0\0li\x80\x82\0\0\0\0st",
+            b"list\n",
+            b"",
+            false,
+        ),
+        (
+            b"\x01\x82\0\0\0\0li\x89\x81\0\0\0\0p\x80\x82\0\0\0\0st",
+            b"list\n",
+            b"\x8a\x01p",
+            false,
+        ),
+        (
+            b"\x01\x81\0\0\0\0\xc3\x80\x81\0\0\0\0\xa4",
+            b"\xc3\xa4\n",
+            b"",
+            false,
+        ),
         // closes: with a code, without one, with half of one, with one that is not sent, and nothing is heard behind them
         (b"\x88\x82\0\0\0\0\x03\xe8", b"", b"\x88\x02\x03\xe8", true),
         (b"\x88\x80\0\0\0\0", b"", b"\x88\0", true),
         (b"\x88\x81\0\0\0\0\x03", b"", b"\x88\x02\x03\xea", true),
-        (b"\x88\x82\0\0\0\0\x03\xed", b"", b"\x88\x14\x03\xeaProtocol violation", true),
-        (b"\x88\x80\0\0\0\0\x81\x84\0\0\0\0list", b"", b"\x88\0", true),
+        (
+            b"\x88\x82\0\0\0\0\x03\xed",
+            b"",
+            b"\x88\x14\x03\xeaProtocol violation",
+            true,
+        ),
+        (
+            b"\x88\x80\0\0\0\0\x81\x84\0\0\0\0list",
+            b"",
+            b"\x88\0",
+            true,
+        ),
         (b"\x8a\x80\0\0\0\0", b"", b"", false),
     ];
     for (frames, said, answer, is_over) in cases {
@@ -306,7 +423,12 @@ fn a_flood_is_not_taken(rt: HostRuntime) {
     let lab = lab_of(&rt, rt.alloc(), RandomState::new(&rt).expect(&rt, "keys"));
     let mut trial = whole(&rt, &lab, UPGRADE);
     // (a frame that is said to have 4,096 bytes)
-    let flood = long(&rt, &lab, b"\x81\x84\0\0\0\0list\x81\xfe\x10\0\0\0\0\0", 8_191);
+    let flood = long(
+        &rt,
+        &lab,
+        b"\x81\x84\0\0\0\0list\x81\xfe\x10\0\0\0\0\0",
+        8_191,
+    );
     trial.browser.take(&lab.site, &flood);
     assert!(rt; trial.browser.wants_read());
     trial.browser.take(&lab.site, b"a");
