@@ -4,5 +4,4 @@ pub mod Talking
 pub mod Guests
 pub mod Lines
 pub mod Turning
-pub mod Doing
 pub mod Living

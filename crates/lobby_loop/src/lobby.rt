@@ -1,8 +1,5 @@
 //! The sockets of a lobby, and what wakes it.
-ghost use Rattle.std.specs.Prelude.{◌≡◌, List, None, IfOk, OnOk};
-ghost use Rattle.mio.specs.declared.net.stream.TcpStream.{TcpStream};
-ghost use Rattle.lobby_loop.specs.Turning.{BeginsHall, AreAdmitted, IsReached, IsLobbyTurn, unknown};
-ghost use Rattle.lobby_loop.specs.Living.{IsWoken};
+ghost use Rattle.std.specs.Prelude.{◌≡◌};
 
 use crate::door::{Entrance, Gate, Welcomed, welcome};
 use crate::hall::Hall;
@@ -107,9 +104,7 @@ impl Lobby {
         server: SocketAddr,
         site: Site,
         players: Vec<Player>,
-    ) -> io::Result<Lobby>
-        ensures { IfOk result (λ lobby. BeginsHall site players.items lobby.hall) }
-    {
+    ) -> io::Result<Lobby> {
         let poll = Poll::new(net)?;
         poll.registry().register(&mut entrance.listener, Token(ENTRANCE), Interest::READABLE)?;
         Ok(Lobby {
@@ -137,9 +132,7 @@ impl Lobby {
     }
 
     // Accepts who waits at the entrance, and tells whether more may.
-    fn welcome(&mut self, at: u64) -> bool
-        ensures { (streams : List TcpStream) × AreAdmitted streams self.old.hall self.new.hall }
-    {
+    fn welcome(&mut self, at: u64) -> bool {
         if !self.has_more || at < self.ask_at {
             return false;
         }
@@ -161,9 +154,7 @@ impl Lobby {
     }
 
     // Begins a connection to the server.
-    fn begin_call(&mut self, net: &impl Net, at: u64)
-        ensures { self.new.hall ≡ self.old.hall }
-    {
+    fn begin_call(&mut self, net: &impl Net, at: u64) {
         self.call_at = at.saturating_add(RETRY);
         self.call_until = at.saturating_add(PATIENCE);
         let Ok(mut call) = TcpStream::connect(net, self.server) else {
@@ -180,10 +171,7 @@ impl Lobby {
     }
 
     // Goes on with the connection to the server that is being made.
-    fn end_call(&mut self, call: TcpStream, at: u64) -> Result<bool, AllocError>
-        requires { self.old.hall.server ≡ None }
-        ensures { OnOk result (IsReached self.old.hall self.new.hall) }
-    {
+    fn end_call(&mut self, call: TcpStream, at: u64) -> Result<bool, AllocError> {
         match is_made(&call) {
             Some(true) => {
                 self.hall.server_came(call)?;
@@ -198,9 +186,7 @@ impl Lobby {
     }
 
     // Reaches for the server where it is not there, and tells whether it came.
-    fn reach_server(&mut self, net: &impl Net, at: u64) -> Result<bool, AllocError>
-        ensures { OnOk result (IsReached self.old.hall self.new.hall) }
-    {
+    fn reach_server(&mut self, net: &impl Net, at: u64) -> Result<bool, AllocError> {
         if self.hall.has_server() {
             return Ok(false);
         }
@@ -231,9 +217,7 @@ impl Lobby {
     }
 
     /// One turn at a moment, in milliseconds of a clock that does not go back. It waits for nothing.
-    pub fn turn(&mut self, net: &impl Net, at: u64) -> Result<Turned, Fault>
-        ensures { OnOk result (IsLobbyTurn unknown unknown at self.old.hall self.new.hall) }
-    {
+    pub fn turn(&mut self, net: &impl Net, at: u64) -> Result<Turned, Fault> {
         let has_reached = self.reach_server(net, at)?;
         let has_welcomed = self.welcome(at);
         let has_turned = self.hall.turn(at)?;
@@ -244,9 +228,7 @@ impl Lobby {
     }
 
     // The sockets that were ready are looked at in the next turn.
-    fn wake(&mut self)
-        ensures { IsWoken self.old.hall self.new.hall }
-    {
+    fn wake(&mut self) {
         for event in self.events.iter() {
             match usize::from(event.token()) {
                 ENTRANCE => self.has_more = true,
@@ -257,9 +239,7 @@ impl Lobby {
     }
 
     /// Waits until a socket is ready, or as long as the turn before says; not at all where that had something to do.
-    pub fn rest(&mut self, turned: Turned) -> Result<(), Fault>
-        ensures { OnOk result (IsWoken self.old.hall self.new.hall) }
-    {
+    pub fn rest(&mut self, turned: Turned) -> Result<(), Fault> {
         let most = match turned {
             Turned::Worked => Some(Duration::ZERO),
             Turned::Idle(most) => most.map(Duration::from_millis),
