@@ -38,8 +38,10 @@ class Person:
         for word in ('--headless=new', '--no-sandbox', '--disable-gpu', '--hide-scrollbars', '--disable-dev-shm-usage',
                      '--disable-background-timer-throttling', '--disable-renderer-backgrounding',
                      '--disable-background-networking', '--no-first-run',
-                     '--user-data-dir=%s' % os.path.join(folder, 'profile-' + name)):
-            options.add_argument(word)
+                     '--user-data-dir=%s' % os.path.join(folder, 'profile-' + name),
+                     *os.environ.get('CHROMIUM_WORDS', '').split(',')):
+            if word:
+                options.add_argument(word)
         options.set_capability('goog:loggingPrefs', {'browser': 'ALL'})
         self.driver = webdriver.Chrome(service=Service(os.environ.get('CHROMEDRIVER', '/usr/bin/chromedriver')),
                                        options=options)
