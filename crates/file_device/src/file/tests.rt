@@ -21,17 +21,6 @@ fn free_path(rt: &HostRuntime, name: &str) -> io::Result<PathBuf> {
     }
 }
 
-// A device of so many sectors on a new file, and its path.
-fn made(rt: &HostRuntime, name: &str, sectors: u32) -> (PathBuf, FileDevice) {
-    let path = free_path(rt, name).expect(rt, "a path");
-    let device = FileDevice::create(rt, &path, sectors).expect(rt, "a file");
-    (path, device)
-}
-
-fn remove(rt: &HostRuntime, path: &PathBuf) {
-    assert!(rt; fs::remove_file(rt, path).is_ok());
-}
-
 // Whether a file has these bytes.
 fn file_is(rt: &HostRuntime, path: &PathBuf, bytes: &[u8]) -> bool {
     match fs::read(rt, path) {
@@ -94,11 +83,12 @@ fn refusal(opened: io::Result<FileDevice>) -> Option<ErrorKind> {
 
 #[test]
 fn a_new_file_holds_zeros(rt: HostRuntime) {
-    let (path, mut device) = made(&rt, "new", 3);
+    let path = free_path(&rt, "new").expect(&rt, "a path");
+    let mut device = FileDevice::create(&rt, &path, 3).expect(&rt, "a file");
     assert!(rt; device.sectors() == 3);
     check_filled(&rt, &mut device, &[(0, 0), (1, 0), (2, 0)]);
     assert!(rt; length(&rt, &path) == Some(1536));
-    remove(&rt, &path);
+    assert!(rt; fs::remove_file(&rt, &path).is_ok());
 }
 
 // A sector whose first and last bytes are unlike the others.
@@ -129,7 +119,7 @@ fn a_later_opening_reads_what_was_written(rt: HostRuntime) {
     // Where sector 2 stands.
     let bytes = fs::read(&rt, &path).expect(&rt, "a file to read");
     assert!(rt; bytes.get(1024..1536) == Some(marked().as_slice()));
-    remove(&rt, &path);
+    assert!(rt; fs::remove_file(&rt, &path).is_ok());
 }
 
 // Whether a device is created on this file that has two sectors then, and the file these bytes.
@@ -159,7 +149,7 @@ fn what_is_there_stays(rt: HostRuntime) {
     let whole = lengthened(&old);
     assert!(rt; has_two_sectors(&rt, &path, 2, &whole));
     assert!(rt; has_two_sectors(&rt, &path, 1, &whole));
-    remove(&rt, &path);
+    assert!(rt; fs::remove_file(&rt, &path).is_ok());
 }
 
 // Whether the file has the bytes of 50,000 sectors, which are zeros from the 700th on.
@@ -183,7 +173,7 @@ fn a_long_file_is_written(rt: HostRuntime) {
         &[(0, 7), (2, 0), (31, 0), (32, 0), (33, 0), (49_999, 0)],
     );
     assert!(rt; is_long(&rt, &path));
-    remove(&rt, &path);
+    assert!(rt; fs::remove_file(&rt, &path).is_ok());
 }
 
 // Whether opening the file and lengthening it are refused so.
@@ -195,7 +185,8 @@ fn is_refused(rt: &HostRuntime, path: &str, sectors: u32, kind: ErrorKind) -> bo
 
 #[test]
 fn a_file_has_one_device_at_a_time(rt: HostRuntime) {
-    let (path, created) = made(&rt, "locked", 1);
+    let path = free_path(&rt, "locked").expect(&rt, "a path");
+    let created = FileDevice::create(&rt, &path, 1).expect(&rt, "a file");
     assert!(rt; is_refused(&rt, path.as_str(), 9, ErrorKind::WouldBlock));
     assert!(rt; length(&rt, &path) == Some(512));
     drop(created);
@@ -208,7 +199,7 @@ fn a_file_has_one_device_at_a_time(rt: HostRuntime) {
             .sectors()
             == 2
     );
-    remove(&rt, &path);
+    assert!(rt; fs::remove_file(&rt, &path).is_ok());
 }
 
 // Whether a folder that is made here is refused.
@@ -239,21 +230,22 @@ fn what_can_be_opened_and_is_no_file_is_refused(rt: HostRuntime) {
     assert!(rt; is_refused(&rt, path.as_str(), 1, ErrorKind::InvalidInput));
 }
 
-fn shorten(rt: &HostRuntime, path: &PathBuf, length: u64) {
-    let file = OpenOptions::new().write(true).open(rt, path);
-    assert!(rt; file.expect(rt, "a file").set_len(length).is_ok());
+fn shorten(rt: &HostRuntime, path: &PathBuf, length: u64) -> io::Result<()> {
+    let file = OpenOptions::new().write(true).open(rt, path)?;
+    file.set_len(length)
 }
 
 #[test]
 fn a_short_read_fails(rt: HostRuntime) {
-    let (path, mut device) = made(&rt, "short", 2);
+    let path = free_path(&rt, "short").expect(&rt, "a path");
+    let mut device = FileDevice::create(&rt, &path, 2).expect(&rt, "a file");
     write_filled(&rt, &mut device, &[(0, 3)]);
-    shorten(&rt, &path, 1023);
+    assert!(rt; shorten(&rt, &path, 1023).is_ok());
     assert!(rt; read_sector(&rt, &mut device, 1).is_err());
     assert!(rt; device.failures == 1);
     check_filled(&rt, &mut device, &[(0, 3)]);
     assert!(rt; device.failures == 1);
-    remove(&rt, &path);
+    assert!(rt; fs::remove_file(&rt, &path).is_ok());
 }
 
 // A file that notes where it was last read or written, and of which this is known.
@@ -331,7 +323,7 @@ fn four_calls<D: Device>(rt: &impl Abort, device: &mut D) -> [bool; 4] {
 // Of four calls this one fails. It is counted, and its error is kept.
 fn fail_once<F: PositionedFile>(rt: &impl Abort, device: &mut FileDevice<F>, call: u64) {
     let failed = four_calls(rt, device);
-    assert!(rt; failed == [call == 1, call == 2, call == 3, call == 4]);
+    assert_eq!(rt; failed, [call == 1, call == 2, call == 3, call == 4]);
     assert!(rt; device.failures == 1);
     let kind = device.last_error().map(|error| error.kind());
     assert!(rt; kind == Some(ErrorKind::Other));
@@ -383,20 +375,15 @@ fn failure(answer: io::Result<()>) -> Option<ErrorKind> {
     answer.err().map(|error| error.kind())
 }
 
-// Whether no sector of the file begins there.
-fn is_past<F: PositionedFile>(file: &mut F, offset: u64) -> bool {
-    let past = Some(ErrorKind::UnexpectedEof);
-    failure(file.read_at(&mut [0; 512], offset)) == past
-        && failure(file.write_at(&[1; 512], offset)) == past
-}
-
 // A call past the sectors, or between two of them, is refused.
 #[test]
 fn a_file_of_sectors_has_no_other_bytes(rt: HostRuntime) {
     let memory = MemoryDevice::new(rt.alloc(), 2).expect(&rt, "memory");
     let mut file = SectorFile::new(memory);
+    let past = Some(ErrorKind::UnexpectedEof);
     for offset in [1, 511, 513, 1024, 2_199_023_255_552] {
-        assert!(rt; is_past(&mut file, offset));
+        assert!(rt; failure(file.read_at(&mut [0; 512], offset)) == past);
+        assert!(rt; failure(file.write_at(&[1; 512], offset)) == past);
     }
 }
 
@@ -434,58 +421,49 @@ fn sync_fails(device: &mut FileDevice, kind: ErrorKind) -> bool {
 
 #[test]
 fn a_cut_file_fails_to_sync(rt: HostRuntime) {
-    let (path, mut device) = made(&rt, "cut", 2);
-    shorten(&rt, &path, 1024);
-    assert!(rt; device.sync().is_ok());
-    shorten(&rt, &path, 1023);
+    let path = free_path(&rt, "cut").expect(&rt, "a path");
+    let mut device = FileDevice::create(&rt, &path, 2).expect(&rt, "a file");
+    assert!(rt; shorten(&rt, &path, 1024).is_ok() && device.sync().is_ok());
+    assert!(rt; shorten(&rt, &path, 1023).is_ok());
     assert!(rt; sync_fails(&mut device, ErrorKind::UnexpectedEof));
-    remove(&rt, &path);
+    assert!(rt; fs::remove_file(&rt, &path).is_ok());
 }
 
 #[test]
 fn a_removed_file_fails_to_sync(rt: HostRuntime) {
-    let (path, mut device) = made(&rt, "removed", 2);
+    let path = free_path(&rt, "removed").expect(&rt, "a path");
+    let mut device = FileDevice::create(&rt, &path, 2).expect(&rt, "a file");
     assert!(rt; device.sync().is_ok());
-    remove(&rt, &path);
+    assert!(rt; fs::remove_file(&rt, &path).is_ok());
     assert!(rt; sync_fails(&mut device, ErrorKind::NotFound));
-}
-
-// Puts a copy of a file at its name.
-fn replace(rt: &HostRuntime, path: &PathBuf) {
-    let copy = free_path(rt, "copy").expect(rt, "a path");
-    assert!(rt; fs::copy(rt, path, &copy).is_ok());
-    assert!(rt; fs::rename(rt, &copy, path).is_ok());
 }
 
 // A file of the same bytes at the same name is another one.
 #[test]
 fn a_replaced_file_fails_to_sync(rt: HostRuntime) {
-    let (path, mut device) = made(&rt, "replaced", 2);
+    let path = free_path(&rt, "replaced").expect(&rt, "a path");
+    let copy = free_path(&rt, "copy").expect(&rt, "a path");
+    let mut device = FileDevice::create(&rt, &path, 2).expect(&rt, "a file");
     assert!(rt; device.sync().is_ok());
-    replace(&rt, &path);
+    assert!(rt; fs::copy(&rt, &path, &copy).is_ok());
+    assert!(rt; fs::rename(&rt, &copy, &path).is_ok());
     assert!(rt; sync_fails(&mut device, ErrorKind::NotFound));
-    remove(&rt, &path);
-}
-
-fn rename(rt: &HostRuntime, from: &PathBuf, to: &PathBuf) {
-    assert!(rt; fs::rename(rt, from, to).is_ok());
+    assert!(rt; fs::remove_file(&rt, &path).is_ok());
 }
 
 // Another link does not change it, and it may be away while nobody syncs.
 #[test]
 fn a_renamed_file_fails_to_sync(rt: HostRuntime) {
-    let (path, mut device) = made(&rt, "renamed", 2);
+    let path = free_path(&rt, "renamed").expect(&rt, "a path");
     let link = free_path(&rt, "link").expect(&rt, "a path");
     let other = free_path(&rt, "other").expect(&rt, "a path");
-    assert!(rt; fs::hard_link(&rt, &path, &link).is_ok());
-    assert!(rt; device.sync().is_ok());
-    rename(&rt, &path, &other);
-    rename(&rt, &other, &path);
-    assert!(rt; device.sync().is_ok());
-    rename(&rt, &path, &other);
+    let mut device = FileDevice::create(&rt, &path, 2).expect(&rt, "a file");
+    assert!(rt; fs::hard_link(&rt, &path, &link).is_ok() && device.sync().is_ok());
+    assert!(rt; fs::rename(&rt, &path, &other).is_ok());
+    assert!(rt; fs::rename(&rt, &other, &path).is_ok() && device.sync().is_ok());
+    assert!(rt; fs::rename(&rt, &path, &other).is_ok());
     assert!(rt; sync_fails(&mut device, ErrorKind::NotFound));
-    remove(&rt, &other);
-    remove(&rt, &link);
+    assert!(rt; fs::remove_file(&rt, &other).is_ok() && fs::remove_file(&rt, &link).is_ok());
 }
 
 // Three pages: a hole, bytes that are not zero, and a hole with a part of a page behind it.
@@ -512,13 +490,14 @@ fn what_is_zeros_is_written_again(rt: HostRuntime) {
     assert!(rt; keeps_holes(&rt, &path));
     let blocks = fs::metadata(&rt, &path).expect(&rt, "a file").blocks();
     assert!(rt; blocks >= 32);
-    remove(&rt, &path);
+    assert!(rt; fs::remove_file(&rt, &path).is_ok());
 }
 
 // It reads what another has locked, and writes nothing: EBADF.
 #[test]
 fn a_file_is_read_beside_its_device(rt: HostRuntime) {
-    let (path, mut device) = made(&rt, "read", 2);
+    let path = free_path(&rt, "read").expect(&rt, "a path");
+    let mut device = FileDevice::create(&rt, &path, 2).expect(&rt, "a file");
     write_filled(&rt, &mut device, &[(1, 8)]);
     let mut reader = FileDevice::open_to_read(&rt, &path).expect(&rt, "a file");
     assert!(rt; reader.sectors() == 2 && reader.sync().is_ok());
@@ -526,7 +505,7 @@ fn a_file_is_read_beside_its_device(rt: HostRuntime) {
     assert!(rt; write_sector(&rt, &mut reader, 1, &[3; 512]).is_err());
     assert!(rt; last_number(&reader) == Some(9));
     check_filled(&rt, &mut device, &[(1, 8)]);
-    remove(&rt, &path);
+    assert!(rt; fs::remove_file(&rt, &path).is_ok());
 }
 
 // A device that isn't there is not made as a file.

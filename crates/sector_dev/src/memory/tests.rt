@@ -122,34 +122,30 @@ fn left_as(writes: &[Filling], fates: &[Fate]) -> Bytes {
 }
 
 // What a crash may leave in a sector: the stable byte, that of each write to it, and nothing where there is one.
-fn choices(rt: &impl Abort, alloc: Global, writes: &[Filling], at: u32, stable: u8) -> Vec<u8> {
-    let mut choices = Vec::new(alloc);
-    assert!(rt; choices.push(stable).is_ok());
+fn choices(alloc: Global, writes: &[Filling], at: u32, stable: u8) -> Result<Vec<u8>, AllocError> {
+    let mut choices = vec![in alloc; stable]?;
     for (sector, byte) in writes {
         if *sector == at {
-            assert!(rt; choices.push(*byte).is_ok());
+            choices.push(*byte)?;
         }
     }
     if choices.len() > 1 {
-        assert!(rt; choices.push(NOTHING).is_ok());
+        choices.push(NOTHING)?;
     }
-    choices
+    Ok(choices)
 }
 
 // Each choice for a sector with each for the others.
-fn images(rt: &impl Abort, alloc: Global, writes: &[Filling]) -> Vec<Bytes> {
-    let first = choices(rt, alloc, writes, 0, STABLE[0]);
-    let second = choices(rt, alloc, writes, 1, STABLE[1]);
-    let third = choices(rt, alloc, writes, 2, STABLE[2]);
+fn images(alloc: Global, writes: &[Filling]) -> Result<Vec<Bytes>, AllocError> {
     let mut images = Vec::new(alloc);
-    for one in first.as_slice() {
-        for two in second.as_slice() {
-            for three in third.as_slice() {
-                assert!(rt; images.push([*one, *two, *three]).is_ok());
+    for first in choices(alloc, writes, 0, STABLE[0])? {
+        for second in choices(alloc, writes, 1, STABLE[1])? {
+            for third in choices(alloc, writes, 2, STABLE[2])? {
+                images.push([first, second, third])?;
             }
         }
     }
-    images
+    Ok(images)
 }
 
 // How a crash is played.
@@ -218,16 +214,16 @@ fn outcomes<D: CrashDevice>(
     device: &mut D,
     writes: &[Filling],
     lists: u8,
-) -> Vec<Bytes> {
+) -> Result<Vec<Bytes>, AllocError> {
     let mut outcomes = Vec::new(alloc);
     for number in 0..lists {
         let fates = fates_with(number);
         let fates = fates.get(..writes.len()).expect(rt, "at most four writes");
         let outcome = crashed(rt, device, writes, Crash::As(fates));
-        assert!(rt; outcome == left_as(writes, fates));
-        assert!(rt; outcomes.push(outcome).is_ok());
+        assert_eq!(rt; outcome, left_as(writes, fates));
+        outcomes.push(outcome)?;
     }
-    outcomes
+    Ok(outcomes)
 }
 
 // Each outcome is an image, and each image an outcome.
@@ -246,16 +242,23 @@ fn check_subsets<D: CrashDevice>(rt: &impl Abort, device: &mut D, writes: &[Fill
         let places = [1u8, 2, 4, 8].map(|bit| number & bit != 0);
         let keep = places.get(..writes.len()).expect(rt, "at most four writes");
         let outcome = crashed(rt, device, writes, Crash::Keep(keep));
-        assert!(rt; outcome == left(writes, keep));
+        assert_eq!(rt; outcome, left(writes, keep));
     }
 }
 
 // Plays a crash after these writes for each list of fates, and for each subset that is kept.
-fn check_crashes(rt: &impl Abort, alloc: Global, writes: &[Filling], lists: u8, subsets: u8) {
-    let mut device = MemoryDevice::new(alloc, 3).expect(rt, "memory");
-    let outcomes = outcomes(rt, alloc, &mut device, writes, lists);
-    check_images(rt, &outcomes, &images(rt, alloc, writes));
+fn check_crashes(
+    rt: &impl Abort,
+    alloc: Global,
+    writes: &[Filling],
+    lists: u8,
+    subsets: u8,
+) -> Result<(), AllocError> {
+    let mut device = MemoryDevice::new(alloc, 3)?;
+    let outcomes = outcomes(rt, alloc, &mut device, writes, lists)?;
+    check_images(rt, &outcomes, &images(alloc, writes)?);
     check_subsets(rt, &mut device, writes, subsets);
+    Ok(())
 }
 
 // Each list of so many writes, of which there are as many as lists of fates for them.
@@ -270,7 +273,8 @@ fn crashes_leave_the_images(rt: HostRuntime) {
                 (number / 27 % 3, 4),
             ];
             let writes = writes.get(..length).expect(&rt, "at most four writes");
-            check_crashes(&rt, rt.alloc(), writes, lists, subsets);
+            let checked = check_crashes(&rt, rt.alloc(), writes, lists, subsets);
+            assert!(rt; checked.is_ok());
         }
     }
 }
@@ -284,7 +288,7 @@ fn play_row<D: CrashDevice>(rt: &impl Abort, device: &mut D, row: Row<'_>) {
     if let Some(fate) = fate {
         device.crash_as(&[fate]);
     }
-    assert!(rt; bytes(rt, device) == wanted);
+    assert_eq!(rt; bytes(rt, device), wanted);
 }
 
 // The first sector becomes unreadable; then it is written and lost, written and kept.
@@ -315,22 +319,17 @@ fn a_sector_is_unreadable_until_it_is_written_again(rt: HostRuntime) {
     }
 }
 
-// After four writes a crash keeps these of so many places.
-fn check_places<D: CrashDevice>(rt: &impl Abort, device: &mut D, length: usize, number: u8) {
-    let writes = [(0, 1), (1, 2), (0, 3), (2, 4)];
-    let places = [1u8, 2, 4, 8, 16, 32].map(|bit| number & bit != 0);
-    let keep = places.get(..length).expect(rt, "at most six places");
-    let outcome = crashed(rt, device, &writes, Crash::Keep(keep));
-    assert!(rt; outcome == left(&writes, keep));
-}
-
 // A missing place is false, and one too many changes nothing.
 #[test]
 fn places_are_missing_or_too_many(rt: HostRuntime) {
     let mut device = MemoryDevice::new(rt.alloc(), 3).expect(&rt, "memory");
+    let writes = [(0, 1), (1, 2), (0, 3), (2, 4)];
     for (length, lists) in [1u8, 2, 4, 8, 16, 32, 64].into_iter().enumerate() {
         for number in 0..lists {
-            check_places(&rt, &mut device, length, number);
+            let places = [1u8, 2, 4, 8, 16, 32].map(|bit| number & bit != 0);
+            let keep = places.get(..length).expect(&rt, "at most six places");
+            let outcome = crashed(&rt, &mut device, &writes, Crash::Keep(keep));
+            assert_eq!(rt; outcome, left(&writes, keep));
         }
     }
 }
@@ -355,7 +354,7 @@ fn make_script<D: CrashDevice>(rt: &impl Abort, device: &mut D, calls: u64) {
     device.arm(calls);
     for (place, step) in SCRIPT.iter().enumerate() {
         let served = (place as u64) < calls;
-        assert!(rt; make(rt, device, *step).is_ok() == served);
+        assert_eq!(rt; make(rt, device, *step).is_ok(), served);
     }
 }
 
@@ -391,9 +390,9 @@ fn armed_calls(rt: HostRuntime) {
         (8, [3, 4, 103], [3, 4, 5]),
     ] {
         let without = crashed_script(&rt, &mut device, calls, &[]);
-        assert!(rt; without == [seen, stable]);
+        assert_eq!(rt; without, [seen, stable]);
         let with = crashed_script(&rt, &mut device, calls, &[true; 8]);
-        assert!(rt; with == [seen, seen]);
+        assert_eq!(rt; with, [seen, seen]);
     }
 }
 
@@ -471,12 +470,12 @@ fn make_one<D: CrashDevice>(
     } else {
         expected
     };
-    assert!(rt; bytes(rt, device) == next.seen);
+    assert_eq!(rt; bytes(rt, device), next.seen);
     if served || !at_once {
         return next;
     }
     device.crash(keep);
-    assert!(rt; bytes(rt, device) == next.left);
+    assert_eq!(rt; bytes(rt, device), next.left);
     Expected::settled(next.left)
 }
 
@@ -494,7 +493,7 @@ fn make_or_refuse<D: CrashDevice>(
         expected = make_one(rt, device, expected, step_with(number), keep, at_once);
     }
     device.crash(keep);
-    assert!(rt; bytes(rt, device) == expected.left);
+    assert_eq!(rt; bytes(rt, device), expected.left);
 }
 
 // Passes whichever allocation is refused. `bench/refused-memory` refuses them in turn; else none is.
@@ -531,7 +530,7 @@ fn reserved_calls(rt: HostRuntime) {
     device.arm(4);
     make_four(&rt, &mut device);
     device.crash(&[]);
-    assert!(rt; bytes(&rt, &mut device) == [1, 0, 0]);
+    assert_eq!(rt; bytes(&rt, &mut device), [1, 0, 0]);
 }
 
 // Writes and syncs 20,000 times, and then loses a write to each sector.
@@ -553,7 +552,7 @@ fn run_long<D: CrashDevice>(rt: &impl Abort, device: &mut D) {
 fn check_last<D: Device>(rt: &impl Abort, device: &mut D) {
     for number in 19_788..20_000u32 {
         let byte = byte_at(rt, device, number % 212);
-        assert!(rt; byte == Ok((number % 251) as u8));
+        assert_eq!(rt; byte, Ok((number % 251) as u8));
     }
 }
 

@@ -18,16 +18,8 @@ fn byte_at<D: Device>(rt: &impl Abort, device: &mut D, at: u32) -> Result<u8, De
     Ok(sector[0])
 }
 
-// What the two sectors have.
-type Bytes = [Result<u8, DeviceFault>; 2];
-
-fn bytes<D: Device>(rt: &impl Abort, device: &mut D) -> Bytes {
-    [byte_at(rt, device, 0), byte_at(rt, device, 1)]
-}
-
-// Where both are read.
-fn served(bytes: [u8; 2]) -> Bytes {
-    [Ok(bytes[0]), Ok(bytes[1])]
+fn bytes<D: Device>(rt: &impl Abort, device: &mut D) -> Result<[u8; 2], DeviceFault> {
+    Ok([byte_at(rt, device, 0)?, byte_at(rt, device, 1)?])
 }
 
 // Four calls, and which of them failed.
@@ -41,15 +33,20 @@ fn four_calls<D: Device>(rt: &impl Abort, device: &mut D) -> [bool; 4] {
 }
 
 // What the two sectors have after four calls of which one failed, at once and after a crash that keeps nothing.
-fn seen_and_left(rt: &impl Abort, device: MemoryDevice, call: u64, pending: bool) -> [Bytes; 2] {
+fn seen_and_left(
+    rt: &impl Abort,
+    device: MemoryDevice,
+    call: u64,
+    pending: bool,
+) -> Result<([u8; 2], [u8; 2]), DeviceFault> {
     let mut once = OnceDevice::new(device);
     once.fail_at(call, pending);
     let failed = four_calls(rt, &mut once);
     assert!(rt; failed == [call == 1, call == 2, call == 3, call == 4]);
-    let seen = bytes(rt, &mut once);
+    let seen = bytes(rt, &mut once)?;
     let mut device = once.into_device();
     device.crash(&[]);
-    [seen, bytes(rt, &mut device)]
+    Ok((seen, bytes(rt, &mut device)?))
 }
 
 #[test]
@@ -68,12 +65,13 @@ fn one_call_fails(rt: HostRuntime) {
     ] {
         let device = MemoryDevice::new(rt.alloc(), 2).expect(&rt, "memory");
         let outcome = seen_and_left(&rt, device, call, pending);
-        let mut seen = served(seen);
         // The fifth call is the first read after the four.
-        if call == 5 {
-            seen[0] = Err(DeviceFault);
-        }
-        assert!(rt; outcome == [seen, served(left)]);
+        let wanted = if call == 5 {
+            Err(DeviceFault)
+        } else {
+            Ok((seen, left))
+        };
+        assert!(rt; outcome == wanted);
     }
 }
 
