@@ -12,7 +12,11 @@ fn push_report(alloc: Global, text: &mut String, report: &Report) -> Result<(), 
         };
         let line = format!(in alloc;
             "life {} {} {} {} {}\n",
-            opened.as_str(), life.acknowledged, life.accepted, life.unsent, life.failures
+            opened.as_str(),
+            life.acknowledged,
+            life.accepted,
+            life.unsent,
+            life.failures
         )?;
         text.push_str(line.as_str())?;
     }
