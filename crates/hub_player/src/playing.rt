@@ -103,7 +103,9 @@ fn store_on(alloc: Global, ground: &Ground) -> Result<Store<MemoryDevice>, Fault
 
 impl LinePlayer for Player {
     fn play(&mut self, line: &str) -> Result<String, Fault> {
-        let line = read_line(line).ok_or(Fault::Input)?;
+        let Some(line) = read_line(line) else {
+            return Err(Fault::Input);
+        };
         self.answer(&line)
     }
 }

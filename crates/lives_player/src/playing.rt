@@ -18,7 +18,10 @@ pub struct Player {
 
 impl LinePlayer for Player {
     fn play(&mut self, line: &str) -> Result<String, Fault> {
-        match read_line(line).ok_or(Fault::Input)? {
+        let Some(line) = read_line(line) else {
+            return Err(Fault::Input);
+        };
+        match line {
             InputLine::Plan(size) => {
                 self.size = size;
                 self.plan.lives.clear();

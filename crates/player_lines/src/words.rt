@@ -86,9 +86,15 @@ pub fn read_sent(text: &str) -> Option<Sent<'_>> {
 
 /// The same where LINE is a command's.
 pub fn read_command(text: &str) -> Option<Command> {
-    let Sent { at, who, line } = read_sent(text)?;
-    match parse(line.as_bytes())? {
-        Line::Act(act) => Some(Command { at, who, act }),
+    let Some(sent) = read_sent(text) else {
+        return None;
+    };
+    match parse(sent.line.as_bytes())? {
+        Line::Act(act) => Some(Command {
+            at: sent.at,
+            who: sent.who,
+            act,
+        }),
         Line::Called(_) => None,
     }
 }

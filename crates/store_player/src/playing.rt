@@ -24,7 +24,9 @@ pub struct Player {
 
 impl LinePlayer for Player {
     fn play(&mut self, line: &str) -> Result<String, Fault> {
-        let line = read_line(line).ok_or(Fault::Input)?;
+        let Some(line) = read_line(line) else {
+            return Err(Fault::Input);
+        };
         self.answer(&line)
     }
 }

@@ -46,6 +46,9 @@ pub fn read_line(text: &str) -> Option<InputLine<'_>> {
         "table" => Some(InputLine::Table(read_limits(rest)?)),
         "reopen" => Some(InputLine::Reopen(read_limits(rest)?)),
         "changed" => Some(InputLine::Changed(read_change(rest)?)),
-        _ => Some(InputLine::Sent(read_sent(text)?)),
+        _ => match read_sent(text) {
+            Some(sent) => Some(InputLine::Sent(sent)),
+            None => None,
+        },
     }
 }

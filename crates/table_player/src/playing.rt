@@ -57,7 +57,9 @@ fn push_record(alloc: Global, text: &mut String, record: &Record) -> Result<(), 
 
 impl LinePlayer for Player {
     fn play(&mut self, line: &str) -> Result<String, Fault> {
-        let line = read_line(line).ok_or(Fault::Input)?;
+        let Some(line) = read_line(line) else {
+            return Err(Fault::Input);
+        };
         match line {
             InputLine::Table(limits) => {
                 self.begin(limits);
