@@ -102,3 +102,110 @@ fn a_clerk_decides_so(rt: HostRuntime) -> Result<(), Fail> {
     assert_eq!(rt; rows_so(alloc, &[], &REFUSED)?, REFUSED.len());
     Ok(())
 }
+
+// What happens to games 1, 2 and 3, which are over.
+enum Step {
+    Over(u32),
+    Came(u32),
+    Synced,
+    Left(u32),
+}
+
+const NIGHT: [Step; 14] = [
+    Step::Over(1),
+    Step::Came(1),
+    Step::Over(2),
+    Step::Left(1),
+    Step::Synced,
+    Step::Left(1),
+    Step::Came(2),
+    Step::Over(3),
+    Step::Came(3),
+    Step::Left(2),
+    Step::Left(3),
+    Step::Synced,
+    Step::Left(2),
+    Step::Left(3),
+];
+
+// The games of the table and those of the archive, of which so many are safe; and whether none was dropped that was not.
+#[derive(Drop)]
+struct World {
+    table: Vec<u32>,
+    archive: Vec<u32>,
+    safe: usize,
+    is_right: bool,
+}
+
+impl World {
+    fn new(alloc: Global) -> Result<World, AllocError> {
+        Ok(World {
+            table: Vec::from_slice(alloc, &[1, 2, 3])?,
+            archive: Vec::new(alloc),
+            safe: 0,
+            is_right: true,
+        })
+    }
+
+    fn is_safe(&self, game: u32) -> bool {
+        self.archive
+            .iter()
+            .take(self.safe)
+            .any(|one| *one == game)
+    }
+
+    fn take(&mut self, clerk: &mut Clerk, step: &Step) -> Result<(), AllocError> {
+        match step {
+            Step::Over(game) => {
+                if self.table.contains(game) {
+                    clerk.over(*game)?;
+                }
+            }
+            Step::Came(game) => {
+                if clerk.came(*game)? {
+                    self.archive.push(*game)?;
+                }
+            }
+            Step::Synced => {
+                self.safe = self.archive.len();
+                clerk.synced();
+            }
+            Step::Left(game) => {
+                if clerk.left(*game)? {
+                    self.is_right &= self.is_safe(*game);
+                    self.table.retain(|one| one != game);
+                }
+            }
+        }
+        Ok(())
+    }
+
+    // A lobby lives through the first steps, and is killed then.
+    fn live(&mut self, alloc: Global, steps: usize) -> Result<(), AllocError> {
+        let mut clerk = Clerk::new(alloc, self.archive.as_slice())?;
+        for step in NIGHT.iter().take(steps) {
+            self.take(&mut clerk, step)?;
+        }
+        Ok(())
+    }
+}
+
+// A lobby is killed after so many steps, what was not synced stays or does not, and another one lives to the end.
+fn comes_out_right(alloc: Global, steps: usize, is_kept: bool) -> Result<bool, AllocError> {
+    let mut world = World::new(alloc)?;
+    world.live(alloc, steps)?;
+    if !is_kept {
+        world.archive.truncate(world.safe);
+    }
+    world.live(alloc, NIGHT.len())?;
+    Ok(world.is_right && world.table.is_empty() && world.archive.as_slice() == [1, 2, 3].as_slice())
+}
+
+#[test]
+fn a_kill_at_any_step_loses_nothing(rt: HostRuntime) -> Result<(), Fail> {
+    for steps in 0..15 {
+        assert!(rt; comes_out_right(rt.alloc(), steps, false)?);
+        assert!(rt; comes_out_right(rt.alloc(), steps, true)?);
+    }
+    Ok(())
+}
