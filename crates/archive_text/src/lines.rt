@@ -32,18 +32,16 @@ fn push_token(out: &mut Vec<u8>, width: usize, token: &[u8]) -> Result<usize, Al
     ensures width { IfOk result (λ wide. wide ≤ 79) }
 {
     let len = token.len();
-    if width == 0 {
-        out.extend_from_slice(token)?;
-        return Ok(len);
-    }
-    if width + 1 + len <= WIDEST {
-        out.push(b' ')?;
-        out.extend_from_slice(token)?;
-        return Ok(width + 1 + len);
-    }
-    out.push(b'\n')?;
+    let (separator, before) = if width == 0 {
+        ("", 0)
+    } else if width + 1 + len <= WIDEST {
+        (" ", width + 1)
+    } else {
+        ("\n", 0)
+    };
+    out.extend_from_slice(separator.as_bytes())?;
     out.extend_from_slice(token)?;
-    Ok(len)
+    Ok(before + len)
 }
 
 /// Writes tokens behind a text, in lines that each take as many as fit (PGN Standard, section 8.2.1), each with its line feed. It
