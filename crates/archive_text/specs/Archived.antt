@@ -15,9 +15,13 @@ abbrev pub is_laid : List (List ℕ) → Bool
 is_laid [] = false
 is_laid (token ∷ tokens) = are_tokens (token ∷ tokens)
 
--- The tags in the order of the server's PGN, an empty line, the tokens in lines of at most 79 characters that each take as many as
--- fit, an empty line (PGN Standard, section 8).
-pub record IsArchived (h : Heading) (pgn : List ℕ) (clocks : List (Option ℕ)) (text : List ℕ) : Type 0 where
+-- The tags of lines in their order, an empty line, tokens in lines of at most 79 characters that each take as many as fit, an empty
+-- line (PGN Standard, section 8).
+pub record IsLaidOut (h : Heading) (lines : List (List ℕ)) (tokens : List (List ℕ)) (text : List ℕ) : Type 0 where
   pub movetext : List ℕ
-  pub is_movetext : IsMovetext movetext (archive_tokens pgn clocks)
-  pub joined : text ≡ told_tags h (parts_of 10 pgn) ++ (10 ∷ (movetext ++ (10 ∷ [])))
+  pub is_movetext : IsMovetext movetext tokens
+  pub joined : text ≡ told_tags h lines ++ (10 ∷ (movetext ++ (10 ∷ [])))
+
+-- the same of the server's PGN and the clocks
+abbrev pub IsArchived : Heading → List ℕ → List (Option ℕ) → List ℕ → Type 0
+IsArchived h pgn clocks text = IsLaidOut h (parts_of 10 pgn) (archive_tokens pgn clocks) text

@@ -1,6 +1,6 @@
 //! The PGN of a game as the archive has it.
-ghost use Rattle.std.specs.Prelude.{◌≡◌, ◌++◌, ◌∷◌, [], false, IfOk, IfErr};
-ghost use Rattle.archive_text.specs.Archived.{IsArchived, archive_tokens, is_laid};
+ghost use Rattle.std.specs.Prelude.{◌≡◌, true, false, IfOk, IfErr, map};
+ghost use Rattle.archive_text.specs.Archived.{IsArchived, IsLaidOut, archive_tokens, is_laid};
 ghost use Rattle.archive_text.specs.declared.whole.TextFault.TheVariants as faults;
 
 use crate::heading::Heading;
@@ -29,6 +29,24 @@ impl From<AllocError> for TextFault {
     }
 }
 
+// Tags, and tokens that fit into lines, as a text.
+fn laid_out(
+    alloc: Global,
+    heading: &Heading<'_>,
+    lines: &[&str],
+    tokens: &[Vec<u8>],
+) -> Result<Vec<u8>, AllocError>
+    requires { is_laid (map (λ t. t.items) tokens.now) ≡ true }
+    ensures { IfOk result (λ text. IsLaidOut heading.now (map (λ line. line.now) lines.now) (map (λ t. t.items) tokens.now) text.items) }
+{
+    let mut text = Vec::new(alloc);
+    push_tags(&mut text, heading, lines)?;
+    text.push(b'\n')?;
+    push_lines(&mut text, tokens)?;
+    text.push(b'\n')?;
+    Ok(text)
+}
+
 /// The PGN of a game for the archive, made of the server's: its tags in their order, with the heading's values in the places of
 /// Event, Site, Date, Round, White and Black; and its moves, each with a comment that tells what the clock of its player showed
 /// after it, in milliseconds, where that is known (`[%clk H:MM:SS]`, rounded down). No line of moves has more than 79 characters.
@@ -47,10 +65,6 @@ pub fn archived(
     if !are_laid(told.as_slice()) {
         return Err(TextFault::NoPgn);
     }
-    let mut text = Vec::new(alloc);
-    push_tags(&mut text, heading, lines.as_slice())?;
-    text.push(b'\n')?;
-    push_lines(&mut text, told.as_slice())?;
-    text.push(b'\n')?;
+    let text = laid_out(alloc, heading, lines.as_slice(), told.as_slice())?;
     Ok(text)
 }

@@ -4,6 +4,7 @@ use std::alloc::{AllocError, Global};
 use std::test::Fail;
 
 // What happens, and what is decided then.
+#[derive(Clone, Copy)]
 enum Row {
     Over(u32, bool),
     Came(u32, bool),
@@ -104,6 +105,7 @@ fn a_clerk_decides_so(rt: HostRuntime) -> Result<(), Fail> {
 }
 
 // What happens to games 1, 2 and 3, which are over.
+#[derive(Clone, Copy)]
 enum Step {
     Over(u32),
     Came(u32),
