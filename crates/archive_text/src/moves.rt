@@ -81,11 +81,7 @@ fn push_same(told: &mut Vec<Vec<u8>>, alloc: Global, token: &str) -> Result<(), 
 }
 
 // A comment with what a clock shows, where that is known.
-fn push_clock(
-    told: &mut Vec<Vec<u8>>,
-    alloc: Global,
-    clock: Option<u64>,
-) -> Result<(), AllocError>
+fn push_clock(told: &mut Vec<Vec<u8>>, alloc: Global, clock: Option<u64>) -> Result<(), AllocError>
     ensures { OnOk result (map (λ t. t.items) told.new.items ≡ map (λ t. t.items) told.old.items ++ spec.clock_tokens clock) }
 {
     if let Some(ms) = clock {

@@ -38,8 +38,18 @@ fn a_game_is_archived_so(rt: HostRuntime) -> Result<(), Fail> {
 
 #[test]
 fn what_is_no_game_is_refused(rt: HostRuntime) -> Result<(), Fail> {
-    assert!(rt; matches!(archived(rt.alloc(), &CLUB, TAGS, &[]), Err(TextFault::NoPgn)));
-    assert!(rt; matches!(archived(rt.alloc(), &CLUB, "1.  e4 *\n", &[]), Err(TextFault::NoPgn)));
+    assert!(rt;
+        matches!(
+            archived(rt.alloc(), &CLUB, TAGS, &[]),
+            Err(TextFault::NoPgn)
+        )
+    );
+    assert!(rt;
+        matches!(
+            archived(rt.alloc(), &CLUB, "1.  e4 *\n", &[]),
+            Err(TextFault::NoPgn)
+        )
+    );
     assert!(rt; archived(rt.alloc(), &CLUB, "*\n", &[]).is_ok());
     Ok(())
 }

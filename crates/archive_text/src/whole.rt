@@ -5,7 +5,7 @@ ghost use Rattle.archive_text.specs.declared.whole.TextFault.TheVariants as faul
 
 use crate::heading::Heading;
 use crate::lines::{are_laid, push_lines};
-use crate::moves::{told_tokens, tokens_of};
+use crate::moves::{tokens_of, told_tokens};
 use crate::tags::push_tags;
 use std::alloc::{AllocError, Global};
 use text_parts::parts;

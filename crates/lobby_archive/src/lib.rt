@@ -8,4 +8,6 @@ mod law;
 mod tests;
 
 pub use clerk::{Clerk, Stage};
-pub use law::{law_of_decisions, law_of_drops, law_of_games, law_of_log, law_of_safety, law_of_telling};
+pub use law::{
+    law_of_decisions, law_of_drops, law_of_games, law_of_log, law_of_safety, law_of_telling,
+};

@@ -150,10 +150,7 @@ impl World {
     }
 
     fn is_safe(&self, game: u32) -> bool {
-        self.archive
-            .iter()
-            .take(self.safe)
-            .any(|one| *one == game)
+        self.archive.iter().take(self.safe).any(|one| *one == game)
     }
 
     fn take(&mut self, clerk: &mut Clerk, step: &Step) -> Result<(), AllocError> {
