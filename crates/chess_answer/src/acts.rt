@@ -1,10 +1,11 @@
-ghost use Rattle.std.specs.Prelude.{◌≡◌, ◌≤◌, ◌+◌, [], ◌∷◌, ◌++◌, length, codes, decimal};
+ghost use Rattle.std.specs.Prelude.{◌≡◌, ◌≤◌, ◌+◌, [], ◌∷◌, ◌++◌, length, codes, decimal, IfOk, OnOk, OnErr};
 ghost use Rattle.arrayvec.specs.ArrayString.{array_string_len};
 ghost use Rattle.chess_entry.specs.State.{position_of, ply_of};
 ghost use Rattle.chess_entry.specs.Story.{stated};
 ghost use Rattle.chess_entry.specs.Outcome.{ending, is_granted, claimed_draw, resigned, flag_fallen};
 ghost use Rattle.chess_board.specs.declared.moves.Move.{Move};
-ghost use Rattle.chess_game.specs.Turn.{IsPlayable};
+ghost use Rattle.chess_entry.specs.Follow.{moved};
+ghost use Rattle.chess_game.specs.Turn.{IsInTime, IsPlayable};
 ghost use Rattle.chess_answer.specs.Fields.{with_fields, ok_text, end_fields, colour_text};
 ghost use Rattle.chess_answer.specs.Acts.{named_text, free_side, TellsMove, IsClaimLine, IsGameLine, MayCome};
 
@@ -14,7 +15,8 @@ use chess_board::Move;
 use chess_end::{Article, Ending, GameResult, flag_result};
 use chess_entry::{Entry, Event, GameNumber, Name};
 use chess_game::Game;
-use chess_san::write;
+use chess_san::{write, write_made};
+use std::alloc::AllocError;
 
 // The answer to an act of which only the game is told.
 fn told(word: &str, game: &Game) -> AnswerLine
@@ -74,6 +76,25 @@ fn move_line(game: &Game, mv: &Move) -> AnswerLine
     let mut text = told("move", game);
     push_move(&mut text, game, mv);
     text
+}
+
+/// Makes a move in a game, and gives the answer to it that `act_line` gives before it: the position after the move, and
+/// its ending, are found once. It fails where memory is refused, and then the game is as it was.
+pub fn play_told(game: &mut Game, at: u64, mv: Move) -> Result<AnswerLine, AllocError>
+    requires in_time { IsInTime game.old at }
+    requires playable { IsPlayable game.old mv }
+    ensures told { IfOk result (λ line.
+        TellsMove game.old mv (ok_text (codes "move") game.old.number []) line.bytes) }
+    ensures made { OnOk result (game.new ≡ moved game.old at mv) }
+    ensures refused { OnErr result (game.new ≡ game.old) }
+{
+    let mut text = told("move", game);
+    push_number(&mut text, u64::from(game.ply()) + 1);
+    let before = *game.board();
+    game.play(at, mv)?;
+    push_field(&mut text, write_made(&before, mv, game.board()).as_str());
+    push_ending(&mut text, game.ending());
+    Ok(text)
 }
 
 // A draw by an article.

@@ -1,5 +1,6 @@
 ghost use Rattle.std.specs.Prelude.{◌≡◌, ◌<◌, [], ◌∷◌, ◌++◌, List, length, IfOk, OnOk, OnErr, IfSome, IfNone, ◌≤◌};
 ghost use Rattle.chess_board.specs.declared.moves.Move.{Move};
+ghost use Rattle.chess_board.specs.Next.{next};
 ghost use Rattle.chess_board.specs.Legal.{IsLegal};
 ghost use Rattle.chess_entry.specs.Outcome.{ending_after, is_granted};
 ghost use Rattle.chess_entry.specs.Verdict.{is_finished_at};
@@ -9,7 +10,7 @@ ghost use Rattle.chess_game.specs.Line.{LineState, last_of, HasRoom, with_move};
 
 use chess_board::{Board, Move};
 use chess_end::{Ending, after_move, claim_fifty, claim_three};
-use chess_moves::legal;
+use chess_moves::after_legal;
 use chess_repeat::History;
 use std::alloc::{AllocError, Global};
 use std::marker::Model;
@@ -81,10 +82,13 @@ impl Line {
         let mut line = Line::new(alloc, start)?;
         let mut by_line = None;
         for mv in moves {
-            if by_line.is_some() || !legal(line.board(), *mv) {
+            if by_line.is_some() {
                 return Ok(None);
             }
-            by_line = line.push(mv)?;
+            let Some(board) = after_legal(line.board(), *mv) else {
+                return Ok(None);
+            };
+            by_line = line.push_made(mv, board)?;
         }
         Ok(Some(Replayed { line, by_line }))
     }
@@ -120,6 +124,17 @@ impl Line {
         ensures refused { OnErr result (self.new ≡ self.old) }
     {
         let board = self.board.apply(*mv);
+        self.push_made(mv, board)
+    }
+
+    // The same, where the board after the move is at hand.
+    fn push_made(&mut self, mv: &Move, board: Board) -> Result<Option<Ending>, AllocError>
+        requires made { board ≡ next (last_of self.old) mv.now }
+        requires room { HasRoom self.old }
+        ensures pushed { OnOk result (self.new ≡ with_move self.old mv.now) }
+        ensures ending { IfOk result (λ by_line. by_line ≡ ending_after self.new.start self.new.moves) }
+        ensures refused { OnErr result (self.new ≡ self.old) }
+    {
         self.moves.reserve(1)?;
         let times = self.history.push(&board)?;
         self.moves.push_reserved(*mv);

@@ -1,27 +1,18 @@
-use Rattle.std.proofs.Common.{ℕ, ◌≡◌, ◌∙◌, ◌+◌, ◌-◌, ◌++◌, ◌∷◌, [], length, take, arith, ap, sym, refl, suc}
+use Rattle.std.proofs.Common.{ℕ, ◌≡◌, ◌∙◌, ◌+◌, ◌-◌, ◌++◌, ◌∷◌, [], length, take, arith, ap, sym, suc}
 use Rattle.std.specs.Prelude.{Contains}
 use Rattle.std.proofs.lemmas.List.{take_all}
 use Rattle.std.proofs.Math.Seq.{take-suc}
 use Rattle.chess_board.specs.declared.moves.Move.{Move}
 use Rattle.chess_board.specs.Next.{next}
 use Rattle.perft.specs.Lines.{IsNumberOfLines}
-use Rattle.perft.proofs.Through.{HasLinesThrough, one_line, moves_alone, through_more, through_all, not_yet}
+use Rattle.perft.proofs.Through.{HasLinesThrough, through_more, through_all, not_yet}
 use Rattle.perft.proofs.Counters.{halfmove_rises, fullmove_rises}
-use Rattle.perft.proofs.lines.+count_lines.Goals as goal
+use Rattle.perft.proofs.lines.+count_longer.Goals as goal
 
-pub returns-then-depth-eq0 : goal.returns-then-depth-eq0
-returns-then-depth-eq0 t c =
-    let none = c.if-depth-eq0.true in
-    (1, rw none (one_line c.args.board.now), refl)
-
-pub returns-then-depth-eq1 : goal.returns-then-depth-eq1
-returns-then-depth-eq1 t c =
-    let one = c.if-depth-eq1.true in
-    let n = c.count_moves.ensures in (
-      length n.moves,
-      rw one (moves_alone c.args.board.now n.moves n.listed),
-      omega (arith, n.number, c.from.ensures),
-    )
+pub returns-then-depth-eq2 : goal.returns-then-depth-eq2
+returns-then-depth-eq2 t c =
+    let two = c.if-depth-eq2.true in
+    rw two c.count_two.ensures
 
 pub apply-requires-clause-legal : goal.apply-requires-clause-legal
 apply-requires-clause-legal t c =
@@ -29,15 +20,16 @@ apply-requires-clause-legal t c =
     (c.loop-mv.mv-index, c.loop-mv-test.true, sym c.mv-item.is) in
     (c.legal_moves-moves.ensures.exact c.mv-item.result).0 (rw c.as_slice-mv-items.ensures.value at here)
 
-pub count_lines-requires : goal.count_lines-requires
-count_lines-requires t c =
+pub count_longer-requires : goal.count_longer-requires
+count_longer-requires t c =
     let p = c.args.board.now in
     let m = c.mv-item.result in
     rw c.apply.ensures.next (
-      omega (arith, c.decreases, c.if-depth-eq0.false),
+      omega (arith, c.decreases, c.requires.longer),
       (
-        omega (arith, c.requires.halfmove, halfmove_rises p m, c.if-depth-eq0.false),
-        omega (arith, c.requires.fullmove, fullmove_rises p m, c.if-depth-eq0.false),
+        omega (arith, c.requires.longer, c.if-depth-eq2.false),
+        omega (arith, c.requires.halfmove, halfmove_rises p m, c.requires.longer),
+        omega (arith, c.requires.fullmove, fullmove_rises p m, c.requires.longer),
       ),
     )
 
@@ -49,10 +41,10 @@ loop-mv-preserved t c =
     let i = c.loop-mv.mv-index in
     let below = c.loop-mv-test.true in
     let distinct = rw (sym c.as_slice-mv-items.ensures.value) at c.legal_moves-moves.ensures.distinct in
-    let counted : IsNumberOfLines (next p m) (c.args.depth - 1) c.count_lines.ensures.0 =
-    rw c.apply.ensures.next at c.count_lines.ensures.1 in
-    let more = through_more p (take i items) m (c.args.depth - 1) c.loop-mv.count c.count_lines.result
-    c.count_lines.ensures.0 c.loop-mv.invariant counted c.count_lines.ensures.2
+    let counted : IsNumberOfLines (next p m) (c.args.depth - 1) c.count_longer.ensures.0 =
+    rw c.apply.ensures.next at c.count_longer.ensures.1 in
+    let more = through_more p (take i items) m (c.args.depth - 1) c.loop-mv.count c.count_longer.result
+    c.count_longer.ensures.0 c.loop-mv.invariant counted c.count_longer.ensures.2
     (not_yet items i m distinct below (sym c.mv-item.is)) in
     let next_index : i + 1 ≡ suc i = omega arith in
     let taken : take (i + 1) items ≡ take i items ++ m ∷ [] =
@@ -66,5 +58,5 @@ returns t c =
     let listed = rw (sym c.as_slice-mv-items.ensures.value) at c.legal_moves-moves.ensures in
     let all : take c.loop-mv.mv-index items ≡ items = take_all c.loop-mv.mv-index items c.loop-mv-test.false in
     let through : HasLinesThrough p items (c.args.depth - 1) c.loop-mv.count = rw all at c.loop-mv.invariant in
-    let whole : suc (c.args.depth - 1) ≡ c.args.depth = omega (arith, c.if-depth-eq0.false) in
+    let whole : suc (c.args.depth - 1) ≡ c.args.depth = omega (arith, c.requires.longer) in
     rw whole at (through_all p items (c.args.depth - 1) c.loop-mv.count listed through)
