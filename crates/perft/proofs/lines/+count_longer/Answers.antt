@@ -28,8 +28,10 @@ count_longer-requires t c =
       omega (arith, c.decreases, c.requires.longer),
       (
         omega (arith, c.requires.longer, c.if-depth-eq2.false),
-        omega (arith, c.requires.halfmove, halfmove_rises p m, c.requires.longer),
-        omega (arith, c.requires.fullmove, fullmove_rises p m, c.requires.longer),
+        (
+          omega (arith, c.requires.halfmove, halfmove_rises p m, c.requires.longer),
+          omega (arith, c.requires.fullmove, fullmove_rises p m, c.requires.longer),
+        ),
       ),
     )
 
