@@ -15,7 +15,7 @@ push_made-requires-clause-made c =
     let game = c.args.game.now in
     let m = c.args.mv in
     ap (λ (g : GameState). position_of g) c.in_ok-play.ensures.made
-    ∙ position-moved game c.args.at m ∙ ap (λ (p : Position). next p m) (sym c.board-before.ensures)
+    ∙ position-moved game c.args.at m ∙ ap (λ (p : Position). next p m) (sym c.board.ensures)
 
 pub returns-clause-told : goal.returns-clause-told
 returns-clause-told c =
@@ -29,7 +29,7 @@ returns-clause-told c =
         ok_text (codes "move") game.number [] ++ 32 ∷ decimal (ply_of game + 1) = cc in
     record {
       san = c.push_made.ensures.san;
-      is_san = subst San' c.board-before.ensures c.push_made.ensures.is_san;
+      is_san = subst San' c.board.ensures c.push_made.ensures.is_san;
       told = c.push_made.ensures.told
           ∙ ap (λ (by : Option Ending). with_fields c.push_number.new.text.bytes (c.push_made.ensures.san ∷ end_fields by))
           ended
