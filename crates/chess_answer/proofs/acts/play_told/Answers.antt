@@ -26,7 +26,7 @@ returns-clause-told c =
     ap (λ (g : GameState). g.ending) c.in_ok-play.ensures.made
     ∙ ending-moved game c.args.at m c.requires.in_time.running.goes_on in
     let numbered : c.push_number.new.text.bytes ≡
-        ok_text (codes "move") game.number [] ++ 32 ∷ decimal (ply_of game + 1) = cc in
+    ok_text (codes "move") game.number [] ++ 32 ∷ decimal (ply_of game + 1) = cc in
     record {
       san = c.push_made.ensures.san;
       is_san = subst San' c.board.ensures c.push_made.ensures.is_san;
