@@ -6,7 +6,7 @@ ghost use Rattle.lobby_loop.specs.Living.{Happening, IsLife, IsRightLife, Passin
 
 /// Whatever browsers and a server come, say and leave, by streams that give and take what they like: the desk has taken a run of
 /// steps, of which `lobby_desk::law_of_lines` and `lobby_desk::law_of_tellings` hold; the bytes that were written to the server
-/// since its connection began are a front of the bytes of the run's lines since then; no whole line of the server waits; no two
+/// since its connection began are a front of the bytes of the run's lines since then; no whole line of the server waits while its connection goes on; no two
 /// browsers that are connected have one number at the desk; the desk has, under a browser's number, each text that came of it
 /// since it came, once and in their order, and nothing else; and of all that went out of the desk's hands since, a browser was to
 /// be told each message that is for its number, once and in their order, and nothing else.
