@@ -2,12 +2,10 @@
 #![tactic(auto)]
 
 use clap::Error;
+use journal_words::{copy_journal, format, show_games, widen};
 use server_playing::{run_journal, serve, tell_drill};
 use server_words::{Word, read_words, words_given};
-use server_work::{
-    End, Fault, copy_journal, end_of_words, end_of_work, format, name, play_board, show_games,
-    status, widen,
-};
+use server_work::{End, Fault, end_of_words, end_of_work, name, play_board, status};
 use std::process::ExitCode;
 
 fn main(rt: HostRuntime) -> ExitCode {

@@ -2,7 +2,8 @@
 ghost use Rattle.std.specs.Prelude.{◌≡◌};
 
 use crate::source::{Slots, Source};
-use sector_dev::{DeviceFault, FileDevice};
+use file_device::FileDevice;
+use sector_dev::DeviceFault;
 use std::fs::File;
 use std::io::{ErrorKind, Seek, SeekFrom};
 use std::os::unix::fs::{FileExt, FileTypeExt};

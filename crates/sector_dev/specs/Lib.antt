@@ -6,5 +6,3 @@ pub mod Runs
 pub mod Memory
 pub mod Replay
 pub mod InMemory
-pub mod Unknown
-pub mod File

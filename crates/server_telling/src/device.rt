@@ -2,7 +2,8 @@
 ghost use Rattle.std.specs.Prelude.{◌≡◌};
 
 use crate::telling::Teller;
-use sector_dev::{Device, DeviceFault, FileDevice, Got, PositionedFile};
+use file_device::{FileDevice, PositionedFile};
+use sector_dev::{Device, DeviceFault, Got};
 use std::io;
 
 /// A device that keeps the system's error.

@@ -6,8 +6,6 @@ use Rattle.chess_hub.specs.declared.fault.HubFault.{HubFault}
 use Rattle.chess_hub.specs.declared.fault.HubFault.TheVariants as hub
 use Rattle.board_session.specs.declared.board_loop.BoardFault.{BoardFault}
 use Rattle.board_session.specs.declared.board_loop.BoardFault.TheVariants as board
-use Rattle.journal_copy.specs.declared.fault.CopyFault.{CopyFault}
-use Rattle.journal_copy.specs.declared.fault.CopyFault.TheVariants as copy
 use Rattle.server_work.specs.declared.ends.End.{End}
 use Rattle.server_work.specs.declared.ends.End.TheVariants as ends
 use Rattle.server_work.specs.declared.ends.Fault.{Fault}
@@ -55,13 +53,6 @@ name_of (Hub fault) = name_of_hub fault
 abbrev pub of_board : BoardFault → Fault
 of_board board.Read = Read
 of_board board.Write = Write
-
--- what a fault of reading a journal is to the program
-abbrev pub of_copy : CopyFault → Fault
-of_copy copy.NotOurs = Store NotOurs
-of_copy copy.Damaged = Store Damaged
-of_copy copy.TooSmall = Store TooSmall
-of_copy copy.Device = Store (Device 0)
 
 -- the end that the result of a word's work is
 abbrev pub end_of : Result (Unit {0}) Fault → End

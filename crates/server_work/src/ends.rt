@@ -1,14 +1,13 @@
 //! How a run of the program ends: its exit status, and what is told of a fault.
 ghost use Rattle.std.specs.Prelude.{◌≡◌, ◌≢◌};
 ghost use Rattle.clap.specs.Values.{kind_of};
-ghost use Rattle.server_work.specs.End.{end_of, name_of, name_of_hub, name_of_store, of_board, of_copy, status_of};
+ghost use Rattle.server_work.specs.End.{end_of, name_of, name_of_hub, name_of_store, of_board, status_of};
 
 use board_session::BoardFault;
 use chess_hub::HubFault;
 use chess_store::StoreFault;
 use clap::Error;
 use clap::error::ErrorKind;
-use journal_copy::CopyFault;
 
 /// What can break a run off.
 #[derive(Clone, Copy, Debug, PartialEq, Eq)]
@@ -109,18 +108,6 @@ pub fn fault_of_board(fault: BoardFault) -> Fault
         BoardFault::Read => Fault::Read,
         BoardFault::Write => Fault::Write,
     }
-}
-
-/// What a fault of reading a journal without its lock is to the program.
-pub fn fault_of_copy(fault: CopyFault) -> Fault
-    ensures { result ≡ of_copy fault }
-{
-    Fault::Store(match fault {
-        CopyFault::NotOurs => StoreFault::NotOurs,
-        CopyFault::Damaged => StoreFault::Damaged,
-        CopyFault::TooSmall => StoreFault::TooSmall,
-        CopyFault::Device => StoreFault::Device { pending: 0 },
-    })
 }
 
 /// The end of a word's work.

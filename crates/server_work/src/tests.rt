@@ -1,4 +1,2 @@
 mod causes;
 mod ends;
-mod journals;
-mod reading;

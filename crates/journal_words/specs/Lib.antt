@@ -1,0 +1,3 @@
+pub mod Blank
+pub mod Faults
+pub mod Games

@@ -1,0 +1,2 @@
+mod journals;
+mod reading;

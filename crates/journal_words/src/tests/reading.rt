@@ -1,0 +1,108 @@
+//! What is shown of a copy of a journal.
+use crate::reading::write_games;
+use chess_bits::Colour;
+use chess_entry::{Act, Command, Limits, Name};
+use chess_store::Store;
+use journal_copy::{Copied, Still, copy};
+use sector_dev::MemoryDevice;
+use server_work::open_on;
+use std::alloc::Global;
+use std::test::Fail;
+
+const LIMITS: Limits = Limits {
+    games: 4,
+    plies: 60,
+};
+
+const JOIN: Act = Act::Join { game: 1 };
+
+const RESIGN: Act = Act::Resign { game: 1 };
+
+fn opening(colour: Colour) -> Act {
+    Act::NewGame {
+        colour,
+        initial: 300,
+        increment: 2,
+        fen: None,
+        period: None,
+    }
+}
+
+fn command(who: &str, act: Act) -> Command {
+    Command {
+        at: 1_000,
+        who: Name::try_new(who),
+        act,
+    }
+}
+
+// Submits a command, which is answered.
+fn submit(alloc: Global, store: &mut Store<MemoryDevice>, who: &str, act: Act) -> Option<()> {
+    let mut commands = Vec::new(alloc);
+    commands.push(command(who, act)).ok()?;
+    let replies = store.submit(commands.as_slice()).ok()?;
+    (replies.len() == 1).then_some(())
+}
+
+// A device with a journal of two games, of which one is over and one that nobody has joined.
+fn played(alloc: Global) -> Option<MemoryDevice> {
+    let device = MemoryDevice::new(alloc, 212).ok()?;
+    let mut store = store_opening::create(alloc, device, LIMITS).ok()?;
+    submit(alloc, &mut store, "ann", opening(Colour::White))?;
+    submit(alloc, &mut store, "bob", JOIN)?;
+    submit(alloc, &mut store, "bob", opening(Colour::Black))?;
+    submit(alloc, &mut store, "bob", RESIGN)?;
+    Some(store.into_device())
+}
+
+const SHOWN: &str = "\
+[Event \"?\"]
+[Site \"?\"]
+[Date \"????.??.??\"]
+[Round \"?\"]
+[White \"ann\"]
+[Black \"bob\"]
+[Result \"1-0\"]
+[Article \"5.1.2\"]
+[Termination \"normal\"]
+[TimeControl \"300+2\"]
+
+1-0
+
+[Event \"?\"]
+[Site \"?\"]
+[Date \"????.??.??\"]
+[Round \"?\"]
+[White \"?\"]
+[Black \"bob\"]
+[Result \"*\"]
+[Termination \"unterminated\"]
+[TimeControl \"300+2\"]
+
+*
+
+";
+
+#[test]
+fn shows_the_games_of_a_copy(rt: HostRuntime) -> Result<(), Fail> {
+    let alloc = rt.alloc();
+    let Some(device) = played(alloc) else {
+        assert!(rt; false, "no journal");
+        return Ok(());
+    };
+    let mut source = Still::new(device);
+    let mut target = MemoryDevice::new(alloc, 212)?;
+    assert_eq!(rt; copy(&mut source, &mut target, 1), Ok(Copied::Whole));
+    for device in [source.into_device(), target] {
+        match open_on(alloc, device) {
+            Ok(store) => {
+                let table = store.into_parts().table;
+                let mut shown = Vec::new(alloc);
+                assert!(rt; write_games(alloc, &table, &mut shown).is_ok());
+                assert!(rt; shown.as_slice() == SHOWN.as_bytes());
+            }
+            Err(_) => assert!(rt; false, "no table"),
+        }
+    }
+    Ok(())
+}
