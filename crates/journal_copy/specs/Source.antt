@@ -2,8 +2,8 @@
 use Rattle.std.specs.Prelude.{ℕ, ◌≡◌, ◌⊎◌, ◌+◌, ◌<◌, ◌≤◌, ◌↔◌, List, Some}
 use Rattle.sector_dev.specs.Image.{Sectors}
 use Rattle.rec_codec.specs.declared.header.Header.{Header}
-use Rattle.sector_journal.specs.Parts.{bytes_at}
-use Rattle.sector_journal.specs.Stands.{IsInForce, half_start, free_start}
+use Rattle.journal_layout.specs.Parts.{bytes_at}
+use Rattle.journal_layout.specs.Stands.{IsInForce, half_start, free_start}
 
 -- at some moment of these the sector holds these bytes
 pub record IsSeen (image : ℕ → Sectors) (from to at : ℕ) (bytes : List ℕ) : Type 0 where

@@ -4,7 +4,6 @@
 mod copying;
 mod fault;
 mod file;
-mod layout;
 mod slots;
 mod source;
 mod still;

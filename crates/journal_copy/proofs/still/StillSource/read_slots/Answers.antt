@@ -1,6 +1,6 @@
 use Rattle.std.proofs.Common.{◌∙◌, ℕ, sym, ap, arith}
 use Rattle.sector_dev.specs.Image.{Sectors}
-use Rattle.sector_journal.specs.Parts.{bytes_at}
+use Rattle.journal_layout.specs.Parts.{bytes_at}
 use Rattle.journal_copy.proofs.still.StillSource.read_slots.Goals as goal
 
 pub returns-in_err-read-2-clause-image : goal.returns-in_err-read-2-clause-image
