@@ -1,8 +1,8 @@
 //! Where a man may go so that its king is safe.
-ghost use Rattle.std.specs.Prelude.{◌≡◌, ◌↔◌, IsTrue, Some};
+ghost use Rattle.std.specs.Prelude.{◌≡◌, ◌↔◌, IsTrue, Some, false};
 ghost use Rattle.chess_bits.specs.declared.men.Kind.TheVariants as kinds;
-ghost use Rattle.chess_bits.specs.Table.{IsSetOf};
-ghost use Rattle.chess_board.specs.Position.{man_at};
+ghost use Rattle.chess_bits.specs.Table.{put, IsSetOf};
+ghost use Rattle.chess_board.specs.Position.{man_at, occupied_of};
 ghost use Rattle.chess_moves.specs.Targets.{GoesTo, LeavesKingSafe, GoesSafely, IsPiece};
 ghost use Rattle.chess_moves.specs.Masks.{IsAttackedWithout, HoldsMasks};
 
@@ -13,14 +13,22 @@ use chess_attacks::{bishop, king, rook};
 use chess_bits::{Bits, Kind, Square};
 use chess_board::Board;
 
+// The squares with men once that of a square is taken off.
+fn occupied_without(board: &Board, square: Square) -> Bits
+    ensures { result ≡ put (occupied_of board.now.placement) square false }
+{
+    let mut occupied = board.men().occupied();
+    occupied.remove(square);
+    occupied
+}
+
 // Whether a man of the opponent attacks the square once the king is taken off its own.
 fn is_attacked_without(board: &Board, masks: &Masks, from: Square, to: Square) -> bool
     requires { HoldsMasks board.now masks.now }
     ensures { IsTrue result ↔ IsAttackedWithout board.now from to }
 {
     let _on_board = to.number();
-    let mut occupied = board.men().occupied();
-    occupied.remove(from);
+    let occupied = occupied_without(board, from);
     let straight = rook(to, occupied).meet(masks.straight);
     let diagonal = bishop(to, occupied).meet(masks.diagonal);
     !leapers(board, to)
