@@ -19,5 +19,5 @@ returns c =
           (λ q on leaps. record { leaps = leaps; slides = λ way l below. absurd (omega arith) })
           (λ q on ends. ends.leaps);
       pinned = rw c.new.ensures
-          (none_set (IsPinnedBelow p k 0) (λ from on (own, (way, l, below, rest)). absurd (omega arith)));
+          (none_set (IsPinnedBelow p k 0) (λ from on (own, (way, l, below, slider, pin)). absurd (omega arith)));
     }
