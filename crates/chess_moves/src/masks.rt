@@ -200,6 +200,13 @@ fn line_of(board: &Board, masks: &Masks, from: Square) -> Bits
     line
 }
 
+// Where a pinned man may end every check: on its line alone.
+fn on_line(ends: Bits, line: Bits) -> Bits
+    ensures { result ≡ meet ends line }
+{
+    ends.meet(line)
+}
+
 /// The squares on which a man that is not the king leaves the king safe.
 pub fn allowed(board: &Board, masks: &Masks, from: Square) -> Bits
     requires own { HoldsColour board.now from board.now.side }
@@ -208,7 +215,7 @@ pub fn allowed(board: &Board, masks: &Masks, from: Square) -> Bits
         (λ q. EndsChecks board.now masks.now.king q × KeepsLine board.now masks.now.king from q) }
 {
     if masks.pinned.contains(from) {
-        masks.ends.meet(line_of(board, masks, from))
+        on_line(masks.ends, line_of(board, masks, from))
     } else {
         masks.ends
     }

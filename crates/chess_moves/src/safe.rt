@@ -2,8 +2,9 @@
 ghost use Rattle.std.specs.Prelude.{◌≡◌, ◌↔◌, IsTrue, Some, false};
 ghost use Rattle.chess_bits.specs.declared.men.Kind.TheVariants as kinds;
 ghost use Rattle.chess_bits.specs.Table.{put, IsSetOf};
-ghost use Rattle.chess_board.specs.Position.{man_at, occupied_of};
-ghost use Rattle.chess_moves.specs.Targets.{GoesTo, LeavesKingSafe, GoesSafely, IsPiece};
+ghost use Rattle.chess_board.specs.Position.{man_at, occupied_of, IsInCheck};
+ghost use Rattle.chess_board.specs.Next.{placement_after};
+ghost use Rattle.chess_moves.specs.Targets.{plain as plain_move, GoesTo, LeavesKingSafe, GoesSafely, IsPiece};
 ghost use Rattle.chess_moves.specs.Masks.{IsAttackedWithout, HoldsMasks};
 
 use crate::masks::{Masks, allowed, leapers};
@@ -36,6 +37,13 @@ fn is_attacked_without(board: &Board, masks: &Masks, from: Square, to: Square) -
         .is_empty()
 }
 
+// Whether the king stands attacked once the men stand as the move leaves them.
+fn exposes(board: &Board, from: Square, to: Square) -> bool
+    ensures { IsTrue result ↔ IsInCheck (placement_after board.now (plain_move from to)) board.now.side }
+{
+    board.exposes_king(plain(from, to))
+}
+
 // Whether the king is safe once it has gone to the square: in castling, which moves the rook too, the men are placed.
 fn is_king_safe(board: &Board, masks: &Masks, from: Square, to: Square) -> bool
     requires own { man_at board.now.placement from ≡ Some (board.now.side, kinds.King) }
@@ -45,7 +53,7 @@ fn is_king_safe(board: &Board, masks: &Masks, from: Square, to: Square) -> bool
     if king(from).contains(to) {
         !is_attacked_without(board, masks, from, to)
     } else {
-        !board.exposes_king(plain(from, to))
+        !exposes(board, from, to)
     }
 }
 
@@ -76,7 +84,7 @@ fn pawn_goes(board: &Board, masks: &Masks, from: Square) -> Bits
         None => safe,
         Some(target) => {
             if reached.contains(target) {
-                safe.assign(target, !board.exposes_king(plain(from, target)));
+                safe.assign(target, !exposes(board, from, target));
                 safe
             } else {
                 safe

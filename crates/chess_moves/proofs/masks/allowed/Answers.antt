@@ -11,7 +11,7 @@ pub returns-then-contains : goal.returns-then-contains
 returns-then-contains c =
     let p = c.args.board.now in
     let masks = c.args.masks.now in
-    rw c.meet.ensures
+    rw c.on_line.ensures
     (both_set masks.ends c.line_of.result (EndsChecks p masks.king) (KeepsLine p masks.king c.args.from)
     c.requires.masks.ends c.line_of.ensures)
 
