@@ -20,7 +20,7 @@ use Rattle.chess_moves.specs.Masks.{IsSlider, Stops, IsAloneBetween, EndsBelow, 
 use Rattle.chess_moves.proofs.Ways.{way-differs, odd_or_even}
 use Rattle.chess_moves.proofs.SetForms.{both_set}
 use Rattle.chess_moves.proofs.Exact.{has-occupied}
-use Rattle.chess_moves.proofs.Paths.{empty_slide, between_of, same_slider, seen_slide, none_between, alone_set, set_alone, length-between}
+use Rattle.chess_moves.proofs.Paths.{empty_slide, between_of, same_slider, seen_slide, none_between, alone_set, set_alone}
 
 -- ---- the men
 

@@ -1,5 +1,5 @@
 //! Where a man may go so that its king is safe.
-ghost use Rattle.std.specs.Prelude.{◌≡◌, ◌↔◌, IsTrue, Some, false};
+ghost use Rattle.std.specs.Prelude.{◌≡◌, ◌↔◌, IsTrue, Some, false, not};
 ghost use Rattle.chess_bits.specs.declared.men.Kind.TheVariants as kinds;
 ghost use Rattle.chess_bits.specs.Table.{put, IsSetOf};
 ghost use Rattle.chess_board.specs.Position.{man_at, occupied_of, IsInCheck};
@@ -72,6 +72,15 @@ fn king_goes(board: &Board, masks: &Masks, from: Square) -> Bits
     safe
 }
 
+// The squares, and the target of a capture en passant where the king is not exposed by it, whatever the masks say of it.
+fn with_target(safe: Bits, target: Square, is_exposed: bool) -> Bits
+    ensures { result ≡ put safe target (not is_exposed) }
+{
+    let mut squares = safe;
+    squares.assign(target, !is_exposed);
+    squares
+}
+
 // Where a pawn may go: en passant, which takes two men off a line, the men are placed.
 fn pawn_goes(board: &Board, masks: &Masks, from: Square) -> Bits
     requires own { man_at board.now.placement from ≡ Some (board.now.side, kinds.Pawn) }
@@ -79,13 +88,12 @@ fn pawn_goes(board: &Board, masks: &Masks, from: Square) -> Bits
     ensures { IsSetOf result (GoesSafely board.now kinds.Pawn from) }
 {
     let reached = targets(board, from, Kind::Pawn);
-    let mut safe = reached.meet(allowed(board, masks, from));
+    let safe = reached.meet(allowed(board, masks, from));
     match board.target() {
         None => safe,
         Some(target) => {
             if reached.contains(target) {
-                safe.assign(target, !exposes(board, from, target));
-                safe
+                with_target(safe, target, exposes(board, from, target))
             } else {
                 safe
             }

@@ -19,7 +19,7 @@ pub returns-then-contains : goal.returns-then-contains
 returns-then-contains c =
     let p = c.args.board.now in
     let target = c.in-Some.target in
-    rw (c.assign.ensures.assigned, c.meet-safe.ensures)
+    rw (c.with_target.ensures, c.meet-safe.ensures)
     (pawn_set_target p c.args.masks.now c.args.from target c.targets-reached.result c.allowed.result
     (not c.exposes.result) c.requires.masks c.requires.own c.targets-reached.ensures c.allowed.ensures
     (sym c.in-Some.ensures) c.if-contains.ensures.on_board (sym c.if-contains.ensures.member)
