@@ -1,5 +1,5 @@
 -- What a watch in one way more adds to the masks.
-use Rattle.std.specs.Prelude.{ℕ, ◌≡◌, ◌+◌, ◌%◌, ◌<◌, ◌≤◌, Bool, true, false, ◌||◌, List, [], length, Some, is_some}
+use Rattle.std.specs.Prelude.{ℕ, ◌≡◌, ◌⊎◌, ◌+◌, ◌%◌, ◌<◌, ◌≤◌, Bool, true, false, List, [], length, Some, is_some}
 use Rattle.std.proofs.Common.{arith, refl, sym, ap, subst, ◌∙◌, inl, inr, below_more}
 use Rattle.std.proofs.lemmas.Bool.{false≢true, cases_Bool, cases_eq}
 use Rattle.std.proofs.lemmas.List.{length-map}
@@ -10,17 +10,17 @@ use Rattle.chess_bits.specs.Table.{has, meet, union, members, IsSetOf}
 use Rattle.chess_bits.specs.Attack.{along, SlidesAlong}
 use Rattle.chess_bits.proofs.ManLemmas.{other-differs, same_colour}
 use Rattle.chess_bits.proofs.TableLemmas.{on_board-from_at}
-use Rattle.chess_bits.proofs.SetLemmas.{has-union, has-none, length-union, IsSetOf-like}
+use Rattle.chess_bits.proofs.SetLemmas.{has-none, IsSetOf-union, IsSetOf-like}
 use Rattle.chess_attacks.specs.Ways.{way_step}
 use Rattle.chess_board.specs.Position.{Position, man_at, occupied_of, IsValid}
 use Rattle.chess_board.specs.Legal.{HoldsColour}
 use Rattle.chess_board.proofs.Candidates.{IsOnBoard-from_man}
 use Rattle.chess_moves.specs.declared.masks.Masks.{Masks}
-use Rattle.chess_moves.specs.Masks.{IsSlider, Stops, IsAloneBetween, EndsBelow, KeepsBelow, IsPathTo, NoneAhead, HoldsPinsBelow, HoldsMasksBelow}
+use Rattle.chess_moves.specs.Masks.{IsSlider, Stops, IsAloneBetween, EndsBelow, KeepsBelow, IsPathTo, NoneAhead, IsPinnedBelow, HoldsMasksBelow}
 use Rattle.chess_moves.proofs.Ways.{way-differs, odd_or_even}
 use Rattle.chess_moves.proofs.SetForms.{both_set}
 use Rattle.chess_moves.proofs.Exact.{has-occupied}
-use Rattle.chess_moves.proofs.Paths.{empty_slide, between_of, same_slider, seen_slide, none_between, alone_set, set_alone, length-between}
+use Rattle.chess_moves.proofs.Paths.{empty_slide, between_of, same_slider, seen_slide, none_between, alone_set, set_alone}
 
 -- ---- the men
 
@@ -127,13 +127,20 @@ ends_less p k q way ends = (
   λ c slider slide. ends.slides way c (omega arith) slider slide,
 )
 
-pins_more : (p : Position) (k : Square) (way : ℕ) (before after : List Bool) → HoldsPinsBelow p k way before →
-    ((from : Square) → has after from ≡ false → has before from ≡ false) →
-    ((from : Square) → HoldsColour p from p.side → has after from ≡ false → NoPinIn p k from way) →
-    HoldsPinsBelow p k (way + 1) after
-pins_more p k way before after pins fewer here from w c own outside less slider =
-    below_more (NoPinIn p k from) way
-    (λ w' less' c' slider'. pins from w' c' own (fewer from outside) less' slider') (here from own outside) w less c slider
+-- a way in which no man is pinned adds none
+pins_same : (p : Position) (k : Square) (way : ℕ) (pinned : List Bool) → IsSetOf pinned (IsPinnedBelow p k way) →
+    ((from : Square) → HoldsColour p from p.side → NoPinIn p k from way) →
+    IsSetOf pinned (IsPinnedBelow p k (way + 1))
+pins_same p k way pinned of none =
+    IsSetOf-like pinned (IsPinnedBelow p k way) (IsPinnedBelow p k (way + 1)) of
+    (λ from on (own, (w, c, less, slider, pin)). (own, (w, c, omega arith, slider, pin)))
+    (λ from on (own, (w, c, less, slider, pin)). elim (cases_eq w way) [
+      | inl same ↦
+          let Slider' : ℕ → Type 0 = λ x. IsSlider p x c in
+          let Alone' : ℕ → Type 0 = λ x. IsAloneBetween (occupied_of p.placement) k c from (way_step x) in
+          absurd (none from own c (subst Slider' same slider) (subst Alone' same pin))
+      | inr other_way ↦ (own, (w, c, omega arith, slider, pin))
+    ])
 
 pub keeps_more : (p : Position) (k from q : Square) (way : ℕ) → KeepsBelow p k from way q → KeepsIn p k from q way →
     KeepsBelow p k from (way + 1) q
@@ -172,9 +179,8 @@ none_watched p masks way sliders valid below of none holds =
           (λ q on ends. ends_more p k q way ends (λ c slider slide.
           absurd (check_ahead p k c way sliders w none slider slide.distance slide.positive slide.there)))
           (λ q on ends. (ends_less p k q way ends).0);
-      pinned_whole = holds.pinned_whole;
-      pinned = pins_more p k way masks.pinned masks.pinned holds.pinned (λ from outside. outside)
-          (λ from own outside c slider pin.
+      pinned = pins_same p k way masks.pinned holds.pinned
+          (λ from own c slider pin.
           check_ahead p k c way sliders w none slider pin.far (omega (arith, pin.positive, pin.nearer)) pin.there);
     }
 
@@ -214,9 +220,8 @@ check_watched p masks way sliders path valid below of seen none holds =
           (λ q on ends.
           let less = ends_less p k q way ends in
           (less.0, less.1 seen.slider ((of.exact seen.slider seen.on_board).0 seen.member) slide));
-      pinned_whole = holds.pinned_whole;
-      pinned = pins_more p k way masks.pinned masks.pinned holds.pinned (λ from outside. outside)
-          (λ from own outside c slider pin.
+      pinned = pins_same p k way masks.pinned holds.pinned
+          (λ from own c slider pin.
           let on_from = own_on p from own in
           let alone = alone_there p k c from way sliders path w seen slider own pin in
           false≢true (sym (has-none (between_of path occupied sliders) from on_from none)
@@ -234,26 +239,25 @@ no_check p k c way sliders path w seen some slider slide =
     (length-occupied p w.valid) w.of.whole seen
     (subst Slides' (check_is_nearest p k c way sliders path w seen slider slide) slide))
 
-either_false : (a b : Bool) → (a || b) ≡ false → (a ≡ false) × (b ≡ false)
-either_false true b e = absurd (false≢true (sym e))
-either_false false b e = (refl, e)
-
--- one man stands between
-pub pin_watched : (p : Position) (masks : Masks) (way : ℕ) (sliders path : List Bool) → IsValid p → way < 8 →
+-- one man stands between: it is pinned if it is an own one
+pub pin_watched : (p : Position) (masks : Masks) (way : ℕ) (sliders path own : List Bool) → IsValid p → way < 8 →
     IsSetOf sliders (IsSlider p way) → IsPathTo sliders masks.king (way_step way) path →
-    ¬ (members (between_of path (occupied_of p.placement) sliders) ≡ []) → HoldsMasksBelow p way masks →
+    IsSetOf own (λ q. HoldsColour p q p.side) →
+    ¬ (members (between_of path (occupied_of p.placement) sliders) ≡ []) →
+    ((s : Square) × IsOnBoard s × IsSetOf (between_of path (occupied_of p.placement) sliders) (λ q. q ≡ s)) →
+    HoldsMasksBelow p way masks →
     HoldsMasksBelow p (way + 1)
-    (record masks { pinned = union masks.pinned (between_of path (occupied_of p.placement) sliders) })
-pin_watched p masks way sliders path valid below of seen some holds =
+    (record masks { pinned = union masks.pinned (meet (between_of path (occupied_of p.placement) sliders) own) })
+pin_watched p masks way sliders path own valid below of seen of_own some (s, on_s, alone) holds =
     let k : Square = masks.king in
     let occupied : List Bool = occupied_of p.placement in
     let between : List Bool = between_of path occupied sliders in
     let w : Watched p k way sliders = record { valid = valid; king = holds.king; below = below; of = of } in
-    let len : length masks.pinned ≡ length between =
-    holds.pinned_whole ∙ sym (length-between path occupied sliders seen.squares.whole (length-occupied p valid) of.whole) in
-    let parts = λ (from : Square) (outside : has (union masks.pinned between) from ≡ false).
-    either_false (has masks.pinned from) (has between from) (sym (has-union masks.pinned between from len) ∙ outside)
-    in
+    let Own : Square → Type 0 = λ q. HoldsColour p q p.side in
+    let Alone' : Square → Type 0 = λ x. IsSetOf between (λ q. q ≡ x) in
+    let pin = λ (from : Square) (on : IsOnBoard from) (same : from ≡ s).
+    set_alone occupied sliders path k from (way_step way) (way-differs way below) (king_on p k way sliders w) on
+    (length-occupied p valid) of.whole seen (subst Alone' (sym same) alone) in
     record {
       valid = holds.valid;
       king = holds.king;
@@ -263,12 +267,32 @@ pin_watched p masks way sliders path valid below of seen some holds =
           (λ q on ends. ends_more p k q way ends (λ c slider slide.
           absurd (no_check p k c way sliders path w seen some slider slide)))
           (λ q on ends. (ends_less p k q way ends).0);
-      pinned_whole = length-union masks.pinned between len ∙ holds.pinned_whole;
-      pinned = pins_more p k way masks.pinned (union masks.pinned between) holds.pinned
-          (λ from outside. (parts from outside).0)
-          (λ from own outside c slider pin.
-          false≢true (sym (parts from outside).1
-          ∙ ((alone_there p k c from way sliders path w seen slider own pin).exact from (own_on p from own)).1 refl));
+      pinned = IsSetOf-like (union masks.pinned (meet between own))
+          (λ q. IsPinnedBelow p k way q ⊎ ((q ≡ s) × Own q)) (IsPinnedBelow p k (way + 1))
+          (IsSetOf-union masks.pinned (meet between own) (IsPinnedBelow p k way) (λ q. (q ≡ s) × Own q) holds.pinned
+          (both_set between own (λ q. q ≡ s) Own alone of_own))
+          (λ from on either. elim either [
+            | inl (held, (x, c, less, slider, pin')) ↦ (held, (x, c, omega arith, slider, pin'))
+            | inr (same, held) ↦ (
+              held,
+              (
+                way,
+                seen.slider,
+                omega arith,
+                (of.exact seen.slider seen.on_board).0 seen.member,
+                pin from on same,
+              ),
+            )
+          ])
+          (λ from on (held, (x, c, less, slider, pin')). elim (cases_eq x way) [
+            | inl same ↦
+                let Slider' : ℕ → Type 0 = λ n. IsSlider p n c in
+                let Between' : ℕ → Type 0 = λ n. IsAloneBetween occupied k c from (way_step n) in
+                let there = alone_there p k c from way sliders path w seen (subst Slider' same slider) held
+                (subst Between' same pin') in
+                inr (sym ((there.exact s on_s).0 ((alone.exact s on_s).1 refl)), held)
+            | inr other_way ↦ inl (held, (x, c, omega arith, slider, pin'))
+          ]);
     }
 
 -- more men stand between
@@ -289,9 +313,8 @@ crowd_watched p masks way sliders path valid below of seen some many holds =
           (λ q on ends. ends_more p k q way ends (λ c slider slide.
           absurd (no_check p k c way sliders path w seen some slider slide)))
           (λ q on ends. (ends_less p k q way ends).0);
-      pinned_whole = holds.pinned_whole;
-      pinned = pins_more p k way masks.pinned masks.pinned holds.pinned (λ from outside. outside)
-          (λ from own outside c slider pin.
+      pinned = pins_same p k way masks.pinned holds.pinned
+          (λ from own c slider pin.
           many (from, own_on p from own, alone_there p k c from way sliders path w seen slider own pin));
     }
 

@@ -1,4 +1,4 @@
-use Rattle.std.specs.Prelude.{ℕ, ◌≡◌, ◌≢◌, ◌%◌, ◌<◌, ◌≤◌, ◌⊎◌, Bool, true, false, List, length, Some}
+use Rattle.std.specs.Prelude.{ℕ, ◌≡◌, ◌≢◌, ◌%◌, ◌<◌, ◌≤◌, ◌⊎◌, Bool, true, false, List, Some}
 use Rattle.chess_bits.specs.declared.men.Colour.{Colour}
 use Rattle.chess_bits.specs.declared.men.Kind.{Kind}
 use Rattle.chess_bits.specs.declared.men.Kind.TheVariants.{Pawn, Knight, Bishop, Rook, Queen, King}
@@ -113,11 +113,12 @@ pub record IsWatch (p : Position) (sliders : List Bool) (k : Square) (way : ℕ)
   pub path : IsPathTo sliders k (way_step way) watch.path
   pub between : watch.between ≡ without (meet watch.path (occupied_of p.placement)) sliders
 
--- no own man outside the set is pinned in the ways below n
-abbrev pub HoldsPinsBelow : Position → Square → ℕ → List Bool → Type 0
-HoldsPinsBelow p k n pinned =
-    (from : Square) (way : ℕ) (c : Square) → HoldsColour p from p.side → has pinned from ≡ false → way < n →
-    IsSlider p way c → ¬ IsAloneBetween (occupied_of p.placement) k c from (way_step way)
+-- A man of the side to move that is pinned in one of the ways below n: it is the one man between the king on k and a slider.
+abbrev pub IsPinnedBelow : Position → Square → ℕ → Square → Type 0
+IsPinnedBelow p k n from =
+    HoldsColour p from p.side ×
+    ((way : ℕ) × (c : Square) × (way < n) × IsSlider p way c ×
+    IsAloneBetween (occupied_of p.placement) k c from (way_step way))
 
 -- the masks of a position, where the ways below n have been watched
 pub record HoldsMasksBelow (p : Position) (n : ℕ) (masks : Masks) : Type 0 where
@@ -126,8 +127,7 @@ pub record HoldsMasksBelow (p : Position) (n : ℕ) (masks : Masks) : Type 0 whe
   pub straight : (way : ℕ) → way % 2 ≡ 0 → IsSetOf masks.straight (IsSlider p way)
   pub diagonal : (way : ℕ) → way % 2 ≡ 1 → IsSetOf masks.diagonal (IsSlider p way)
   pub ends : IsSetOf masks.ends (EndsBelow p masks.king n)
-  pub pinned : HoldsPinsBelow p masks.king n masks.pinned
-  pub pinned_whole : length masks.pinned ≡ 64
+  pub pinned : IsSetOf masks.pinned (IsPinnedBelow p masks.king n)
 
 abbrev pub HoldsMasks : Position → Masks → Type 0
 HoldsMasks p masks = HoldsMasksBelow p 8 masks

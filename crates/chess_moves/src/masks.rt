@@ -2,7 +2,7 @@
 ghost use Rattle.std.specs.Prelude.{ℕ, ◌≡◌, ◌+◌, ◌%◌, ◌<◌, ◌↔◌, IsTrue, Some};
 ghost use Rattle.chess_bits.specs.declared.men.Kind.TheVariants as kinds;
 ghost use Rattle.chess_bits.specs.Square.{Square as Geometric, IsOnBoard};
-ghost use Rattle.chess_bits.specs.Table.{IsSetOf};
+ghost use Rattle.chess_bits.specs.Table.{meet, union, IsSetOf};
 ghost use Rattle.chess_board.specs.Position.{man_at, IsValid};
 ghost use Rattle.chess_board.specs.Legal.{HoldsColour};
 ghost use Rattle.chess_moves.specs.Masks.{IsSlider, IsLeaper, EndsChecks, KeepsBelow, KeepsLine, HoldsMasksBelow, HoldsMasks};
@@ -24,7 +24,7 @@ pub struct Masks {
     pub diagonal: Bits,
     /// The squares on which a man ends every check, all squares where there is none.
     pub ends: Bits,
-    /// Men that stand alone between the king and a slider. No own man outside is pinned; of one in it `line_of` is asked.
+    /// The pinned men: own men of which each is the one man between the king and a slider. `line_of` tells their lines.
     pub pinned: Bits,
 }
 
@@ -113,7 +113,28 @@ fn sliders_in(masks: &Masks, way: u8) -> Bits
     }
 }
 
-// The masks once the way is watched: a slider that nothing stands before gives check, and pins the one man before it.
+// The masks with a check more, by a slider at the end of the path: what ends it has to end those before too.
+fn with_check(masks: Masks, path: Bits) -> Masks
+    ensures { result ≡ record masks { ends = meet masks.ends path } }
+{
+    Masks {
+        ends: masks.ends.meet(path),
+        ..masks
+    }
+}
+
+// The masks with more pinned men.
+fn with_pinned(masks: Masks, men: Bits) -> Masks
+    ensures { result ≡ record masks { pinned = union masks.pinned men } }
+{
+    Masks {
+        pinned: masks.pinned.union(men),
+        ..masks
+    }
+}
+
+// The masks once the way is watched: a slider that nothing stands before gives check, and pins the one man before it, if
+// that is an own one.
 fn watched(board: &Board, masks: Masks, way: u8) -> Masks
     requires way { way < 8 }
     requires masks { HoldsMasksBelow board.now way masks }
@@ -123,15 +144,9 @@ fn watched(board: &Board, masks: Masks, way: u8) -> Masks
         None => masks,
         Some(seen) => {
             if seen.between.is_empty() {
-                Masks {
-                    ends: masks.ends.meet(seen.path),
-                    ..masks
-                }
+                with_check(masks, seen.path)
             } else if is_single(seen.between) {
-                Masks {
-                    pinned: masks.pinned.union(seen.between),
-                    ..masks
-                }
+                with_pinned(masks, seen.between.meet(men_of(board, board.side())))
             } else {
                 masks
             }
@@ -185,6 +200,13 @@ fn line_of(board: &Board, masks: &Masks, from: Square) -> Bits
     line
 }
 
+// Where a pinned man may end every check: on its line alone.
+fn on_line(ends: Bits, line: Bits) -> Bits
+    ensures { result ≡ meet ends line }
+{
+    ends.meet(line)
+}
+
 /// The squares on which a man that is not the king leaves the king safe.
 pub fn allowed(board: &Board, masks: &Masks, from: Square) -> Bits
     requires own { HoldsColour board.now from board.now.side }
@@ -193,7 +215,7 @@ pub fn allowed(board: &Board, masks: &Masks, from: Square) -> Bits
         (λ q. EndsChecks board.now masks.now.king q × KeepsLine board.now masks.now.king from q) }
 {
     if masks.pinned.contains(from) {
-        masks.ends.meet(line_of(board, masks, from))
+        on_line(masks.ends, line_of(board, masks, from))
     } else {
         masks.ends
     }

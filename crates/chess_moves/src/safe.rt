@@ -1,9 +1,10 @@
 //! Where a man may go so that its king is safe.
-ghost use Rattle.std.specs.Prelude.{◌≡◌, ◌↔◌, IsTrue, Some};
+ghost use Rattle.std.specs.Prelude.{◌≡◌, ◌↔◌, IsTrue, Some, false, not};
 ghost use Rattle.chess_bits.specs.declared.men.Kind.TheVariants as kinds;
-ghost use Rattle.chess_bits.specs.Table.{IsSetOf};
-ghost use Rattle.chess_board.specs.Position.{man_at};
-ghost use Rattle.chess_moves.specs.Targets.{GoesTo, LeavesKingSafe, GoesSafely, IsPiece};
+ghost use Rattle.chess_bits.specs.Table.{put, IsSetOf};
+ghost use Rattle.chess_board.specs.Position.{man_at, occupied_of, IsInCheck};
+ghost use Rattle.chess_board.specs.Next.{placement_after};
+ghost use Rattle.chess_moves.specs.Targets.{plain as plain_move, GoesTo, LeavesKingSafe, GoesSafely, IsPiece};
 ghost use Rattle.chess_moves.specs.Masks.{IsAttackedWithout, HoldsMasks};
 
 use crate::masks::{Masks, allowed, leapers};
@@ -13,19 +14,34 @@ use chess_attacks::{bishop, king, rook};
 use chess_bits::{Bits, Kind, Square};
 use chess_board::Board;
 
+// The squares with men once that of a square is taken off.
+fn occupied_without(board: &Board, square: Square) -> Bits
+    ensures { result ≡ put (occupied_of board.now.placement) square false }
+{
+    let mut occupied = board.men().occupied();
+    occupied.remove(square);
+    occupied
+}
+
 // Whether a man of the opponent attacks the square once the king is taken off its own.
 fn is_attacked_without(board: &Board, masks: &Masks, from: Square, to: Square) -> bool
     requires { HoldsMasks board.now masks.now }
     ensures { IsTrue result ↔ IsAttackedWithout board.now from to }
 {
     let _on_board = to.number();
-    let mut occupied = board.men().occupied();
-    occupied.remove(from);
+    let occupied = occupied_without(board, from);
     let straight = rook(to, occupied).meet(masks.straight);
     let diagonal = bishop(to, occupied).meet(masks.diagonal);
     !leapers(board, to)
         .union(straight.union(diagonal))
         .is_empty()
+}
+
+// Whether the king stands attacked once the men stand as the move leaves them.
+fn exposes(board: &Board, from: Square, to: Square) -> bool
+    ensures { IsTrue result ↔ IsInCheck (placement_after board.now (plain_move from to)) board.now.side }
+{
+    board.exposes_king(plain(from, to))
 }
 
 // Whether the king is safe once it has gone to the square: in castling, which moves the rook too, the men are placed.
@@ -37,7 +53,7 @@ fn is_king_safe(board: &Board, masks: &Masks, from: Square, to: Square) -> bool
     if king(from).contains(to) {
         !is_attacked_without(board, masks, from, to)
     } else {
-        !board.exposes_king(plain(from, to))
+        !exposes(board, from, to)
     }
 }
 
@@ -56,6 +72,15 @@ fn king_goes(board: &Board, masks: &Masks, from: Square) -> Bits
     safe
 }
 
+// The squares, and the target of a capture en passant where the king is not exposed by it, whatever the masks say of it.
+fn with_target(safe: Bits, target: Square, is_exposed: bool) -> Bits
+    ensures { result ≡ put safe target (not is_exposed) }
+{
+    let mut squares = safe;
+    squares.assign(target, !is_exposed);
+    squares
+}
+
 // Where a pawn may go: en passant, which takes two men off a line, the men are placed.
 fn pawn_goes(board: &Board, masks: &Masks, from: Square) -> Bits
     requires own { man_at board.now.placement from ≡ Some (board.now.side, kinds.Pawn) }
@@ -63,13 +88,12 @@ fn pawn_goes(board: &Board, masks: &Masks, from: Square) -> Bits
     ensures { IsSetOf result (GoesSafely board.now kinds.Pawn from) }
 {
     let reached = targets(board, from, Kind::Pawn);
-    let mut safe = reached.meet(allowed(board, masks, from));
+    let safe = reached.meet(allowed(board, masks, from));
     match board.target() {
         None => safe,
         Some(target) => {
             if reached.contains(target) {
-                safe.assign(target, !board.exposes_king(plain(from, target)));
-                safe
+                with_target(safe, target, exposes(board, from, target))
             } else {
                 safe
             }

@@ -1,7 +1,7 @@
 ghost use Rattle.std.specs.Prelude.{◌≡◌, ◌+◌, ◌*◌, ◌<◌, ◌↔◌, IsTrue, Some, slice_index, false, length};
 ghost use Rattle.chess_bits.specs.declared.men.Kind.TheVariants as kinds;
 ghost use Rattle.chess_bits.specs.Square.{Square as Geometric, IsOnBoard, square_at, number_of};
-ghost use Rattle.chess_bits.specs.Table.{has, IsSetOf};
+ghost use Rattle.chess_bits.specs.Table.{has, union, without, IsSetOf};
 ghost use Rattle.chess_bits.specs.Attack.{Reaches, pawn_attacks};
 ghost use Rattle.chess_board.specs.declared.moves.Move.{Move};
 ghost use Rattle.chess_board.specs.Position.{man_at, IsValid};
@@ -118,12 +118,19 @@ pub fn key(board: &Board) -> [u8; 34]
 }
 
 // The squares in one of two sets and not in the other.
+fn difference(a: Bits, b: Bits) -> Bits
+    ensures { result ≡ union (without a b) (without b a) }
+{
+    a.without(b).union(b.without(a))
+}
+
+// The squares that tell two sets apart.
 fn apart(a: Bits, b: Bits) -> Bits
     requires { length a ≡ length b }
     ensures whole { length result ≡ length a }
     ensures same { (s : Geometric) → has result s ≡ false → has a s ≡ has b s }
 {
-    a.without(b).union(b.without(a))
+    difference(a, b)
 }
 
 // The squares on which not the same stands, by colours and kinds: a man of none of the other five kinds is a king.

@@ -1,8 +1,8 @@
-use Rattle.std.proofs.Common.{◌≡◌, ◌∙◌, arith, ap, length}
+use Rattle.std.proofs.Common.{◌≡◌, arith}
 use Rattle.chess_bits.proofs.SetLemmas.{IsSetOf-like}
-use Rattle.chess_attacks.proofs.Listed.{length-empty}
 use Rattle.chess_bits.specs.Square.{Square}
-use Rattle.chess_moves.specs.Masks.{IsLeaper, EndsBelow}
+use Rattle.chess_moves.specs.Masks.{IsLeaper, EndsBelow, IsPinnedBelow}
+use Rattle.chess_moves.proofs.SetForms.{none_set}
 use Rattle.chess_moves.proofs.masks.unwatched.Goals as goal
 
 pub returns : goal.returns
@@ -18,6 +18,6 @@ returns c =
           c.ends_of_leaps.ensures
           (λ q on leaps. record { leaps = leaps; slides = λ way l below. absurd (omega arith) })
           (λ q on ends. ends.leaps);
-      pinned = λ from way l own outside below. absurd (omega arith);
-      pinned_whole = ap length c.new.ensures ∙ length-empty;
+      pinned = rw c.new.ensures
+          (none_set (IsPinnedBelow p k 0) (λ from on (own, (way, l, below, slider, pin)). absurd (omega arith)));
     }

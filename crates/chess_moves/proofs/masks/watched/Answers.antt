@@ -28,7 +28,7 @@ returns-then-is_empty c =
     let sliders = sliders_set c.args.board.now c.args.masks c.args.way c.args.way c.sliders_in.result c.requires.masks
     c.sliders_in.ensures.even c.sliders_in.ensures.odd in
     let seen = c.in-Some.ensures.some in
-    rw c.meet.ensures
+    rw c.with_check.ensures
     (check_watched c.args.board.now c.args.masks c.args.way c.sliders_in.result c.in-Some.seen.path
     c.requires.masks.valid c.requires.way sliders seen.path
     (ap members (sym seen.between) ∙ c.if-is_empty.ensures.0 refl) c.requires.masks)
@@ -38,10 +38,12 @@ returns-then-is_single c =
     let sliders = sliders_set c.args.board.now c.args.masks c.args.way c.args.way c.sliders_in.result c.requires.masks
     c.sliders_in.ensures.even c.sliders_in.ensures.odd in
     let seen = c.in-Some.ensures.some in
-    rw (c.union.ensures, seen.between)
-    (pin_watched c.args.board.now c.args.masks c.args.way c.sliders_in.result c.in-Some.seen.path
-    c.requires.masks.valid c.requires.way sliders seen.path
-    (λ none. false≢true (c.if-is_empty.ensures.1 (ap members seen.between ∙ none))) c.requires.masks)
+    let One' : List Bool → Type 0 = IsOne in
+    rw (c.with_pinned.ensures, c.meet.ensures, seen.between)
+    (pin_watched c.args.board.now c.args.masks c.args.way c.sliders_in.result c.in-Some.seen.path c.men_of.result
+    c.requires.masks.valid c.requires.way sliders seen.path (rw c.side.ensures at c.men_of.ensures.held)
+    (λ none. false≢true (c.if-is_empty.ensures.1 (ap members seen.between ∙ none)))
+    (subst One' seen.between (c.if-is_single.ensures.0 refl)) c.requires.masks)
 
 pub returns-else-is_single : goal.returns-else-is_single
 returns-else-is_single c =

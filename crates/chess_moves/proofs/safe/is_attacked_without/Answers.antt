@@ -1,4 +1,4 @@
-use Rattle.std.proofs.Common.{◌≡◌, ◌∙◌, ap, subst, refl, List, Bool, false}
+use Rattle.std.proofs.Common.{◌≡◌, subst, refl, List, Bool, false}
 use Rattle.chess_bits.specs.Table.{put, IsSetOf}
 use Rattle.chess_bits.specs.Attack.{Slides, straight, diagonal}
 use Rattle.chess_board.specs.Position.{occupied_of}
@@ -9,9 +9,7 @@ pub returns : goal.returns
 returns c =
     let p = c.args.board.now in
     let squares : List Bool = put (occupied_of p.placement) c.args.from false in
-    let is : c.remove.new.self ≡ squares =
-    c.remove.ensures.removed ∙ ap (λ (set : List Bool). put set c.args.from false)
-    (c.occupied-occupied.ensures ∙ ap occupied_of c.men.ensures) in
+    let is : c.occupied_without-occupied.result ≡ squares = c.occupied_without-occupied.ensures in
     let Rooks' : List Bool → Type 0 = λ set. IsSetOf c.rook.result (Slides set straight c.args.to) in
     let Bishops' : List Bool → Type 0 = λ set. IsSetOf c.bishop.result (Slides set diagonal c.args.to) in
     let Seen' : List Bool → Type 0 = λ set. IsSetOf set (IsSeenAttacker p squares c.args.to) in

@@ -1,10 +1,6 @@
-use Rattle.std.proofs.Common.{◌≡◌, sym, true}
-use Rattle.std.specs.Prelude.{◌↔◌}
+use Rattle.std.proofs.Common.{sym}
 use Rattle.chess_bits.specs.Table.{empty}
 use Rattle.chess_bits.specs.Attack.{adjoining, Reaches}
-use Rattle.chess_board.specs.Position.{IsInCheck}
-use Rattle.chess_board.specs.Next.{placement_after}
-use Rattle.chess_moves.specs.Targets.{plain}
 use Rattle.chess_moves.proofs.Exact.{king_exact}
 use Rattle.chess_moves.proofs.Safely.{not_told}
 use Rattle.chess_moves.proofs.safe.is_king_safe.Goals as goal
@@ -19,8 +15,4 @@ returns-then-contains c =
     not_told c.is_attacked_without.result c.is_attacked_without.ensures exact
 
 pub returns-else-contains : goal.returns-else-contains
-returns-else-contains c =
-    let p = c.args.board.now in
-    let told : (c.exposes_king.result ≡ true) ↔ IsInCheck (placement_after p (plain c.args.from c.args.to)) p.side =
-    rw c.plain.ensures at c.exposes_king.ensures in
-    not_told c.exposes_king.result told (λ safe. safe, λ safe. safe)
+returns-else-contains c = not_told c.exposes.result c.exposes.ensures (λ safe. safe, λ safe. safe)

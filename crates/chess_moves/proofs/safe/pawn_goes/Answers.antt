@@ -1,8 +1,4 @@
-use Rattle.std.proofs.Common.{◌≡◌, sym, true, not}
-use Rattle.std.specs.Prelude.{◌↔◌}
-use Rattle.chess_board.specs.Position.{IsInCheck}
-use Rattle.chess_board.specs.Next.{placement_after}
-use Rattle.chess_moves.specs.Targets.{plain}
+use Rattle.std.proofs.Common.{sym, not}
 use Rattle.chess_moves.proofs.Safely.{not_told, pawn_set_none, pawn_set_away, pawn_set_target}
 use Rattle.chess_moves.proofs.safe.pawn_goes.Goals as goal
 
@@ -23,10 +19,8 @@ pub returns-then-contains : goal.returns-then-contains
 returns-then-contains c =
     let p = c.args.board.now in
     let target = c.in-Some.target in
-    let told : (c.exposes_king.result ≡ true) ↔ IsInCheck (placement_after p (plain c.args.from target)) p.side =
-    rw c.plain.ensures at c.exposes_king.ensures in
-    rw (c.assign.ensures.assigned, c.meet-safe.ensures)
+    rw (c.with_target.ensures, c.meet-safe.ensures)
     (pawn_set_target p c.args.masks.now c.args.from target c.targets-reached.result c.allowed.result
-    (not c.exposes_king.result) c.requires.masks c.requires.own c.targets-reached.ensures c.allowed.ensures
+    (not c.exposes.result) c.requires.masks c.requires.own c.targets-reached.ensures c.allowed.ensures
     (sym c.in-Some.ensures) c.if-contains.ensures.on_board (sym c.if-contains.ensures.member)
-    (not_told c.exposes_king.result told (λ safe. safe, λ safe. safe)))
+    (not_told c.exposes.result c.exposes.ensures (λ safe. safe, λ safe. safe)))
