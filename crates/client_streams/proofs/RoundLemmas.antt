@@ -13,12 +13,12 @@ use Rattle.chess_answer.specs.declared.reads.Reply.{Reply}
 use Rattle.chess_sessions.specs.declared.sessions.Sessions.{Sessions}
 use Rattle.chess_sessions.specs.Session.{Said, said, SessionState, session_at, Changes, IsUnchanged, due, first_due, given_one, farewell, is_done}
 use Rattle.client_streams.specs.declared.client.Client.{Client}
-use Rattle.client_streams.specs.Clients.{OthersStay, IsSilent, IsHeardAt, IsEndSeen, TakesIn, HandsOut, to_go}
+use Rattle.client_streams.specs.Clients.{OthersStay, IsSilent, IsHeardAt, IsEndSeen, TakesIn, HandsOut, bytes_of_all, to_go}
 use Rattle.client_streams.specs.declared.closing.Closing.{Closing}
 use Rattle.client_streams.specs.declared.closing.Closing.TheVariants.{Fault, NoMemory, Silence, End, Farewell}
 use Rattle.client_streams.specs.Closings.{IsReason, IsTrouble, IsOver}
 use Rattle.client_streams.specs.Incoming.{held}
-use Rattle.client_streams.specs.Sending.{waiting}
+use Rattle.client_streams.specs.Sending.{waiting, HandsOn}
 use Rattle.client_streams.specs.Portions.{IsDearLine}
 use Rattle.client_streams.proofs.PortionLemmas.{none-dear}
 use Rattle.client_streams.proofs.HeardLemmas.{heard_as_before, end_as_before}
@@ -472,17 +472,42 @@ goes_on sid old new given = record { between = new; given = given; closed = inl 
 abbrev pub closes : (sid : ℕ) (old mid new : Sessions) → AreGiven sid old mid → Changes mid new sid None → IsGivenOut sid old new
 closes sid old mid new given closed = record { between = mid; given = given; closed = inr closed }
 
--- the session is closed for this reason, or goes on
-module _ {S : Type 0} (sid : ℕ) (after : Client S) (old mid new : Sessions) (given : AreGiven sid old mid) where
-  pub closes_for : Changes mid new sid None
-      → IsOver after (session_at mid sid) → IsHandedOut sid after old new
-  closes_for closed reason = record { given = closes sid old mid new given closed; reason = λ none. reason }
+-- nothing is left where nothing is due and nothing waits
+pub nothing_left : (m : Option SessionState) (w left : List ℕ) → IsSome m → IfSome m (λ s. due s ≡ []) → w ≡ [] →
+    IfSome (to_go m w) (λ rest. rest ≡ left) → left ≡ []
+nothing_left None w left is_open none empty waits = absurd (let bad : false ≡ true = is_open in false≢true bad)
+nothing_left (Some s) w left is_open none empty waits =
+    sym waits ∙ ap (λ (l : List ℕ). l ++ bytes_of_all (due s)) empty ∙ ap (λ (l : List Said). [] ++ bytes_of_all l) none
 
-pub goes_on_open : {S : Type 0} (sid : ℕ) (after : Client S) (old new : Sessions) → AreGiven sid old new →
-    IsSome (session_at new sid) → IsHandedOut sid after old new
-goes_on_open sid after old new given is_open = record {
-  given = goes_on sid old new given;
-  reason = λ none. not_closed (session_at new sid) _ is_open none;
+-- what was handed out, where the session is closed behind it
+abbrev pub hands_closed : (b c d old next : Option (List ℕ)) (n : Option SessionState) (w : List ℕ) → d ≡ c → n ≡ None →
+    HandsOut b c old next → HandsOut b d old (to_go n w)
+hands_closed b c d old next n w same none h = record {
+  left = h.left;
+  hands = subst (λ (x : Option (List ℕ)). IfSome old (λ all. HandsOn b x all h.left)) (sym same) h.hands;
+  waits = subst (λ (o : Option SessionState). IfSome (to_go o w) (λ rest. rest ≡ h.left)) (sym none) tt;
+}
+
+-- the session is closed for this reason, or goes on
+module _ {S : Type 0} (contents : S → Option (List ℕ)) (client after : Client S) (old mid new : Sessions)
+    (given : AreGiven client.sid old mid) where
+  pub closes_for : Changes mid new client.sid None →
+      (hands : HandsOut (contents client.stream) (contents after.stream)
+      (to_go (session_at old client.sid) (waiting client.outgoing))
+      (to_go (session_at new client.sid) (waiting after.outgoing))) →
+      IsOver after (session_at mid client.sid) hands.left → IsHandedOut contents client after old new
+  closes_for closed hands reason =
+      record { given = closes client.sid old mid new given closed; hands = hands; reason = λ none. reason }
+
+pub goes_on_open : {S : Type 0} (contents : S → Option (List ℕ)) (client after : Client S) (old new : Sessions) →
+    AreGiven client.sid old new → HandsOut (contents client.stream) (contents after.stream)
+    (to_go (session_at old client.sid) (waiting client.outgoing))
+    (to_go (session_at new client.sid) (waiting after.outgoing)) → IsSome (session_at new client.sid) →
+    IsHandedOut contents client after old new
+goes_on_open contents client after old new given hands is_open = record {
+  given = goes_on client.sid old new given;
+  hands = hands;
+  reason = λ none. not_closed (session_at new client.sid) _ is_open none;
 }
 
 module _ {S : Type 0} (contents : S → Option (List ℕ)) where

@@ -113,10 +113,15 @@ pub record IsGivenOut (sid : ℕ) (old new : Sessions) : Type 0 where
   pub given : AreGiven sid old between
   pub closed : IsUnchanged between new ⊎ Changes between new sid None
 
--- A client's session is given answers, and then it may be closed, for a reason.
-pub record IsHandedOut {S : Type 0} (sid : ℕ) (after : Client S) (old new : Sessions) : Type 0 where
-  pub given : IsGivenOut sid old new
-  pub reason : session_at new sid ≡ None → IsOver after (session_at given.between sid)
+-- A client's session is given answers, which go to its connection behind what waited, as far as that takes them; and then it
+-- may be closed, for a reason.
+pub record IsHandedOut {S : Type 0} (contents : S → Option (List ℕ)) (client after : Client S) (old new : Sessions)
+    : Type 0 where
+  pub given : IsGivenOut client.sid old new
+  pub hands : HandsOut (contents client.stream) (contents after.stream)
+      (to_go (session_at old client.sid) (waiting client.outgoing))
+      (to_go (session_at new client.sid) (waiting after.outgoing))
+  pub reason : session_at new client.sid ≡ None → IsOver after (session_at given.between client.sid) hands.left
 
 -- What a client's session is given goes to its connection, behind what waited and as far as that takes it. What is held
 -- back, and what is known of the peer's bytes, stays.
@@ -127,11 +132,11 @@ pub record IsWritten {S : Type 0} (contents : S → Option (List ℕ)) (client a
   pub heard : after.heard_at ≡ client.heard_at
   pub ended : after.has_ended ≡ client.has_ended
   pub given : IsGivenOut client.sid old new
-  pub reason : IsSome (session_at old client.sid) → session_at new client.sid ≡ None
-      → IsOver after (session_at given.between client.sid)
   pub hands : HandsOut (contents client.stream) (contents after.stream)
       (to_go (session_at old client.sid) (waiting client.outgoing))
       (to_go (session_at new client.sid) (waiting after.outgoing))
+  pub reason : IsSome (session_at old client.sid) → session_at new client.sid ≡ None
+      → IsOver after (session_at given.between client.sid) hands.left
   pub closed : PassesClosed client after old new
 
 -- Each client is written to.

@@ -411,10 +411,7 @@ impl<S: Read + Write> Client<S> {
     /// was anything to do.
     pub(crate) fn hand_out(&mut self, sessions: &mut Sessions) -> bool
         requires { IsOpen sessions.old self.old.sid }
-        ensures hands { HandsOut (S.contents self.old.stream) (S.contents self.new.stream)
-            (to_go (session_at sessions.old self.old.sid) (waiting self.old.outgoing))
-            (to_go (session_at sessions.new self.old.sid) (waiting self.new.outgoing)) }
-        ensures given { IsHandedOut self.old.sid self.new sessions.old sessions.new }
+        ensures given { IsHandedOut S.contents self.old self.new sessions.old sessions.new }
         ensures peer { (self.new.sid ≡ self.old.sid) × (self.new.has_ended ≡ self.old.has_ended)
             × (self.new.is_quiet ≡ self.old.is_quiet) × (held self.new.incoming ≡ held self.old.incoming)
             × (self.new.heard_at ≡ self.old.heard_at) }

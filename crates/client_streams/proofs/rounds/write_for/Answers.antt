@@ -20,6 +20,6 @@ returns g c =
       ended = c.hand_out.ensures.peer.1;
       given = c.hand_out.ensures.given.given;
       reason = λ was none. c.hand_out.ensures.given.reason none;
-      hands = c.hand_out.ensures.hands;
+      hands = c.hand_out.ensures.given.hands;
       closed = not_closed (session_at old c.args.client.now.sid) _ open_now;
     }
