@@ -1,5 +1,5 @@
 -- Why a session is over, after a write.
-use Rattle.std.proofs.Common.{◌≡◌, ◌↔◌, Bool, true, false, List, [], Option, Some, None, IfSome, refl, sym, ◌∙◌, subst, inl, inr}
+use Rattle.std.proofs.Common.{◌≡◌, ◌↔◌, Bool, true, false, ℕ, List, [], Option, Some, None, IfSome, refl, sym, ◌∙◌, subst, inl, inr}
 use Rattle.std.specs.Prelude.{IsTrue, IsSome}
 use Rattle.std.proofs.lemmas.Bool.{cases_Bool, false≢true}
 use Rattle.session_lines.specs.Lines.{IsUnfinished}
@@ -11,14 +11,13 @@ use Rattle.client_streams.specs.declared.outgoing.Sent.{Sent}
 use Rattle.client_streams.specs.declared.outgoing.Sent.TheVariants as sents
 use Rattle.client_streams.specs.Closings.{IsReason, IsOver, HasEnded, HasLeft}
 use Rattle.client_streams.specs.Incoming.{held}
-use Rattle.client_streams.specs.Sending.{waiting}
 
-module _ {S : Type 0} (after : Client S) (closing : Closing) (told : after.closing ≡ Some closing) where
+module _ {S : Type 0} (after : Client S) (closing : Closing) (told : after.closing ≡ Some closing) (left : List ℕ) where
   because : (session : Option SessionState) (other : Closing) → closing ≡ other
-      → IsReason (Some other) ⊥ (HasEnded after session) (HasLeft after session) → IsOver after session
+      → IsReason (Some other) ⊥ (HasEnded after session left) (HasLeft session left) → IsOver after session left
   because session other is has =
-      subst (λ (r : Option Closing). IsReason r ⊥ (HasEnded after session) (HasLeft after session)) (sym told)
-      (subst (λ (c : Closing). IsReason (Some c) ⊥ (HasEnded after session) (HasLeft after session)) (sym is) has)
+      subst (λ (r : Option Closing). IsReason r ⊥ (HasEnded after session left) (HasLeft session left)) (sym told)
+      (subst (λ (c : Closing). IsReason (Some c) ⊥ (HasEnded after session left) (HasLeft session left)) (sym is) has)
 
   -- who is over once all is written: the peer of a session that has not left sends no more, and no line of it waits
   abbrev pub Ends : Bool → Bool → SessionState → Type 0
@@ -29,12 +28,12 @@ module _ {S : Type 0} (after : Client S) (closing : Closing) (told : after.closi
   over_written : (session : Option SessionState) (over any : Bool) → over ≡ true → IsSome session →
       IfSome session (Ends over any) → IfSome session (λ s. s.has_left ≡ true → closing ≡ closings.Farewell) →
       IfSome session (λ s. s.has_left ≡ false → closing ≡ closings.End) → IfSome session (λ s. due s ≡ []) →
-      waiting after.outgoing ≡ [] → IsOver after session
-  over_written None over any is is_open ends left ended none written =
+      left ≡ [] → IsOver after session left
+  over_written None over any is is_open ends farewell ended none written =
       absurd (let bad : false ≡ true = is_open in false≢true bad)
-  over_written (Some s) over any is is_open ends left ended none written = elim (cases_Bool s.has_left) [
+  over_written (Some s) over any is is_open ends farewell ended none written = elim (cases_Bool s.has_left) [
     | inl has ↦
-        because (Some s) closings.Farewell (left has)
+        because (Some s) closings.Farewell (farewell has)
         (record { told = has; all = record { given = none; written = written } })
     | inr not ↦
         let (no_more, no_answer, answered, unfinished) = (ends not).0 is in
@@ -51,11 +50,11 @@ module _ {S : Type 0} (after : Client S) (closing : Closing) (told : after.closi
       (sent ≡ sents.Fault → closing ≡ closings.Fault) →
       (sent ≡ sents.All → IfSome session (λ s. s.has_left ≡ true → closing ≡ closings.Farewell)) →
       (sent ≡ sents.All → IfSome session (λ s. s.has_left ≡ false → closing ≡ closings.End)) →
-      (sent ≡ sents.All → IfSome session (λ s. due s ≡ [])) → (sent ≡ sents.All → waiting after.outgoing ≡ []) →
-      IsOver after session
-  reason_over session sents.Fault over any is is_open part ends fault left ended none written =
+      (sent ≡ sents.All → IfSome session (λ s. due s ≡ [])) → (sent ≡ sents.All → left ≡ []) →
+      IsOver after session left
+  reason_over session sents.Fault over any is is_open part ends fault farewell ended none written =
       because session closings.Fault (fault refl) tt
-  reason_over session sents.Part over any is is_open part ends fault left ended none written =
+  reason_over session sents.Part over any is is_open part ends fault farewell ended none written =
       absurd (false≢true (sym (part refl) ∙ is))
-  reason_over session sents.All over any is is_open part ends fault left ended none written =
-      over_written session over any is is_open (ends refl) (left refl) (ended refl) (none refl) (written refl)
+  reason_over session sents.All over any is is_open part ends fault farewell ended none written =
+      over_written session over any is is_open (ends refl) (farewell refl) (ended refl) (none refl) (written refl)

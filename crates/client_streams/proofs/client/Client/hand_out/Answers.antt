@@ -1,25 +1,27 @@
 -- The session is closed behind what it was given.
-use Rattle.std.proofs.Common.{◌≡◌, ◌↔◌, ◌∙◌, ℕ, Bool, true, false, List, [], Option, None, IfSome, subst, sym}
+use Rattle.std.proofs.Common.{◌≡◌, ◌↔◌, ◌∙◌, ℕ, Bool, true, false, List, [], Option, None, IfSome, ap, subst, sym}
 use Rattle.std.specs.Prelude.{IsTrue}
 use Rattle.session_lines.specs.Lines.{IsUnfinished}
 use Rattle.chess_sessions.specs.Session.{Changes, session_at, due}
 use Rattle.client_streams.specs.declared.closing.Closing.{Closing}
 use Rattle.client_streams.specs.declared.closing.Closing.TheVariants.{End, Farewell}
-use Rattle.client_streams.specs.Clients.{IsOpen}
+use Rattle.client_streams.specs.Clients.{IsOpen, HandsOut, to_go}
 use Rattle.client_streams.specs.Incoming.{held}
+use Rattle.client_streams.specs.Sending.{waiting}
 use Rattle.client_streams.specs.Closings.{IsReason, IsOver, HasEnded, HasLeft}
 use Rattle.client_streams.proofs.ClosingLemmas.{reason_over}
-use Rattle.client_streams.proofs.RoundLemmas.{goes_on_open, closes_for}
+use Rattle.client_streams.proofs.RoundLemmas.{goes_on_open, closes_for, hands_closed, nothing_left}
 use Rattle.client_streams.proofs.client.Client.hand_out.Goals as goal
 
 pub returns-then-is_over-clause-given : goal.returns-then-is_over-clause-given
 returns-then-is_over-clause-given g c =
     let client = c.args.self.now in
     let wrote = c.write_out.new.self in
-    let over = c.is_over.new.self in
     let after = c.close-then-is_over.new.self in
+    let old = c.args.sessions.now in
     let mid = c.write_out.new.sessions in
     let new = c.close-then-is_over.new.sessions in
+    let contents = g.S.Write.contents in
     let at = session_at mid wrote.sid in
     let sent = c.in-Ok.wrote.sent in
     let any = c.in-Ok.wrote.any in
@@ -28,10 +30,15 @@ returns-then-is_over-clause-given g c =
     let told = c.close-then-is_over.ensures.peer in
     let kept = c.is_over.ensures.peer in
     let stays = c.write_out.ensures.peer.0 in
-    closes_for client.sid after c.args.sessions.now mid new c.write_out.ensures.given
-    (subst (λ (n : ℕ). Changes mid new n None) (kept.0 ∙ stays) c.close-then-is_over.ensures.closed)
-    (subst (λ (n : ℕ). IsOver after (session_at mid n)) stays
-    (reason_over after reason c.close-then-is_over.ensures.told at sent done any c.if-is_over.true
+    let closed = subst (λ (n : ℕ). Changes mid new n None) (kept.0 ∙ stays) c.close-then-is_over.ensures.closed in
+    let handed = c.in-Ok.ensures.hands in
+    let hands = hands_closed (contents client.stream) (contents wrote.stream) (contents after.stream)
+    (to_go (session_at old client.sid) (waiting client.outgoing))
+    (to_go (session_at mid client.sid) (waiting wrote.outgoing)) (session_at new client.sid) (waiting after.outgoing)
+    (ap contents (told.5 ∙ kept.5)) closed.changed handed in
+    closes_for contents client after old mid new c.write_out.ensures.given closed hands
+    (subst (λ (n : ℕ). IsOver after (session_at mid n) handed.left) stays
+    (reason_over after reason c.close-then-is_over.ensures.told handed.left at sent done any c.if-is_over.true
     (subst (λ (n : ℕ). IsOpen mid n) (sym stays) c.write_out.ensures.open) c.is_over.ensures.part
     (λ all. subst (λ (b : Bool). IfSome at (λ s. s.has_left ≡ false → (IsTrue done ↔ ((b ≡ true) × (any ≡ false)
     × (s.heard.bytes ≡ []) × IsUnfinished (held after.incoming))))) (sym (told.1 ∙ kept.1))
@@ -43,30 +50,71 @@ returns-then-is_over-clause-given g c =
     (λ all. subst (λ (n : ℕ). IfSome (session_at mid n) (λ s. s.has_left ≡ false → reason ≡ End)) kept.0
     (c.reason-reason.ensures.end all))
     (λ all. subst (λ (n : ℕ). IfSome (session_at mid n) (λ s. due s ≡ [])) (sym stays) (c.in-Ok.ensures.due all))
-    (λ all. told.4 ∙ kept.4 ∙ c.in-Ok.ensures.all all)))
+    (λ all. nothing_left (session_at mid client.sid) (waiting wrote.outgoing) handed.left c.write_out.ensures.open
+    (c.in-Ok.ensures.due all) (c.in-Ok.ensures.all all) handed.waits)))
 
 pub returns-in_default-clause-given : goal.returns-in_default-clause-given
 returns-in_default-clause-given g c =
-    let sid = c.args.self.now.sid in
+    let client = c.args.self.now in
+    let wrote = c.write_out.new.self in
+    let old = c.args.sessions.now in
     let mid = c.write_out.new.sessions in
     let new = c.close.new.sessions in
     let after = c.close.new.self in
-    closes_for sid after c.args.sessions.now mid new c.write_out.ensures.given
-    (subst (λ (n : ℕ). Changes mid new n None) c.write_out.ensures.peer.0 c.close.ensures.closed)
-    (subst (λ (r : Option Closing). IsReason r ⊥ (HasEnded after (session_at mid sid)) (HasLeft after (session_at mid sid)))
-    (sym c.close.ensures.told) tt)
+    let contents = g.S.Write.contents in
+    let closed = subst (λ (n : ℕ). Changes mid new n None) c.write_out.ensures.peer.0 c.close.ensures.closed in
+    let hands = hands_closed (contents client.stream) (contents wrote.stream) (contents after.stream)
+    (to_go (session_at old client.sid) (waiting client.outgoing)) None (session_at new client.sid) (waiting after.outgoing)
+    (ap contents c.close.ensures.peer.5) closed.changed c.in_default.ensures.refused in
+    closes_for contents client after old mid new c.write_out.ensures.given closed hands
+    (subst (λ (r : Option Closing). IsReason r ⊥ (HasEnded after (session_at mid client.sid) hands.left)
+    (HasLeft (session_at mid client.sid) hands.left)) (sym c.close.ensures.told) tt)
 
+-- the session goes on
 pub returns-then-wrote-clause-given : goal.returns-then-wrote-clause-given
 returns-then-wrote-clause-given g c =
-    goes_on_open c.args.self.now.sid c.is_over.new.self c.args.sessions.now c.write_out.new.sessions
-    c.write_out.ensures.given c.write_out.ensures.open
+    let client = c.args.self.now in
+    let wrote = c.write_out.new.self in
+    let after = c.is_over.new.self in
+    let old = c.args.sessions.now in
+    let mid = c.write_out.new.sessions in
+    let contents = g.S.Write.contents in
+    let kept = c.is_over.ensures.peer in
+    goes_on_open contents client after old mid c.write_out.ensures.given
+    (subst (λ (x : Option (List ℕ)). HandsOut (contents client.stream) x
+    (to_go (session_at old client.sid) (waiting client.outgoing)) (to_go (session_at mid client.sid) (waiting after.outgoing)))
+    (sym (ap contents kept.5)) (subst (λ (l : List ℕ). HandsOut (contents client.stream) (contents wrote.stream)
+    (to_go (session_at old client.sid) (waiting client.outgoing)) (to_go (session_at mid client.sid) l)) (sym kept.4)
+    c.in-Ok.ensures.hands)) c.write_out.ensures.open
 
 pub returns-then-was_stuck-clause-given : goal.returns-then-was_stuck-clause-given
 returns-then-was_stuck-clause-given g c =
-    goes_on_open c.args.self.now.sid c.is_over.new.self c.args.sessions.now c.write_out.new.sessions
-    c.write_out.ensures.given c.write_out.ensures.open
+    let client = c.args.self.now in
+    let wrote = c.write_out.new.self in
+    let after = c.is_over.new.self in
+    let old = c.args.sessions.now in
+    let mid = c.write_out.new.sessions in
+    let contents = g.S.Write.contents in
+    let kept = c.is_over.ensures.peer in
+    goes_on_open contents client after old mid c.write_out.ensures.given
+    (subst (λ (x : Option (List ℕ)). HandsOut (contents client.stream) x
+    (to_go (session_at old client.sid) (waiting client.outgoing)) (to_go (session_at mid client.sid) (waiting after.outgoing)))
+    (sym (ap contents kept.5)) (subst (λ (l : List ℕ). HandsOut (contents client.stream) (contents wrote.stream)
+    (to_go (session_at old client.sid) (waiting client.outgoing)) (to_go (session_at mid client.sid) l)) (sym kept.4)
+    c.in-Ok.ensures.hands)) c.write_out.ensures.open
 
 pub returns-else-was_stuck-clause-given : goal.returns-else-was_stuck-clause-given
 returns-else-was_stuck-clause-given g c =
-    goes_on_open c.args.self.now.sid c.is_over.new.self c.args.sessions.now c.write_out.new.sessions
-    c.write_out.ensures.given c.write_out.ensures.open
+    let client = c.args.self.now in
+    let wrote = c.write_out.new.self in
+    let after = c.is_over.new.self in
+    let old = c.args.sessions.now in
+    let mid = c.write_out.new.sessions in
+    let contents = g.S.Write.contents in
+    let kept = c.is_over.ensures.peer in
+    goes_on_open contents client after old mid c.write_out.ensures.given
+    (subst (λ (x : Option (List ℕ)). HandsOut (contents client.stream) x
+    (to_go (session_at old client.sid) (waiting client.outgoing)) (to_go (session_at mid client.sid) (waiting after.outgoing)))
+    (sym (ap contents kept.5)) (subst (λ (l : List ℕ). HandsOut (contents client.stream) (contents wrote.stream)
+    (to_go (session_at old client.sid) (waiting client.outgoing)) (to_go (session_at mid client.sid) l)) (sym kept.4)
+    c.in-Ok.ensures.hands)) c.write_out.ensures.open
