@@ -106,7 +106,23 @@ impl LinePlayer for Player {
         let Some(line) = read_line(line) else {
             return Err(Fault::Input);
         };
-        self.answer(&line)
+        match &line {
+            InputLine::Store(ground) => {
+                self.ground = *ground;
+                Ok(String::new(self.alloc))
+            }
+            InputLine::Hub => {
+                self.hub = Some(Hub::new(self.alloc, store_on(self.alloc, &self.ground)?));
+                Ok(String::new(self.alloc))
+            }
+            InputLine::Run(reader, writer, moments, text) => {
+                self.run(reader, writer, moments, text)
+            }
+            _ => match &mut self.hub {
+                Some(hub) => play_on(self.alloc, hub, &line),
+                None => Err(Fault::Input),
+            },
+        }
     }
 }
 
@@ -120,27 +136,6 @@ impl Player {
                 calls: None,
             },
             hub: None,
-        }
-    }
-
-    // What a line answers.
-    fn answer(&mut self, line: &InputLine) -> Result<String, Fault> {
-        match line {
-            InputLine::Store(ground) => {
-                self.ground = *ground;
-                Ok(String::new(self.alloc))
-            }
-            InputLine::Hub => {
-                self.hub = Some(Hub::new(self.alloc, store_on(self.alloc, &self.ground)?));
-                Ok(String::new(self.alloc))
-            }
-            InputLine::Run(reader, writer, moments, text) => {
-                self.run(reader, writer, moments, text)
-            }
-            _ => match &mut self.hub {
-                Some(hub) => play_on(self.alloc, hub, line),
-                None => Err(Fault::Input),
-            },
         }
     }
 

@@ -27,25 +27,7 @@ impl LinePlayer for Player {
         let Some(line) = read_line(line) else {
             return Err(Fault::Input);
         };
-        self.answer(&line)
-    }
-}
-
-impl Player {
-    /// Without a device.
-    pub fn new(alloc: Global) -> Player {
-        Player {
-            alloc,
-            store: None,
-            device: None,
-            noted: Vec::new(alloc),
-            batch: Vec::new(alloc),
-        }
-    }
-
-    // What a line answers.
-    fn answer(&mut self, line: &InputLine) -> Result<String, Fault> {
-        match line {
+        match &line {
             InputLine::Note(text) => Ok(format!(in self.alloc; "# {text}\n")?),
             InputLine::Device(sectors) => self.lay(*sectors),
             InputLine::Create(size) => self.create(size),
@@ -63,6 +45,19 @@ impl Player {
             InputLine::Lose(at) => self.lose(*at),
             InputLine::Keep => self.keep(),
             InputLine::Again => self.again(),
+        }
+    }
+}
+
+impl Player {
+    /// Without a device.
+    pub fn new(alloc: Global) -> Player {
+        Player {
+            alloc,
+            store: None,
+            device: None,
+            noted: Vec::new(alloc),
+            batch: Vec::new(alloc),
         }
     }
 
