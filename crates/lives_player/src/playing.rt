@@ -97,9 +97,10 @@ impl Player {
             Ok(store) => store,
             Err(refused) => return Err(Fault::of(self.alloc, &refused.fault)),
         };
-        match lives(self.alloc, store.into_device(), &self.plan).report {
-            Ok(report) => Ok(report_text(self.alloc, &report)?),
-            Err(fault) => Err(Fault::of(self.alloc, &fault)),
+        let lived = lives(self.alloc, store.into_device(), &self.plan);
+        match &lived.report {
+            Ok(report) => Ok(report_text(self.alloc, report)?),
+            Err(fault) => Err(Fault::of(self.alloc, fault)),
         }
     }
 }
