@@ -18,16 +18,16 @@ pub data Asks (line : List ℕ) : Type 0 where
 is_visible : ℕ → Bool
 is_visible b = nat_le 33 b && nat_le b 126
 
-is_field : List ℕ → Bool
-is_field text = nat_lt 0 (length text) && list_all is_visible text
+is_visible_text : List ℕ → Bool
+is_visible_text text = nat_lt 0 (length text) && list_all is_visible text
 
 visible-Decides : (b : ℕ) → Decides (is_visible b) ((33 ≤ b) × (b ≤ 126))
 unfolding is_visible
 visible-Decides b = (λ h. (grind (arith, nat_tests), grind (arith, nat_tests)), λ h. grind (arith, nat_tests))
 
-field-Decides : (text : List ℕ) → Decides (is_field text) ((0 < length text) × All (λ b. (33 ≤ b) × (b ≤ 126)) text)
-unfolding is_field
-field-Decides text =
+visible_text-Decides : (text : List ℕ) → Decides (is_visible_text text) ((0 < length text) × All (λ b. (33 ≤ b) × (b ≤ 126)) text)
+unfolding is_visible_text
+visible_text-Decides text =
     Decides-and _ _ (Decides-ltb 0 (length text))
     (Decides-by_and is_visible (λ b. (33 ≤ b) × (b ≤ 126)) (list_all is_visible) visible-Decides refl
     (λ _ _. refl) text)
@@ -53,5 +53,5 @@ asks_by line true false w f =
     (subst (λ t. (0 < length t) × All (λ b. (33 ≤ b) × (b ≤ 126)) t) e (h.field.some, h.field.visible))))
 
 pub asks : (line : List ℕ) → Asks line
-asks line = asks_by line (bytes_eq (take 5 line) (codes "move ")) (is_field (drop 5 line))
-    (bytes_eq-Decides (take 5 line) (codes "move ")) (field-Decides (drop 5 line))
+asks line = asks_by line (bytes_eq (take 5 line) (codes "move ")) (is_visible_text (drop 5 line))
+    (bytes_eq-Decides (take 5 line) (codes "move ")) (visible_text-Decides (drop 5 line))

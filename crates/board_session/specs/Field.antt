@@ -5,14 +5,14 @@ use Rattle.board_session.specs.declared.line.Command.{Command}
 use Rattle.board_session.specs.declared.line.Command.TheVariants.{Move, Bad}
 
 -- one or more visible characters of ASCII, which leaves out the space
-pub record IsField (text : List ℕ) : Type 0 where
+pub record IsVisibleText (text : List ℕ) : Type 0 where
   pub some : 0 < length text
   pub visible : All (λ b. (33 ≤ b) × (b ≤ 126)) text
 
 -- the line is `move`, one space and this field
 pub record AsksMove (line text : List ℕ) : Type 0 where
   pub words : line ≡ codes "move " ++ text
-  pub field : IsField text
+  pub field : IsVisibleText text
 
 -- what a line asks for: a move, or nothing that is known
 abbrev pub IsCommand : List ℕ → Command → Type 0

@@ -27,19 +27,19 @@ pub enum BoardFault {
 
 // One board, whose lines are answered.
 #[derive(Drop)]
-struct Session {
+struct AnsweredBoard {
     board: ShownBoard,
 }
 
-impl Model for Session {
+impl Model for AnsweredBoard {
     ghost use Rattle.chess_board.specs.Position.{Position};
 
     ghost Value = { Position };
 
-    ghost view = { λ session. session.board };
+    ghost view = { λ answered. answered.board };
 }
 
-impl Answerer for Session {
+impl Answerer for AnsweredBoard {
     ghost use Rattle.chess_board.specs.Position.{IsValid};
     ghost use Rattle.board_session.specs.Answer.{IsAnswer};
 
@@ -61,11 +61,11 @@ impl Answerer for Session {
 }
 
 // The board on which a game starts.
-fn start() -> Session
+fn start() -> AnsweredBoard
     ensures initial { result ≡ initial }
     ensures valid { IsValid result }
 {
-    Session {
+    AnsweredBoard {
         board: ShownBoard::new(Board::initial()),
     }
 }
@@ -95,8 +95,8 @@ pub fn board<S: LineSource, W: Write>(source: &mut S, writer: &mut W) -> Result<
     // An input calls for one text.
     ensures one { (input text other : List ℕ) → IsBoardText input text → IsBoardText input other → text ≡ other }
 {
-    let session = start();
-    let (_, ended) = answer_lines(session, source, writer);
+    let answered = start();
+    let (_, ended) = answer_lines(answered, source, writer);
     match ended {
         Ok(()) => Ok(()),
         Err(LoopFault::LineTooLong) => Ok(()),

@@ -1,6 +1,6 @@
 //! What a line asks for.
 ghost use Rattle.std.specs.Prelude.{◌↔◌, IsTrue};
-ghost use Rattle.board_session.specs.Field.{IsCommand, IsField};
+ghost use Rattle.board_session.specs.Field.{IsCommand, IsVisibleText};
 
 use std::str;
 
@@ -20,7 +20,7 @@ pub fn parse(line: &[u8]) -> Command<'_>
     let Some(field) = line.strip_prefix(b"move ") else {
         return Command::Bad;
     };
-    if !is_field(field) {
+    if !is_visible_text(field) {
         return Command::Bad;
     }
     match str::from_utf8(field) {
@@ -29,8 +29,8 @@ pub fn parse(line: &[u8]) -> Command<'_>
     }
 }
 
-fn is_field(bytes: &[u8]) -> bool
-    ensures { IsTrue result ↔ IsField bytes.now }
+fn is_visible_text(bytes: &[u8]) -> bool
+    ensures { IsTrue result ↔ IsVisibleText bytes.now }
 {
     !bytes.is_empty() && bytes.iter().all(|b| b.is_ascii_graphic())
 }

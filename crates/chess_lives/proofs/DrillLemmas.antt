@@ -10,7 +10,7 @@ use Rattle.chess_lives.specs.declared.plan.Life.{Life}
 use Rattle.chess_lives.specs.declared.plan.Lived.{Lived}
 use Rattle.chess_lives.specs.declared.plan.Report.{Report}
 use Rattle.chess_lives.specs.declared.drilling.Tally.{Tally}
-use Rattle.chess_lives.specs.Courses.{IsBatch}
+use Rattle.chess_lives.specs.Courses.{IsSubmittable}
 use Rattle.chess_lives.specs.Lives.{AreSubmittable, batches_of}
 use Rattle.chess_lives.specs.Drill.{IsCase, AreCases, IsTold, IsFaultInMemory}
 use Rattle.chess_lives.specs.DrillLife.{IsDrillLife, shown, opening_batch, moves_batch}
@@ -23,7 +23,7 @@ lengths (one ∷ batches) =
     ap (λ (n : ℕ). n ∷ map length (map (map shown) batches)) (length-map one shown)
     ∙ ap (λ (ns : List ℕ). length one ∷ ns) (lengths batches)
 
-batches_fit : (batches : List (List Command)) → map length batches ≡ 2 ∷ 5 ∷ [] → EachOf IsBatch batches
+batches_fit : (batches : List (List Command)) → map length batches ≡ 2 ∷ 5 ∷ [] → EachOf IsSubmittable batches
 batches_fit [] is = absurd (cc)
 batches_fit (one ∷ []) is = absurd (cc)
 batches_fit (one ∷ two ∷ []) is =

@@ -11,7 +11,7 @@ use Rattle.chess_answer.specs.Refusals.{refusal_text}
 use Rattle.chess_store.specs.Batch.{IsAnswered}
 
 -- what may be submitted at once
-pub record IsBatch (commands : List Command) : Type 0 where
+pub record IsSubmittable (commands : List Command) : Type 0 where
   pub some : 1 ≤ length commands
   pub few : length commands ≤ 64
 

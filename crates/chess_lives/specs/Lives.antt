@@ -13,7 +13,7 @@ use Rattle.table_commits.specs.Means.{AllMean}
 use Rattle.chess_lives.specs.declared.plan.Life.{Life}
 use Rattle.chess_lives.specs.declared.plan.LifeReport.{LifeReport}
 use Rattle.chess_lives.specs.declared.plan.Report.{Report}
-use Rattle.chess_lives.specs.Courses.{Batch, Course, IsCourse, IsLeft, IsBatch, entries_of, list_of, unsent_in}
+use Rattle.chess_lives.specs.Courses.{Batch, Course, IsCourse, IsLeft, IsSubmittable, entries_of, list_of, unsent_in}
 
 -- the batches of a life
 abbrev pub batches_of : Life → List (List Command)
@@ -21,7 +21,7 @@ batches_of life = map (λ b. b.items) life.batches.items
 
 -- every batch of these lives may be submitted
 abbrev pub AreSubmittable : List Life → Type 0
-AreSubmittable lives = EachOf (λ life. EachOf IsBatch (batches_of life)) lives
+AreSubmittable lives = EachOf (λ life. EachOf IsSubmittable (batches_of life)) lives
 
 -- The device failed in a life, as it was to: its calls were limited, and the count of its failures rose.
 pub record HasFailed (life : Life) (failures after : ℕ) : Type 0 where

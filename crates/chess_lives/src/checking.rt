@@ -1,25 +1,25 @@
 //! Whether a plan may be lived.
 ghost use Rattle.std.specs.Prelude.{◌↔◌, map, IsTrue};
 ghost use Rattle.chess_board.specs.Legal.{EachOf};
-ghost use Rattle.chess_lives.specs.Courses.{IsBatch};
+ghost use Rattle.chess_lives.specs.Courses.{IsSubmittable};
 ghost use Rattle.chess_lives.specs.Lives.{AreSubmittable};
 
 use crate::plan::Plan;
 use chess_entry::Command;
 
 // Whether these commands may be submitted at once.
-fn is_batch(commands: &[Command]) -> bool
-    ensures { IsTrue result ↔ IsBatch commands.now }
+fn is_submittable(commands: &[Command]) -> bool
+    ensures { IsTrue result ↔ IsSubmittable commands.now }
 {
     !commands.is_empty() && commands.len() <= 64
 }
 
 // Whether each of these batches may be.
 fn are_batches(batches: &[Vec<Command>]) -> bool
-    ensures { IsTrue result ↔ EachOf IsBatch (map (λ b. b.items) batches.now) }
+    ensures { IsTrue result ↔ EachOf IsSubmittable (map (λ b. b.items) batches.now) }
 {
     for batch in batches {
-        let may = is_batch(batch);
+        let may = is_submittable(batch);
         if !may {
             return false;
         }

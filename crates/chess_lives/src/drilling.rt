@@ -164,7 +164,7 @@ fn count(tally: &mut Tally, kept: u64)
 }
 
 // The tally of cases, or the first fault.
-fn told(cases: &[Lived<MemoryDevice>]) -> Result<Tally, StoreFault>
+fn tallied(cases: &[Lived<MemoryDevice>]) -> Result<Tally, StoreFault>
     requires { length cases.now < 2 ^ 32 }
     ensures { IsTold cases.now result }
 {
@@ -196,6 +196,6 @@ pub fn drill(alloc: Global) -> Result<Drilled, AllocError>
     for case in 0..CASES {
         cases.push_reserved(live(alloc, case)?);
     }
-    let tally = told(&cases);
+    let tally = tallied(&cases);
     Ok(Drilled { cases, tally })
 }

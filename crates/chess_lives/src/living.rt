@@ -9,7 +9,7 @@ ghost use Rattle.chess_entry.specs.State.{TableState};
 ghost use Rattle.chess_entry.specs.Table.{IsTable};
 ghost use Rattle.table_commits.specs.Means.{AllMean};
 ghost use Rattle.chess_store.specs.Faults.{IsDevice, CountsFault};
-ghost use Rattle.chess_lives.specs.Courses.{IsBatch};
+ghost use Rattle.chess_lives.specs.Courses.{IsSubmittable};
 ghost use Rattle.chess_lives.specs.Lives.{AreSubmittable, IsBegun, IsLifeThen, IsReport, batches_of};
 ghost use Rattle.chess_lives.specs.Stops.{IsStopped, IsCutShort, IsLivesFault};
 ghost use Rattle.chess_lives.specs.Serving.{IsShown, EndsUnopened, returned};
@@ -52,7 +52,7 @@ struct Ended<D> {
 
 // One life.
 fn live<D: CrashDevice>(alloc: Global, device: D, life: &Life) -> Ended<D>
-    requires { EachOf IsBatch (batches_of life.now) }
+    requires { EachOf IsSubmittable (batches_of life.now) }
     ensures lived { (limits : Limits) (k : List Entry) → IsBegun limits k (D.state device)
         → IfOk result.report (λ report. IsLifeThen limits (λ next after. IsBegun limits next (D.state result.device)
         × (after ≡ D.failures result.device)) k (D.failures device) life.now report) }

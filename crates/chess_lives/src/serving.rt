@@ -3,7 +3,7 @@ ghost use Rattle.std.specs.Prelude.{◌≡◌, ◌≤◌, ◌+◌, ◌-◌, ◌�
 ghost use Rattle.chess_board.specs.Legal.{EachOf};
 ghost use Rattle.chess_entry.specs.State.{TableState};
 ghost use Rattle.table_commits.specs.Means.{AllMean, IsKept};
-ghost use Rattle.chess_lives.specs.Courses.{IsBatch, is_unsent};
+ghost use Rattle.chess_lives.specs.Courses.{IsSubmittable, is_unsent};
 ghost use Rattle.chess_lives.specs.Stops.{IsLivesFault};
 ghost use Rattle.chess_lives.specs.Serving.{IsTallied, HasRoomForPending, IsServed, CountsEnd, pending_of};
 
@@ -48,7 +48,7 @@ fn unsent(replies: &[Reply]) -> usize
 // Submits the batches in their order, until one is not answered.
 fn submit_all<D: Device>(store: &mut Store<D>, batches: &[Vec<Command>]) -> Tally
     requires works { store.old.failed ≡ false }
-    requires batches { EachOf IsBatch (map (λ b. b.items) batches.now) }
+    requires batches { EachOf IsSubmittable (map (λ b. b.items) batches.now) }
     ensures tallied { IsTallied store.old.table (map (λ b. b.items) batches.now) result
         (D.failures store.old.journal.device) (IsKept (D.state store.old.journal.device) store.old.journal.header
         store.old.journal.compaction store.old.table) (D.state store.new.journal.device)
@@ -124,7 +124,7 @@ pub(crate) struct Served<D> {
 
 // Opens the store on a device and submits the batches, until one is not answered.
 pub(crate) fn serve<D: CrashDevice>(alloc: Global, device: D, batches: &[Vec<Command>]) -> Served<D>
-    requires { EachOf IsBatch (map (λ b. b.items) batches.now) }
+    requires { EachOf IsSubmittable (map (λ b. b.items) batches.now) }
     ensures served { (D.state device).keeps_model → (table : TableState) → AllMean (D.state device) table
         → IsServed table (map (λ b. b.items) batches.now) (D.failures device) result.report result.fault
         (D.state result.device) (D.failures result.device) }

@@ -1,5 +1,5 @@
 //! Lines of the input.
-use rec_codec::{Limits, Version};
+use player_lines::{Size, read_calls, read_size};
 
 /// A stream that gives or takes so many bytes at a time, and fails after so many.
 #[derive(Clone, Copy)]
@@ -12,8 +12,7 @@ pub struct Manner {
 /// What hubs and runs stand on.
 #[derive(Clone, Copy)]
 pub struct Ground {
-    pub sectors: u32,
-    pub limits: Limits,
+    pub size: Size,
     /// So many calls more the device serves.
     pub calls: Option<u64>,
 }
@@ -35,29 +34,11 @@ pub enum InputLine<'a> {
     Run(Manner, Manner, &'a str, &'a str),
 }
 
-// A number, or `-`.
-fn read_calls(text: &str) -> Option<Option<u64>> {
-    match text {
-        "-" => Some(None),
-        _ => Some(Some(text.parse::<u64>().ok()?)),
-    }
-}
-
 // `SECTORS GAMES PLIES CALLS`, the limits in range.
 fn read_ground(text: &str) -> Option<Ground> {
-    let (sectors, rest) = text.split_once(' ')?;
-    let (games, rest) = rest.split_once(' ')?;
-    let (plies, calls) = rest.split_once(' ')?;
-    let limits = Limits {
-        games: games.parse::<u32>().ok()?,
-        plies: plies.parse::<u32>().ok()?,
-    };
-    if !limits.is_in_range(Version::Two) {
-        return None;
-    }
+    let (size, calls) = text.rsplit_once(' ')?;
     Some(Ground {
-        sectors: sectors.parse::<u32>().ok()?,
-        limits,
+        size: read_size(size)?,
         calls: read_calls(calls)?,
     })
 }

@@ -11,36 +11,14 @@
 //!   are numbers with commas between, `-` for none.
 #![tactic(auto)]
 
-mod fault;
 mod lines;
 mod playing;
 mod streams;
 
-use fault::Fault;
-use lines::read_line;
+use player_lines::play_lines;
 use playing::Player;
-use std::io::{BufRead, BufReader};
 use std::process::ExitCode;
 
 fn main(rt: HostRuntime) -> ExitCode {
-    match run(&rt) {
-        Ok(()) => ExitCode::SUCCESS,
-        Err(fault) => {
-            let _ = eprintln!(rt; "{fault}");
-            ExitCode::FAILURE
-        }
-    }
-}
-
-fn run(rt: &HostRuntime) -> Result<(), Fault> {
-    let mut player = Player::new(rt.alloc());
-    for text in BufReader::new(rt.alloc(), rt.reader())?.lines(rt.alloc()) {
-        let text = text?;
-        let Some(line) = read_line(text.as_str()) else {
-            return Err(Fault::Input);
-        };
-        let answer = player.play(&line)?;
-        print!(rt; "{}", answer.as_str())?;
-    }
-    Ok(())
+    play_lines(&rt, rt.alloc(), &mut Player::new(rt.alloc()))
 }

@@ -1,12 +1,11 @@
 //! A hub and what is done with it.
-use crate::fault::Fault;
-use crate::lines::{Ground, InputLine, Manner};
+use crate::lines::{Ground, InputLine, Manner, read_line};
 use crate::streams::{Sink, Source};
-use chess_answer::Reply;
 use chess_hub::Hub;
 use chess_run::{ListMoments, ReaderSource, run};
 use chess_store::Store;
-use rec_codec::{Limits, Version};
+use player_lines::{Fault, LinePlayer, SMALL, byte_of_digits, push_reply};
+use rec_codec::Version;
 use sector_dev::{CrashDevice, MemoryDevice};
 use std::alloc::{AllocError, Global};
 
@@ -29,14 +28,6 @@ enum Escape {
     Digit(u8),
 }
 
-fn hex_digit(byte: u8) -> Option<u8> {
-    match byte {
-        b'0'..=b'9' => Some(byte - b'0'),
-        b'a'..=b'f' => Some(byte - b'a' + 10),
-        _ => None,
-    }
-}
-
 // How far a text is after a byte more, and the byte that it names by then; `None` where it names none.
 fn step(escape: Escape, byte: u8) -> Option<(Escape, Option<u8>)> {
     match escape {
@@ -49,8 +40,8 @@ fn step(escape: Escape, byte: u8) -> Option<(Escape, Option<u8>)> {
             b'x' => Some((Escape::Hex, None)),
             _ => None,
         },
-        Escape::Hex => Some((Escape::Digit(hex_digit(byte)?), None)),
-        Escape::Digit(high) => Some((Escape::Not, Some(high << 4 | hex_digit(byte)?))),
+        Escape::Hex => Some((Escape::Digit(byte), None)),
+        Escape::Digit(high) => Some((Escape::Not, Some(byte_of_digits(high, byte)?))),
     }
 }
 
@@ -90,11 +81,12 @@ fn moments_of(alloc: Global, text: &str) -> Result<Vec<u64>, Fault> {
 
 // A new store.
 fn store_on(alloc: Global, ground: &Ground) -> Result<Store<MemoryDevice>, Fault> {
-    if !ground.limits.is_in_range(Version::Two) {
+    let limits = ground.size.limits;
+    if !limits.is_in_range(Version::Two) {
         return Err(Fault::Input);
     }
-    let device = MemoryDevice::new(alloc, ground.sectors)?;
-    let Ok(store) = store_opening::create(alloc, device, ground.limits) else {
+    let device = MemoryDevice::new(alloc, ground.size.sectors)?;
+    let Ok(store) = store_opening::create(alloc, device, limits) else {
         return Err(Fault::Input);
     };
     let Some(calls) = ground.calls else {
@@ -109,34 +101,12 @@ fn store_on(alloc: Global, ground: &Ground) -> Result<Store<MemoryDevice>, Fault
     }
 }
 
-// Appends an answer, with the line feed of its line.
-fn push_reply(text: &mut String, reply: &Reply) -> Result<(), Fault> {
-    text.push_str(reply.line.as_str())?;
-    text.push_str("\n")?;
-    text.push_str(reply.body.as_str())?;
-    Ok(())
-}
-
-impl Player {
-    /// Without a hub.
-    pub fn new(alloc: Global) -> Player {
-        Player {
-            alloc,
-            ground: Ground {
-                sectors: 212,
-                limits: Limits {
-                    games: 4,
-                    plies: 60,
-                },
-                calls: None,
-            },
-            hub: None,
-        }
-    }
-
-    /// What a line answers.
-    pub fn play(&mut self, line: &InputLine) -> Result<String, Fault> {
-        match line {
+impl LinePlayer for Player {
+    fn play(&mut self, line: &str) -> Result<String, Fault> {
+        let Some(line) = read_line(line) else {
+            return Err(Fault::Input);
+        };
+        match &line {
             InputLine::Store(ground) => {
                 self.ground = *ground;
                 Ok(String::new(self.alloc))
@@ -149,9 +119,23 @@ impl Player {
                 self.run(reader, writer, moments, text)
             }
             _ => match &mut self.hub {
-                Some(hub) => play_on(self.alloc, hub, line),
+                Some(hub) => play_on(self.alloc, hub, &line),
                 None => Err(Fault::Input),
             },
+        }
+    }
+}
+
+impl Player {
+    /// Without a hub.
+    pub fn new(alloc: Global) -> Player {
+        Player {
+            alloc,
+            ground: Ground {
+                size: SMALL,
+                calls: None,
+            },
+            hub: None,
         }
     }
 

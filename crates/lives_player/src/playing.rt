@@ -1,20 +1,12 @@
 //! Plans, and the devices that they are lived on.
-use crate::fault::Fault;
-use crate::lines::{InputLine, Size, fate_of, read_line};
+use crate::lines::{InputLine, read_line};
+use crate::texts::{drill_text, report_text};
 use chess_entry::Command;
-use chess_lives::{Life, Plan, Report, lives};
-use rec_codec::{Limits, Version};
-use sector_dev::{Fate, MemoryDevice};
+use chess_lives::{Life, Plan, lives};
+use player_lines::{Fault, LinePlayer, SMALL, Size, fates_of};
+use rec_codec::Version;
+use sector_dev::MemoryDevice;
 use std::alloc::Global;
-
-// The device of the plan before one is begun.
-const SIZE: Size = Size {
-    sectors: 212,
-    limits: Limits {
-        games: 4,
-        plies: 60,
-    },
-};
 
 /// A plan, and the size of the device for it.
 #[derive(Drop)]
@@ -24,49 +16,46 @@ pub struct Player {
     plan: Plan,
 }
 
-impl Player {
-    /// A plan without lives.
-    pub fn new(alloc: Global) -> Player {
-        Player {
-            alloc,
-            size: SIZE,
-            plan: Plan {
-                lives: Vec::new(alloc),
-            },
-        }
-    }
-
-    /// Takes a line of the input.
-    pub fn take(&mut self, text: &str) -> Result<(), Fault> {
-        let Some(line) = read_line(text) else {
+impl LinePlayer for Player {
+    fn play(&mut self, line: &str) -> Result<String, Fault> {
+        let Some(line) = read_line(line) else {
             return Err(Fault::Input);
         };
         match line {
             InputLine::Plan(size) => {
                 self.size = size;
                 self.plan.lives.clear();
-                Ok(())
             }
-            InputLine::Life { calls, fates } => self.begin_life(calls, fates),
-            InputLine::Batch => self.begin_batch(),
-            InputLine::Sent(command) => self.send(&command),
+            InputLine::Life { calls, fates } => self.begin_life(calls, fates)?,
+            InputLine::Batch => self.begin_batch()?,
+            InputLine::Sent(command) => self.send(&command)?,
+            InputLine::Live => return self.live(),
+            InputLine::Drill => return drill_text(self.alloc),
+        }
+        Ok(String::new(self.alloc))
+    }
+}
+
+impl Player {
+    /// A plan without lives.
+    pub fn new(alloc: Global) -> Player {
+        Player {
+            alloc,
+            size: SMALL,
+            plan: Plan {
+                lives: Vec::new(alloc),
+            },
         }
     }
 
     // Adds a life.
     fn begin_life(&mut self, calls: Option<u64>, fates: &str) -> Result<(), Fault> {
-        let mut read: Vec<Fate> = Vec::new(self.alloc);
-        for letter in fates.as_bytes() {
-            match fate_of(*letter) {
-                Some(fate) => read.extend_from_slice(&[fate])?,
-                None => return Err(Fault::Input),
-            }
-        }
+        let fates = fates_of(self.alloc, fates)?;
         self.plan.lives.reserve(1)?;
         self.plan.lives.push_reserved(Life {
             calls,
             batches: Vec::new(self.alloc),
-            fates: read,
+            fates,
         });
         Ok(())
     }
@@ -98,15 +87,20 @@ impl Player {
         }
     }
 
-    /// Lives the plan on a new device.
-    pub fn live(&self) -> Result<Report, Fault> {
+    // What comes of the plan on a new device.
+    fn live(&self) -> Result<String, Fault> {
         if !self.plan.is_submittable() || !self.size.limits.is_in_range(Version::Two) {
             return Err(Fault::Input);
         }
         let device = MemoryDevice::new(self.alloc, self.size.sectors)?;
-        match store_opening::create(self.alloc, device, self.size.limits) {
-            Ok(store) => Ok(lives(self.alloc, store.into_device(), &self.plan).report?),
-            Err(refused) => Err(Fault::Store(refused.fault)),
+        let store = match store_opening::create(self.alloc, device, self.size.limits) {
+            Ok(store) => store,
+            Err(refused) => return Err(Fault::of(self.alloc, &refused.fault)),
+        };
+        let lived = lives(self.alloc, store.into_device(), &self.plan);
+        match &lived.report {
+            Ok(report) => Ok(report_text(self.alloc, report)?),
+            Err(fault) => Err(Fault::of(self.alloc, fault)),
         }
     }
 }

@@ -88,13 +88,14 @@ impl Clients {
         Ok(have_all)
     }
 
-    /// Writes what came to each client, its letter before each line, and `end` where the server has closed the connection.
-    pub fn tell(&mut self, rt: &impl Print) -> io::Result<()> {
+    /// What came to each client, its letter before each line, and `end` where the server has closed the connection.
+    pub fn told(&mut self) -> io::Result<String> {
+        let mut text = String::new(self.alloc);
         for client in self.all.iter_mut() {
             client.hear()?;
-            client.tell(rt)?;
+            client.tell(self.alloc, &mut text)?;
         }
-        Ok(())
+        Ok(text)
     }
 }
 
@@ -132,11 +133,11 @@ impl Client {
         Ok(())
     }
 
-    // Writes what was taken in.
-    fn tell(&mut self, rt: &impl Print) -> io::Result<()> {
+    // Appends what was taken in.
+    fn tell(&mut self, alloc: Global, text: &mut String) -> io::Result<()> {
         let letter = char::from(self.letter);
         for line in str::from_utf8(&self.heard).unwrap_or("?").lines() {
-            println!(rt; "{letter} {line}")?;
+            text.push_str(format!(in alloc; "{letter} {line}\n")?.as_str())?;
         }
         self.heard.clear();
         Ok(())

@@ -17,19 +17,10 @@ mod clients;
 use chess_hub::Hub;
 use chess_sockets::{Server, Turned};
 use clients::Clients;
-use rec_codec::Limits;
+use player_lines::{Fault, LinePlayer, SMALL, play_lines};
+use rec_codec::Version;
 use sector_dev::MemoryDevice;
-use std::io::{BufRead, BufReader};
 use std::process::ExitCode;
-
-/// The table's limits.
-const LIMITS: Limits = Limits {
-    games: 4,
-    plies: 60,
-};
-
-/// The sectors that they need.
-const SECTORS: u32 = 212;
 
 /// The first turns' moment.
 const MOMENT: u64 = 1_000;
@@ -44,8 +35,8 @@ const IDLE_TURNS: u32 = 5;
 const ANSWER_TURNS: u32 = 1_000;
 
 fn main(rt: HostRuntime) -> ExitCode {
-    match play(&rt) {
-        Some(()) => ExitCode::SUCCESS,
+    match Game::begin(&rt, None) {
+        Some(mut game) => play_lines(&rt, rt.alloc(), &mut game),
         None => ExitCode::FAILURE,
     }
 }
@@ -53,8 +44,11 @@ fn main(rt: HostRuntime) -> ExitCode {
 // A server over a new store in memory.
 fn start(rt: &HostRuntime, silence: Option<u64>) -> Option<Server<MemoryDevice>> {
     let alloc = rt.alloc();
-    let device = MemoryDevice::new(alloc, SECTORS).ok()?;
-    match store_opening::create(alloc, device, LIMITS) {
+    if !SMALL.limits.is_in_range(Version::Two) {
+        return None;
+    }
+    let device = MemoryDevice::new(alloc, SMALL.sectors).ok()?;
+    match store_opening::create(alloc, device, SMALL.limits) {
         Ok(store) => Server::bind(rt, alloc, 0, silence, Hub::new(alloc, store)).ok(),
         Err(_) => None,
     }
@@ -62,17 +56,25 @@ fn start(rt: &HostRuntime, silence: Option<u64>) -> Option<Server<MemoryDevice>>
 
 /// A server, its clients, and the moment of its turns.
 #[derive(Drop)]
-struct Game {
+struct Game<'a> {
+    rt: &'a HostRuntime,
     server: Server<MemoryDevice>,
     clients: Clients,
     at: u64,
 }
 
-impl Game {
-    fn begin(rt: &HostRuntime, silence: Option<u64>) -> Option<Game> {
+impl<'a> LinePlayer for Game<'a> {
+    fn play(&mut self, line: &str) -> Result<String, Fault> {
+        self.answer(line).ok_or(Fault::Input)
+    }
+}
+
+impl<'a> Game<'a> {
+    fn begin(rt: &'a HostRuntime, silence: Option<u64>) -> Option<Game<'a>> {
         let server = start(rt, silence)?;
         let clients = Clients::new(rt.alloc(), server.port());
         Some(Game {
+            rt,
             server,
             clients,
             at: MOMENT,
@@ -125,44 +127,30 @@ impl Game {
         None
     }
 
-    // Does what a line says.
-    fn act(&mut self, rt: &HostRuntime, line: &str) -> Option<()> {
+    // A server in place of this one, without clients and over a new store.
+    fn begin_anew(&mut self, silence: u64) -> Option<()> {
+        let silence = if silence == 0 { None } else { Some(silence) };
+        *self = Game::begin(self.rt, silence)?;
+        Some(())
+    }
+
+    // What a line answers.
+    fn answer(&mut self, line: &str) -> Option<String> {
         if line == "turns" {
             self.take_turns()?;
-            return self.clients.tell(rt).ok();
+            return self.clients.told().ok();
         }
         let (word, rest) = line.split_once(" ")?;
         match (word, rest) {
             ("turns", count) => self.take_turns_alone(count.parse().ok()?)?,
             ("moment", moment) => self.at = moment.parse().ok()?,
+            ("silence", count) => self.begin_anew(count.parse().ok()?)?,
             (letters, "?") => {
-                let answered = self.take_turns_for(letters);
-                self.clients.tell(rt).ok()?;
-                answered?;
+                self.take_turns_for(letters)?;
+                return self.clients.told().ok();
             }
-            (letters, text) => self.clients.act(rt, letters, text).ok()?,
+            (letters, text) => self.clients.act(self.rt, letters, text).ok()?,
         }
-        Some(())
+        Some(String::new(self.rt.alloc()))
     }
-}
-
-// For how many milliseconds a client of a new server may be silent, if a line asks for one: 0 is for ever.
-fn silence_of(line: &str) -> Option<u64> {
-    line.strip_prefix("silence ")?.parse().ok()
-}
-
-fn play(rt: &HostRuntime) -> Option<()> {
-    let mut game = Game::begin(rt, None)?;
-    for line in BufReader::new(rt.alloc(), rt.reader())
-        .ok()?
-        .lines(rt.alloc())
-    {
-        let line = line.ok()?;
-        match silence_of(line.as_str()) {
-            Some(0) => game = Game::begin(rt, None)?,
-            Some(silence) => game = Game::begin(rt, Some(silence))?,
-            None => game.act(rt, line.as_str())?,
-        }
-    }
-    Some(())
 }

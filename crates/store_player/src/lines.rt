@@ -1,7 +1,7 @@
 //! Lines of the input.
-use chess_entry::{Command, Name};
-use chess_line::{Line, parse};
-use rec_codec::{Limits, Version};
+use chess_entry::Command;
+use player_lines::{Size, read_calls, read_command, read_limits, read_size};
+use rec_codec::Limits;
 
 /// A line of the input.
 #[derive(Clone, Copy)]
@@ -10,8 +10,8 @@ pub enum InputLine<'a> {
     Note(&'a str),
     /// A device of so many sectors, without a store.
     Device(u32),
-    /// A store of these limits on so many sectors.
-    Create(u32, Limits),
+    /// A store of this size on a new device.
+    Create(Size),
     /// A store of these limits on the device, which serves so many calls more.
     Make(Option<u64>, Limits),
     /// A command more.
@@ -51,49 +51,6 @@ pub enum InputLine<'a> {
     Keep,
     /// A new device of the sectors that were noted.
     Again,
-}
-
-// `GAMES PLIES`, both in range.
-fn read_limits(text: &str) -> Option<Limits> {
-    let (games, plies) = text.split_once(' ')?;
-    let limits = Limits {
-        games: games.parse::<u32>().ok()?,
-        plies: plies.parse::<u32>().ok()?,
-    };
-    if limits.is_in_range(Version::Two) {
-        Some(limits)
-    } else {
-        None
-    }
-}
-
-// `SECTORS GAMES PLIES`.
-fn read_create(text: &str) -> Option<InputLine<'_>> {
-    let (sectors, limits) = text.split_once(' ')?;
-    Some(InputLine::Create(sectors.parse::<u32>().ok()?, read_limits(limits)?))
-}
-
-// `MOMENT NAME LINE`, where LINE is an act of the protocol.
-fn read_command(text: &str) -> Option<InputLine<'_>> {
-    let (at, rest) = text.split_once(' ')?;
-    let (name, line) = rest.split_once(' ')?;
-    let at = at.parse::<u64>().ok()?;
-    let who = match name {
-        "-" => None,
-        _ => Some(Name::try_new(name)?),
-    };
-    match parse(line.as_bytes())? {
-        Line::Act(act) => Some(InputLine::Say(Command { at, who, act })),
-        Line::Called(_) => None,
-    }
-}
-
-// `CALLS`, or `-` for all.
-fn read_calls(text: &str) -> Option<Option<u64>> {
-    if text == "-" {
-        return Some(None);
-    }
-    Some(Some(text.parse::<u64>().ok()?))
 }
 
 // `CALLS GAMES PLIES`.
@@ -158,9 +115,9 @@ pub fn read_line(text: &str) -> Option<InputLine<'_>> {
     match word {
         "#" => Some(InputLine::Note(rest)),
         "device" => Some(InputLine::Device(rest.parse::<u32>().ok()?)),
-        "create" => read_create(rest),
+        "create" => Some(InputLine::Create(read_size(rest)?)),
         "make" => read_make(rest),
-        "say" => read_command(rest),
+        "say" => Some(InputLine::Say(read_command(rest)?)),
         "open" => Some(InputLine::Open(read_calls(rest)?)),
         "once" => read_once(rest),
         "crash" => Some(InputLine::Crash(rest)),

@@ -1,14 +1,14 @@
 //! A store and what is done with it.
-use crate::fault::Fault;
-use crate::lines::InputLine;
+use crate::lines::{InputLine, read_line};
 use crate::sectors::{device_of, digits, lose, put, sectors_of};
 use crate::texts::{fault_text, journal_text, replies_text};
 use chess_entry::Command;
 use chess_store::Store;
+use player_lines::{Fault, LinePlayer, Size, fates_of};
 use rec_codec::{Limits, Version};
-use sector_dev::{CrashDevice, Fate, MemoryDevice, OnceDevice};
+use sector_dev::{CrashDevice, MemoryDevice, OnceDevice};
 use sector_journal::{Opened, open};
-use std::alloc::{AllocError, Global};
+use std::alloc::Global;
 use store_opening::Refused;
 
 /// A device in memory, alone or with the store that is open on it, the sectors that were noted, and the commands of the
@@ -22,39 +22,15 @@ pub struct Player {
     batch: Vec<Command>,
 }
 
-// The fates that letters name.
-fn fates_of(alloc: Global, letters: &str) -> Result<Vec<Fate>, Fault> {
-    let mut fates = Vec::new(alloc);
-    for letter in letters.as_bytes() {
-        let fate = match letter {
-            b'L' => Fate::Lost,
-            b'K' => Fate::Kept,
-            b'U' => Fate::Unreadable,
-            _ => return Err(Fault::Input),
+impl LinePlayer for Player {
+    fn play(&mut self, line: &str) -> Result<String, Fault> {
+        let Some(line) = read_line(line) else {
+            return Err(Fault::Input);
         };
-        fates.push(fate).map_err(AllocError::from)?;
-    }
-    Ok(fates)
-}
-
-impl Player {
-    /// Without a device.
-    pub fn new(alloc: Global) -> Player {
-        Player {
-            alloc,
-            store: None,
-            device: None,
-            noted: Vec::new(alloc),
-            batch: Vec::new(alloc),
-        }
-    }
-
-    /// What a line answers.
-    pub fn play(&mut self, line: &InputLine) -> Result<String, Fault> {
-        match line {
+        match &line {
             InputLine::Note(text) => Ok(format!(in self.alloc; "# {text}\n")?),
             InputLine::Device(sectors) => self.lay(*sectors),
-            InputLine::Create(sectors, limits) => self.create(*sectors, *limits),
+            InputLine::Create(size) => self.create(size),
             InputLine::Make(calls, limits) => self.make(*calls, *limits),
             InputLine::Say(command) => self.say(command),
             InputLine::Submit => self.submit(),
@@ -69,6 +45,19 @@ impl Player {
             InputLine::Lose(at) => self.lose(*at),
             InputLine::Keep => self.keep(),
             InputLine::Again => self.again(),
+        }
+    }
+}
+
+impl Player {
+    /// Without a device.
+    pub fn new(alloc: Global) -> Player {
+        Player {
+            alloc,
+            store: None,
+            device: None,
+            noted: Vec::new(alloc),
+            batch: Vec::new(alloc),
         }
     }
 
@@ -157,10 +146,9 @@ impl Player {
         Ok(OnceDevice::new(device))
     }
 
-    fn create(&mut self, sectors: u32, limits: Limits) -> Result<String, Fault> {
-        self.store = None;
-        self.device = Some(MemoryDevice::new(self.alloc, sectors)?);
-        self.make(None, limits)
+    fn create(&mut self, size: &Size) -> Result<String, Fault> {
+        self.lay(size.sectors)?;
+        self.make(None, size.limits)
     }
 
     fn make(&mut self, calls: Option<u64>, limits: Limits) -> Result<String, Fault> {

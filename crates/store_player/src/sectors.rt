@@ -1,16 +1,7 @@
 //! A device in memory, sector by sector.
-use crate::fault::Fault;
+use player_lines::{Fault, byte_of_digits};
 use sector_dev::{CrashDevice, Device, Fate, Got, MemoryDevice};
 use std::alloc::Global;
-
-// The value of a digit to base 16.
-fn value_of(digit: u8) -> Option<u8> {
-    match digit {
-        b'0'..=b'9' => Some(digit - b'0'),
-        b'a'..=b'f' => Some(digit - b'a' + 10),
-        _ => None,
-    }
-}
 
 // The bytes of digits to base 16, two for each.
 fn bytes_of(alloc: Global, digits: &str) -> Result<Vec<u8>, Fault> {
@@ -19,10 +10,8 @@ fn bytes_of(alloc: Global, digits: &str) -> Result<Vec<u8>, Fault> {
         let [high, low] = pair else {
             return Err(Fault::Input);
         };
-        let (Some(high), Some(low)) = (value_of(*high), value_of(*low)) else {
-            return Err(Fault::Input);
-        };
-        bytes.extend_from_slice(&[(high << 4) | low])?;
+        let byte = byte_of_digits(*high, *low).ok_or(Fault::Input)?;
+        bytes.extend_from_slice(&[byte])?;
     }
     Ok(bytes)
 }

@@ -1,7 +1,7 @@
 //! What is written.
-use crate::fault::Fault;
 use chess_answer::Reply;
 use chess_store::StoreFault;
+use player_lines::{Fault, push_reply};
 use sector_dev::MemoryDevice;
 use sector_journal::Opened;
 use std::alloc::Global;
@@ -10,9 +10,7 @@ use std::alloc::Global;
 pub fn replies_text(alloc: Global, replies: &[Reply]) -> Result<String, Fault> {
     let mut text = String::new(alloc);
     for reply in replies {
-        text.push_str(reply.line.as_str())?;
-        text.push_str("\n")?;
-        text.push_str(reply.body.as_str())?;
+        push_reply(&mut text, reply)?;
     }
     Ok(text)
 }

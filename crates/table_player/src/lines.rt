@@ -1,5 +1,6 @@
 //! Lines of the input.
-use rec_codec::{Limits, Name, Version};
+use player_lines::{Sent, read_limits, read_sent};
+use rec_codec::Limits;
 
 /// A line of the input.
 #[derive(Clone, Copy)]
@@ -14,14 +15,6 @@ pub enum InputLine<'a> {
     Changed(Change),
     /// A line of a session, with its moment and the name of who sends it, if it has one.
     Sent(Sent<'a>),
-}
-
-/// A line of a session.
-#[derive(Clone, Copy)]
-pub struct Sent<'a> {
-    pub at: u64,
-    pub who: Option<Name>,
-    pub line: &'a str,
 }
 
 /// A byte of a record of the snapshot, both counted from 0, and its other value.
@@ -43,40 +36,19 @@ fn read_change(text: &str) -> Option<Change> {
     })
 }
 
-// `GAMES PLIES`, both in range.
-fn read_limits(text: &str) -> Option<Limits> {
-    let (games, plies) = text.split_once(' ')?;
-    let limits = Limits {
-        games: games.parse::<u32>().ok()?,
-        plies: plies.parse::<u32>().ok()?,
-    };
-    if limits.is_in_range(Version::Two) {
-        Some(limits)
-    } else {
-        None
-    }
-}
-
 /// Reads a line of the input; `None` where it has none of the forms.
 pub fn read_line(text: &str) -> Option<InputLine<'_>> {
     if text == "records" {
         return Some(InputLine::Records);
     }
-    let (first, rest) = text.split_once(' ')?;
-    if first == "table" {
-        return Some(InputLine::Table(read_limits(rest)?));
+    let (word, rest) = text.split_once(' ')?;
+    match word {
+        "table" => Some(InputLine::Table(read_limits(rest)?)),
+        "reopen" => Some(InputLine::Reopen(read_limits(rest)?)),
+        "changed" => Some(InputLine::Changed(read_change(rest)?)),
+        _ => match read_sent(text) {
+            Some(sent) => Some(InputLine::Sent(sent)),
+            None => None,
+        },
     }
-    if first == "reopen" {
-        return Some(InputLine::Reopen(read_limits(rest)?));
-    }
-    if first == "changed" {
-        return Some(InputLine::Changed(read_change(rest)?));
-    }
-    let (name, line) = rest.split_once(' ')?;
-    let at = first.parse::<u64>().ok()?;
-    let who = match name {
-        "-" => None,
-        _ => Some(Name::try_new(name)?),
-    };
-    Some(InputLine::Sent(Sent { at, who, line }))
 }

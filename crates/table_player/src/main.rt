@@ -6,66 +6,14 @@
 //! tells what would be read where a byte of a record were another.
 #![tactic(auto)]
 
-mod fault;
 mod lines;
 mod playing;
 mod stored;
 
-use fault::Fault;
-use lines::{InputLine, read_line};
+use player_lines::play_lines;
 use playing::Player;
-use rec_bytes::write_record;
-use rec_codec::Record;
-use std::io::{BufRead, BufReader};
 use std::process::ExitCode;
 
 fn main(rt: HostRuntime) -> ExitCode {
-    match run(&rt) {
-        Ok(()) => ExitCode::SUCCESS,
-        Err(fault) => {
-            let _ = eprintln!(rt; "{fault}");
-            ExitCode::FAILURE
-        }
-    }
-}
-
-fn run(rt: &HostRuntime) -> Result<(), Fault> {
-    let mut player = Player::new(rt.alloc());
-    for text in BufReader::new(rt.alloc(), rt.reader())?.lines(rt.alloc()) {
-        let text = text?;
-        let Some(line) = read_line(text.as_str()) else {
-            return Err(Fault::Input);
-        };
-        match line {
-            InputLine::Table(limits) => player.begin(limits),
-            InputLine::Records => {
-                player.store()?;
-                for record in player.records() {
-                    show(rt, record)?;
-                }
-            }
-            InputLine::Reopen(limits) => println!(rt; "{}", player.reopen(limits)?)?,
-            InputLine::Changed(change) => println!(rt; "{}", player.read_changed(&change)?)?,
-            InputLine::Sent(sent) => {
-                let reply = player.answer(&sent)?;
-                println!(rt; "{}", reply.line.as_str())?;
-                print!(rt; "{}", reply.body.as_str())?;
-            }
-        }
-    }
-    Ok(())
-}
-
-// Writes a record up to its last byte that is not zero.
-fn show(rt: &HostRuntime, record: &Record) -> Result<(), Fault> {
-    let bytes = write_record(record);
-    let many = match bytes.iter().rposition(|byte| *byte != 0) {
-        None => 0,
-        Some(last) => last + 1,
-    };
-    for byte in &bytes[..many] {
-        print!(rt; "{byte:02x}")?;
-    }
-    println!(rt; "")?;
-    Ok(())
+    play_lines(&rt, rt.alloc(), &mut Player::new(rt.alloc()))
 }

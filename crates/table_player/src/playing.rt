@@ -2,15 +2,16 @@
 ghost use Rattle.std.specs.Prelude.{IfSome};
 ghost use Rattle.rec_codec.specs.Name.{IsName};
 
-use crate::fault::Fault;
-use crate::lines::{Change, Sent};
+use crate::lines::{Change, InputLine, read_line};
 use crate::stored::Stored;
 use chess_answer::{AnswerLine, Reply, named_line, refusal_line};
 use chess_entry::{Command, Entry, Name, Refusal, Verdict};
 use chess_line::{Line, parse};
 use chess_table::{Table, judge};
+use player_lines::{Fault, LinePlayer, Sent, push_reply, text_line};
+use rec_bytes::write_record;
 use rec_codec::{Limits, Record, Version};
-use std::alloc::Global;
+use std::alloc::{AllocError, Global};
 
 // The limits of the table before one is asked for.
 const LIMITS: Limits = Limits {
@@ -41,6 +42,42 @@ fn know_name(who: &Option<Name>)
     }
 }
 
+// Appends a record up to its last byte that is not zero, in digits to base 16, as a line.
+fn push_record(alloc: Global, text: &mut String, record: &Record) -> Result<(), AllocError> {
+    let bytes = write_record(record);
+    let many = match bytes.iter().rposition(|byte| *byte != 0) {
+        None => 0,
+        Some(last) => last + 1,
+    };
+    for byte in &bytes[..many] {
+        text.push_str(format!(in alloc; "{byte:02x}")?.as_str())?;
+    }
+    text.push_str("\n")
+}
+
+impl LinePlayer for Player {
+    fn play(&mut self, line: &str) -> Result<String, Fault> {
+        let Some(line) = read_line(line) else {
+            return Err(Fault::Input);
+        };
+        match line {
+            InputLine::Table(limits) => {
+                self.begin(limits);
+                Ok(String::new(self.alloc))
+            }
+            InputLine::Records => self.store(),
+            InputLine::Reopen(limits) => Ok(text_line(self.alloc, self.reopen(limits)?)?),
+            InputLine::Changed(change) => Ok(text_line(self.alloc, self.read_changed(&change)?)?),
+            InputLine::Sent(sent) => {
+                let reply = self.answer(&sent)?;
+                let mut text = String::new(self.alloc);
+                push_reply(&mut text, &reply)?;
+                Ok(text)
+            }
+        }
+    }
+}
+
 impl Player {
     /// An empty table for 256 games of 1,024 moves.
     pub fn new(alloc: Global) -> Player {
@@ -51,46 +88,42 @@ impl Player {
         }
     }
 
-    /// Begins an empty table with these limits, where they are in the range of version 2.
-    pub fn begin(&mut self, limits: Limits) {
+    // Begins an empty table with these limits, where they are in the range of version 2.
+    fn begin(&mut self, limits: Limits) {
         if limits.is_in_range(Version::Two) {
             self.table = Table::new(self.alloc, limits);
             self.stored = None;
         }
     }
 
-    /// Takes the records of a snapshot of the table.
-    pub fn store(&mut self) -> Result<(), Fault> {
-        self.stored = Some(Stored::of(self.alloc, &self.table)?);
-        Ok(())
-    }
-
-    /// The records of the snapshot; none before they were taken.
-    pub fn records(&self) -> &[Record] {
-        match &self.stored {
-            None => &[],
-            Some(stored) => stored.base(),
+    // Takes the records of a snapshot of the table, a line each.
+    fn store(&mut self) -> Result<String, Fault> {
+        let stored = Stored::of(self.alloc, &self.table)?;
+        let mut text = String::new(self.alloc);
+        for record in stored.base() {
+            push_record(self.alloc, &mut text, record)?;
         }
+        self.stored = Some(stored);
+        Ok(text)
     }
 
-    /// Goes on with the table that the records mean under limits; where they mean none, the table stays. `Input`: they were
-    /// not taken.
-    pub fn reopen(&mut self, limits: Limits) -> Result<&'static str, Fault> {
+    // Goes on with the table that the records mean under limits; where they mean none, the table stays. `Input`: they were
+    // not taken.
+    fn reopen(&mut self, limits: Limits) -> Result<&'static str, Fault> {
         let Some(stored) = &self.stored else {
             return Err(Fault::Input);
         };
-        match stored.read(self.alloc, limits) {
-            Ok(table) => {
+        match stored.read(self.alloc, limits)? {
+            Some(table) => {
                 self.table = table;
                 Ok("reopened")
             }
-            Err(Fault::Damaged) => Ok("damaged"),
-            Err(fault) => Err(fault),
+            None => Ok("damaged"),
         }
     }
 
-    /// What is read from the records where a byte is another: a table, `damaged`, or no record.
-    pub fn read_changed(&mut self, change: &Change) -> Result<&'static str, Fault> {
+    // What is read from the records where a byte is another: a table, `damaged`, or no record.
+    fn read_changed(&mut self, change: &Change) -> Result<&'static str, Fault> {
         let limits = self.table.limits();
         match &mut self.stored {
             None => Err(Fault::Input),
@@ -106,9 +139,9 @@ impl Player {
         }
     }
 
-    /// The answer to a line of a session. `Full`: the table has as many entries as can be counted; `NoMemory`: memory was
-    /// refused. The table is then as it was.
-    pub fn answer(&mut self, sent: &Sent) -> Result<Reply, Fault> {
+    // The answer to a line of a session. `Input`: the table has as many entries as can be counted; `NoMemory`: memory was
+    // refused. The table is then as it was.
+    fn answer(&mut self, sent: &Sent) -> Result<Reply, Fault> {
         let Some(line) = parse(sent.line.as_bytes()) else {
             return Ok(self.alone(refusal_line(Refusal::BadLine)));
         };
@@ -139,7 +172,7 @@ impl Player {
             Verdict::Read => Ok(self.table.answer(command)?),
             Verdict::Enter(entry) => {
                 if self.table.entries() == u64::MAX {
-                    return Err(Fault::Full);
+                    return Err(Fault::Input);
                 }
                 let line = self.table.act_line(&entry);
                 self.table.enter(entry)?;

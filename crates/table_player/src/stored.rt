@@ -1,8 +1,8 @@
 //! A table as records.
-use crate::fault::Fault;
 use crate::lines::Change;
 use chess_entry::Entry;
-use chess_table::{Table, entry_record};
+use chess_table::{Table, TableFault, entry_record};
+use player_lines::Fault;
 use rec_bytes::{read_record, write_record};
 use rec_codec::{Limits, Record, Version};
 use std::alloc::Global;
@@ -43,12 +43,16 @@ impl Stored {
         Ok(self.tail.extend_from_slice(&[entry_record(entry)])?)
     }
 
-    /// The table that the records mean. `Input`: the limits are not in the range of version 2.
-    pub fn read(&self, alloc: Global, limits: Limits) -> Result<Table, Fault> {
+    /// The table that the records mean, if they mean one. `Input`: the limits are not in the range of version 2.
+    pub fn read(&self, alloc: Global, limits: Limits) -> Result<Option<Table>, Fault> {
         if !limits.is_in_range(Version::Two) {
             return Err(Fault::Input);
         }
-        Ok(Table::from_records(alloc, limits, self.base.as_slice(), self.tail.as_slice())?)
+        match Table::from_records(alloc, limits, self.base.as_slice(), self.tail.as_slice()) {
+            Ok(table) => Ok(Some(table)),
+            Err(TableFault::Damaged) => Ok(None),
+            Err(TableFault::NoMemory) => Err(Fault::NoMemory),
+        }
     }
 
     /// What is read where a byte of a record of the snapshot is another.
@@ -67,10 +71,9 @@ impl Stored {
         self.base[change.record] = new;
         let read = self.read(alloc, limits);
         self.base[change.record] = old;
-        match read {
-            Ok(_) => Ok("a table"),
-            Err(Fault::Damaged) => Ok("damaged"),
-            Err(fault) => Err(fault),
+        match read? {
+            Some(_) => Ok("a table"),
+            None => Ok("damaged"),
         }
     }
 }

@@ -6,14 +6,14 @@ use Rattle.board_session.proofs.board_loop.board.Goals as goal
 pub returns-in-Ok-clause-whole : goal.returns-in-Ok-clause-whole
 returns-in-Ok-clause-whole g c =
     text-from (g.S.LineSource.remaining c.args.source.now) (g.W.Write.contents c.args.writer.now)
-    (g.W.Write.contents c.answer_lines-ended.new.writer) c.start-session.result c.answer_lines-ended.result.0
-    c.start-session.ensures.initial (rw c.in-Ok.is at c.answer_lines-ended.ensures.whole)
+    (g.W.Write.contents c.answer_lines-ended.new.writer) c.start-answered.result c.answer_lines-ended.result.0
+    c.start-answered.ensures.initial (rw c.in-Ok.is at c.answer_lines-ended.ensures.whole)
 
 pub returns-in-Err-LineTooLong-clause-whole : goal.returns-in-Err-LineTooLong-clause-whole
 returns-in-Err-LineTooLong-clause-whole g c =
     text-from (g.S.LineSource.remaining c.args.source.now) (g.W.Write.contents c.args.writer.now)
-    (g.W.Write.contents c.answer_lines-ended.new.writer) c.start-session.result c.answer_lines-ended.result.0
-    c.start-session.ensures.initial
+    (g.W.Write.contents c.answer_lines-ended.new.writer) c.start-answered.result c.answer_lines-ended.result.0
+    c.start-answered.ensures.initial
     (c.answer_lines-ended.ensures.long (c.in-Err-LineTooLong.is
     ∙ ap (λ fault. Err fault) (rw c.in-Err-LineTooLong.is at c.in-Err-LineTooLong.field-0-is)))
 
@@ -24,8 +24,8 @@ returns-in-Err-Read-clause-front g c =
     c.answer_lines-ended.result.0
     (at-fault _ c.answer_lines-ended.result.1 c.in-Err-Read.field-0 loop.Read
     (g.S.LineSource.remaining c.args.source.now) (g.S.LineSource.remaining c.answer_lines-ended.new.source)
-    (g.W.Write.contents c.args.writer.now) (g.W.Write.contents c.answer_lines-ended.new.writer) c.start-session.result
-    c.answer_lines-ended.result.0 c.in-Err-Read.is (rw c.in-Err-Read.is at c.in-Err-Read.field-0-is) c.start-session.ensures.initial
+    (g.W.Write.contents c.args.writer.now) (g.W.Write.contents c.answer_lines-ended.new.writer) c.start-answered.result
+    c.answer_lines-ended.result.0 c.in-Err-Read.is (rw c.in-Err-Read.is at c.in-Err-Read.field-0-is) c.start-answered.ensures.initial
     c.answer_lines-ended.ensures.ended)
 
 pub returns-in-Err-Write-clause-front : goal.returns-in-Err-Write-clause-front
@@ -35,8 +35,8 @@ returns-in-Err-Write-clause-front g c =
     c.answer_lines-ended.result.0 _
     (at-fault _ c.answer_lines-ended.result.1 c.in-Err-Write.field-0 loop.Write
     (g.S.LineSource.remaining c.args.source.now) (g.S.LineSource.remaining c.answer_lines-ended.new.source)
-    (g.W.Write.contents c.args.writer.now) (g.W.Write.contents c.answer_lines-ended.new.writer) c.start-session.result
-    c.answer_lines-ended.result.0 c.in-Err-Write.is (rw c.in-Err-Write.is at c.in-Err-Write.field-0-is) c.start-session.ensures.initial
+    (g.W.Write.contents c.args.writer.now) (g.W.Write.contents c.answer_lines-ended.new.writer) c.start-answered.result
+    c.answer_lines-ended.result.0 c.in-Err-Write.is (rw c.in-Err-Write.is at c.in-Err-Write.field-0-is) c.start-answered.ensures.initial
     c.answer_lines-ended.ensures.ended)
 
 pub returns-in-Err-Write-clause-write : goal.returns-in-Err-Write-clause-write
@@ -46,8 +46,8 @@ returns-in-Err-Write-clause-write g c =
     c.answer_lines-ended.result.0 _
     (at-fault _ c.answer_lines-ended.result.1 c.in-Err-Write.field-0 loop.Write
     (g.S.LineSource.remaining c.args.source.now) (g.S.LineSource.remaining c.answer_lines-ended.new.source)
-    (g.W.Write.contents c.args.writer.now) (g.W.Write.contents c.answer_lines-ended.new.writer) c.start-session.result
-    c.answer_lines-ended.result.0 c.in-Err-Write.is (rw c.in-Err-Write.is at c.in-Err-Write.field-0-is) c.start-session.ensures.initial
+    (g.W.Write.contents c.args.writer.now) (g.W.Write.contents c.answer_lines-ended.new.writer) c.start-answered.result
+    c.answer_lines-ended.result.0 c.in-Err-Write.is (rw c.in-Err-Write.is at c.in-Err-Write.field-0-is) c.start-answered.ensures.initial
     c.answer_lines-ended.ensures.ended)
 
 pub returns-in-Err-LineTooLong-clause-answered : goal.returns-in-Err-LineTooLong-clause-answered
@@ -57,8 +57,8 @@ returns-in-Err-LineTooLong-clause-answered g c =
     c.answer_lines-ended.result.0
     (at-fault _ c.answer_lines-ended.result.1 c.in-Err-LineTooLong.field-0 loop.LineTooLong
     (g.S.LineSource.remaining c.args.source.now) (g.S.LineSource.remaining c.answer_lines-ended.new.source)
-    (g.W.Write.contents c.args.writer.now) (g.W.Write.contents c.answer_lines-ended.new.writer) c.start-session.result
-    c.answer_lines-ended.result.0 c.in-Err-LineTooLong.is (rw c.in-Err-LineTooLong.is at c.in-Err-LineTooLong.field-0-is) c.start-session.ensures.initial
+    (g.W.Write.contents c.args.writer.now) (g.W.Write.contents c.answer_lines-ended.new.writer) c.start-answered.result
+    c.answer_lines-ended.result.0 c.in-Err-LineTooLong.is (rw c.in-Err-LineTooLong.is at c.in-Err-LineTooLong.field-0-is) c.start-answered.ensures.initial
     c.answer_lines-ended.ensures.ended)
 
 pub returns-in-Err-Read-clause-one : goal.returns-in-Err-Read-clause-one

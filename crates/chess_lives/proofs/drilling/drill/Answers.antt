@@ -22,6 +22,6 @@ loop-case-preserved c =
 pub returns-clause-fault : goal.returns-clause-fault
 returns-clause-fault c =
     let cases = c.loop-case.cases.items in
-    let told = c.told-tally.result in
+    let told = c.tallied-tally.result in
     told_fault cases told c.loop-case.invariant.are_cases
-    (subst (λ (cs : List (Lived MemoryDevice)). IsTold cs told) c.deref.ensures.value c.told-tally.ensures)
+    (subst (λ (cs : List (Lived MemoryDevice)). IsTold cs told) c.deref.ensures.value c.tallied-tally.ensures)

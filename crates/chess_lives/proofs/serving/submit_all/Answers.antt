@@ -7,20 +7,20 @@ use Rattle.chess_store.specs.Batch.{IsAnswered, IsWornOut, act_count}
 use Rattle.chess_store.specs.Faults.{UnlessDevice, CountsFault, MayLast}
 use Rattle.table_commits.specs.Means.{IsKept}
 use Rattle.table_commits.proofs.MeansLemmas.{kept_means}
-use Rattle.chess_lives.specs.Courses.{IsBatch, is_unsent}
+use Rattle.chess_lives.specs.Courses.{IsSubmittable, is_unsent}
 use Rattle.chess_lives.specs.Serving.{IsTallied}
 use Rattle.chess_lives.proofs.ServingLemmas.{SoFar, so_far-none, so_far-more, EachOf-at, take_map-more, around-at, tallied-all, tallied-err, room-err, worn_before, batch_fault}
 use Rattle.chess_lives.proofs.serving.submit_all.Goals as goal
 
 pub submit-requires-clause-some : goal.submit-requires-clause-some
 submit-requires-clause-some g c =
-    let batch = EachOf-at IsBatch (λ b. b.items) c.args.batches.now c.loop-batch.batch-index c.batch-item.result
+    let batch = EachOf-at IsSubmittable (λ b. b.items) c.args.batches.now c.loop-batch.batch-index c.batch-item.result
     c.requires.batches c.loop-batch-test.true c.batch-item.is in
     subst (λ (commands : List Command). 1 ≤ length commands) (sym c.deref.ensures.value) batch.some
 
 pub submit-requires-clause-few : goal.submit-requires-clause-few
 submit-requires-clause-few g c =
-    let batch = EachOf-at IsBatch (λ b. b.items) c.args.batches.now c.loop-batch.batch-index c.batch-item.result
+    let batch = EachOf-at IsSubmittable (λ b. b.items) c.args.batches.now c.loop-batch.batch-index c.batch-item.result
     c.requires.batches c.loop-batch-test.true c.batch-item.is in
     subst (λ (commands : List Command). length commands ≤ 64) (sym c.deref.ensures.value) batch.few
 

@@ -3,7 +3,7 @@ use Rattle.std.proofs.lemmas.List.{take_all}
 use Rattle.chess_board.specs.Legal.{EachOf}
 use Rattle.chess_entry.specs.declared.commands.Command.{Command}
 use Rattle.chess_lives.specs.declared.plan.Life.{Life}
-use Rattle.chess_lives.specs.Courses.{IsBatch}
+use Rattle.chess_lives.specs.Courses.{IsSubmittable}
 use Rattle.chess_lives.specs.Lives.{AreSubmittable, batches_of}
 use Rattle.chess_lives.proofs.ServingLemmas.{EachOf-one, EachOf-push}
 use Rattle.chess_lives.proofs.LivesLemmas.{take-more_at}
@@ -14,10 +14,10 @@ returns-then-not-may c = (
   λ no. absurd (cc),
   λ each.
       let here = subst (λ (lives : List Life). AreSubmittable lives) (sym c.deref-life-items.ensures.value) each in
-      let one = EachOf-one (λ life. EachOf IsBatch (batches_of life)) c.deref-life-items.result.now c.loop-life.life-index
+      let one = EachOf-one (λ life. EachOf IsSubmittable (batches_of life)) c.deref-life-items.result.now c.loop-life.life-index
       c.life-item.result here c.loop-life-test.true c.life-item.is in
       let may : c.are_batches-may.result ≡ true = c.are_batches-may.ensures.1
-      (subst (λ (bs : List (Vec Command Global)). EachOf IsBatch (map (λ b. b.items) bs)) (sym c.deref.ensures.value)
+      (subst (λ (bs : List (Vec Command Global)). EachOf IsSubmittable (map (λ b. b.items) bs)) (sym c.deref.ensures.value)
       one) in
       cc,
 )
@@ -28,10 +28,10 @@ loop-life-preserved c =
     let i = c.loop-life.life-index in
     let life = c.life-item.result in
     let may : c.are_batches-may.result ≡ true = cc in
-    let one = subst (λ (bs : List (Vec Command Global)). EachOf IsBatch (map (λ b. b.items) bs)) c.deref.ensures.value
+    let one = subst (λ (bs : List (Vec Command Global)). EachOf IsSubmittable (map (λ b. b.items) bs)) c.deref.ensures.value
     (c.are_batches-may.ensures.0 may) in
     subst (λ (ls : List Life). AreSubmittable ls) (sym (take-more_at lives i life c.loop-life-test.true c.life-item.is))
-    (EachOf-push (λ life. EachOf IsBatch (batches_of life)) (take i lives) life c.loop-life.invariant one)
+    (EachOf-push (λ life. EachOf IsSubmittable (batches_of life)) (take i lives) life c.loop-life.invariant one)
 
 pub returns : goal.returns
 returns c = (

@@ -1,19 +1,31 @@
 //! Why playing ends before the input does.
 use sector_dev::DeviceFault;
-use std::alloc::AllocError;
+use std::alloc::{AllocError, Global};
 use std::{fmt, io};
 
 /// Why playing ends before the input does.
 #[derive(Debug, Drop)]
 pub enum Fault {
-    /// A line of the input has none of the forms, or cannot be done there.
+    /// A line of the input has none of the forms, or cannot be played there.
     Input,
     /// The device failed, where it was not to.
     Device,
+    /// What is played on failed otherwise, where it was not to: its own name for that.
+    Failed(String),
     /// The system's.
     File(io::Error),
     /// Memory was refused.
     NoMemory,
+}
+
+impl Fault {
+    /// What is played on failed, with this fault.
+    pub fn of<E: fmt::Debug>(alloc: Global, fault: &E) -> Fault {
+        match format!(in alloc; "{fault:?}") {
+            Ok(name) => Fault::Failed(name),
+            Err(_) => Fault::NoMemory,
+        }
+    }
 }
 
 impl From<DeviceFault> for Fault {
@@ -39,6 +51,7 @@ impl fmt::Display for Fault {
         match self {
             Fault::Input => f.write_str("a line cannot be played"),
             Fault::Device => f.write_str("the device failed"),
+            Fault::Failed(name) => f.write_str(name.as_str()),
             Fault::File(error) => write!(f, "{error}"),
             Fault::NoMemory => f.write_str("no memory"),
         }

@@ -1,6 +1,6 @@
 use Rattle.std.proofs.Common.{◌≤◌, length, take}
 use Rattle.chess_lives.specs.Drill.{IsTallyOf}
-use Rattle.chess_lives.proofs.drilling.told.Given as goal
+use Rattle.chess_lives.proofs.drilling.tallied.Given as goal
 
 abbrev pub invariant-loop-case : goal.invariant-loop-case
 invariant-loop-case l = record {

@@ -1,6 +1,6 @@
 use Rattle.std.proofs.Common.{take}
 use Rattle.chess_lives.proofs.LivesLemmas.{around-one}
-use Rattle.chess_lives.proofs.drilling.told.Goals as goal
+use Rattle.chess_lives.proofs.drilling.tallied.Goals as goal
 
 pub returns-in-Err : goal.returns-in-Err
 returns-in-Err c =

@@ -1,0 +1,16 @@
+//! Answers as text.
+use chess_answer::Reply;
+use std::alloc::{AllocError, Global};
+
+/// Appends a reply: its line with a line feed, and the lines behind it.
+pub fn push_reply(text: &mut String, reply: &Reply) -> Result<(), AllocError> {
+    text.push_str(reply.line.as_str())?;
+    text.push_str("\n")?;
+    text.push_str(reply.body.as_str())?;
+    Ok(())
+}
+
+/// A word as a line.
+pub fn text_line(alloc: Global, word: &str) -> Result<String, AllocError> {
+    format!(in alloc; "{word}\n")
+}

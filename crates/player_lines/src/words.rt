@@ -1,0 +1,122 @@
+//! Words that several players read.
+ghost use Rattle.std.specs.Prelude.{IfSome};
+ghost use Rattle.rec_codec.specs.declared.limits.Version.TheVariants.{Two};
+ghost use Rattle.rec_codec.specs.Limits.{IsInRange};
+
+use crate::fault::Fault;
+use chess_entry::{Command, Name};
+use chess_line::{Line, parse};
+use rec_codec::{Limits, Version};
+use sector_dev::Fate;
+use std::alloc::Global;
+
+/// A device of so many sectors, and the limits of the store on it.
+#[derive(Clone, Copy)]
+pub struct Size {
+    pub sectors: u32,
+    pub limits: Limits,
+}
+
+/// Four games of 60 moves, on as few sectors as they need.
+pub const SMALL: Size = Size {
+    sectors: 212,
+    limits: Limits {
+        games: 4,
+        plies: 60,
+    },
+};
+
+/// A line of a session, with its moment and the name of who sends it, if it has one.
+#[derive(Clone, Copy)]
+pub struct Sent<'a> {
+    pub at: u64,
+    pub who: Option<Name>,
+    pub line: &'a str,
+}
+
+/// `GAMES PLIES`, both in the range of version 2.
+pub fn read_limits(text: &str) -> Option<Limits>
+    ensures { IfSome result (IsInRange Two) }
+{
+    let (games, plies) = text.split_once(' ')?;
+    let limits = Limits {
+        games: games.parse::<u32>().ok()?,
+        plies: plies.parse::<u32>().ok()?,
+    };
+    if limits.is_in_range(Version::Two) {
+        Some(limits)
+    } else {
+        None
+    }
+}
+
+/// `SECTORS GAMES PLIES`, the limits in range.
+pub fn read_size(text: &str) -> Option<Size>
+    ensures { IfSome result (λ size. IsInRange Two size.limits) }
+{
+    let (sectors, limits) = text.split_once(' ')?;
+    Some(Size {
+        sectors: sectors.parse::<u32>().ok()?,
+        limits: read_limits(limits)?,
+    })
+}
+
+/// `CALLS`, so many that a device serves, or `-` for any number.
+pub fn read_calls(text: &str) -> Option<Option<u64>> {
+    match text {
+        "-" => Some(None),
+        _ => Some(Some(text.parse::<u64>().ok()?)),
+    }
+}
+
+/// `MOMENT NAME LINE`, NAME `-` for a session without a name.
+pub fn read_sent(text: &str) -> Option<Sent<'_>> {
+    let (at, rest) = text.split_once(' ')?;
+    let (name, line) = rest.split_once(' ')?;
+    let who = match name {
+        "-" => None,
+        _ => Some(Name::try_new(name)?),
+    };
+    Some(Sent {
+        at: at.parse::<u64>().ok()?,
+        who,
+        line,
+    })
+}
+
+/// The same where LINE is a command's.
+pub fn read_command(text: &str) -> Option<Command> {
+    let Some(sent) = read_sent(text) else {
+        return None;
+    };
+    match parse(sent.line.as_bytes())? {
+        Line::Act(act) => Some(Command {
+            at: sent.at,
+            who: sent.who,
+            act,
+        }),
+        Line::Called(_) => None,
+    }
+}
+
+// What becomes of a pending write, by its letter.
+fn fate_of(letter: u8) -> Option<Fate> {
+    match letter {
+        b'L' | b'l' => Some(Fate::Lost),
+        b'K' | b'k' => Some(Fate::Kept),
+        b'U' | b'u' => Some(Fate::Unreadable),
+        _ => None,
+    }
+}
+
+/// What becomes of pending writes, a letter each: `l` lost, `k` kept, `u` unreadable, or the same as capitals.
+pub fn fates_of(alloc: Global, letters: &str) -> Result<Vec<Fate>, Fault> {
+    let mut fates = Vec::new(alloc);
+    for letter in letters.as_bytes() {
+        match fate_of(*letter) {
+            Some(fate) => fates.extend_from_slice(&[fate])?,
+            None => return Err(Fault::Input),
+        }
+    }
+    Ok(fates)
+}
