@@ -141,8 +141,7 @@ impl Player {
                 if self.table.entries() == u64::MAX {
                     return Err(Fault::Full);
                 }
-                let line = self.table.act_line(&entry);
-                self.table.enter(entry)?;
+                let line = self.table.enter_told(&entry)?;
                 self.keep(&entry)?;
                 Ok(self.alone(line))
             }
