@@ -2,3 +2,4 @@ mod Room
 mod Widths
 mod TimesShown
 pub mod Coming
+pub mod Playing

@@ -4,7 +4,9 @@ use Rattle.std.specs.Option.{ForSome}
 use Rattle.chess_bits.specs.declared.men.Colour.{Colour}
 use Rattle.chess_bits.specs.declared.men.Colour.TheVariants.{White, Black}
 use Rattle.chess_board.specs.declared.moves.Move.{Move}
+use Rattle.chess_board.specs.Position.{Position}
 use Rattle.chess_notation.specs.San.{IsSan}
+use Rattle.chess_end.specs.declared.ending.Ending.{Ending}
 use Rattle.rec_codec.specs.declared.record.Event.{Event}
 use Rattle.rec_codec.specs.declared.record.Event.TheVariants as event
 use Rattle.rec_codec.specs.declared.record.Entry.{Entry}
@@ -29,6 +31,12 @@ pub record TellsMove (game : GameState) (m : Move) (before after : List ℕ) : T
   pub is_san : IsSan (position_of game) m san
   pub told : after ≡ with_fields before
       (decimal (ply_of game + 1) ∷ san ∷ end_fields (ending_with game.start game.moves (Some m)))
+
+-- Behind a text a move is told that was made in a position: its SAN, and END for what the game has as its ending.
+pub record TellsMade (p : Position) (m : Move) (by : Option Ending) (before after : List ℕ) : Type 0 where
+  pub san : List ℕ
+  pub is_san : IsSan p m san
+  pub told : after ≡ with_fields before (san ∷ end_fields by)
 
 -- a wrong claim, and the move that it states, if it states one
 abbrev pub IsWrongClaimLine : GameState → Option Move → List ℕ → Type 0

@@ -1,20 +1,24 @@
-ghost use Rattle.std.specs.Prelude.{◌≡◌, ◌≤◌, ◌+◌, [], ◌∷◌, ◌++◌, length, codes, decimal};
+ghost use Rattle.std.specs.Prelude.{◌≡◌, ◌≤◌, ◌+◌, [], ◌∷◌, ◌++◌, length, codes, decimal, IfOk, OnOk, OnErr};
 ghost use Rattle.arrayvec.specs.ArrayString.{array_string_len};
 ghost use Rattle.chess_entry.specs.State.{position_of, ply_of};
 ghost use Rattle.chess_entry.specs.Story.{stated};
 ghost use Rattle.chess_entry.specs.Outcome.{ending, is_granted, claimed_draw, resigned, flag_fallen};
 ghost use Rattle.chess_board.specs.declared.moves.Move.{Move};
-ghost use Rattle.chess_game.specs.Turn.{IsPlayable};
+ghost use Rattle.chess_board.specs.Next.{next};
+ghost use Rattle.chess_board.specs.Legal.{IsLegal};
+ghost use Rattle.chess_entry.specs.Follow.{moved};
+ghost use Rattle.chess_game.specs.Turn.{IsInTime, IsPlayable};
 ghost use Rattle.chess_answer.specs.Fields.{with_fields, ok_text, end_fields, colour_text};
-ghost use Rattle.chess_answer.specs.Acts.{named_text, free_side, TellsMove, IsClaimLine, IsGameLine, MayCome};
+ghost use Rattle.chess_answer.specs.Acts.{named_text, free_side, TellsMove, TellsMade, IsClaimLine, IsGameLine, MayCome};
 
 use crate::fields::{AnswerLine, accepted, begun, push_ending, push_field, push_number};
 use chess_bits::Colour;
-use chess_board::Move;
+use chess_board::{Board, Move};
 use chess_end::{Article, Ending, GameResult, flag_result};
 use chess_entry::{Entry, Event, GameNumber, Name};
 use chess_game::Game;
-use chess_san::write;
+use chess_san::{write, write_made};
+use std::alloc::AllocError;
 
 // The answer to an act of which only the game is told.
 fn told(word: &str, game: &Game) -> AnswerLine
@@ -74,6 +78,35 @@ fn move_line(game: &Game, mv: &Move) -> AnswerLine
     let mut text = told("move", game);
     push_move(&mut text, game, mv);
     text
+}
+
+// Appends the SAN of the move that was made last, by the board before it, and the ending where the game is over.
+fn push_made(text: &mut AnswerLine, before: &Board, mv: &Move, game: &Game)
+    requires room { array_string_len text.old ≤ 64 }
+    requires legal { IsLegal before.now mv.now }
+    requires made { position_of game.now ≡ next before.now mv.now }
+    ensures { TellsMade before.now mv.now game.now.ending text.old.bytes text.new.bytes }
+{
+    push_field(text, write_made(before, *mv, game.board()).as_str());
+    push_ending(text, game.ending());
+}
+
+/// Makes a move in a game, and gives the answer to it that `act_line` gives before it: the position after the move, and
+/// its ending, are found once. It fails where memory is refused, and then the game is as it was.
+pub fn play_told(game: &mut Game, at: u64, mv: Move) -> Result<AnswerLine, AllocError>
+    requires in_time { IsInTime game.old at }
+    requires playable { IsPlayable game.old mv }
+    ensures told { IfOk result (λ line.
+        TellsMove game.old mv (ok_text (codes "move") game.old.number []) line.bytes) }
+    ensures made { OnOk result (game.new ≡ moved game.old at mv) }
+    ensures refused { OnErr result (game.new ≡ game.old) }
+{
+    let mut text = told("move", game);
+    push_number(&mut text, u64::from(game.ply()) + 1);
+    let before = *game.board();
+    game.play(at, mv)?;
+    push_made(&mut text, &before, &mv, game);
+    Ok(text)
 }
 
 // A draw by an article.

@@ -174,8 +174,7 @@ impl Player {
                 if self.table.entries() == u64::MAX {
                     return Err(Fault::Input);
                 }
-                let line = self.table.act_line(&entry);
-                self.table.enter(entry)?;
+                let line = self.table.enter_told(&entry)?;
                 self.keep(&entry)?;
                 Ok(self.alone(line))
             }
