@@ -1,0 +1,8 @@
+use Rattle.std.proofs.Common.{◌≡◌, ◌++◌, [], false, drop, map}
+use Rattle.archive_text.specs.Moves as spec
+use Rattle.archive_text.proofs.moves.told_tokens.Given as goal
+
+abbrev pub invariant-loop-token : goal.invariant-loop-token
+invariant-loop-token l =
+    map (λ t. t.items) l.told.items ++ spec.told_tokens l.number l.again (map (λ t. t.now) (drop l.token-index l.tokens)) l.left
+    ≡ spec.told_tokens [] false (map (λ t. t.now) l.tokens) l.clocks
