@@ -9,7 +9,7 @@ use Rattle.lobby_archive.specs.Steps.{Act, Step, Begun, Gone, Over, Came, Refuse
 use Rattle.lobby_archive.specs.Files.{contains, archive_after, archive_in, log_after, log_in, safe_in, safe_log_in, fresh_in, is_quiet, IsFront, IsHonestStep, IsHonest}
 use Rattle.lobby_archive.specs.Answers.{is_accepted}
 use Rattle.lobby_archive.specs.Clerk.{View, is_asked, is_kept, asks, puts, drops, seen, come, left, IsStaged, IsCome, IsStep, IsNothing, IsRun}
-use Rattle.lobby_archive.specs.Laws.{IsOnce, IsWithin, is_seen, is_waiting, is_sent, is_dropped, was_over, acts_in, accepted_in, AllRight, AllDrops, AllSafe}
+use Rattle.lobby_archive.specs.Laws.{IsOnce, IsWithin, is_seen, is_waiting, is_sent, is_dropped, was_over, was_put, IsHanded, IsDropStep, IsHandedStep, AllHanded, acts_in, accepted_in, AllRight, AllDrops, AllSafe}
 use Rattle.lobby_archive.proofs.Lists.{contains-append, contains_more, append_none, front_self, front_more, front_through, front_contains, once_front, once_more, within_more, within_front}
 use Rattle.lobby_archive.proofs.Stages.{is_settled, not_settled, waits_or_settled, pick, over_some, over_waits, over_settled, seen_over, waits_over, come_some, waits_come, come_settled, stays, seen_refused, waits_refused, left_some, left_asked, left_settled, kept_some, and_first, and_second, not_true, has_left, kept_is, none_not, asked_some, and_both, over_left, come_left, refused_left, left_left, sent_left}
 
@@ -514,6 +514,72 @@ dropped_safe [] h d game k = absurd (false≢true k)
 dropped_safe (s ∷ past) h d game k =
     front_contains game (safe_in past) (safe_in (s ∷ past)) (step_safe s past h.1)
     (step_dropped s past d game (dropped_safe past h.1 d.1 game) k)
+
+-- a game stands in the archive since its PGN was handed to it
+put_by : (says : Bool) (g game : ℕ) (archive : List ℕ) (w : Bool) → (contains game archive ≡ true → w ≡ true) →
+    contains game (if says then archive ++ g ∷ [] else archive) ≡ true → ((g == game && says) || w) ≡ true
+put_by true g game archive w f h = by_game (g == game) (contains game archive) w f (sym (contains_more game g archive) ∙ h)
+  where
+    by_game : (b c w : Bool) → (c ≡ true → w ≡ true) → (if b then true else c) ≡ true → ((b && true) || w) ≡ true
+    by_game true c w f h = refl
+    by_game false c w f h = f h
+put_by false g game archive w f h = not_put (g == game) w (f h)
+  where
+    not_put : (b w : Bool) → w ≡ true → ((b && false) || w) ≡ true
+    not_put true w h = h
+    not_put false w h = h
+
+step_put : (s : Step) (past : List Step) → IsHonestStep s past → (game : ℕ) → (contains game (archive_in past) ≡ true → was_put past game ≡ true) →
+    contains game (archive_in (s ∷ past)) ≡ true → was_put (s ∷ past) game ≡ true
+step_put (Begun archive log) past k game f m = f (front_contains game archive (archive_in past) k.0.1 m)
+step_put Gone past k game f m = f m
+step_put (Over g says) past k game f m = f m
+step_put (Came g says) past k game f m = put_by says g game (archive_in past) (was_put past game) f m
+step_put (Refused g) past k game f m = f m
+step_put (Answered act says) past k game f m = f m
+step_put Synced past k game f m = f m
+step_put (Left g says) past k game f m = f m
+step_put (Asked says) past k game f m = f m
+
+put_once : (steps : List Step) → IsHonest steps → (game : ℕ) → contains game (archive_in steps) ≡ true → was_put steps game ≡ true
+put_once [] h game m = m
+put_once (s ∷ past) h game m = step_put s past h.0 game (put_once past h.1 game) m
+
+-- what is safe was handed over, and synced then
+handed_before : (s : Step) (past : List Step) (game : ℕ) → IsHanded past game → IsHanded (s ∷ past) game
+handed_before s past game h =
+    record { since = s ∷ h.since; before = h.before; synced = ap (λ (xs : List Step). s ∷ xs) h.synced; put = h.put; stands = h.stands }
+
+step_handed : (s : Step) (past : List Step) (game : ℕ) → IsHonest past → (contains game (safe_in past) ≡ true → IsHanded past game) →
+    contains game (safe_in (s ∷ past)) ≡ true → IsHanded (s ∷ past) game
+step_handed Synced past game h f m = record { since = []; before = past; synced = refl; put = put_once past h game m; stands = m }
+step_handed (Begun archive log) past game h f m = handed_before (Begun archive log) past game (f m)
+step_handed Gone past game h f m = handed_before Gone past game (f m)
+step_handed (Over g says) past game h f m = handed_before (Over g says) past game (f m)
+step_handed (Came g says) past game h f m = handed_before (Came g says) past game (f m)
+step_handed (Refused g) past game h f m = handed_before (Refused g) past game (f m)
+step_handed (Answered act says) past game h f m = handed_before (Answered act says) past game (f m)
+step_handed (Left g says) past game h f m = handed_before (Left g says) past game (f m)
+step_handed (Asked says) past game h f m = handed_before (Asked says) past game (f m)
+
+handed : (past : List Step) → IsHonest past → (game : ℕ) → contains game (safe_in past) ≡ true → IsHanded past game
+handed [] h game m = absurd (false≢true m)
+handed (s ∷ past) h game m = step_handed s past game h.1 (handed past h.1 game) m
+
+drop_handed : (s : Step) (past : List Step) → IsHonest past → IsDropStep s past → IsHandedStep s past
+drop_handed (Begun archive log) past h d = tt
+drop_handed Gone past h d = tt
+drop_handed (Over g says) past h d = tt
+drop_handed (Came g says) past h d = tt
+drop_handed (Refused g) past h d = tt
+drop_handed (Answered act says) past h d = tt
+drop_handed Synced past h d = tt
+drop_handed (Left g says) past h d = λ m. handed past h g (d m).1
+drop_handed (Asked says) past h d = tt
+
+pub all_handed : (steps : List Step) → IsHonest steps → AllDrops steps → AllHanded steps
+all_handed [] h d = tt
+all_handed (s ∷ past) h d = (drop_handed s past h.1 d.0, all_handed past h.1 d.1)
 
 -- what was seen to be over was over at some time
 or_weaker : (a b c : Bool) → (b ≡ true → c ≡ true) → (a || b) ≡ true → (a || c) ≡ true

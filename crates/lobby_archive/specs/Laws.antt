@@ -95,6 +95,31 @@ abbrev pub AllDrops : List Step → Type 0
 AllDrops [] = Unit {0}
 AllDrops (s ∷ past) = IsDropStep s past × AllDrops past
 
+-- whether the PGN of a game was ever handed to the archive
+abbrev pub put_after : Step → ℕ → Bool → Bool
+put_after (Came g puts) game before = (g == game && puts) || before
+put_after _ game before = before
+
+abbrev pub was_put : List Step → ℕ → Bool
+was_put [] game = false
+was_put (s ∷ past) game = put_after s game (was_put past game)
+
+-- A sync has answered, and before it the PGN of the game was handed to the archive and stood there.
+pub record IsHanded (past : List Step) (game : ℕ) : Type 0 where
+  pub since : List Step
+  pub before : List Step
+  pub synced : past ≡ since ++ Synced ∷ before
+  pub put : was_put before game ≡ true
+  pub stands : contains game (archive_in before) ≡ true
+
+abbrev pub IsHandedStep : Step → List Step → Type 0
+IsHandedStep (Left game drops) past = drops ≡ true → IsHanded past game
+IsHandedStep _ past = Unit {0}
+
+abbrev pub AllHanded : List Step → Type 0
+AllHanded [] = Unit {0}
+AllHanded (s ∷ past) = IsHandedStep s past × AllHanded past
+
 -- the accepted acts, in the order of their answers, behind those that the log showed when the lobby began
 abbrev pub acts_after : Step → List Act → List Act
 acts_after (Begun archive log) acts = log

@@ -3,7 +3,7 @@ ghost use Rattle.std.specs.Prelude.{◌≡◌, ◌⊎◌, ◌++◌, ◌∷◌, �
 ghost use Rattle.lobby_archive.specs.Steps.{Step, Act, Asked};
 ghost use Rattle.lobby_archive.specs.Files.{contains, archive_in, safe_in, log_in, safe_log_in, IsHonest, IsFront};
 ghost use Rattle.lobby_archive.specs.Clerk.{View, IsRun};
-ghost use Rattle.lobby_archive.specs.Laws.{IsOnce, IsWithin, is_seen, is_waiting, is_dropped, was_over, acts_in, accepted_in, AllRight, AllDrops, AllSafe};
+ghost use Rattle.lobby_archive.specs.Laws.{IsOnce, IsWithin, is_seen, is_waiting, is_dropped, was_over, acts_in, accepted_in, AllRight, AllDrops, AllHanded, AllSafe};
 
 /// Each decision is the one that follows from what happened before, and no other.
 pub fn law_of_decisions()
@@ -11,9 +11,11 @@ pub fn law_of_decisions()
 {}
 
 /// Whatever happens, and wherever a lobby is killed: a drop is sent only for a game that was seen to be over, and that stands in
-/// the archive as the last sync which answered has left it. A game for which a drop was sent stands there ever after.
+/// the archive as the last sync which answered has left it; so behind its PGN's being handed to the archive, and a sync that
+/// has answered since. A game for which a drop was sent stands there ever after.
 pub fn law_of_drops()
     ensures sent { (steps : List Step) (now : View) → IsRun steps now → AllDrops steps }
+    ensures handed { (steps : List Step) (now : View) → IsRun steps now → IsHonest steps → AllHanded steps }
     ensures kept { (steps : List Step) (now : View) → IsRun steps now → IsHonest steps → (game : ℕ) → is_dropped steps game ≡ true → contains game (safe_in steps) ≡ true }
 {}
 
