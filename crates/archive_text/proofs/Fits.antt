@@ -1,9 +1,9 @@
 -- Tokens that fit into lines.
-use Rattle.std.proofs.Common.{◌≡◌, ◌≢◌, ℕ, true, false, get_or, ◌<◌, List, [], ◌∷◌, length, arith}
+use Rattle.std.proofs.Common.{◌≡◌, ◌≢◌, ℕ, Bool, true, false, ◌==◌, get_or, ◌<◌, List, [], ◌∷◌, length, refl, sym, ◌∙◌, arith}
 use Rattle.std.proofs.lemmas.Bool.{false≢true}
 use Rattle.std.proofs.lemmas.Bool.Decides.{nat_tests}
 use Rattle.std.proofs.lemmas.List.Sums.{AllPass-from_list_all}
-use Rattle.chess_text.specs.Movetext.{IsToken, is_token}
+use Rattle.chess_text.specs.Movetext.{IsToken, is_token, are_tokens}
 use Rattle.archive_text.specs.Archived.{is_laid}
 
 from_test : (token : List ℕ) → is_token token ≡ true → IsToken token
@@ -17,3 +17,8 @@ token_at (token ∷ tokens) i d e within =
 pub laid_some : (tokens : List (List ℕ)) → is_laid tokens ≡ true → tokens ≢ []
 laid_some [] e = absurd (false≢true e)
 laid_some (token ∷ tokens) e = λ k. cc
+
+-- where there is a token, it is asked of each whether it fits
+pub laid_each : (tokens : List (List ℕ)) (empty : Bool) → empty ≡ (length tokens == 0) → empty ≡ false → are_tokens tokens ≡ is_laid tokens
+laid_each [] empty e h = absurd (false≢true (sym h ∙ e))
+laid_each (token ∷ tokens) empty e h = refl

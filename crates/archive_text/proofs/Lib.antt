@@ -1,1 +1,2 @@
 mod Fits
+mod Kept

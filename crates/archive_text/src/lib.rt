@@ -2,6 +2,7 @@
 #![tactic(auto)]
 
 mod heading;
+mod law;
 mod lines;
 mod moves;
 mod rounds;
@@ -11,5 +12,6 @@ mod tests;
 mod whole;
 
 pub use heading::Heading;
+pub use law::law_of_moves;
 pub use rounds::{Outcome, results};
 pub use whole::{TextFault, archived};

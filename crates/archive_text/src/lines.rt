@@ -1,6 +1,7 @@
 //! Tokens in lines.
 ghost use Rattle.std.specs.Prelude.{◌≡◌, ℕ, true, [], ◌∷◌, ◌++◌, ◌≤◌, List, map, IfOk, OnOk};
-ghost use Rattle.chess_text.specs.Movetext.{IsToken, IsUnderWay, PutsMovetext, is_token, are_tokens};
+ghost use Rattle.std.specs.List.{list_all};
+ghost use Rattle.chess_text.specs.Movetext.{IsToken, IsUnderWay, PutsMovetext, is_token};
 ghost use Rattle.archive_text.specs.Archived.{is_laid};
 
 use std::alloc::AllocError;
@@ -15,11 +16,18 @@ fn is_short(token: &[u8]) -> bool
     !token.is_empty() && token.len() <= WIDEST
 }
 
+// Whether each token fits into a line.
+fn are_short(tokens: &[Vec<u8>]) -> bool
+    ensures { result ≡ list_all (λ t. is_token t.items) tokens.now }
+{
+    tokens.iter().all(|token| is_short(token.as_slice()))
+}
+
 /// Whether there is a token, and each fits into a line.
 pub fn are_laid(tokens: &[Vec<u8>]) -> bool
     ensures { result ≡ is_laid (map (λ t. t.items) tokens.now) }
 {
-    !tokens.is_empty() && tokens.iter().all(|token| is_short(token.as_slice()))
+    !tokens.is_empty() && are_short(tokens)
 }
 
 // Writes a token behind those of the movetext under way, whose last line has `width` characters: in that line, if it fits there,

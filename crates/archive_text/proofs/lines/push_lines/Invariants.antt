@@ -1,4 +1,4 @@
-use Rattle.std.proofs.Common.{◌≡◌, ◌≤◌, map, take}
+use Rattle.std.proofs.Common.{◌≤◌, map, take}
 use Rattle.chess_text.specs.Movetext.{IsUnderWay}
 use Rattle.archive_text.proofs.lines.push_lines.Given as goal
 

@@ -11,7 +11,8 @@ returns-clause-under_way c = λ front tokens h.
     let width : ℕ = c.args.width in
     let separator : List ℕ = c.if-width-eq0.before.0.now in
     let written : c.extend_from_slice-2.new.self.items ≡ (old ++ separator) ++ token =
-    c.in_ok-extend_from_slice-2.ensures.items ∙ ap (λ t. t ++ token) c.in_ok-extend_from_slice.ensures.items in
+    c.in_ok-extend_from_slice-2.ensures.items
+    ∙ ap (λ t. t ++ token) (c.in_ok-extend_from_slice.ensures.items ∙ ap (λ t. old ++ t) c.as_bytes.ensures.value) in
     let at : (text : List ℕ) (n : ℕ) → separator ++ token ≡ text → c.if-width-eq0.before.1 + length token ≡ n →
     IsUnderWay front (tokens ++ (token ∷ [])) (old ++ text) n →
     IsUnderWay front (tokens ++ (token ∷ [])) c.extend_from_slice-2.new.self.items (c.if-width-eq0.before.1 + length token) =
