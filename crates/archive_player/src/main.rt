@@ -1,0 +1,57 @@
+//! Makes PGNs of the archive from the server's answers. On standard input a line `event`, `site`, `date`, `round`, `white` or
+//! `black`, with a value behind a space, sets what that tag says from there on; and `clocks` with numbers of milliseconds, `-`
+//! where one is not known, what the clocks showed after the moves of the next game. Behind a line `ok pgn G K` stand the K lines
+//! of a game's PGN: that of the archive is written, and no clock is known any more.
+#![tactic(auto)]
+
+mod input;
+mod told;
+
+use anyhow::Result;
+use archive_text::archived;
+use input::lines_behind;
+use std::io::{self, BufRead, BufReader, Write};
+use std::process::ExitCode;
+use told::Told;
+
+fn main(rt: HostRuntime) -> ExitCode {
+    match run(&rt) {
+        Ok(()) => ExitCode::SUCCESS,
+        Err(error) => {
+            let _ = eprintln!(rt; "{error:#}");
+            ExitCode::FAILURE
+        }
+    }
+}
+
+fn run(rt: &HostRuntime) -> Result<()> {
+    let mut told = Told::new(rt.alloc());
+    let mut pgn = String::new(rt.alloc());
+    let mut behind: u32 = 0;
+    for line in BufReader::new(rt.alloc(), rt.reader())?.lines(rt.alloc()) {
+        let line = line?;
+        if behind == 0 {
+            match lines_behind(line.as_str()) {
+                Some(lines) => behind = lines,
+                None => told.set(line.as_str())?,
+            }
+            continue;
+        }
+        pgn.push_str(line.as_str())?;
+        pgn.push('\n')?;
+        behind -= 1;
+        if behind == 0 {
+            write_game(rt, &told, pgn.as_str())?;
+            pgn.clear();
+            told.forget_clocks();
+        }
+    }
+    Ok(())
+}
+
+// Writes a game's PGN of the archive.
+fn write_game(rt: &HostRuntime, told: &Told, pgn: &str) -> Result<()> {
+    let text = archived(rt.alloc(), &told.heading(), pgn, told.clocks())?;
+    io::writer(rt).write_all(text.as_slice())?;
+    Ok(())
+}

@@ -1,0 +1,2 @@
+mod Fits
+mod Kept

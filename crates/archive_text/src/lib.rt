@@ -1,0 +1,17 @@
+//! Games as texts of an archive.
+#![tactic(auto)]
+
+mod heading;
+mod law;
+mod lines;
+mod moves;
+mod rounds;
+mod tags;
+#[cfg(test)]
+mod tests;
+mod whole;
+
+pub use heading::Heading;
+pub use law::law_of_moves;
+pub use rounds::{Outcome, results};
+pub use whole::{TextFault, archived};

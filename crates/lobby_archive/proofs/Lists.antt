@@ -1,0 +1,102 @@
+-- Games among games, and lists that begin with others.
+use Rattle.std.proofs.Common.{ℕ, ◌≡◌, ◌⊎◌, inl, inr, Bool, true, false, ◌||◌, ◌==◌, List, [], ◌∷◌, ◌++◌, refl, sym, ap, subst, ◌∙◌, append_assoc}
+use Rattle.std.specs.Prelude.{if◌then◌else◌}
+use Rattle.std.proofs.lemmas.Bool.{false≢true}
+use Rattle.std.proofs.lemmas.Bool.Decides.{Decides-eqb}
+use Rattle.lobby_archive.specs.Files.{contains, IsFront}
+use Rattle.lobby_archive.specs.Laws.{IsOnce, IsWithin}
+
+-- two tests that pass together are one
+pub same_test : (a b : Bool) → (a ≡ true → b ≡ true) → (b ≡ true → a ≡ true) → a ≡ b
+same_test true true f g = refl
+same_test true false f g = absurd (false≢true (f refl))
+same_test false true f g = absurd (false≢true (g refl))
+same_test false false f g = refl
+
+pub eqb_swap : (a b : ℕ) → (a == b) ≡ (b == a)
+eqb_swap a b = same_test (a == b) (b == a) (λ h. (Decides-eqb b a).1 (sym ((Decides-eqb a b).0 h))) (λ h. (Decides-eqb a b).1 (sym ((Decides-eqb b a).0 h)))
+
+or_assoc : (a b c : Bool) → (a || (b || c)) ≡ ((a || b) || c)
+or_assoc true b c = refl
+or_assoc false b c = refl
+
+pub contains-append : (g : ℕ) (xs ys : List ℕ) → contains g (xs ++ ys) ≡ (contains g xs || contains g ys)
+contains-append g [] ys = refl
+contains-append g (x ∷ xs) ys = ap (λ b. x == g || b) (contains-append g xs ys) ∙ or_assoc (x == g) (contains g xs) (contains g ys)
+
+or_last : (c b : Bool) → (if b then true else c) ≡ (c || (b || false))
+or_last true true = refl
+or_last true false = refl
+or_last false true = refl
+or_last false false = refl
+
+-- one more
+pub contains_more : (g x : ℕ) (xs : List ℕ) → contains g (xs ++ x ∷ []) ≡ (if x == g then true else contains g xs)
+contains_more g x xs = contains-append g xs (x ∷ []) ∙ sym (or_last (contains g xs) (x == g))
+
+or_true : (a b : Bool) → a ≡ true → (a || b) ≡ true
+or_true a b h = ap (λ t. t || b) h
+
+pub append_none : {A : Type 0} → (xs : List A) → xs ≡ xs ++ []
+append_none [] = refl
+append_none (x ∷ xs) = ap (λ ys. x ∷ ys) (append_none xs)
+
+-- fronts
+pub front_self : {A : Type 0} → (xs : List A) → IsFront xs xs
+front_self xs = ([], append_none xs)
+
+pub front_more : {A : Type 0} → (a b : List A) (x : A) → IsFront a b → IsFront a (b ++ x ∷ [])
+front_more a b x h = (h.0 ++ x ∷ [], ap (λ xs. xs ++ x ∷ []) h.1 ∙ append_assoc a h.0 (x ∷ []))
+
+pub front_through : {A : Type 0} → (a b c : List A) → IsFront a b → IsFront b c → IsFront a c
+front_through a b c h k = (h.0 ++ k.0, k.1 ∙ (ap (λ xs. xs ++ k.0) h.1 ∙ append_assoc a h.0 k.0))
+
+pub front_contains : (g : ℕ) (a b : List ℕ) → IsFront a b → contains g a ≡ true → contains g b ≡ true
+front_contains g a b h k = ap (contains g) h.1 ∙ (contains-append g a h.0 ∙ or_true (contains g a) (contains g h.0) k)
+
+-- no game twice
+or_false_first : (a b : Bool) → (a || b) ≡ false → a ≡ false
+or_false_first true b h = absurd (false≢true (sym h))
+or_false_first false b h = refl
+
+or_false_second : (a b : Bool) → (a || b) ≡ false → b ≡ false
+or_false_second true b h = absurd (false≢true (sym h))
+or_false_second false b h = h
+
+or_false : (a b : Bool) → a ≡ false → b ≡ false → (a || b) ≡ false
+or_false true b h k = absurd (false≢true (sym h))
+or_false false b h k = k
+
+once-append : (xs ys : List ℕ) → IsOnce (xs ++ ys) → IsOnce xs
+once-append [] ys h = tt
+once-append (x ∷ xs) ys h =
+    (or_false_first (contains x xs) (contains x ys) (sym (contains-append x xs ys) ∙ h.0), once-append xs ys h.1)
+
+once_along : (a b : List ℕ) → a ≡ b → IsOnce a → IsOnce b
+once_along a b e h = subst IsOnce e h
+
+pub once_front : (a b : List ℕ) → IsFront a b → IsOnce b → IsOnce a
+once_front a b h k = once-append a h.0 (once_along b (a ++ h.0) h.1 k)
+
+pub once_more : (g : ℕ) (xs : List ℕ) → IsOnce xs → contains g xs ≡ false → IsOnce (xs ++ g ∷ [])
+once_more g [] h k = (refl, tt)
+once_more g (x ∷ xs) h k = (
+  contains-append x xs (g ∷ [])
+      ∙ or_false (contains x xs) (g == x || false) h.0
+      (or_false (g == x) false (eqb_swap g x ∙ or_false_first (x == g) (contains g xs) k) refl),
+  once_more g xs h.1 (or_false_second (x == g) (contains g xs) k),
+)
+
+-- lists of which some are left out
+pub within_more : {A : Type 0} → (xs ys : List A) (x : A) → IsWithin xs ys → IsWithin (xs ++ x ∷ []) (ys ++ x ∷ [])
+within_more [] [] x h = inl (refl, tt)
+within_more [] (y ∷ ys) x h = inr (within_more [] ys x tt)
+within_more (a ∷ xs) [] x h = absurd h
+within_more (a ∷ xs) (y ∷ ys) x (inl h) = inl (h.0, within_more xs ys x h.1)
+within_more (a ∷ xs) (y ∷ ys) x (inr h) = inr (within_more (a ∷ xs) ys x h)
+
+pub within_front : {A : Type 0} → (xs more ys : List A) → IsWithin (xs ++ more) ys → IsWithin xs ys
+within_front [] more ys h = tt
+within_front (x ∷ xs) more [] h = absurd h
+within_front (x ∷ xs) more (y ∷ ys) (inl h) = inl (h.0, within_front xs more ys h.1)
+within_front (x ∷ xs) more (y ∷ ys) (inr h) = inr (within_front (x ∷ xs) more ys h)
