@@ -22,6 +22,7 @@ use Rattle.chess_moves.specs.declared.masks.Masks.{Masks}
 use Rattle.chess_moves.specs.Targets.{plain, GoesTo, GoesSafely, IsPiece}
 use Rattle.chess_moves.specs.Masks.{EndsChecks, KeepsLine, HoldsMasks}
 use Rattle.chess_moves.specs.Counting.{IsFree, AreFree}
+use Rattle.chess_moves.proofs.Watching.{own_on}
 use Rattle.chess_moves.proofs.SetForms.{both_set, length-meet, pawn_set}
 use Rattle.chess_moves.proofs.Foes.{kind_set}
 use Rattle.chess_moves.proofs.Safely.{piece_goes_set, pawn_set_none, pawn_set_away}
@@ -36,7 +37,9 @@ ends_allowed p masks kind from holds free =
     (λ q. EndsChecks p masks.king q × KeepsLine p masks.king from q) holds.ends
     (λ q on ends. (
       ends,
-      λ way l below slider pin. absurd (holds.pinned from way l (kind, free.own) free.unpinned below slider pin),
+      λ way l below slider pin. absurd (false≢true (sym free.unpinned
+          ∙ (holds.pinned.exact from (own_on p from (kind, free.own))).1
+          ((kind, free.own), (way, l, below, slider, pin)))),
     ))
     (λ q on both. both.0)
 

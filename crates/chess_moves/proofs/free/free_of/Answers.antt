@@ -18,11 +18,11 @@ returns-then-is_pawn c =
     rw (c.without.ensures, c.without-unpinned.ensures, c.meet.ensures, c.of_kind.ensures, c.men.ensures)
     (subst Free' (sym pawn)
     (free_pawns p masks.pinned c.args.left c.passing.result c.requires.masks.valid c.requires.whole
-    c.requires.masks.pinned_whole c.requires.own c.passing.ensures.whole c.passing.ensures.passing))
+    c.requires.masks.pinned.whole c.requires.own c.passing.ensures.whole c.passing.ensures.passing))
 
 pub returns-else-is_pawn : goal.returns-else-is_pawn
 returns-else-is_pawn c =
     let masks = c.args.masks.now in
     rw (c.without-unpinned.ensures, c.meet.ensures, c.of_kind.ensures, c.men.ensures)
     (free_others c.args.board.now masks.pinned c.args.left c.args.kind c.requires.masks.valid c.requires.whole
-    c.requires.masks.pinned_whole c.requires.own (λ pawn. false≢true (c.if-is_pawn.ensures.1 pawn)))
+    c.requires.masks.pinned.whole c.requires.own (λ pawn. false≢true (c.if-is_pawn.ensures.1 pawn)))
