@@ -13,7 +13,7 @@ use Rattle.lobby_loop.specs.declared.talk.Talk.{Talk}
 use Rattle.lobby_loop.specs.Talking.{Begins, Moves, MovesAnew}
 use Rattle.lobby_loop.specs.Making.{IsMadeOf}
 use Rattle.lobby_loop.specs.Guests.{IsNewGuest, IsAsBefore, AreAttended, AreTold, IsWritten, IsLookedAfter}
-use Rattle.lobby_loop.specs.Lines.{TakesIn, HandsOn}
+use Rattle.lobby_loop.specs.Lines.{TakesIn, HandsOn, IsKept}
 
 -- Each browser is told those of these messages that are for its connection, whole and in their order, as they go out.
 pub record AreDelivered {S : Type 0} (told : List Told) (old new : List (Guest S)) : Type 0 where
@@ -38,6 +38,7 @@ abbrev pub TellsServer : {S : Type 0} → (S → Option (List ℕ)) → List ℕ
 TellsServer contents front None server old new = (server ≡ None) × (front ≡ []) × (new ≡ old)
 TellsServer {S} contents front (Some link) server old new =
     (after : Link S) × (server ≡ Some after) × HandsOn front (contents link.stream) (contents after.stream) old new
+    × IsKept link after
 
 -- The desk is told of one who is let go that its connection is gone, if that had come.
 abbrev pub IsClosedIf : Bool → Option ℕ → Talk → Talk → Type 0
@@ -74,7 +75,7 @@ pub record IsHallAsBefore {S : Type 0} (old new : Hall S) : Type 0 where
 abbrev pub IsServerAsBefore : {S : Type 0} → Option (Link S) → Option (Link S) → Type 0
 IsServerAsBefore None server = server ≡ None
 IsServerAsBefore {S} (Some link) server =
-    (after : Link S) × (server ≡ Some after) × (after.held ≡ link.held) × (after.stream ≡ link.stream)
+    (after : Link S) × (server ≡ Some after) × (after.stream ≡ link.stream) × IsKept link after
 
 -- A browser comes, behind those who are there, or is turned away.
 pub record Admits {S : Type 0} (stream : S) (old new : Hall S) : Type 0 where
@@ -121,3 +122,26 @@ pub record HasTurned {S : Type 0} (remaining contents : S → Option (List ℕ))
   pub writes : AllZip (IsWritten contents old.site) told written
   pub parted_from : AreParted written new.guests.items rest new.talk
   pub site : new.site ≡ old.site
+
+-- Browsers come or are turned away, one after the other, the last first.
+abbrev pub AreAdmitted : {S : Type 0} → List S → Hall S → Hall S → Type 0
+AreAdmitted [] old new = new ≡ old
+AreAdmitted {S} (stream ∷ before) old new = (between : Hall S) × AreAdmitted before old between × Admits stream between new
+
+-- The server is reached, where it was not there; or it is not.
+abbrev pub IsReached : {S : Type 0} → Hall S → Hall S → Type 0
+IsReached {S} old new = (new ≡ old) ⊎ ((old.server ≡ None) × ((stream : S) × ServerComes stream old new))
+
+-- One turn of the lobby: the server is reached or not, browsers come or are turned away, and then all who are connected have
+-- one turn.
+pub record IsLobbyTurn {S : Type 0} (remaining contents : S → Option (List ℕ)) (at : ℕ) (old new : Hall S) : Type 0 where
+  pub reached : Hall S
+  pub reaches : IsReached old reached
+  pub streams : List S
+  pub welcomed : Hall S
+  pub welcomes : AreAdmitted streams reached welcomed
+  pub turns : HasTurned remaining contents at welcomed new
+
+-- of a socket's bytes nothing is known
+abbrev pub unknown : {S : Type 0} → S → Option (List ℕ)
+unknown stream = None

@@ -77,12 +77,15 @@ fn stream_of(alloc: Global, gives: &'static [Gives], takes: usize) -> Peer {
     }
 }
 
-// One browser that gives these, before a server that gives those, after so many turns with all sockets awake.
-fn played(
+// One browser that gives these, before a server that gives those, after so many turns with all sockets awake, so many
+// milliseconds apart.
+fn played_for(
     rt: &HostRuntime,
     browser: &'static [Gives],
     server: &'static [Gives],
     takes: usize,
+    turns: u64,
+    apart: u64,
 ) -> io::Result<Hall<Peer>> {
     let alloc = rt.alloc();
     let mut host = Vec::new(alloc);
@@ -93,12 +96,22 @@ fn played(
     let mut hall = Hall::new(alloc, RandomState::new(rt)?, site, Vec::new(alloc));
     hall.server_came(stream_of(alloc, server, 1_000))?;
     hall.admit(stream_of(alloc, browser, takes), 2, 0);
-    for at in 0..90 {
-        hall.turn(at)?;
+    for turn in 0..turns {
+        hall.turn(turn.saturating_mul(apart))?;
         hall.wake(2);
         hall.wake_server();
     }
     Ok(hall)
+}
+
+// The same after 90 turns in 90 milliseconds.
+fn played(
+    rt: &HostRuntime,
+    browser: &'static [Gives],
+    server: &'static [Gives],
+    takes: usize,
+) -> io::Result<Hall<Peer>> {
+    played_for(rt, browser, server, takes, 90, 1)
 }
 
 // Whether what was written to the browser ends with these bytes.
@@ -160,12 +173,86 @@ fn a_flood_is_said_line_by_line(rt: HostRuntime) -> Result<(), Fail> {
     Ok(())
 }
 
+// A message with a line feed in it, one of 256 bytes, one that is no ASCII, and one without a byte.
+const NONE: &[u8] =
+    b"\x81\x86\0\0\0\0show\n7\x81\xfe\x01\0\0\0\0\0show 000000000000000000000000000000000000000000000000000000000\
+0000000000000000000000000000000000000000000000000000000000000000000000000000000000000000000000000000\
+0000000000000000000000000000000000000000000000000000000000000000000000000000000000000000000001\
+\x81\x87\0\0\0\0show \xc3\xa4\x81\x80\0\0\0\0";
+
 #[test]
-fn who_is_reset_is_let_go(rt: HostRuntime) -> Result<(), Fail> {
-    let browser = &[Gives::Bytes(UPGRADE), Gives::Nothing, Gives::Reset];
+fn what_is_no_line_is_refused_and_goes_nowhere(rt: HostRuntime) -> Result<(), Fail> {
+    let browser = &[Gives::Bytes(UPGRADE), Gives::Bytes(NONE), Gives::Nothing];
     let hall = played(&rt, browser, &[Gives::Nothing], 1_000)?;
-    assert!(rt; hall.len() == 0);
-    assert!(rt; hall.has_server());
+    assert!(rt; is_asked(&hall, b""));
+    assert!(rt;
+        is_told(
+            &hall,
+            b"\x81\x0cserver here\n\x81\x0dno 1 BadLine\n\x81\x0dno 1 BadLine\n\x81\x0dno 1 BadLine\n\x81\x0dno 1 BadLine\n"
+        )
+    );
+    Ok(())
+}
+
+// 22 times `leave lobby`
+const FLOOD: &[u8] =
+    b"\x81\x8b\0\0\0\0leave lobby\x81\x8b\0\0\0\0leave lobby\x81\x8b\0\0\0\0leave lobby\x81\x8b\0\0\0\0leave lobby\
+\x81\x8b\0\0\0\0leave lobby\x81\x8b\0\0\0\0leave lobby\x81\x8b\0\0\0\0leave lobby\x81\x8b\0\0\0\0leave lobby\
+\x81\x8b\0\0\0\0leave lobby\x81\x8b\0\0\0\0leave lobby\x81\x8b\0\0\0\0leave lobby\x81\x8b\0\0\0\0leave lobby\
+\x81\x8b\0\0\0\0leave lobby\x81\x8b\0\0\0\0leave lobby\x81\x8b\0\0\0\0leave lobby\x81\x8b\0\0\0\0leave lobby\
+\x81\x8b\0\0\0\0leave lobby\x81\x8b\0\0\0\0leave lobby\x81\x8b\0\0\0\0leave lobby\x81\x8b\0\0\0\0leave lobby\
+\x81\x8b\0\0\0\0leave lobby\x81\x8b\0\0\0\0leave lobby";
+
+#[test]
+fn who_says_too_much_is_refused(rt: HostRuntime) -> Result<(), Fail> {
+    let browser = &[Gives::Bytes(UPGRADE), Gives::Bytes(FLOOD), Gives::Nothing];
+    let hall = played(&rt, browser, &[Gives::Nothing], 1_000)?;
+    assert!(rt;
+        is_told(
+            &hall,
+            b"\x81\x0fok leave lobby\n\x81\x0eno 34 TooFast\n\x81\x0eno 34 TooFast\n"
+        )
+    );
+    Ok(())
+}
+
+#[test]
+fn who_is_silent_is_asked_and_then_let_go(rt: HostRuntime) -> Result<(), Fail> {
+    let open = &[Gives::Bytes(UPGRADE), Gives::Nothing];
+    let asked = played_for(&rt, open, &[Gives::Nothing], 1_000, 40, 1_000)?;
+    assert!(rt; is_told(&asked, b"\x81\x0cserver here\n\x89\0"));
+    let there = played_for(&rt, open, &[Gives::Nothing], 1_000, 74, 1_000)?;
+    assert!(rt; is_told(&there, b"\x81\x0cserver here\n\x89\0"));
+    let gone = played_for(&rt, open, &[Gives::Nothing], 1_000, 82, 1_000)?;
+    assert!(rt; gone.len() == 0);
+    Ok(())
+}
+
+#[test]
+fn half_a_head_and_then_nothing_is_let_go(rt: HostRuntime) -> Result<(), Fail> {
+    let half = &[
+        Gives::Bytes(b"GET /ws HTTP/1.1\r\nHost: a:1\r\n"),
+        Gives::Nothing,
+    ];
+    let there = played_for(&rt, half, &[Gives::Nothing], 1_000, 59, 1_000)?;
+    assert!(rt; there.len() == 1);
+    let gone = played_for(&rt, half, &[Gives::Nothing], 1_000, 67, 1_000)?;
+    assert!(rt; gone.len() == 0);
+    Ok(())
+}
+
+#[test]
+fn who_closes_is_let_go_and_who_is_reset(rt: HostRuntime) -> Result<(), Fail> {
+    let closes = &[
+        Gives::Bytes(UPGRADE),
+        Gives::Bytes(b"\x88\x82\0\0\0\0\x03\xe8"),
+        Gives::Nothing,
+    ];
+    let hall = played(&rt, closes, &[Gives::Nothing], 1_000)?;
+    assert!(rt; hall.len() == 0 && hall.has_server());
+    let reset = &[Gives::Bytes(UPGRADE), Gives::Nothing, Gives::Reset];
+    let hall = played(&rt, reset, &[Gives::Nothing], 1_000)?;
+    assert!(rt; hall.len() == 0 && hall.has_server());
     Ok(())
 }
 
