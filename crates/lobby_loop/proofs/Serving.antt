@@ -368,7 +368,7 @@ module _ {S : Type 0} (remaining contents : S → Option (List ℕ)) (site : Sit
               said = was.said;
               told = told_further steps out c (telling told) (string_bytes made.text ∷ []) was.past
                   (WasTold (Text (string_bytes made.text)) answer ∷ was.past) refl
-                  (for_it c (telling told) (string_bytes made.text) (sym to ∙ for_c) (told.kind, is.text)) was.told;
+                  (for_it c (telling told) (string_bytes made.text) (sym to ∙ for_c) is.text) was.told;
             }
         | inr not_for_c ↦
             let same = subst (λ (u : Bool). IsSaidIf u (string_bytes made.text) old.browser new.browser) not_for_c said in

@@ -9,7 +9,7 @@ use Rattle.lobby_loop.specs.Turning.{IsServerAsBefore, IsHallAsBefore, Admits}
 use Rattle.lobby_loop.specs.Living.{IsWoken}
 
 module _ {S : Type 0} where
-  all_as_before : (guests : List (Guest S)) → AllZip IsAsBefore guests guests
+  pub all_as_before : (guests : List (Guest S)) → AllZip IsAsBefore guests guests
   all_as_before [] = tt
   all_as_before (guest ∷ guests) = (record { number = refl; stream = refl; browser = refl }, all_as_before guests)
 
@@ -24,7 +24,7 @@ module _ {S : Type 0} where
     as_before_twice xs ys zs all more,
   )
 
-  server_as_before : (server : Option (Link S)) → IsServerAsBefore server server
+  pub server_as_before : (server : Option (Link S)) → IsServerAsBefore server server
   server_as_before None = refl
   server_as_before (Some link) = (link, refl, refl, record { held = refl; lost = λ goes. goes })
 

@@ -3,7 +3,6 @@ use Rattle.std.specs.Prelude.{ℕ, ◌≡◌, ◌≤◌, ◌⊎◌, ◌==◌, Bo
 use Rattle.std.specs.List.{AllZip}
 use Rattle.std.specs.Io.KnownBytes.{Consumes, Appends}
 use Rattle.websocket.specs.Content.{Content}
-use Rattle.lobby_desk.specs.declared.telling.Kind.{Kind}
 use Rattle.lobby_desk.specs.Events.{Event, Opened, Said, Hurried, Telling}
 use Rattle.lobby_desk.specs.Who.{at_table}
 use Rattle.lobby_desk.specs.History.{Step}
@@ -137,7 +136,7 @@ before_opening c (s ∷ past) = if is_opening c s.event then past else before_op
 
 -- a message of the desk, as it goes out
 abbrev pub IsToldAs : Telling → List ℕ → Type 0
-IsToldAs t text = (kind : Kind) × IsFinished kind t.text text
+IsToldAs t text = IsFinished t.kind t.text text
 
 -- Of what went out of the desk's hands this connection was to be told each message that is for it, once and in their order,
 -- as it goes out, and nothing else: of all but a front of which nothing was told since it came.

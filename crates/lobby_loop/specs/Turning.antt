@@ -27,6 +27,11 @@ HearsServer remaining None server old new = (server ≡ None) × (new ≡ old)
 HearsServer {S} remaining (Some link) server old new =
     (after : Link S) × (server ≡ Some after) × TakesIn remaining link after old new
 
+-- whether its connection is lost
+abbrev pub link_lost : {S : Type 0} → Option (Link S) → Bool
+link_lost None = false
+link_lost (Some link) = link.is_lost
+
 -- Where its connection is lost it is there no more, and the desk is told that.
 abbrev pub PartsFromServer : {S : Type 0} → Bool → Option (Link S) → Option (Link S) → Talk → Talk → Type 0
 PartsFromServer false server after old new = (after ≡ server) × (new ≡ old)
@@ -104,6 +109,7 @@ pub record HasTurned {S : Type 0} (remaining contents : S → Option (List ℕ))
   pub server : Option (Link S)
   pub parted : Talk
   pub is_gone : Bool
+  pub gone_is : is_gone ≡ link_lost server_heard
   pub parts : PartsFromServer is_gone server_heard server heard parted
   pub attended : List (Guest S)
   pub said : Talk

@@ -99,7 +99,9 @@ impl<S> Link<S> {
     }
 
     /// Whether it has ended or failed.
-    pub fn is_lost(&self) -> bool {
+    pub fn is_lost(&self) -> bool
+        ensures { result ≡ self.now.is_lost }
+    {
         self.is_lost
     }
 }

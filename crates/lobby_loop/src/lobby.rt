@@ -88,6 +88,36 @@ fn is_made(call: &TcpStream) -> Option<bool> {
     }
 }
 
+// The socket of this name may be ready. It tells whether that is the entrance.
+#[tactic(auto, using(crate::proofs::Waking::woken_none))]
+fn wake_socket(hall: &mut Hall<TcpStream>, key: usize) -> bool
+    ensures { IsWoken hall.old hall.new }
+{
+    match key {
+        ENTRANCE => true,
+        SERVER => {
+            hall.wake_server();
+            false
+        }
+        key => {
+            hall.wake(key);
+            false
+        }
+    }
+}
+
+// The sockets of these events may be ready. It tells whether the entrance is among them.
+fn wake_each(events: &Events, hall: &mut Hall<TcpStream>) -> bool
+    ensures { IsWoken hall.old hall.new }
+{
+    let mut has_entrance = false;
+    for event in events.iter() {
+        let is_entrance = wake_socket(hall, usize::from(event.token()));
+        has_entrance |= is_entrance;
+    }
+    has_entrance
+}
+
 // The earlier of two moments, where there are any.
 fn earlier(a: Option<u64>, b: Option<u64>) -> Option<u64> {
     match (a, b) {
@@ -247,12 +277,8 @@ impl Lobby {
     fn wake(&mut self)
         ensures { IsWoken self.old.hall self.new.hall }
     {
-        for event in self.events.iter() {
-            match usize::from(event.token()) {
-                ENTRANCE => self.has_more = true,
-                SERVER => self.hall.wake_server(),
-                key => self.hall.wake(key),
-            }
+        if wake_each(&self.events, &mut self.hall) {
+            self.has_more = true;
         }
     }
 
