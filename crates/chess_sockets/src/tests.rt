@@ -264,6 +264,8 @@ xxxxxxxxxxxxxxxxxxxxxxxxxxxxxxxxxxxxxxxxxxxxxxxxxxxxxxxxxxxxxxxxxxxxxxxxxxxxxxxx
 xxxxxxxxxxxxxxxxxxxxxxxxxxxxxxxxxxxxxxxxxxxxxxxxxxxxxxxxxxxxxxxxxxxxxxxxxxxxxxxxxxxxxxxxxxxxxxxxxxxx\
 xxxxxxxxxxxxxxxxxxxxxxxxxxxxxxxxxxxxxxxxxxxxxxxxxxxxxxxxxxxxxxxxxxxxxxxxxxxxxxxxxxxxxxxxxxxxxxxxxxxx";
 
+const BYE: &str = "bye LineTooLong\n";
+
 #[test]
 fn answers_go_in_pieces(rt: HostRuntime) {
     let alloc = rt.alloc();
@@ -376,7 +378,18 @@ fn who_sends_a_long_line_is_closed(rt: HostRuntime) {
     let alloc = rt.alloc();
     let floods = made(alloc, &[Gives::Text(LONG)], Takes::All);
     let told = left(false, Some(1), 255, 300);
-    assert_eq!(rt; play(alloc, floods, "bye LineTooLong\n", 300, None), told);
+    assert_eq!(rt; play(alloc, floods, BYE, 300, None), told);
+}
+
+#[test]
+fn who_sends_a_long_line_and_reads_slowly_is_given_its_farewell(rt: HostRuntime) {
+    let alloc = rt.alloc();
+    let slow = Takes::Some(3);
+    let floods = made(alloc, &[Gives::Text(LONG)], slow);
+    assert_eq!(rt; play(alloc, floods, BYE, 5, None), left(true, None, 1, 5));
+    let floods = made(alloc, &[Gives::Text(LONG)], slow);
+    let told = left(false, Some(1), 255, 300);
+    assert_eq!(rt; play(alloc, floods, BYE, 300, None), told);
 }
 
 #[test]
