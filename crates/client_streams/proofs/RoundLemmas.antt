@@ -488,6 +488,15 @@ hands_closed b c d old next n w same none h = record {
   waits = subst (λ (o : Option SessionState). IfSome (to_go o w) (λ rest. rest ≡ h.left)) (sym none) tt;
 }
 
+-- what was handed out of a session that is as it was before
+abbrev pub hands_since : (b c : Option (List ℕ)) (m n : Option SessionState) (w : List ℕ) (next : Option (List ℕ)) →
+    n ≡ m → HandsOut b c (to_go n w) next → HandsOut b c (to_go m w) next
+hands_since b c m n w next same h = record {
+  left = h.left;
+  hands = subst (λ (o : Option SessionState). IfSome (to_go o w) (λ all. HandsOn b c all h.left)) same h.hands;
+  waits = h.waits;
+}
+
 -- the session is closed for this reason, or goes on
 module _ {S : Type 0} (contents : S → Option (List ℕ)) (client after : Client S) (old mid new : Sessions)
     (given : AreGiven client.sid old mid) where
@@ -543,8 +552,8 @@ module _ {S : Type 0} (contents : S → Option (List ℕ)) where
       given = given_later client.sid a b written.given.between h written.given.given;
       closed = written.given.closed;
     };
-    hands = subst (λ (o : Option SessionState). HandsOut (contents client.stream) (contents after.stream)
-        (to_go o (waiting client.outgoing)) (to_go (session_at c client.sid) (waiting after.outgoing)))
+    hands = hands_since (contents client.stream) (contents after.stream) (session_at a client.sid)
+        (session_at b client.sid) (waiting client.outgoing) (to_go (session_at c client.sid) (waiting after.outgoing))
         (h client.sid) written.hands;
     closed = closed_after client after a b c h written.closed;
     reason = λ is_open none.
