@@ -69,10 +69,11 @@ pub record AreWritten {S : Type 0} (contents : S → Option (List ℕ)) (clients
 abbrev pub open_in : {S : Type 0} → Sessions → List (Client S) → List (Client S)
 open_in sessions clients = filter (λ client. is_some (session_at sessions client.sid)) clients
 
--- A client begins at this moment: nothing of it is held back, nothing waits for it, and it may send more.
+-- A client begins at this moment: nothing of it is held back, nothing waits for it, it has not waited, and it may send more.
 pub record Begins {S : Type 0} (client : Client S) (at : ℕ) : Type 0 where
   pub moment : client.heard_at ≡ at
   pub lasts : client.has_ended ≡ false
+  pub wait : client.waited ≡ 0
   pub incoming : held client.incoming ≡ []
   pub outgoing : waiting client.outgoing ≡ []
 

@@ -498,3 +498,32 @@ fn who_asks_for_much_is_answered_in_turn(rt: HostRuntime) {
     assert_eq!(rt; flood(alloc, 9), Some((1, 1)));
     assert_eq!(rt; flood(alloc, 100), Some((11, 12)));
 }
+
+// How many answers a client has a turn after it came and asked for the list, where two others were given 40 lists each and
+// are idle.
+fn behind_a_flood(alloc: Global) -> Option<usize> {
+    let mut hub = hub(alloc)?;
+    let mut clients = Vec::new(alloc);
+    for _ in 0..2 {
+        let asks = made(alloc, &[Gives::Text(LISTS), Gives::Nothing], Takes::All);
+        if !connect(&mut clients, &mut hub, alloc, asks) {
+            return None;
+        }
+    }
+    if !take_turns(&mut clients, &mut hub, each_millisecond(80, None)) {
+        return None;
+    }
+    let asks = made(alloc, &[Gives::Text("list\n"), Gives::Nothing], Takes::All);
+    let plays = connect(&mut clients, &mut hub, alloc, asks)
+        && take_turns(&mut clients, &mut hub, each_millisecond(1, None));
+    if plays {
+        count_lines(clients.get(2)?.stream().written.as_slice(), LISTED)
+    } else {
+        None
+    }
+}
+
+#[test]
+fn who_waited_once_holds_nobody_up(rt: HostRuntime) {
+    assert_eq!(rt; behind_a_flood(rt.alloc()), Some(1));
+}

@@ -89,7 +89,7 @@ either-longer true b c d f g h = ap (λ x. x || d) (f refl)
 either-longer false b true d f g h = refl
 either-longer false b false d f g h = g h
 
-dear-longer : (line more : List ℕ) → is_dear line ≡ true → is_dear (line ++ more) ≡ true
+pub dear-longer : (line more : List ℕ) → is_dear line ≡ true → is_dear (line ++ more) ≡ true
 dear-longer line more = either-longer (starts_with eqb line (codes "list")) (starts_with eqb line (codes "pgn "))
     (starts_with eqb (line ++ more) (codes "list")) (starts_with eqb (line ++ more) (codes "pgn "))
     (starts-longer (codes "list") line more) (starts-longer (codes "pgn ") line more)

@@ -13,7 +13,7 @@ use Rattle.chess_answer.specs.declared.reads.Reply.{Reply}
 use Rattle.chess_sessions.specs.declared.sessions.Sessions.{Sessions}
 use Rattle.chess_sessions.specs.Session.{Said, said, SessionState, session_at, Changes, IsUnchanged, due, first_due, given_one, farewell, is_done}
 use Rattle.client_streams.specs.declared.client.Client.{Client}
-use Rattle.client_streams.specs.Clients.{OthersStay, IsSilent, IsHeardAt, IsEndSeen, TakesIn, HandsOut, bytes_of_all, to_go}
+use Rattle.client_streams.specs.Clients.{OthersStay, IsSilent, IsHeardAt, IsEndSeen, HasWaitedOn, TakesIn, HandsOut, bytes_of_all, to_go}
 use Rattle.client_streams.specs.declared.closing.Closing.{Closing}
 use Rattle.client_streams.specs.declared.closing.Closing.TheVariants.{Fault, NoMemory, Silence, End, Farewell}
 use Rattle.client_streams.specs.Closings.{IsReason, IsTrouble, IsOver}
@@ -22,7 +22,7 @@ use Rattle.client_streams.specs.Sending.{waiting, HandsOn}
 use Rattle.client_streams.specs.Portions.{IsDearLine}
 use Rattle.client_streams.proofs.PortionLemmas.{none-dear}
 use Rattle.client_streams.proofs.HeardLemmas.{heard_as_before, end_as_before}
-use Rattle.client_streams.proofs.TakingLemmas.{takes-kept, takes-in, gives-nothing, gives-closed}
+use Rattle.client_streams.proofs.TakingLemmas.{takes-kept, takes-in, gives-nothing, gives-closed, waits-still}
 use Rattle.client_streams.specs.Rounds.{Intake, intake, Holds, AreEach, PassesClosed, IsSent, IsRead, AreGivenTo, AreGiven, IsGivenOut, IsHandedOut, IsWritten}
 
 -- ---- sessions that are as they were
@@ -56,8 +56,8 @@ changes_after a b c sid now h k = record {
 -- ---- what a session is sent
 
 -- what was read and sent
-pub record Sends (room left : ℕ) (before after : Option (List ℕ)) (holds keeps : List ℕ) (sid : ℕ) (old new : Sessions)
-    : Type 0 where
+pub record Sends (room left : ℕ) (before after : Option (List ℕ)) (holds keeps : List ℕ) (waited waits sid : ℕ)
+    (old new : Sessions) : Type 0 where
   pub taken : List ℕ
   pub consumed : Consumes before after taken
   pub unfinished : taken ≢ [] → IsUnfinished holds
@@ -65,12 +65,13 @@ pub record Sends (room left : ℕ) (before after : Option (List ℕ)) (holds kee
   pub order : holds ++ taken ≡ fed ++ keeps
   pub fewer : left ≤ room
   pub dear : IsDearLine fed → left + 1 ≤ room
+  pub wait : HasWaitedOn fed keeps waited waits
   pub sent : IsSent sid fed old new
 
-pub sends : (room left : ℕ) (before after : Option (List ℕ)) (holds keeps : List ℕ) (sid : ℕ) (old new : Sessions)
-    (m n : Option SessionState) → session_at old sid ≡ m → session_at new sid ≡ n → IsSome m →
-    IfSome m (λ s. TakesIn room left before after holds keeps s n) → OthersStay old new sid →
-    Sends room left before after holds keeps sid old new
+pub sends : {waited waits : ℕ} (room left : ℕ) (before after : Option (List ℕ)) (holds keeps : List ℕ) (sid : ℕ)
+    (old new : Sessions) (m n : Option SessionState) → session_at old sid ≡ m → session_at new sid ≡ n → IsSome m →
+    IfSome m (λ s. TakesIn room left before after holds keeps waited waits s n) → OthersStay old new sid →
+    Sends room left before after holds keeps waited waits sid old new
 sends room left before after holds keeps sid old new None n e f is_open takes others =
     absurd (let bad : false ≡ true = is_open in false≢true bad)
 sends room left before after holds keeps sid old new (Some s) None e f is_open takes others = record {
@@ -81,6 +82,7 @@ sends room left before after holds keeps sid old new (Some s) None e f is_open t
   order = takes.gives.order;
   fewer = takes.gives.fewer;
   dear = takes.gives.dear;
+  wait = takes.gives.wait;
   sent = inr (inr (inl (takes.gives.gone refl, record { changed = f; others = others })));
 }
 sends room left before after holds keeps sid old new (Some s) (Some r) e f is_open takes others = record {
@@ -91,6 +93,7 @@ sends room left before after holds keeps sid old new (Some s) (Some r) e f is_op
   order = takes.gives.order;
   fewer = takes.gives.fewer;
   dear = takes.gives.dear;
+  wait = takes.gives.wait;
   sent = elim takes.gives.heard [
     | inl (short_so_far, portion, alone, is) ↦ inl (
       portion,
@@ -235,6 +238,7 @@ module _ {S : Type 0} (remaining : S → Option (List ℕ)) (silence : Option �
     sent = inr (inl (refl, unchanged-refl s.sessions));
     fewer = omega arith;
     dear = none-dear;
+    wait = waits-still (held client.incoming) client.waited client.waited refl;
     unread = λ waits. (refl, refl, unchanged-refl s.sessions);
     heard = heard_as_before (remaining client.stream) at client.heard_at;
     ended = end_as_before (remaining client.stream) client.has_ended;
@@ -250,7 +254,8 @@ module _ {S : Type 0} (remaining : S → Option (List ℕ)) (silence : Option �
       IsEndSeen (remaining after.stream) client.has_ended after.has_ended →
       PassesClosed client after old.sessions new.sessions → HasReason client after old.sessions new.sessions →
       Sends old.room new.room (remaining client.stream) (remaining after.stream) (held client.incoming)
-      (held after.incoming) client.sid old.sessions new.sessions → IsRead remaining silence at client after old new
+      (held after.incoming) client.waited after.waited client.sid old.sessions new.sessions →
+      IsRead remaining silence at client after old new
   is_read client after old new sid outgoing unread heard ended closed reason sends = record {
     sid = sid;
     outgoing = outgoing;
@@ -263,6 +268,7 @@ module _ {S : Type 0} (remaining : S → Option (List ℕ)) (silence : Option �
     sent = sends.sent;
     fewer = sends.fewer;
     dear = sends.dear;
+    wait = sends.wait;
     unread = unread;
     heard = heard;
     ended = ended;
@@ -276,12 +282,12 @@ module _ {S : Type 0} (remaining : S → Option (List ℕ)) (silence : Option �
       IsHeardAt (remaining client.stream) (remaining after.stream) at client.heard_at after.heard_at →
       IsEndSeen (remaining after.stream) client.has_ended after.has_ended →
       Keeps (remaining client.stream) (remaining after.stream) → held after.incoming ≡ held client.incoming →
-      IsSome (session_at old client.sid) → OnTrue done (waiting client.outgoing ≡ []) →
+      after.waited ≡ client.waited → IsSome (session_at old client.sid) → OnTrue done (waiting client.outgoing ≡ []) →
       (waiting client.outgoing ≢ [] → after.stream ≡ client.stream) → OnTrue done (Changes old new client.sid None) →
       OnTrue done (IsReason after.closing (IsSomeAnd silence (IsSilent after old at)) ⊥ ⊥) →
       OnFalse done (IsUnchanged old new) →
       IsRead remaining silence at client after (intake old room) (intake new room)
-  read_nothing client after room old new true sid outgoing heard ended kept same is_open silent stream closed reason stays =
+  read_nothing client after room old new true sid outgoing heard ended kept same still is_open silent stream closed reason stays =
       is_read client after (intake old room) (intake new room) sid outgoing
       (λ waits. absurd (waits silent)) heard ended (not_closed (session_at old client.sid) _ is_open) (λ was none. reason)
       (sends room room (remaining client.stream) (remaining after.stream) (held client.incoming) (held after.incoming)
@@ -290,8 +296,8 @@ module _ {S : Type 0} (remaining : S → Option (List ℕ)) (silence : Option �
       (remaining after.stream) (held client.incoming) (held after.incoming) (held after.incoming)
       (takes-kept (remaining client.stream) (remaining after.stream) (held client.incoming) (held after.incoming) kept same)
       (gives-closed room room (session_at old client.sid) (session_at new client.sid) (held after.incoming) (omega arith)
-      closed.changed)) closed.others)
-  read_nothing client after room old new false sid outgoing heard ended kept same is_open silent stream closed reason stays =
+      closed.changed (waits-still (held after.incoming) client.waited after.waited still))) closed.others)
+  read_nothing client after room old new false sid outgoing heard ended kept same still is_open silent stream closed reason stays =
       is_read client after (intake old room) (intake new room) sid outgoing
       (λ waits. (stream waits, same, stays)) heard ended (not_closed (session_at old client.sid) _ is_open)
       (not_now (session_at old client.sid) (session_at new client.sid) (stays client.sid))
@@ -301,7 +307,7 @@ module _ {S : Type 0} (remaining : S → Option (List ℕ)) (silence : Option �
       (remaining after.stream) (held client.incoming) (held after.incoming) (held after.incoming)
       (takes-kept (remaining client.stream) (remaining after.stream) (held client.incoming) (held after.incoming) kept same)
       (gives-nothing room room (session_at old client.sid) (session_at new client.sid) (held after.incoming) (omega arith)
-      (stays client.sid))) (λ other differs. stays other))
+      (stays client.sid) (waits-still (held after.incoming) client.waited after.waited still))) (λ other differs. stays other))
 
   pub read_after : (client after : Client S) (a b c : Intake) → Holds a b → IsRead remaining silence at client after b c →
       IsRead remaining silence at client after a c
@@ -317,6 +323,7 @@ module _ {S : Type 0} (remaining : S → Option (List ℕ)) (silence : Option �
     sent = sent_after a.sessions b.sessions c.sessions client.sid read.fed h.0 read.sent;
     fewer = subst (λ r. c.room ≤ r) h.1 read.fewer;
     dear = λ dear. subst (λ r. c.room + 1 ≤ r) h.1 (read.dear dear);
+    wait = read.wait;
     unread = λ waits.
         let same = read.unread waits in
         (same.0, same.1, unchanged-trans a.sessions b.sessions c.sessions h.0 same.2);
@@ -534,6 +541,7 @@ module _ {S : Type 0} (contents : S → Option (List ℕ)) where
     incoming = refl;
     heard = refl;
     ended = refl;
+    wait = refl;
     given = goes_on client.sid t t (given_none_yet client.sid t t (unchanged-refl t));
     hands = hands_none (contents client.stream) (to_go (session_at t client.sid) (waiting client.outgoing));
     closed = λ none. (refl, unchanged-refl t);
@@ -547,6 +555,7 @@ module _ {S : Type 0} (contents : S → Option (List ℕ)) where
     incoming = written.incoming;
     heard = written.heard;
     ended = written.ended;
+    wait = written.wait;
     given = record {
       between = written.given.between;
       given = given_later client.sid a b written.given.between h written.given.given;

@@ -7,7 +7,7 @@ use Rattle.session_lines.specs.Heard.{heard_more}
 use Rattle.chess_sessions.specs.declared.sessions.Sessions.{Sessions}
 use Rattle.chess_sessions.specs.Session.{Said, SessionState, session_at, Changes, IsUnchanged, due, first_due, given_one}
 use Rattle.client_streams.specs.declared.client.Client.{Client}
-use Rattle.client_streams.specs.Clients.{IsSilent, IsHeardAt, IsEndSeen, HandsOut, to_go}
+use Rattle.client_streams.specs.Clients.{IsSilent, IsHeardAt, IsEndSeen, HasWaitedOn, HandsOut, to_go}
 use Rattle.client_streams.specs.Closings.{IsReason, IsOver}
 use Rattle.client_streams.specs.Portions.{IsDearLine, IsPortion}
 use Rattle.client_streams.specs.Incoming.{held}
@@ -57,8 +57,8 @@ Holds old new = IsUnchanged old.sessions new.sessions × (new.room ≡ old.room)
 
 -- What comes on a client's connection is held back, and its session is given what stands in front of that, and nothing
 -- else. None is read where a line is held back, and no more is held back than a piece. A line that asks for much is given
--- only where there is room. Of a client for which answers wait nothing is read, and nothing that it sent goes on. A session is
--- closed for a reason: the connection has failed, memory was refused, or it has been silent for longer than it may.
+-- only where there is room, and the turns are counted that one waits for it. Of a client for which answers wait nothing is read, and nothing that it sent goes on. A session is
+-- closed for a reason: the connection has failed, memory was refused, or it has been silent for as long as it may.
 pub record IsRead {S : Type 0} (remaining : S → Option (List ℕ)) (silence : Option ℕ) (at : ℕ) (client after : Client S)
     (old new : Intake) : Type 0 where
   pub sid : after.sid ≡ client.sid
@@ -72,6 +72,7 @@ pub record IsRead {S : Type 0} (remaining : S → Option (List ℕ)) (silence : 
   pub sent : IsSent client.sid fed old.sessions new.sessions
   pub fewer : new.room ≤ old.room
   pub dear : IsDearLine fed → new.room + 1 ≤ old.room
+  pub wait : HasWaitedOn fed (held after.incoming) client.waited after.waited
   pub unread : waiting client.outgoing ≢ [] → (after.stream ≡ client.stream)
       × (held after.incoming ≡ held client.incoming) × IsUnchanged old.sessions new.sessions
   pub heard : IsHeardAt (remaining client.stream) (remaining after.stream) at client.heard_at after.heard_at
@@ -131,6 +132,7 @@ pub record IsWritten {S : Type 0} (contents : S → Option (List ℕ)) (client a
   pub incoming : held after.incoming ≡ held client.incoming
   pub heard : after.heard_at ≡ client.heard_at
   pub ended : after.has_ended ≡ client.has_ended
+  pub wait : after.waited ≡ client.waited
   pub given : IsGivenOut client.sid old new
   pub hands : HandsOut (contents client.stream) (contents after.stream)
       (to_go (session_at old client.sid) (waiting client.outgoing))

@@ -54,7 +54,9 @@ impl<S> Client<S> {
     /// A connection that begins, for a session that is open.
     pub fn new(alloc: Global, stream: S, sid: Sid, at: u64) -> Client<S>
         ensures sid { result.sid ≡ sid }
+        ensures stream { result.stream ≡ stream }
         ensures heard { result.heard_at ≡ at }
+        ensures wait { result.waited ≡ 0 }
         ensures lasts { result.has_ended ≡ false }
         ensures nothing { (held result.incoming ≡ []) × (waiting result.outgoing ≡ []) }
     {
@@ -107,7 +109,7 @@ impl<S> Client<S> {
         ensures peer { (self.new.sid ≡ self.old.sid) × (self.new.has_ended ≡ self.old.has_ended)
             × (self.new.is_quiet ≡ self.old.is_quiet) × (held self.new.incoming ≡ held self.old.incoming)
             × (waiting self.new.outgoing ≡ waiting self.old.outgoing) × (self.new.stream ≡ self.old.stream)
-            × (self.new.heard_at ≡ self.old.heard_at) }
+            × (self.new.heard_at ≡ self.old.heard_at) × (self.new.waited ≡ self.old.waited) }
     {
         sessions.close(self.sid);
         self.closing = Some(closing);
@@ -225,7 +227,8 @@ impl<S: Read + Write> Client<S> {
         ensures quiet { self.new.is_quiet ≡ true → (result ≡ Came.Nothing)
             × Keeps (S.remaining self.old.stream) (S.remaining self.new.stream)
             × (held self.new.incoming ≡ held self.old.incoming) }
-        ensures peer { (self.new.sid ≡ self.old.sid) × (waiting self.new.outgoing ≡ waiting self.old.outgoing) }
+        ensures peer { (self.new.sid ≡ self.old.sid) × (waiting self.new.outgoing ≡ waiting self.old.outgoing)
+            × (self.new.waited ≡ self.old.waited) }
     {
         self.is_quiet = false;
         if self.has_ended {
@@ -246,7 +249,8 @@ impl<S: Read + Write> Client<S> {
     fn hand_on(&mut self, sessions: &mut Sessions, room: &mut Room)
         requires { IsOpen sessions.old self.old.sid }
         ensures gives { IfSome (session_at sessions.old self.old.sid) (λ s. GivesOn room.old.lines room.new.lines
-            (held self.old.incoming) (held self.new.incoming) s (session_at sessions.new self.old.sid)) }
+            (held self.old.incoming) (held self.new.incoming) self.old.waited self.new.waited s
+            (session_at sessions.new self.old.sid)) }
         ensures peer { (self.new.sid ≡ self.old.sid) × (waiting self.new.outgoing ≡ waiting self.old.outgoing) }
         ensures quiet { self.new.is_quiet ≡ self.old.is_quiet }
         ensures heard { self.new.heard_at ≡ self.old.heard_at }
@@ -263,9 +267,9 @@ impl<S: Read + Write> Client<S> {
             self.waited = self.waited.saturating_add(1);
             return;
         }
-        self.waited = 0;
         let count = portion.len();
         if feed(sessions, self.sid, portion) {
+            self.waited = 0;
             self.incoming.give_up(count);
         } else {
             self.closing = Some(Closing::NoMemory);
@@ -287,7 +291,7 @@ impl<S: Read + Write> Client<S> {
         requires { IsOpen sessions.old self.old.sid }
         ensures taken { IfSome (session_at sessions.old self.old.sid) (λ s. TakesIn room.old.lines room.new.lines
             (S.remaining self.old.stream) (S.remaining self.new.stream) (held self.old.incoming)
-            (held self.new.incoming) s (session_at sessions.new self.old.sid)) }
+            (held self.new.incoming) self.old.waited self.new.waited s (session_at sessions.new self.old.sid)) }
         ensures peer { (self.new.sid ≡ self.old.sid) × (waiting self.new.outgoing ≡ waiting self.old.outgoing) }
         ensures heard { IsHeardAt (S.remaining self.old.stream) (S.remaining self.new.stream) at self.old.heard_at
             self.new.heard_at }
@@ -296,7 +300,7 @@ impl<S: Read + Write> Client<S> {
         ensures quiet { self.new.is_quiet ≡ true → (result ≡ false)
             × Keeps (S.remaining self.old.stream) (S.remaining self.new.stream)
             × (held self.new.incoming ≡ held self.old.incoming) × (sessions.new ≡ sessions.old)
-            × (room.new.lines ≡ room.old.lines) }
+            × (room.new.lines ≡ room.old.lines) × (self.new.waited ≡ self.old.waited) }
         // Of who doesn't take its answers nothing is read, and nothing that it sent goes on.
         ensures unread { waiting self.old.outgoing ≢ [] → (self.new.stream ≡ self.old.stream)
             × (held self.new.incoming ≡ held self.old.incoming) × (sessions.new ≡ sessions.old) }
@@ -336,7 +340,7 @@ impl<S: Read + Write> Client<S> {
         ensures given { AreGiven self.old.sid sessions.old sessions.new }
         ensures peer { (self.new.sid ≡ self.old.sid) × (self.new.has_ended ≡ self.old.has_ended)
             × (self.new.is_quiet ≡ self.old.is_quiet) × (held self.new.incoming ≡ held self.old.incoming)
-            × (self.new.heard_at ≡ self.old.heard_at) }
+            × (self.new.heard_at ≡ self.old.heard_at) × (self.new.waited ≡ self.old.waited) }
         ensures others { OthersStay sessions.old sessions.new self.old.sid }
     {
         let sent = self.outgoing.write_to(&mut self.stream);
@@ -369,7 +373,7 @@ impl<S: Read + Write> Client<S> {
         ensures peer { (self.new.sid ≡ self.old.sid) × (self.new.has_ended ≡ self.old.has_ended)
             × (self.new.is_quiet ≡ self.old.is_quiet) × (held self.new.incoming ≡ held self.old.incoming)
             × (waiting self.new.outgoing ≡ waiting self.old.outgoing) × (self.new.stream ≡ self.old.stream)
-            × (self.new.heard_at ≡ self.old.heard_at) }
+            × (self.new.heard_at ≡ self.old.heard_at) × (self.new.waited ≡ self.old.waited) }
     {
         match wrote.sent {
             Sent::Fault => true,
@@ -414,7 +418,7 @@ impl<S: Read + Write> Client<S> {
         ensures given { IsHandedOut S.contents self.old self.new sessions.old sessions.new }
         ensures peer { (self.new.sid ≡ self.old.sid) × (self.new.has_ended ≡ self.old.has_ended)
             × (self.new.is_quiet ≡ self.old.is_quiet) × (held self.new.incoming ≡ held self.old.incoming)
-            × (self.new.heard_at ≡ self.old.heard_at) }
+            × (self.new.heard_at ≡ self.old.heard_at) × (self.new.waited ≡ self.old.waited) }
         ensures others { OthersStay sessions.old sessions.new self.old.sid }
     {
         let was_stuck = !self.outgoing.is_empty();

@@ -25,7 +25,7 @@ pub struct Reading {
     pub silence: Option<u64>,
 }
 
-// Whether a client has been silent for longer than it may.
+// Whether a client has been silent for as long as it may.
 fn is_over_silent<S>(client: &Client<S>, sessions: &Sessions, reading: Reading) -> bool
     requires { IsOpen sessions.now client.now.sid }
     ensures { IsTrue result ↔ IsSomeAnd reading.silence (IsSilent client.now sessions.now reading.at) }
@@ -36,7 +36,7 @@ fn is_over_silent<S>(client: &Client<S>, sessions: &Sessions, reading: Reading) 
     }
 }
 
-// Closes the session of a client that has been silent for longer than it may, behind a read that found nothing, and tells
+// Closes the session of a client that has been silent for as long as it may, behind a read that found nothing, and tells
 // whether it did.
 fn close_silent<S>(client: &mut Client<S>, sessions: &mut Sessions, reading: Reading) -> bool
     requires open { IsOpen sessions.old client.old.sid }
@@ -47,7 +47,8 @@ fn close_silent<S>(client: &mut Client<S>, sessions: &mut Sessions, reading: Rea
     ensures stays { OnFalse result (sessions.new ≡ sessions.old) }
     ensures peer { (client.new.sid ≡ client.old.sid) × (held client.new.incoming ≡ held client.old.incoming)
         × (waiting client.new.outgoing ≡ waiting client.old.outgoing) × (client.new.stream ≡ client.old.stream)
-        × (client.new.heard_at ≡ client.old.heard_at) × (client.new.has_ended ≡ client.old.has_ended) }
+        × (client.new.heard_at ≡ client.old.heard_at) × (client.new.has_ended ≡ client.old.has_ended)
+        × (client.new.waited ≡ client.old.waited) }
 {
     if !is_over_silent(client, sessions, reading) {
         return false;

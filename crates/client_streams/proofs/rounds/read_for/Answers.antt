@@ -35,8 +35,8 @@ returns-then-is_quiet g c =
     let silence = c.args.reading.silence in
     let at = c.args.reading.at in
     let peer = c.take_in-any.ensures.peer in
-    let (sid, holds, waits_on, stream, heard_at, has_ended) = c.close_silent.ensures.peer in
-    let (idle, kept, same, stays, left) = c.take_in-any.ensures.quiet (sym c.is_quiet.ensures ∙ c.if-is_quiet.true) in
+    let (sid, holds, waits_on, stream, heard_at, has_ended, still) = c.close_silent.ensures.peer in
+    let (idle, kept, same, stays, left, wait) = c.take_in-any.ensures.quiet (sym c.is_quiet.ensures ∙ c.if-is_quiet.true) in
     let open_now = subst (λ sid. IsSome (session_at old sid)) c.sid.ensures
     (c.is_open.ensures.0 c.if-not-is_open.false) in
     subst (λ n. IsRead rest silence at client last (intake old room) (intake new n)) (sym left)
@@ -45,7 +45,7 @@ returns-then-is_quiet g c =
     c.take_in-any.ensures.heard (ap rest stream) heard_at)
     (end_on (rest after.stream) (rest last.stream) client.has_ended after.has_ended last.has_ended
     c.take_in-any.ensures.ended (ap rest stream) has_ended)
-    (subst (λ s. Keeps (rest client.stream) (rest s)) (sym stream) kept) (holds ∙ same) open_now
+    (subst (λ s. Keeps (rest client.stream) (rest s)) (sym stream) kept) (holds ∙ same) (still ∙ wait) open_now
     (on_true done (λ is. sym peer.1 ∙ silent_written silence after between at (c.close_silent.ensures.silent.0 is)))
     (λ waits. stream ∙ (c.take_in-any.ensures.unread waits).0)
     (subst (λ s. OnTrue done (Changes s new client.sid None)) stays

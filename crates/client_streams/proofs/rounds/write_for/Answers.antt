@@ -18,6 +18,7 @@ returns g c =
       incoming = c.hand_out.ensures.peer.3;
       heard = c.hand_out.ensures.peer.4;
       ended = c.hand_out.ensures.peer.1;
+      wait = c.hand_out.ensures.peer.5;
       given = c.hand_out.ensures.given.given;
       reason = λ was none. c.hand_out.ensures.given.reason none;
       hands = c.hand_out.ensures.given.hands;

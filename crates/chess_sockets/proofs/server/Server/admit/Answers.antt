@@ -19,6 +19,7 @@ returns-clause-welcomes g c =
         record {
           moment = c.new.ensures.heard;
           lasts = c.new.ensures.lasts;
+          wait = c.new.ensures.wait;
           incoming = c.new.ensures.nothing.0;
           outgoing = c.new.ensures.nothing.1;
         },

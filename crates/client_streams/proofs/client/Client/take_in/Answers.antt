@@ -1,5 +1,5 @@
 -- What came is held back, and then the session is given what stands in front.
-use Rattle.std.proofs.Common.{◌≡◌, ℕ, List, Option, None, IfSome, ap, refl, subst, sym, arith}
+use Rattle.std.proofs.Common.{◌≡◌, ◌∙◌, ℕ, List, Option, None, IfSome, ap, refl, subst, sym, arith}
 use Rattle.chess_sessions.specs.Session.{Changes, session_at}
 use Rattle.client_streams.specs.declared.closing.Closing.{Closing}
 use Rattle.client_streams.specs.Clients.{GivesOn, TakesIn}
@@ -7,7 +7,7 @@ use Rattle.client_streams.specs.Closings.{IsTrouble}
 use Rattle.client_streams.specs.Incoming.{held}
 use Rattle.client_streams.proofs.HeardLemmas.{heard_as_before, heard_on, end_as_before, end_on}
 use Rattle.client_streams.proofs.RoundLemmas.{not_closed}
-use Rattle.client_streams.proofs.TakingLemmas.{takes-nothing, takes-in, gives-nothing, gives-closed}
+use Rattle.client_streams.proofs.TakingLemmas.{takes-nothing, takes-in, gives-nothing, gives-closed, waits-still}
 use Rattle.client_streams.proofs.client.Client.take_in.Goals as goal
 
 pub returns-then-not-is_empty-clause-taken : goal.returns-then-not-is_empty-clause-taken
@@ -17,7 +17,8 @@ returns-then-not-is_empty-clause-taken g c =
     let m = session_at c.args.sessions.now client.sid in
     let bytes = g.S.Read.remaining client.stream in
     let holds = held client.incoming in
-    takes-in room room m m bytes bytes holds holds holds (takes-nothing bytes holds) (gives-nothing room room m m holds (omega arith) refl)
+    takes-in room room m m bytes bytes holds holds holds (takes-nothing bytes holds)
+    (gives-nothing room room m m holds (omega arith) refl (waits-still holds client.waited client.waited refl))
 
 pub returns-then-not-is_unfinished-clause-taken : goal.returns-then-not-is_unfinished-clause-taken
 returns-then-not-is_unfinished-clause-taken g c =
@@ -27,7 +28,7 @@ returns-then-not-is_unfinished-clause-taken g c =
     let new = c.hand_on.new.sessions in
     let rest = g.S.Read.remaining in
     subst (λ (b : Option (List ℕ)). IfSome (session_at old client.sid) (λ s. TakesIn c.args.room.now.lines
-    c.hand_on.new.room.lines (rest client.stream) b (held client.incoming) (held after.incoming) s
+    c.hand_on.new.room.lines (rest client.stream) b (held client.incoming) (held after.incoming) client.waited after.waited s
     (session_at new client.sid))) (sym (ap rest c.hand_on.ensures.stream))
     (takes-in c.args.room.now.lines c.hand_on.new.room.lines (session_at old client.sid) (session_at new client.sid)
     (rest client.stream) (rest client.stream) (held client.incoming) (held client.incoming) (held after.incoming)
@@ -41,7 +42,8 @@ returns-in-Nothing-clause-taken g c =
     let m = session_at c.args.sessions.now client.sid in
     takes-in room room m m (g.S.Read.remaining client.stream) (g.S.Read.remaining after.stream) (held client.incoming)
     (held after.incoming) (held after.incoming) c.read_more.ensures.takes
-    (gives-nothing room room m m (held after.incoming) (omega arith) refl)
+    (gives-nothing room room m m (held after.incoming) (omega arith) refl
+    (waits-still (held after.incoming) client.waited after.waited c.read_more.ensures.peer.2))
 
 pub returns-in-End-clause-taken : goal.returns-in-End-clause-taken
 returns-in-End-clause-taken g c =
@@ -51,7 +53,8 @@ returns-in-End-clause-taken g c =
     let m = session_at c.args.sessions.now client.sid in
     takes-in room room m m (g.S.Read.remaining client.stream) (g.S.Read.remaining after.stream) (held client.incoming)
     (held after.incoming) (held after.incoming) c.read_more.ensures.takes
-    (gives-nothing room room m m (held after.incoming) (omega arith) refl)
+    (gives-nothing room room m m (held after.incoming) (omega arith) refl
+    (waits-still (held after.incoming) client.waited after.waited c.read_more.ensures.peer.2))
 
 pub returns-in-Fault-clause-taken : goal.returns-in-Fault-clause-taken
 returns-in-Fault-clause-taken g c =
@@ -63,15 +66,16 @@ returns-in-Fault-clause-taken g c =
     let new = c.close.new.sessions in
     let rest = g.S.Read.remaining in
     let closed = subst (λ (n : ℕ). Changes old new n None) c.read_more.ensures.peer.0 c.close.ensures.closed in
-    let (sid, ended, quiet, holds, waits, stream, heard_at) = c.close.ensures.peer in
+    let (sid, ended, quiet, holds, waits, stream, heard_at, wait) = c.close.ensures.peer in
     subst (λ (b : Option (List ℕ)). IfSome (session_at old client.sid) (λ s. TakesIn room room (rest client.stream) b
-    (held client.incoming) (held after.incoming) s (session_at new client.sid))) (sym (ap rest stream))
+    (held client.incoming) (held after.incoming) client.waited after.waited s (session_at new client.sid)))
+    (sym (ap rest stream))
     (subst (λ (l : List ℕ). IfSome (session_at old client.sid) (λ s. TakesIn room room (rest client.stream)
-    (rest between.stream) (held client.incoming) l s (session_at new client.sid))) (sym holds)
+    (rest between.stream) (held client.incoming) l client.waited after.waited s (session_at new client.sid))) (sym holds)
     (takes-in room room (session_at old client.sid) (session_at new client.sid) (rest client.stream) (rest between.stream)
     (held client.incoming) (held between.incoming) (held between.incoming) c.read_more.ensures.takes
     (gives-closed room room (session_at old client.sid) (session_at new client.sid) (held between.incoming) (omega arith)
-    closed.changed)))
+    closed.changed (waits-still (held between.incoming) client.waited after.waited (wait ∙ c.read_more.ensures.peer.2)))))
 
 pub returns-in-Fault-clause-heard : goal.returns-in-Fault-clause-heard
 returns-in-Fault-clause-heard g c =
@@ -79,7 +83,7 @@ returns-in-Fault-clause-heard g c =
     let between = c.read_more.new.self in
     let after = c.close.new.self in
     let rest = g.S.Read.remaining in
-    let (sid, ended, quiet, holds, waits, stream, heard_at) = c.close.ensures.peer in
+    let (sid, ended, quiet, holds, waits, stream, heard_at, wait) = c.close.ensures.peer in
     heard_on (rest client.stream) (rest between.stream) (rest after.stream) c.args.at client.heard_at between.heard_at
     after.heard_at c.read_more.ensures.heard (ap rest stream) heard_at
 
@@ -94,9 +98,13 @@ returns-in-Bytes-clause-taken g c =
     let new = c.hand_on-in-Bytes.new.sessions in
     let rest = g.S.Read.remaining in
     let gives = subst (λ (n : ℕ). IfSome (session_at old n) (λ s. GivesOn room left (held between.incoming)
-    (held after.incoming) s (session_at new n))) c.read_more.ensures.peer.0 c.hand_on-in-Bytes.ensures.gives in
+    (held after.incoming) client.waited after.waited s (session_at new n))) c.read_more.ensures.peer.0
+    (subst (λ (w : ℕ). IfSome (session_at old between.sid) (λ s. GivesOn room left (held between.incoming)
+    (held after.incoming) w after.waited s (session_at new between.sid))) c.read_more.ensures.peer.2
+    c.hand_on-in-Bytes.ensures.gives) in
     subst (λ (b : Option (List ℕ)). IfSome (session_at old client.sid) (λ s. TakesIn room left (rest client.stream) b
-    (held client.incoming) (held after.incoming) s (session_at new client.sid))) (sym (ap rest c.hand_on-in-Bytes.ensures.stream))
+    (held client.incoming) (held after.incoming) client.waited after.waited s (session_at new client.sid)))
+    (sym (ap rest c.hand_on-in-Bytes.ensures.stream))
     (takes-in room left (session_at old client.sid) (session_at new client.sid) (rest client.stream) (rest between.stream)
     (held client.incoming) (held between.incoming) (held after.incoming) c.read_more.ensures.takes gives)
 
@@ -132,7 +140,7 @@ returns-in-Fault-clause-ended g c =
     let between = c.read_more.new.self in
     let after = c.close.new.self in
     let rest = g.S.Read.remaining in
-    let (sid, ended, quiet, holds, waits, stream, heard_at) = c.close.ensures.peer in
+    let (sid, ended, quiet, holds, waits, stream, heard_at, wait) = c.close.ensures.peer in
     end_on (rest between.stream) (rest after.stream) client.has_ended between.has_ended after.has_ended
     c.read_more.ensures.ended (ap rest stream) ended
 
