@@ -100,6 +100,7 @@ module _ (table : TableState) where
         (λ i j h. stays_over i.sessions j.sessions h.0)
         (λ client after i j done. sent_led client.sid done.fed i.sessions j.sessions done.sent)
         clients read (intake a 1) (intake b left) each;
+    table = refl;
   }
 
   -- ---- who is written to
@@ -128,6 +129,7 @@ module _ (table : TableState) where
     each = each;
     calls = each_led IsOfWriting over IsUnchanged (IsWritten contents) stays_over
         (λ client after c d done. given_out_led client.sid c d done.given) clients written a b each;
+    table = refl;
   }
 
 -- ---- who comes

@@ -41,11 +41,12 @@ IsOfReading (Connected sid) = ⊥
 IsOfReading (Turned at most) = ⊥
 IsOfReading (Given sid answer) = ⊥
 
--- Each client is read for, and the hub is called for what their sessions hear.
+-- Each client is read for, and the hub is called for what their sessions hear. The table is as it was.
 pub record AreRead {S : Type 0} (remaining : S → Option (List ℕ)) (silence : Option ℕ) (at : ℕ)
     (clients read : List (Client S)) (old new : HubState) : Type 0 where
   pub each : rounds.AreRead remaining silence at clients read old.sessions new.sessions
   pub calls : IsLedBy IsOfReading old new
+  pub table : new.table ≡ old.table
 
 -- ---- what goes
 
@@ -57,11 +58,12 @@ IsOfWriting (Connected sid) = ⊥
 IsOfWriting (Fed sid piece) = ⊥
 IsOfWriting (Turned at most) = ⊥
 
--- Each client is written to, and the hub is called for what their sessions are given.
+-- Each client is written to, and the hub is called for what their sessions are given. The table is as it was.
 pub record AreWritten {S : Type 0} (contents : S → Option (List ℕ)) (clients written : List (Client S))
     (old new : HubState) : Type 0 where
   pub each : rounds.AreWritten contents clients written old.sessions new.sessions
   pub calls : IsLedBy IsOfWriting old new
+  pub table : new.table ≡ old.table
 
 -- ---- a turn
 
