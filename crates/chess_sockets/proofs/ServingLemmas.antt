@@ -10,11 +10,9 @@ use Rattle.chess_hub.specs.Calls.{Call, Closed, Fed, Given}
 use Rattle.chess_hub.specs.Law.{HubState, Steps, Stays}
 use Rattle.client_streams.specs.declared.client.Client.{Client}
 use Rattle.client_streams.specs.declared.door.Door.{Door}
-use Rattle.client_streams.specs.declared.door.Found.{Found}
-use Rattle.client_streams.specs.declared.door.Found.TheVariants.{Connection, Nobody, Lost, Refused}
 use Rattle.client_streams.specs.Rounds as rounds
 use Rattle.client_streams.specs.Rounds.{AreEach, IsSent, AreGivenTo, IsGivenOut, IsRead, IsWritten, intake, Holds}
-use Rattle.chess_sockets.specs.Serving.{state_of, LeadsOn, IsLedBy, IsOfReading, IsOfWriting, AreRead, AreWritten, Welcomes, IsWelcomed, away_after}
+use Rattle.chess_sockets.specs.Serving.{state_of, LeadsOn, IsLedBy, IsOfReading, IsOfWriting, AreRead, AreWritten, Welcomes, AreCounted, IsWelcomed}
 
 -- ---- calls
 
@@ -134,73 +132,67 @@ module _ (table : TableState) where
 
 -- ---- who comes
 
--- nobody comes
-pub nobody_welcomed : {S : Type 0} (at : ℕ) (clients : List (Client S)) (s : HubState) → Welcomes at clients clients s s
-nobody_welcomed at clients s = record { came = []; whole = sym (append-nil clients); welcomed = stays-refl s }
-
--- who came and is no client is counted, and nobody else
-not_counted : {S : Type 0} (found : Found) (came : List (Client S)) (count : ℕ) → (found ≡ Connection → ⊥)
-    → away_after found came count ≡ count
-not_counted Connection came count other = absurd (other refl)
-not_counted Nobody came count other = refl
-not_counted Lost came count other = refl
-not_counted Refused came count other = refl
-
-pub nobody_came : {S : Type 0} (at : ℕ) (found : Found) (count : ℕ) (clients : List (Client S)) (s : HubState)
-    → (found ≡ Connection → ⊥) → IsWelcomed at found count count clients clients s s
-nobody_came at found count clients s other = record {
-  welcomes = nobody_welcomed at clients s;
-  away = sym (not_counted found (nobody_welcomed at clients s).came count other);
-}
-
-one_away : {S : Type 0} (clients came : List (Client S)) (count : ℕ) → length clients ≡ length clients + length came
-    → away_after Connection came count ≡ min (count + 1) (2 ^ 64 - 1)
-one_away clients [] count same = refl
-one_away clients (client ∷ came) count same = absurd (omega (arith, same))
-
-one_client : {S : Type 0} (clients came : List (Client S)) (count : ℕ)
-    → length clients + 1 ≡ length clients + length came → away_after Connection came count ≡ count
-one_client clients [] count same = absurd (omega (arith, same))
-one_client clients (client ∷ came) count same = refl
-
-module _ {S : Type 0} (at : ℕ) (door after_door : Door) (count counted : ℕ) (clients after : List (Client S))
-    (old new : HubState) (same_door : after_door ≡ door) (came : door.found ≡ Connection)
-    (w : Welcomes at clients after old new) where
-  many : length after ≡ length clients + length w.came
-  many = ap length w.whole ∙ length-append clients w.came
-
-  at_one : away_after after_door.found w.came count ≡ away_after Connection w.came count
-  at_one =
-      ap (λ (d : Door). away_after d.found w.came count) same_door
-      ∙ ap (λ (f : Found). away_after f w.came count) came
-
-  pub away_counted : after ≡ clients → counted ≡ min (count + 1) (2 ^ 64 - 1)
-      → IsWelcomed at after_door.found count counted clients after old new
-  away_counted same is = record {
-    welcomes = w;
-    away = is ∙ sym (at_one ∙ one_away clients w.came count (sym (ap length same) ∙ many));
+module _ {C S : Type 0} (IsMade : C → S → Type 0) (at : ℕ) where
+  -- nobody comes
+  pub nobody_came : (given gives count : ℕ) (clients : List (Client S)) (s : HubState) → gives ≡ given →
+      IsWelcomed IsMade at given gives count count clients clients s s
+  nobody_came given gives count clients s same = record {
+    welcomes = record { came = []; whole = sym (append-nil clients); welcomed = stays-refl s };
+    counts = inl (same, refl);
   }
 
-  pub client_counted : length after ≡ length clients + 1 → counted ≡ count
-      → IsWelcomed at after_door.found count counted clients after old new
-  client_counted same is = record {
-    welcomes = w;
-    away = is ∙ sym (at_one ∙ one_client clients w.came count (sym same ∙ many));
-  }
+  -- who came and is no client is counted, and nobody else
+  one_away : (clients came : List (Client S)) (given gives count counted : ℕ) →
+      length clients ≡ length clients + length came → gives ≡ given + 1 → counted ≡ min (count + 1) (2 ^ 64 - 1) →
+      AreCounted came given gives count counted
+  one_away clients [] given gives count counted same one is = inr (one, is)
+  one_away clients (client ∷ came) given gives count counted same one is = absurd (omega (arith, same))
 
--- said of a hub, and of a count, that are those from before
-pub welcomed_there : {S H : Type 0} (at : ℕ) (h k : H) (to : H → HubState) (found : Found) (n m counted : ℕ)
-    (kept clients asked : List (Client S)) (begun : HubState) → h ≡ k → kept ≡ clients → n ≡ m
-    → IsWelcomed at found n counted kept asked (to h) begun → IsWelcomed at found m counted clients asked (to k) begun
-welcomed_there {S = S} {H = H} at h k to found n m counted kept clients asked begun same are count w =
-    subst (λ (x : H). IsWelcomed at found m counted clients asked (to x) begun) same
-    (subst (λ (l : List (Client S)). IsWelcomed at found m counted l asked (to h) begun) are
-    (subst (λ (x : ℕ). IsWelcomed at found x counted kept asked (to h) begun) count w))
+  one_client : (clients came : List (Client S)) (given gives count counted : ℕ) →
+      length clients + 1 ≡ length clients + length came → gives ≡ given + 1 → counted ≡ count →
+      AreCounted came given gives count counted
+  one_client clients [] given gives count counted same one is = absurd (omega (arith, same))
+  one_client clients (client ∷ came) given gives count counted same one is = (one, is)
 
--- the same try and the same count
-pub welcomed_on : {S : Type 0} (at : ℕ) (door next : Door) (n counted after : ℕ) (clients asked : List (Client S))
-    (s t : HubState) → next ≡ door → after ≡ counted → IsWelcomed at door.found n counted clients asked s t →
-    IsWelcomed at next.found n after clients asked s t
-welcomed_on at door next n counted after clients asked s t same is w =
-    subst (λ (d : Door). IsWelcomed at d.found n after clients asked s t) (sym same)
-    (subst (λ (x : ℕ). IsWelcomed at door.found n x clients asked s t) (sym is) w)
+  module _ (given : ℕ) (door after_door : Door) (count counted : ℕ) (clients after : List (Client S))
+      (old new : HubState) (same_door : after_door ≡ door) (came : door.given ≡ given + 1)
+      (w : Welcomes IsMade at clients after old new) where
+    many : length after ≡ length clients + length w.came
+    many = ap length w.whole ∙ length-append clients w.came
+
+    one : after_door.given ≡ given + 1
+    one = ap (λ (d : Door). d.given) same_door ∙ came
+
+    pub away_counted : after ≡ clients → counted ≡ min (count + 1) (2 ^ 64 - 1)
+        → IsWelcomed IsMade at given after_door.given count counted clients after old new
+    away_counted same is = record {
+      welcomes = w;
+      counts = one_away clients w.came given after_door.given count counted (sym (ap length same) ∙ many) one is;
+    }
+
+    pub client_counted : length after ≡ length clients + 1 → counted ≡ count
+        → IsWelcomed IsMade at given after_door.given count counted clients after old new
+    client_counted same is = record {
+      welcomes = w;
+      counts = one_client clients w.came given after_door.given count counted (sym same ∙ many) one is;
+    }
+
+  -- said of a hub, a listener and a count that are those from before
+  pub welcomed_there : {H : Type 0} (h k : H) (to : H → HubState) (door last : Door) (gives n m counted : ℕ)
+      (kept clients asked : List (Client S)) (begun : HubState) → h ≡ k → kept ≡ clients → n ≡ m → door ≡ last →
+      IsWelcomed IsMade at door.given gives n counted kept asked (to h) begun →
+      IsWelcomed IsMade at last.given gives m counted clients asked (to k) begun
+  welcomed_there {H = H} h k to door last gives n m counted kept clients asked begun same are count still w =
+      subst (λ (d : Door). IsWelcomed IsMade at d.given gives m counted clients asked (to k) begun) still
+      (subst (λ (x : H). IsWelcomed IsMade at door.given gives m counted clients asked (to x) begun) same
+      (subst (λ (l : List (Client S)). IsWelcomed IsMade at door.given gives m counted l asked (to h) begun) are
+      (subst (λ (x : ℕ). IsWelcomed IsMade at door.given gives x counted kept asked (to h) begun) count w)))
+
+  -- the same listener and the same count
+  pub welcomed_on : (given : ℕ) (door next : Door) (n counted after : ℕ) (clients asked : List (Client S))
+      (s t : HubState) → next ≡ door → after ≡ counted →
+      IsWelcomed IsMade at given door.given n counted clients asked s t →
+      IsWelcomed IsMade at given next.given n after clients asked s t
+  welcomed_on given door next n counted after clients asked s t same is w =
+      subst (λ (d : Door). IsWelcomed IsMade at given d.given n after clients asked s t) (sym same)
+      (subst (λ (x : ℕ). IsWelcomed IsMade at given door.given n x clients asked s t) (sym is) w)

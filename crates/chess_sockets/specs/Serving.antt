@@ -1,6 +1,6 @@
 -- What a turn of the server calls the hub for: where what the sessions hear comes from, and where what they are given
 -- goes.
-use Rattle.std.specs.Prelude.{ℕ, ◌≡◌, ◌+◌, ◌-◌, ◌^◌, min, false, List, [], ◌∷◌, ◌++◌, Option, is_some, filter, ⊤}
+use Rattle.std.specs.Prelude.{ℕ, ◌≡◌, ◌+◌, ◌-◌, ◌^◌, ◌⊎◌, min, false, List, [], ◌∷◌, ◌++◌, Option, is_some, filter, ⊤}
 use Rattle.std.specs.List.{All}
 use Rattle.chess_entry.specs.State.{TableState}
 use Rattle.chess_entry.specs.declared.commands.Command.{Command}
@@ -10,8 +10,6 @@ use Rattle.chess_hub.specs.Calls.{Call, Connected, Closed, Fed, Turned, Given}
 use Rattle.chess_hub.specs.Law.{HubState, Steps, Stays}
 use Rattle.chess_hub.specs.Turning.{AsksFor}
 use Rattle.client_streams.specs.declared.client.Client.{Client}
-use Rattle.client_streams.specs.declared.door.Found.{Found}
-use Rattle.client_streams.specs.declared.door.Found.TheVariants.{Connection}
 use Rattle.client_streams.specs.Incoming.{held}
 use Rattle.client_streams.specs.Rounds as rounds
 use Rattle.client_streams.specs.Sending.{waiting}
@@ -71,8 +69,11 @@ pub record AreWritten {S : Type 0} (contents : S → Option (List ℕ)) (clients
 abbrev pub open_in : {S : Type 0} → Sessions → List (Client S) → List (Client S)
 open_in sessions clients = filter (λ client. is_some (session_at sessions client.sid)) clients
 
--- A client begins at this moment: nothing of it is held back, nothing waits for it, it has not waited, and it may send more.
-pub record Begins {S : Type 0} (client : Client S) (at : ℕ) : Type 0 where
+-- A client begins at this moment: its stream is as it is made of a connection, nothing of it is held back, nothing waits for
+-- it, it has not waited, and it may send more.
+pub record Begins {C S : Type 0} (IsMade : C → S → Type 0) (client : Client S) (at : ℕ) : Type 0 where
+  pub connection : C
+  pub made : IsMade connection client.stream
   pub moment : client.heard_at ≡ at
   pub lasts : client.has_ended ≡ false
   pub wait : client.waited ≡ 0
@@ -80,28 +81,31 @@ pub record Begins {S : Type 0} (client : Client S) (at : ℕ) : Type 0 where
   pub outgoing : waiting client.outgoing ≡ []
 
 -- At most one client comes and begins at this moment, and a session begins for it.
-abbrev pub AreWelcomed : {S : Type 0} → ℕ → List (Client S) → HubState → HubState → Type 0
-AreWelcomed at [] old new = Stays old new
-AreWelcomed at (client ∷ []) old new = LeadsOn old (Connected client.sid ∷ []) new × Begins client at
-AreWelcomed at (client ∷ other ∷ more) old new = ⊥
+abbrev pub AreWelcomed : {C S : Type 0} → (C → S → Type 0) → ℕ → List (Client S) → HubState → HubState → Type 0
+AreWelcomed IsMade at [] old new = Stays old new
+AreWelcomed IsMade at (client ∷ []) old new =
+    LeadsOn old (Connected client.sid ∷ []) new × Begins IsMade client at
+AreWelcomed IsMade at (client ∷ other ∷ more) old new = ⊥
 
 -- Who came stands behind those who were there.
-pub record Welcomes {S : Type 0} (at : ℕ) (clients after : List (Client S)) (old new : HubState) : Type 0 where
+pub record Welcomes {C S : Type 0} (IsMade : C → S → Type 0) (at : ℕ) (clients after : List (Client S))
+    (old new : HubState) : Type 0 where
   pub came : List (Client S)
   pub whole : after ≡ clients ++ came
-  pub welcomed : AreWelcomed at came old new
+  pub welcomed : AreWelcomed IsMade at came old new
 
--- How many connections were turned away, after a try that found this and who came of it, where so many were before: one more
--- where a connection came and no session began for it.
-abbrev pub away_after : {S : Type 0} → Found → List (Client S) → ℕ → ℕ
-away_after Connection [] count = min (count + 1) (2 ^ 64 - 1)
-away_after found came count = count
+-- The listener had given so many connections before and so many after: it gave none; or one, who is a client, or is counted
+-- as turned away.
+abbrev pub AreCounted : {S : Type 0} → List (Client S) → ℕ → ℕ → ℕ → ℕ → Type 0
+AreCounted [] given gives count counted =
+    (gives ≡ given) × (counted ≡ count) ⊎ (gives ≡ given + 1) × (counted ≡ min (count + 1) (2 ^ 64 - 1))
+AreCounted (client ∷ more) given gives count counted = (gives ≡ given + 1) × (counted ≡ count)
 
--- Who came is a client, or is counted as turned away.
-pub record IsWelcomed {S : Type 0} (at : ℕ) (found : Found) (count counted : ℕ) (clients after : List (Client S))
-    (old new : HubState) : Type 0 where
-  pub welcomes : Welcomes at clients after old new
-  pub away : counted ≡ away_after found welcomes.came count
+-- At most one connection comes; it is a client, or is counted as turned away.
+pub record IsWelcomed {C S : Type 0} (IsMade : C → S → Type 0) (at given gives count counted : ℕ)
+    (clients after : List (Client S)) (old new : HubState) : Type 0 where
+  pub welcomes : Welcomes IsMade at clients after old new
+  pub counts : AreCounted welcomes.came given gives count counted
 
 -- Each client is read for, and then the hub answers at most 64 lines of what the sessions had sent by then, as one batch
 -- at this moment, which the store may be asked for.
@@ -121,11 +125,12 @@ pub record HasServed {S : Type 0} (remaining contents : S → Option (List ℕ))
   pub writes : AreWritten contents read written answered new
 
 -- A turn of the server: each client whose session is open, and who came, is served. Who is left has an open session.
-pub record HasGoneRound {S : Type 0} (remaining contents : S → Option (List ℕ)) (silence : Option ℕ) (found : Found)
-    (count counted : ℕ) (May : List Command → Type 0) (at : ℕ) (clients left : List (Client S)) (old new : HubState) : Type 0 where
+pub record HasGoneRound {C S : Type 0} (IsMade : C → S → Type 0) (remaining contents : S → Option (List ℕ))
+    (silence : Option ℕ) (given gives count counted : ℕ) (May : List Command → Type 0) (at : ℕ)
+    (clients left : List (Client S)) (old new : HubState) : Type 0 where
   pub asked : List (Client S)
   pub begun : HubState
-  pub welcomes : IsWelcomed at found count counted (open_in old.sessions clients) asked old begun
+  pub welcomes : IsWelcomed IsMade at given gives count counted (open_in old.sessions clients) asked old begun
   pub written : List (Client S)
   pub serves : HasServed remaining contents silence May at asked written begun new
   pub stay : left ≡ open_in new.sessions written

@@ -8,7 +8,6 @@ use Rattle.chess_hub.specs.declared.fault.HubFault.TheVariants.{Busy, NoMemory, 
 use Rattle.chess_hub.specs.Law.{HubState}
 use Rattle.chess_hub.specs.Turning.{AsksFor, AreRefused}
 use Rattle.client_streams.specs.declared.client.Client.{Client}
-use Rattle.client_streams.specs.declared.door.Found.{Found}
 use Rattle.chess_sockets.specs.Serving.{AreRead, IsWelcomed, open_in}
 
 -- Memory was refused to the hub, or the store refused a batch. What is one client's trouble, want of memory too, ends
@@ -42,10 +41,10 @@ IsRefusal remaining silence Busy at seq failed clients left old new = ⊥
 IsRefusal remaining silence LineTooLong at seq failed clients left old new = ⊥
 
 -- Why a turn of the server ended: so it ended for those whose session is open and who came.
-pub record IsTurnRefusal {S : Type 0} (remaining : S → Option (List ℕ)) (silence : Option ℕ) (found : Found) (count counted : ℕ)
-    (fault : HubFault) (at seq : ℕ) (failed : Bool) (clients left : List (Client S)) (old new : HubState)
-    : Type 0 where
+pub record IsTurnRefusal {C S : Type 0} (IsMade : C → S → Type 0) (remaining : S → Option (List ℕ)) (silence : Option ℕ)
+    (given gives count counted : ℕ) (fault : HubFault) (at seq : ℕ) (failed : Bool) (clients left : List (Client S))
+    (old new : HubState) : Type 0 where
   pub asked : List (Client S)
   pub begun : HubState
-  pub welcomes : IsWelcomed at found count counted (open_in old.sessions clients) asked old begun
+  pub welcomes : IsWelcomed IsMade at given gives count counted (open_in old.sessions clients) asked old begun
   pub refusal : IsRefusal remaining silence fault at seq failed asked left begun new

@@ -1,5 +1,5 @@
 //! The server.
-ghost use Rattle.std.specs.Prelude.{◌≡◌, ◌+◌, ◌↔◌, true, false, [], Some, None, Ok, IsTrue, IsSomeAnd, IfOk, IfErr, OnOk, length};
+ghost use Rattle.std.specs.Prelude.{ℕ, ◌≡◌, ◌+◌, ◌↔◌, true, false, [], Some, None, Ok, IsTrue, IsSomeAnd, IfOk, IfErr, OnOk, length};
 ghost use Rattle.std.specs.Bool.{OnTrue, OnFalse};
 ghost use Rattle.table_commits.specs.Means.{IsKept};
 ghost use Rattle.chess_hub.specs.Faults.{CountsFault, refusals_after};
@@ -159,7 +159,7 @@ impl<D: Device, S: Read + Write + From<TcpStream> + Drop> Server<D, S> {
     // Begins a session for a connection, and tells whether it did: the connection is dropped where the hub is busy or memory
     // is refused.
     fn admit(&mut self, stream: TcpStream, at: u64) -> bool
-        ensures welcomes { Welcomes at self.old.clients.items self.new.clients.items
+        ensures welcomes { Welcomes S.from_gives at self.old.clients.items self.new.clients.items
             (state_of self.old.hub.sessions self.old.hub.store.table)
             (state_of self.new.hub.sessions self.new.hub.store.table) }
         ensures store { self.new.hub.store ≡ self.old.hub.store }
@@ -188,10 +188,9 @@ impl<D: Device, S: Read + Write + From<TcpStream> + Drop> Server<D, S> {
 
     // Begins a session for a connection that came, or counts it as turned away.
     fn greet(&mut self, stream: TcpStream, at: u64)
-        requires { self.old.door.found ≡ Found.Connection }
-        ensures welcomes { IsWelcomed at self.new.door.found self.old.turned_away self.new.turned_away
-            self.old.clients.items self.new.clients.items
-            (state_of self.old.hub.sessions self.old.hub.store.table)
+        ensures welcomes { (given : ℕ) → self.old.door.given ≡ given + 1 → IsWelcomed S.from_gives at given
+            self.new.door.given self.old.turned_away self.new.turned_away self.old.clients.items
+            self.new.clients.items (state_of self.old.hub.sessions self.old.hub.store.table)
             (state_of self.new.hub.sessions self.new.hub.store.table) }
         ensures store { self.new.hub.store ≡ self.old.hub.store }
         ensures refusals { self.new.hub.refusals ≡ self.old.hub.refusals }
@@ -207,8 +206,8 @@ impl<D: Device, S: Read + Write + From<TcpStream> + Drop> Server<D, S> {
     // Accepts at most one connection, and tells whether one came; after calm rests none, unless one may wait. One that came
     // and is no client is counted. What fails at it ends nothing, and is no turn's work, so that a rest comes before the next.
     fn welcome(&mut self, at: u64) -> bool
-        ensures welcomes { IsWelcomed at self.new.door.found self.old.turned_away self.new.turned_away
-            self.old.clients.items self.new.clients.items
+        ensures welcomes { IsWelcomed S.from_gives at self.old.door.given self.new.door.given self.old.turned_away
+            self.new.turned_away self.old.clients.items self.new.clients.items
             (state_of self.old.hub.sessions self.old.hub.store.table)
             (state_of self.new.hub.sessions self.new.hub.store.table) }
         ensures store { self.new.hub.store ≡ self.old.hub.store }
@@ -259,8 +258,8 @@ impl<D: Device, S: Read + Write + From<TcpStream> + Drop> Server<D, S> {
         ensures fault { IfErr result EndsServing }
         ensures counts { self.new.hub.refusals ≡ refusals_after result self.old.hub.refusals }
         // The store's own fault tells why it refused what lines ask for.
-        ensures refused { IfErr result (λ fault. IsTurnRefusal S.remaining self.old.silence self.new.door.found self.old.turned_away
-            self.new.turned_away fault at self.old.hub.store.journal.header.seq self.old.hub.store.failed
+        ensures refused { IfErr result (λ fault. IsTurnRefusal S.from_gives S.remaining self.old.silence
+            self.old.door.given self.new.door.given self.old.turned_away self.new.turned_away fault at self.old.hub.store.journal.header.seq self.old.hub.store.failed
             self.old.clients.items self.new.clients.items
             (state_of self.old.hub.sessions self.old.hub.store.table)
             (state_of self.new.hub.sessions self.new.hub.store.table)) }
@@ -272,9 +271,9 @@ impl<D: Device, S: Read + Write + From<TcpStream> + Drop> Server<D, S> {
         // The next turn reads for every client, unless a rest comes first.
         ensures again { OnOk result (self.new.rested ≡ Rested.Not) }
         // Each session hears what its client's stream gave, and what it is given goes to that stream, whatever the streams
-        // are. Who came and is no client is counted.
-        ensures served { OnOk result (HasGoneRound S.remaining S.contents self.old.silence self.new.door.found self.old.turned_away
-            self.new.turned_away (MayBeAsked self.old.hub.store.failed
+        // are. At most one comes, who is a client or is counted as turned away.
+        ensures served { OnOk result (HasGoneRound S.from_gives S.remaining S.contents self.old.silence
+            self.old.door.given self.new.door.given self.old.turned_away self.new.turned_away (MayBeAsked self.old.hub.store.failed
             self.old.hub.store.journal.header.seq self.old.hub.store.table.entries) at self.old.clients.items
             self.new.clients.items (state_of self.old.hub.sessions self.old.hub.store.table)
             (state_of self.new.hub.sessions self.new.hub.store.table)) }

@@ -1,5 +1,5 @@
 //! Where connections come from.
-ghost use Rattle.std.specs.Prelude.{◌≡◌, ◌↔◌, ◌⊎◌, false, IsSome};
+ghost use Rattle.std.specs.Prelude.{◌≡◌, ◌+◌, ◌↔◌, ◌⊎◌, false, IsSome, IfSome, IfNone};
 
 use std::io;
 use std::io::ErrorKind;
@@ -47,7 +47,7 @@ pub fn may_wait(found: Found) -> bool
 
 /// Where connections are accepted.
 pub trait Listens {
-    ghost use Rattle.std.specs.Prelude.{◌≡◌, ◌↔◌, IsSome};
+    ghost use Rattle.std.specs.Prelude.{ℕ, ◌≡◌, ◌+◌, ◌↔◌, IsSome, IfSome, IfNone};
     ghost use Rattle.client_streams.specs.declared.door.Found.{Found};
 
     type Stream: Drop;
@@ -55,9 +55,14 @@ pub trait Listens {
     /// What the last try found.
     ghost last_found: { Self → Found };
 
+    /// How many connections it has given.
+    ghost given_so_far: { Self → ℕ };
+
     /// Accepts a connection, if one is there, without waiting.
     fn accept_one(&mut self) -> Option<Self::Stream>
-        ensures { IsSome result ↔ (last_found self.new ≡ Found.Connection) };
+        ensures found { IsSome result ↔ (last_found self.new ≡ Found.Connection) }
+        ensures one { IfSome result (λ stream. given_so_far self.new ≡ given_so_far self.old + 1) }
+        ensures none { IfNone result (given_so_far self.new ≡ given_so_far self.old) };
 
     /// What the last try found.
     fn found(&self) -> Found
@@ -70,12 +75,17 @@ const TRIES: usize = 64;
 /// Accepts the next connection, if one waits. Those that were lost are passed over, up to 64 tries; where the system has
 /// nothing for it, it is tried no further for now.
 pub fn next_connection<L: Listens>(door: &mut L) -> Option<L::Stream>
-    ensures { IsSome result ↔ (L.last_found door.new ≡ Found.Connection) }
+    ensures found { IsSome result ↔ (L.last_found door.new ≡ Found.Connection) }
+    // It is the only one that the listener has given.
+    ensures one { IfSome result (λ stream. L.given_so_far door.new ≡ L.given_so_far door.old + 1) }
+    ensures none { IfNone result (L.given_so_far door.new ≡ L.given_so_far door.old) }
 {
     for _ in 1..TRIES {
-        let came = door.accept_one();
+        if let Some(stream) = door.accept_one() {
+            return Some(stream);
+        }
         if door.found() != Found::Lost {
-            return came;
+            return None;
         }
     }
     door.accept_one()
@@ -86,6 +96,8 @@ pub fn next_connection<L: Listens>(door: &mut L) -> Option<L::Stream>
 pub struct Door {
     listener: TcpListener,
     found: Found,
+    /// So many connections it has given.
+    given: u64,
 }
 
 impl Door {
@@ -99,6 +111,7 @@ impl Door {
         Ok(Door {
             listener,
             found: Found::Lost,
+            given: 0,
         })
     }
 
@@ -126,7 +139,14 @@ impl Listens for Door {
 
     ghost last_found = { λ door. door.found };
 
+    ghost given_so_far = { λ door. door.given };
+
     fn accept_one(&mut self) -> Option<TcpStream> {
+        // So many never come.
+        if self.given == u64::MAX {
+            self.found = Found::Refused;
+            return None;
+        }
         let (stream, _) = match self.listener.accept() {
             Ok(came) => came,
             Err(fault) => {
@@ -137,6 +157,7 @@ impl Listens for Door {
         match prepared(stream) {
             Ok(stream) => {
                 self.found = Found::Connection;
+                self.given += 1;
                 Some(stream)
             }
             Err(_) => {

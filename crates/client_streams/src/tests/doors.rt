@@ -9,6 +9,7 @@ struct Queue {
     codes: &'static [i32],
     tries: usize,
     found: Found,
+    given: u8,
 }
 
 /// None waits.
@@ -19,14 +20,17 @@ impl Listens for Queue {
 
     ghost last_found = { λ queue. queue.found };
 
+    ghost given_so_far = { λ queue. queue.given };
+
     fn accept_one(&mut self) -> Option<usize> {
         let code = match self.codes.get(self.tries) {
             Some(code) => *code,
             None => EAGAIN,
         };
         self.tries = self.tries.saturating_add(1);
-        if code == 0 {
+        if code == 0 && self.given < u8::MAX {
             self.found = Found::Connection;
+            self.given += 1;
             return Some(self.tries);
         }
         self.found = found_of(Error::from_raw_os_error(code).kind());
@@ -44,6 +48,7 @@ fn come(codes: &'static [i32]) -> (Option<usize>, usize, Found) {
         codes,
         tries: 0,
         found: Found::Lost,
+        given: 0,
     };
     let came = next_connection(&mut queue);
     (came, queue.tries, queue.found)

@@ -52,11 +52,12 @@ returns-then-came-has_served-clause-served g c =
     record {
       asked = w.clients.items;
       begun = state_of w.hub.sessions w.hub.store.table;
-      welcomes = welcomed_on c.args.at w.door left.door old.turned_away w.turned_away left.turned_away _ _ _ _
-          c.part-2.ensures.door c.part-2.ensures.turned_away
-          (welcomed_there c.args.at c.part.new.self.hub old.hub (λ hub. state_of hub.sessions hub.store.table) w.door.found
+      welcomes = welcomed_on g.S.From.from_gives c.args.at old.door.given w.door left.door old.turned_away w.turned_away
+          left.turned_away _ _ _ _ c.part-2.ensures.door c.part-2.ensures.turned_away
+          (welcomed_there g.S.From.from_gives c.args.at c.part.new.self.hub old.hub
+          (λ hub. state_of hub.sessions hub.store.table) c.part.new.self.door old.door w.door.given
           c.part.new.self.turned_away old.turned_away w.turned_away _ _ _ _ c.part.ensures.hub c.part.ensures.stay
-          c.part.ensures.turned_away c.welcome-came.ensures.welcomes);
+          c.part.ensures.turned_away c.part.ensures.door c.welcome-came.ensures.welcomes);
       written = n.clients.items;
       serves = rw (
         c.part-2.ensures.hub,
@@ -76,11 +77,12 @@ returns-else-came-has_served-clause-served g c =
     record {
       asked = w.clients.items;
       begun = state_of w.hub.sessions w.hub.store.table;
-      welcomes = welcomed_on c.args.at w.door left.door old.turned_away w.turned_away left.turned_away _ _ _ _
-          c.part-2.ensures.door c.part-2.ensures.turned_away
-          (welcomed_there c.args.at c.part.new.self.hub old.hub (λ hub. state_of hub.sessions hub.store.table) w.door.found
+      welcomes = welcomed_on g.S.From.from_gives c.args.at old.door.given w.door left.door old.turned_away w.turned_away
+          left.turned_away _ _ _ _ c.part-2.ensures.door c.part-2.ensures.turned_away
+          (welcomed_there g.S.From.from_gives c.args.at c.part.new.self.hub old.hub
+          (λ hub. state_of hub.sessions hub.store.table) c.part.new.self.door old.door w.door.given
           c.part.new.self.turned_away old.turned_away w.turned_away _ _ _ _ c.part.ensures.hub c.part.ensures.stay
-          c.part.ensures.turned_away c.welcome-came.ensures.welcomes);
+          c.part.ensures.turned_away c.part.ensures.door c.welcome-came.ensures.welcomes);
       written = n.clients.items;
       serves = rw (
         c.part-2.ensures.hub,
@@ -108,15 +110,16 @@ returns-in_err-has_served-clause-refused g c =
     let w = c.welcome-came.new.self in
     let n = c.serve_clients.new in
     of_fault r.result e.0 c.in_err-has_served.field-0.0
-    (λ fault. IsTurnRefusal g.S.Read.remaining old.silence w.door.found old.turned_away w.turned_away fault c.args.at
-    old.hub.store.journal.header.seq old.hub.store.failed old.clients.items n.clients.items
+    (λ fault. IsTurnRefusal g.S.From.from_gives g.S.Read.remaining old.silence old.door.given w.door.given
+    old.turned_away w.turned_away fault c.args.at old.hub.store.journal.header.seq old.hub.store.failed old.clients.items n.clients.items
     (state_of old.hub.sessions old.hub.store.table) (state_of n.hub.sessions n.hub.store.table)) e.1 e.2
     (record {
       asked = w.clients.items;
       begun = state_of w.hub.sessions w.hub.store.table;
-      welcomes = welcomed_there c.args.at c.part.new.self.hub old.hub (λ hub. state_of hub.sessions hub.store.table) w.door.found
+      welcomes = welcomed_there g.S.From.from_gives c.args.at c.part.new.self.hub old.hub
+          (λ hub. state_of hub.sessions hub.store.table) c.part.new.self.door old.door w.door.given
           c.part.new.self.turned_away old.turned_away w.turned_away _ _ _ _ c.part.ensures.hub c.part.ensures.stay
-          c.part.ensures.turned_away c.welcome-came.ensures.welcomes;
+          c.part.ensures.turned_away c.part.ensures.door c.welcome-came.ensures.welcomes;
       refusal = rw (sym same, sym (c.welcome-came.ensures.silence ∙ c.part.ensures.silence))
           c.in_err-has_served.ensures.refused;
     })
