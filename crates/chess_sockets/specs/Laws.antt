@@ -1,14 +1,17 @@
 -- Which lines are answered by several lines.
-use Rattle.std.specs.Prelude.{ℕ, ◌≡◌, false, List}
+use Rattle.std.specs.Prelude.{ℕ, ◌≡◌, false, List, [], Option}
 use Rattle.std.specs.Io.BufRead.{strip_last}
-use Rattle.chess_entry.specs.declared.commands.Act.{Act}
-use Rattle.chess_line.specs.declared.lines.Line.TheVariants as lines
-use Rattle.chess_line.specs.Line.{IsLineOf}
-use Rattle.chess_table.specs.Reading.{HasBody}
+use Rattle.chess_entry.specs.State.{TableState}
+use Rattle.chess_line.specs.declared.lines.Line.{Line}
+use Rattle.chess_sessions.specs.Session.{Said}
+use Rattle.chess_sessions.specs.Turn.{IsReading}
+use Rattle.chess_hub.specs.Sessions.{IsLineAnswered}
 use Rattle.client_streams.specs.Portions.{is_dear}
 
--- A line that asks for little, as it stands before its line feed, asks for nothing whose answer has a body.
+-- The answer to a line that asks for little, as that stands before its line feed, is one line: it has no body, whoever asks,
+-- at whatever moment, of whatever table.
 abbrev pub LawOfShortAnswers : Type 0
 LawOfShortAnswers =
-    (line : List ℕ) (act : Act) → is_dear line ≡ false → IsLineOf (strip_last 13 line) (lines.Act act) → HasBody act
-    → ⊥
+    (line : List ℕ) (read : Option Line) (table after : TableState) (name : Option (List ℕ)) (at : ℕ) (answer : Said)
+    → is_dear line ≡ false → IsReading (strip_last 13 line) read → IsLineAnswered table name at read answer after
+    → answer.body ≡ []
