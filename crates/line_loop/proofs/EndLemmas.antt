@@ -12,7 +12,7 @@ use Rattle.std.specs.Prelude.{OnOk, IsErrOf}
 use Rattle.line_loop.specs.declared.answerer.LoopFault.{LoopFault}
 use Rattle.line_loop.specs.declared.answerer.LoopFault.TheVariants as faults
 use Rattle.line_loop.specs.Outlets.{IsSaid}
-use Rattle.line_loop.specs.Turns.{IsHeard, HasCome, BreaksAt, Takes}
+use Rattle.line_loop.specs.Turns.{IsHeard, HasCome, BreaksAt, Takes, stage_of}
 use Rattle.line_loop.specs.declared.loops.Flow.{Flow}
 use Rattle.line_loop.specs.declared.loops.Flow.TheVariants.{Open, TooLong, Broken}
 use Rattle.line_loop.specs.declared.outlet.WriteFault.{WriteFault}
@@ -108,16 +108,18 @@ module _ {S F : Type 0} (Asked : S → Type 0) (Answers : S → List ℕ → Lis
     (held kept ready then : List ℕ) (piece : List ℕ) (h : Stands Asked Answers before left old now start s held ready)
     (read : Consumes left later piece) where
   from_empty : (result : Result (Flow F) WriteFault) →
-      Takes Asked Answers Breaks now ready s held piece result new then t kept →
-      Takes Asked Answers Breaks now [] s held piece result new then t kept
-  from_empty result takes = subst (λ (x : List ℕ). Takes Asked Answers Breaks now x s held piece result new then t kept)
+      Takes Asked Answers Breaks (stage_of now ready s held) piece result (stage_of new then t kept) →
+      Takes Asked Answers Breaks (stage_of now [] s held) piece result (stage_of new then t kept)
+  from_empty result takes =
+      subst (λ (x : List ℕ). Takes Asked Answers Breaks (stage_of now x s held) piece result (stage_of new then t kept))
       h.empty takes
 
   consumes : Consumes before later (h.taken ++ piece)
   consumes = Consumes-trans before left later h.taken piece h.consumed read
 
   -- one piece more
-  pub stands-more : then ≡ [] → Takes Asked Answers Breaks now ready s held piece (Ok Open) new then t kept →
+  pub stands-more : then ≡ [] →
+      Takes Asked Answers Breaks (stage_of now ready s held) piece (Ok Open) (stage_of new then t kept) →
       Stands Asked Answers before later old new start t kept then
   stands-more none takes =
       let (asked, un, come) = from_empty (Ok Open) takes in
@@ -132,7 +134,8 @@ module _ {S F : Type 0} (Asked : S → Type 0) (Answers : S → List ℕ → Lis
       }
 
   -- a line is too long
-  pub stands-long : then ≡ [] → Takes Asked Answers Breaks now ready s held piece (Ok TooLong) new then t kept →
+  pub stands-long : then ≡ [] →
+      Takes Asked Answers Breaks (stage_of now ready s held) piece (Ok TooLong) (stage_of new then t kept) →
       AnswersLong Answers before later old new start t
   stands-long none takes =
       let k = from_empty (Ok TooLong) takes start old h.taken h.come in
@@ -176,7 +179,7 @@ module _ {S F : Type 0} (Asked : S → Type 0) (Answers : S → List ℕ → Lis
 
   -- a line finds no answer
   pub stands-broken : (fault : F) → then ≡ [] →
-      Takes Asked Answers Breaks now ready s held piece (Ok (Broken fault)) new then t kept →
+      Takes Asked Answers Breaks (stage_of now ready s held) piece (Ok (Broken fault)) (stage_of new then t kept) →
       AnswersUntil Answers Breaks fault before later old new start t
   unfolding lines_broken from_empty
   stands-broken fault none takes =
@@ -203,7 +206,7 @@ module _ {S F : Type 0} (Asked : S → Type 0) (Answers : S → List ℕ → Lis
 
   -- a write failed
   pub stands-lost : (fault : WriteFault) →
-      Takes Asked Answers Breaks now ready s held piece (Err fault) new then t kept →
+      Takes Asked Answers Breaks (stage_of now ready s held) piece (Err fault) (stage_of new then t kept) →
       AnswersInPart Answers Breaks before later old new start t
   stands-lost fault takes =
       let k = from_empty (Err fault) takes start old h.taken h.come in

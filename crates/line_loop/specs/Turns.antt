@@ -7,6 +7,7 @@ use Rattle.line_loop.specs.Texts.{IsRun, farewell}
 use Rattle.line_loop.specs.Outlets.{IsSaid, IsLost}
 use Rattle.line_loop.specs.declared.loops.Flow.{Flow}
 use Rattle.line_loop.specs.declared.loops.Flow.TheVariants.{Open, TooLong, Broken}
+use Rattle.line_loop.specs.declared.loops.Dialogue.{Dialogue}
 use Rattle.line_loop.specs.declared.outlet.WriteFault.{WriteFault}
 
 -- What was taken is whole lines, which were answered, and what comes after them.
@@ -77,19 +78,41 @@ pub record HasLost {S F : Type 0} (Answers : S → List ℕ → List ℕ → S �
   pub long : is_long ≡ true → IsTooLong after
   pub lost : IsLost first now (answers ++ farewell is_long)
 
+-- Where the loop stands: what the writer holds, what is ready to be written, who answers, and what has come of the next
+-- line.
+pub record Stage (S : Type 0) : Type 0 where
+  pub written : Option (List ℕ)
+  pub ready : List ℕ
+  pub answerer : S
+  pub held : List ℕ
+
+abbrev pub stage_of : {S : Type 0} → Option (List ℕ) → List ℕ → S → List ℕ → Stage S
+stage_of written ready answerer held = record {
+  written = written;
+  ready = ready;
+  answerer = answerer;
+  held = held;
+}
+
+abbrev pub stage : {S : Type 0} → Option (List ℕ) → Dialogue S → Stage S
+stage written dialogue = stage_of written dialogue.ready.bytes dialogue.answerer dialogue.line.items
+
 -- What a call did that took bytes, whatever came before.
 abbrev pub Takes : {S F : Type 0} → (S → Type 0) → (S → List ℕ → List ℕ → S → Type 0) → (S → List ℕ → F → S → Type 0)
-    → Option (List ℕ) → List ℕ → S → List ℕ → List ℕ → Result (Flow F) WriteFault → Option (List ℕ) → List ℕ → S
-    → List ℕ → Type 0
-Takes {S = S} Asked Answers Breaks now ready s held bytes (Ok Open) new left t kept = Asked t × IsUnfinished kept
-    × ((start : S) (first : Option (List ℕ)) (taken : List ℕ) → HasCome Answers start first now ready taken s held
-    → HasCome Answers start first new left (taken ++ bytes) t kept)
-Takes {S = S} Asked Answers Breaks now ready s held bytes (Ok TooLong) new left t kept =
-    (start : S) (first : Option (List ℕ)) (taken : List ℕ) → HasCome Answers start first now ready taken s held
-    → HasGrownLong Answers start first new left (taken ++ bytes) t
-Takes {S = S} Asked Answers Breaks now ready s held bytes (Ok (Broken fault)) new left t kept =
-    (start : S) (first : Option (List ℕ)) (taken : List ℕ) → HasCome Answers start first now ready taken s held
-    → HasBroken Answers Breaks fault start first new left (taken ++ bytes) t
-Takes {S = S} Asked Answers Breaks now ready s held bytes (Err fault) new left t kept =
-    (start : S) (first : Option (List ℕ)) (taken : List ℕ) → HasCome Answers start first now ready taken s held
-    → HasLost Answers Breaks start first new (taken ++ bytes) t
+    → Stage S → List ℕ → Result (Flow F) WriteFault → Stage S → Type 0
+Takes {S = S} Asked Answers Breaks before bytes (Ok Open) after = Asked after.answerer × IsUnfinished after.held
+    × ((start : S) (first : Option (List ℕ)) (taken : List ℕ)
+    → HasCome Answers start first before.written before.ready taken before.answerer before.held
+    → HasCome Answers start first after.written after.ready (taken ++ bytes) after.answerer after.held)
+Takes {S = S} Asked Answers Breaks before bytes (Ok TooLong) after =
+    (start : S) (first : Option (List ℕ)) (taken : List ℕ)
+    → HasCome Answers start first before.written before.ready taken before.answerer before.held
+    → HasGrownLong Answers start first after.written after.ready (taken ++ bytes) after.answerer
+Takes {S = S} Asked Answers Breaks before bytes (Ok (Broken fault)) after =
+    (start : S) (first : Option (List ℕ)) (taken : List ℕ)
+    → HasCome Answers start first before.written before.ready taken before.answerer before.held
+    → HasBroken Answers Breaks fault start first after.written after.ready (taken ++ bytes) after.answerer
+Takes {S = S} Asked Answers Breaks before bytes (Err fault) after =
+    (start : S) (first : Option (List ℕ)) (taken : List ℕ)
+    → HasCome Answers start first before.written before.ready taken before.answerer before.held
+    → HasLost Answers Breaks start first after.written (taken ++ bytes) after.answerer

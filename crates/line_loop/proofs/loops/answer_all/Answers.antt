@@ -1,5 +1,6 @@
 use Rattle.std.proofs.Common.{ℕ, ◌∙◌, refl, subst, take}
 use Rattle.std.specs.Io.KnownBytes.{Consumes}
+use Rattle.line_loop.specs.Turns.{stage}
 use Rattle.line_loop.proofs.TurnLemmas.{flow_is}
 use Rattle.line_loop.proofs.EndLemmas.{stands-first, stands-kept, stands-read, stands-all, stands-more, stands-long, stands-broken, stands-lost}
 use Rattle.line_loop.proofs.loops.answer_all.Goals as goal
@@ -7,8 +8,8 @@ use Rattle.line_loop.proofs.loops.answer_all.Goals as goal
 pub loop-count-init : goal.loop-count-init
 loop-count-init g c = record {
   stands = stands-first g.A.Answerer.is_ready g.A.Answerer.answers (g.S.LineSource.remaining c.args.source.now)
-      (g.W.Write.contents c.args.writer.now) c.args.session.now.answerer c.args.session.now.line.items
-      c.args.session.now.ready.bytes c.requires.asked c.requires.empty c.requires.nothing;
+      (g.W.Write.contents c.args.writer.now) c.args.dialogue.now.answerer c.args.dialogue.now.line.items
+      c.args.dialogue.now.ready.bytes c.requires.asked c.requires.empty c.requires.nothing;
   works = refl;
 }
 
@@ -17,15 +18,14 @@ loop-count-preserved g c = record {
   stands = stands-more g.A.Answerer.is_ready g.A.Answerer.answers g.A.Answerer.breaks
       (g.S.LineSource.remaining c.args.source.now) (g.S.LineSource.remaining c.loop-count.source)
       (g.S.LineSource.remaining c.next_piece.new.self) (g.W.Write.contents c.args.writer.now)
-      (g.W.Write.contents c.loop-count.writer) (g.W.Write.contents c.answer_piece.new.writer) c.args.session.now.answerer
-      c.loop-count.session.answerer c.answer_piece.new.session.answerer c.loop-count.session.line.items
-      c.answer_piece.new.session.line.items c.loop-count.session.ready.bytes c.answer_piece.new.session.ready.bytes
+      (g.W.Write.contents c.loop-count.writer) (g.W.Write.contents c.answer_piece.new.writer) c.args.dialogue.now.answerer
+      c.loop-count.dialogue.answerer c.answer_piece.new.dialogue.answerer c.loop-count.dialogue.line.items
+      c.answer_piece.new.dialogue.line.items c.loop-count.dialogue.ready.bytes c.answer_piece.new.dialogue.ready.bytes
       (take c.in-Ok.count c.next_piece.new.piece) c.loop-count.invariant.stands c.in-Ok.ensures.bytes.0
       c.in-Ok-Open.ensures.empty (flow_is g.A.Answerer.is_ready g.A.Answerer.answers g.A.Answerer.breaks
-      (g.W.Write.contents c.loop-count.writer) (g.W.Write.contents c.answer_piece.new.writer) c.loop-count.session.ready.bytes
-      c.answer_piece.new.session.ready.bytes c.loop-count.session.answerer c.answer_piece.new.session.answerer
-      c.loop-count.session.line.items c.answer_piece.new.session.line.items (take c.in-Ok.count c.next_piece.new.piece) _ _
-      c.in-Ok-Open.field-0-is c.in-Ok-Open.ensures.taken);
+      (stage (g.W.Write.contents c.loop-count.writer) c.loop-count.dialogue)
+      (stage (g.W.Write.contents c.answer_piece.new.writer) c.answer_piece.new.dialogue)
+      (take c.in-Ok.count c.next_piece.new.piece) _ _ c.in-Ok-Open.field-0-is c.in-Ok-Open.ensures.taken);
   works = c.in-Ok.ensures.works ∙ c.loop-count.invariant.works;
 }
 
@@ -36,45 +36,45 @@ returns-in-Ok-eq0-clause-ended g c =
     let read = subst (λ (n : ℕ). Consumes left later (take n c.next_piece.new.piece)) c.in-Ok-eq0.field-0-test
     c.in-Ok-eq0.ensures.bytes.0 in
     stands-all g.A.Answerer.is_ready g.A.Answerer.answers (g.S.LineSource.remaining c.args.source.now) later
-    (g.W.Write.contents c.args.writer.now) (g.W.Write.contents c.loop-count.writer) c.args.session.now.answerer
-    c.loop-count.session.answerer c.loop-count.session.line.items c.loop-count.session.ready.bytes
+    (g.W.Write.contents c.args.writer.now) (g.W.Write.contents c.loop-count.writer) c.args.dialogue.now.answerer
+    c.loop-count.dialogue.answerer c.loop-count.dialogue.line.items c.loop-count.dialogue.ready.bytes
     (stands-read g.A.Answerer.is_ready g.A.Answerer.answers (g.S.LineSource.remaining c.args.source.now) left later
-    (g.W.Write.contents c.args.writer.now) (g.W.Write.contents c.loop-count.writer) c.args.session.now.answerer
-    c.loop-count.session.answerer c.loop-count.session.line.items c.loop-count.session.ready.bytes c.loop-count.invariant.stands read)
+    (g.W.Write.contents c.args.writer.now) (g.W.Write.contents c.loop-count.writer) c.args.dialogue.now.answerer
+    c.loop-count.dialogue.answerer c.loop-count.dialogue.line.items c.loop-count.dialogue.ready.bytes c.loop-count.invariant.stands read)
 
 pub returns-in-Ok-TooLong-clause-ended : goal.returns-in-Ok-TooLong-clause-ended
 returns-in-Ok-TooLong-clause-ended g c =
     stands-long g.A.Answerer.is_ready g.A.Answerer.answers g.A.Answerer.breaks (g.S.LineSource.remaining c.args.source.now)
     (g.S.LineSource.remaining c.loop-count.source) (g.S.LineSource.remaining c.next_piece.new.self) (g.W.Write.contents c.args.writer.now)
-    (g.W.Write.contents c.loop-count.writer) (g.W.Write.contents c.answer_piece.new.writer) c.args.session.now.answerer
-    c.loop-count.session.answerer c.answer_piece.new.session.answerer c.loop-count.session.line.items
-    c.answer_piece.new.session.line.items c.loop-count.session.ready.bytes c.answer_piece.new.session.ready.bytes
+    (g.W.Write.contents c.loop-count.writer) (g.W.Write.contents c.answer_piece.new.writer) c.args.dialogue.now.answerer
+    c.loop-count.dialogue.answerer c.answer_piece.new.dialogue.answerer c.loop-count.dialogue.line.items
+    c.answer_piece.new.dialogue.line.items c.loop-count.dialogue.ready.bytes c.answer_piece.new.dialogue.ready.bytes
     (take c.in-Ok.count c.next_piece.new.piece) c.loop-count.invariant.stands c.in-Ok.ensures.bytes.0
-    c.in-Ok-TooLong.ensures.empty (flow_is g.A.Answerer.is_ready g.A.Answerer.answers g.A.Answerer.breaks (g.W.Write.contents c.loop-count.writer)
-    (g.W.Write.contents c.answer_piece.new.writer) c.loop-count.session.ready.bytes c.answer_piece.new.session.ready.bytes
-    c.loop-count.session.answerer c.answer_piece.new.session.answerer c.loop-count.session.line.items
-    c.answer_piece.new.session.line.items (take c.in-Ok.count c.next_piece.new.piece) _ _ c.in-Ok-TooLong.field-0-is c.in-Ok-TooLong.ensures.taken)
+    c.in-Ok-TooLong.ensures.empty (flow_is g.A.Answerer.is_ready g.A.Answerer.answers g.A.Answerer.breaks
+    (stage (g.W.Write.contents c.loop-count.writer) c.loop-count.dialogue)
+    (stage (g.W.Write.contents c.answer_piece.new.writer) c.answer_piece.new.dialogue)
+    (take c.in-Ok.count c.next_piece.new.piece) _ _ c.in-Ok-TooLong.field-0-is c.in-Ok-TooLong.ensures.taken)
 
 pub returns-in-Ok-Broken-clause-ended : goal.returns-in-Ok-Broken-clause-ended
 returns-in-Ok-Broken-clause-ended g c =
     stands-broken g.A.Answerer.is_ready g.A.Answerer.answers g.A.Answerer.breaks (g.S.LineSource.remaining c.args.source.now)
     (g.S.LineSource.remaining c.loop-count.source) (g.S.LineSource.remaining c.next_piece.new.self) (g.W.Write.contents c.args.writer.now)
-    (g.W.Write.contents c.loop-count.writer) (g.W.Write.contents c.answer_piece.new.writer) c.args.session.now.answerer
-    c.loop-count.session.answerer c.answer_piece.new.session.answerer c.loop-count.session.line.items
-    c.answer_piece.new.session.line.items c.loop-count.session.ready.bytes c.answer_piece.new.session.ready.bytes
+    (g.W.Write.contents c.loop-count.writer) (g.W.Write.contents c.answer_piece.new.writer) c.args.dialogue.now.answerer
+    c.loop-count.dialogue.answerer c.answer_piece.new.dialogue.answerer c.loop-count.dialogue.line.items
+    c.answer_piece.new.dialogue.line.items c.loop-count.dialogue.ready.bytes c.answer_piece.new.dialogue.ready.bytes
     (take c.in-Ok.count c.next_piece.new.piece) c.loop-count.invariant.stands c.in-Ok.ensures.bytes.0 c.in-Ok-Broken.fault
-    c.in-Ok-Broken.ensures.empty (flow_is g.A.Answerer.is_ready g.A.Answerer.answers g.A.Answerer.breaks (g.W.Write.contents c.loop-count.writer)
-    (g.W.Write.contents c.answer_piece.new.writer) c.loop-count.session.ready.bytes c.answer_piece.new.session.ready.bytes
-    c.loop-count.session.answerer c.answer_piece.new.session.answerer c.loop-count.session.line.items
-    c.answer_piece.new.session.line.items (take c.in-Ok.count c.next_piece.new.piece) _ _ c.in-Ok-Broken.field-0-is c.in-Ok-Broken.ensures.taken)
+    c.in-Ok-Broken.ensures.empty (flow_is g.A.Answerer.is_ready g.A.Answerer.answers g.A.Answerer.breaks
+    (stage (g.W.Write.contents c.loop-count.writer) c.loop-count.dialogue)
+    (stage (g.W.Write.contents c.answer_piece.new.writer) c.answer_piece.new.dialogue)
+    (take c.in-Ok.count c.next_piece.new.piece) _ _ c.in-Ok-Broken.field-0-is c.in-Ok-Broken.ensures.taken)
 
 pub returns-in-Err-answer_piece-clause-ended : goal.returns-in-Err-answer_piece-clause-ended
 returns-in-Err-answer_piece-clause-ended g c =
     stands-lost g.A.Answerer.is_ready g.A.Answerer.answers g.A.Answerer.breaks (g.S.LineSource.remaining c.args.source.now)
     (g.S.LineSource.remaining c.loop-count.source) (g.S.LineSource.remaining c.next_piece.new.self) (g.W.Write.contents c.args.writer.now)
-    (g.W.Write.contents c.loop-count.writer) (g.W.Write.contents c.answer_piece.new.writer) c.args.session.now.answerer
-    c.loop-count.session.answerer c.answer_piece.new.session.answerer c.loop-count.session.line.items
-    c.answer_piece.new.session.line.items c.loop-count.session.ready.bytes c.answer_piece.new.session.ready.bytes
+    (g.W.Write.contents c.loop-count.writer) (g.W.Write.contents c.answer_piece.new.writer) c.args.dialogue.now.answerer
+    c.loop-count.dialogue.answerer c.answer_piece.new.dialogue.answerer c.loop-count.dialogue.line.items
+    c.answer_piece.new.dialogue.line.items c.loop-count.dialogue.ready.bytes c.answer_piece.new.dialogue.ready.bytes
     (take c.in-Ok.count c.next_piece.new.piece) c.loop-count.invariant.stands c.in-Ok.ensures.bytes.0 _
     c.in-Err-answer_piece.ensures.taken
 
@@ -82,10 +82,10 @@ pub returns-in-Err-clause-ended : goal.returns-in-Err-clause-ended
 returns-in-Err-clause-ended g c =
     stands-all g.A.Answerer.is_ready g.A.Answerer.answers (g.S.LineSource.remaining c.args.source.now)
     (g.S.LineSource.remaining c.next_piece.new.self) (g.W.Write.contents c.args.writer.now)
-    (g.W.Write.contents c.loop-count.writer) c.args.session.now.answerer c.loop-count.session.answerer c.loop-count.session.line.items
-    c.loop-count.session.ready.bytes
+    (g.W.Write.contents c.loop-count.writer) c.args.dialogue.now.answerer c.loop-count.dialogue.answerer c.loop-count.dialogue.line.items
+    c.loop-count.dialogue.ready.bytes
     (stands-kept g.A.Answerer.is_ready g.A.Answerer.answers (g.S.LineSource.remaining c.args.source.now)
     (g.S.LineSource.remaining c.loop-count.source) (g.S.LineSource.remaining c.next_piece.new.self)
-    (g.W.Write.contents c.args.writer.now) (g.W.Write.contents c.loop-count.writer) c.args.session.now.answerer
-    c.loop-count.session.answerer c.loop-count.session.line.items c.loop-count.session.ready.bytes c.loop-count.invariant.stands
+    (g.W.Write.contents c.args.writer.now) (g.W.Write.contents c.loop-count.writer) c.args.dialogue.now.answerer
+    c.loop-count.dialogue.answerer c.loop-count.dialogue.line.items c.loop-count.dialogue.ready.bytes c.loop-count.invariant.stands
     c.in-Err.ensures.bytes)

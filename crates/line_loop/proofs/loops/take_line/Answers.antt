@@ -1,68 +1,56 @@
 use Rattle.std.proofs.Common.{◌≡◌, [], ◌∷◌, ◌++◌, arith, rules}
 use Rattle.std.proofs.lemmas.Result.{err_from_is_err_and}
 use Rattle.std.proofs.lemmas.List.{nil_from_length}
+use Rattle.line_loop.specs.Turns.{stage, stage_of}
 use Rattle.line_loop.proofs.TurnLemmas.{took-whole, flow_is, then-takes, over-long, over-broken, over-lost, passed_on}
 use Rattle.line_loop.proofs.loops.take_line.Goals as goal
 
 pub returns-then-part-le-LINE_ROOM : goal.returns-then-part-le-LINE_ROOM
 returns-then-part-le-LINE_ROOM g c =
-    let s = c.args.session.now in
+    let s = c.args.dialogue.now in
     let part = c.args.part.now in
     let none : s.line.items ≡ [] = nil_from_length s.line.items (search rules) in
     took-whole g.A.Answerer.is_ready g.A.Answerer.answers g.A.Answerer.breaks (g.W.Write.contents c.args.writer.now)
-    (g.W.Write.contents c.answer_line.new.writer) s.ready.bytes c.answer_line.new.ready.bytes s.answerer
-    c.answer_line.new.answerer s.line.items part c.answer_line.result c.requires.asked none
-    (record { no_feed = c.requires.no_feed; short = omega arith }) c.answer_line.ensures
+    s.ready.bytes s.answerer s.line.items part
+    (stage_of (g.W.Write.contents c.answer_line.new.writer) c.answer_line.new.ready.bytes c.answer_line.new.answerer [])
+    c.answer_line.result c.requires.asked none (record { no_feed = c.requires.no_feed; short = omega arith })
+    c.answer_line.ensures
 
 pub returns-in_err-take_part : goal.returns-in_err-take_part
 returns-in_err-take_part g c =
     let e = err_from_is_err_and c.from_residual.result c.from_residual.ensures.1 in
-    let s = c.args.session.now in
-    let t = c.take_part.new.session in
-    let a = g.W.Write.contents c.args.writer.now in
-    let b = g.W.Write.contents c.take_part.new.writer in
+    let a = stage (g.W.Write.contents c.args.writer.now) c.args.dialogue.now in
+    let b = stage (g.W.Write.contents c.take_part.new.writer) c.take_part.new.dialogue in
     let part = c.args.part.now in
-    passed_on g.A.Answerer.is_ready g.A.Answerer.answers g.A.Answerer.breaks a b s.ready.bytes t.ready.bytes s.answerer
-    t.answerer s.line.items t.line.items (part ++ 10 ∷ []) c.from_residual.result e.0 e.1
-    (over-lost g.A.Answerer.is_ready g.A.Answerer.answers g.A.Answerer.breaks a b s.ready.bytes t.ready.bytes s.answerer
-    t.answerer s.line.items t.line.items part (10 ∷ []) e.0 c.in_err-take_part.ensures)
+    passed_on g.A.Answerer.is_ready g.A.Answerer.answers g.A.Answerer.breaks a b (part ++ 10 ∷ []) c.from_residual.result
+    e.0 e.1
+    (over-lost g.A.Answerer.is_ready g.A.Answerer.answers g.A.Answerer.breaks a b part (10 ∷ []) e.0
+    c.in_err-take_part.ensures)
 
 pub returns-in-Open : goal.returns-in-Open
 returns-in-Open g c =
-    let s = c.args.session.now in
-    let t = c.take_part.new.session in
-    let u = c.end_line.new.session in
-    let a = g.W.Write.contents c.args.writer.now in
-    let b = g.W.Write.contents c.take_part.new.writer in
-    let d = g.W.Write.contents c.end_line.new.writer in
+    let a = stage (g.W.Write.contents c.args.writer.now) c.args.dialogue.now in
+    let b = stage (g.W.Write.contents c.take_part.new.writer) c.take_part.new.dialogue in
+    let d = stage (g.W.Write.contents c.end_line.new.writer) c.end_line.new.dialogue in
     let part = c.args.part.now in
-    then-takes g.A.Answerer.is_ready g.A.Answerer.answers g.A.Answerer.breaks a b d s.ready.bytes t.ready.bytes
-    u.ready.bytes s.answerer t.answerer u.answerer s.line.items t.line.items u.line.items part (10 ∷ [])
-    c.end_line.result
-    (flow_is g.A.Answerer.is_ready g.A.Answerer.answers g.A.Answerer.breaks a b s.ready.bytes t.ready.bytes s.answerer
-    t.answerer s.line.items t.line.items part _ _ c.in-Open.is c.in_ok-take_part.ensures)
-    c.end_line.ensures
+    then-takes g.A.Answerer.is_ready g.A.Answerer.answers g.A.Answerer.breaks a b d part (10 ∷ []) c.end_line.result
+    (flow_is g.A.Answerer.is_ready g.A.Answerer.answers g.A.Answerer.breaks a b part _ _ c.in-Open.is
+    c.in_ok-take_part.ensures) c.end_line.ensures
 
 pub returns-in-TooLong : goal.returns-in-TooLong
 returns-in-TooLong g c =
-    let s = c.args.session.now in
-    let t = c.take_part.new.session in
-    let a = g.W.Write.contents c.args.writer.now in
-    let b = g.W.Write.contents c.take_part.new.writer in
+    let a = stage (g.W.Write.contents c.args.writer.now) c.args.dialogue.now in
+    let b = stage (g.W.Write.contents c.take_part.new.writer) c.take_part.new.dialogue in
     let part = c.args.part.now in
-    over-long g.A.Answerer.is_ready g.A.Answerer.answers g.A.Answerer.breaks a b s.ready.bytes t.ready.bytes s.answerer
-    t.answerer s.line.items t.line.items part (10 ∷ [])
-    (flow_is g.A.Answerer.is_ready g.A.Answerer.answers g.A.Answerer.breaks a b s.ready.bytes t.ready.bytes s.answerer
-    t.answerer s.line.items t.line.items part _ _ c.in-TooLong.is c.in_ok-take_part.ensures)
+    over-long g.A.Answerer.is_ready g.A.Answerer.answers g.A.Answerer.breaks a b part (10 ∷ [])
+    (flow_is g.A.Answerer.is_ready g.A.Answerer.answers g.A.Answerer.breaks a b part _ _ c.in-TooLong.is
+    c.in_ok-take_part.ensures)
 
 pub returns-in-Broken : goal.returns-in-Broken
 returns-in-Broken g c =
-    let s = c.args.session.now in
-    let t = c.take_part.new.session in
-    let a = g.W.Write.contents c.args.writer.now in
-    let b = g.W.Write.contents c.take_part.new.writer in
+    let a = stage (g.W.Write.contents c.args.writer.now) c.args.dialogue.now in
+    let b = stage (g.W.Write.contents c.take_part.new.writer) c.take_part.new.dialogue in
     let part = c.args.part.now in
-    over-broken g.A.Answerer.is_ready g.A.Answerer.answers g.A.Answerer.breaks a b s.ready.bytes t.ready.bytes s.answerer
-    t.answerer s.line.items t.line.items part (10 ∷ []) c.in-Broken.fault
-    (flow_is g.A.Answerer.is_ready g.A.Answerer.answers g.A.Answerer.breaks a b s.ready.bytes t.ready.bytes s.answerer
-    t.answerer s.line.items t.line.items part _ _ c.in-Broken.is c.in_ok-take_part.ensures)
+    over-broken g.A.Answerer.is_ready g.A.Answerer.answers g.A.Answerer.breaks a b part (10 ∷ []) c.in-Broken.fault
+    (flow_is g.A.Answerer.is_ready g.A.Answerer.answers g.A.Answerer.breaks a b part _ _ c.in-Broken.is
+    c.in_ok-take_part.ensures)

@@ -1,28 +1,29 @@
 use Rattle.std.proofs.Common.{◌<◌, ◌+◌, length, arith}
 use Rattle.std.proofs.lemmas.Result.{err_from_is_err_and}
+use Rattle.line_loop.specs.Turns.{stage, stage_of}
 use Rattle.line_loop.proofs.TurnLemmas.{took-long, lost-long, passed_on}
 use Rattle.line_loop.proofs.loops.take_part.Goals as goal
 
 pub returns-in_err-say : goal.returns-in_err-say
 returns-in_err-say g c =
     let e = err_from_is_err_and c.from_residual.result c.from_residual.ensures.1 in
-    let s = c.args.session.now in
-    let a = g.W.Write.contents c.args.writer.now in
-    let b = g.W.Write.contents c.say.new.writer in
+    let held = c.args.dialogue.now.line.items in
+    let at = stage (g.W.Write.contents c.args.writer.now) c.args.dialogue.now in
+    let new = g.W.Write.contents c.say.new.writer in
+    let left = c.say.new.ready.bytes in
     let part = c.args.part.now in
-    let long : 255 < length s.line.items + length part = omega arith in
-    passed_on g.A.Answerer.is_ready g.A.Answerer.answers g.A.Answerer.breaks a b s.ready.bytes
-    c.say.new.ready.bytes s.answerer s.answerer s.line.items s.line.items part c.from_residual.result e.0 e.1
-    (lost-long g.A.Answerer.is_ready g.A.Answerer.answers g.A.Answerer.breaks a b s.ready.bytes c.say.new.ready.bytes
-    s.answerer s.line.items s.line.items part e.0 c.requires.unfinished c.requires.no_feed long
-    c.in_err-say.ensures.loses)
+    let long : 255 < length held + length part = omega arith in
+    passed_on g.A.Answerer.is_ready g.A.Answerer.answers g.A.Answerer.breaks at
+    (stage_of new left c.args.dialogue.now.answerer held) part c.from_residual.result e.0 e.1
+    (lost-long g.A.Answerer.is_ready g.A.Answerer.answers g.A.Answerer.breaks at new left held part e.0
+    c.requires.unfinished c.requires.no_feed long c.in_err-say.ensures.loses)
 
 pub returns-then-remaining_capacity-part : goal.returns-then-remaining_capacity-part
 returns-then-remaining_capacity-part g c =
-    let s = c.args.session.now in
-    let a = g.W.Write.contents c.args.writer.now in
-    let b = g.W.Write.contents c.say.new.writer in
+    let held = c.args.dialogue.now.line.items in
+    let at = stage (g.W.Write.contents c.args.writer.now) c.args.dialogue.now in
     let part = c.args.part.now in
-    let long : 255 < length s.line.items + length part = omega arith in
-    took-long g.A.Answerer.is_ready g.A.Answerer.answers g.A.Answerer.breaks a b s.ready.bytes c.say.new.ready.bytes
-    s.answerer s.line.items s.line.items part c.requires.unfinished c.requires.no_feed long c.in_ok-say.ensures.says
+    let long : 255 < length held + length part = omega arith in
+    took-long g.A.Answerer.is_ready g.A.Answerer.answers g.A.Answerer.breaks at
+    (g.W.Write.contents c.say.new.writer) c.say.new.ready.bytes held part c.requires.unfinished c.requires.no_feed
+    long c.in_ok-say.ensures.says

@@ -1,13 +1,14 @@
 -- What was taken so far, and what was said.
 use Rattle.std.proofs.Common.{length}
+use Rattle.line_loop.specs.Turns.{stage}
 use Rattle.line_loop.proofs.TurnLemmas.{Through}
 use Rattle.line_loop.proofs.loops.take_piece.Given as goal
 
 abbrev pub invariant-loop-end : goal.invariant-loop-end
 invariant-loop-end g l =
-    Through g.A.Answerer.is_ready g.A.Answerer.answers g.A.Answerer.breaks (g.W.Write.contents l.fn.writer)
-    (g.W.Write.contents l.writer) l.fn.session.ready.bytes l.session.ready.bytes l.fn.session.answerer
-    l.session.answerer l.fn.session.line.items l.session.line.items l.piece l.rest
+    Through g.A.Answerer.is_ready g.A.Answerer.answers g.A.Answerer.breaks
+    (stage (g.W.Write.contents l.fn.writer) l.fn.dialogue) (stage (g.W.Write.contents l.writer) l.dialogue) l.piece
+    l.rest
 
 abbrev pub decreases-loop-end : goal.decreases-loop-end
 decreases-loop-end g l = length l.rest
