@@ -1,5 +1,5 @@
 -- The letters of the men by the numbers of their squares.
-use Rattle.std.proofs.Common.{ℕ, ◌≡◌, ◌≢◌, ◌<◌, Bool, true, false, cond, ◌||◌, List, ◌∷◌, length, get_or, set, Option, Some, None, refl, ap, sym, ◌∙◌, inl, inr, arith, min}
+use Rattle.std.proofs.Common.{ℕ, ◌≡◌, ◌≢◌, ◌<◌, Bool, true, false, cond, ◌||◌, List, ◌∷◌, length, get_or, set, Option, Some, None, refl, ap, sym, ◌∙◌, inl, inr, arith, ◌%◌}
 use Rattle.std.specs.List.{list_any}
 use Rattle.std.proofs.lemmas.Bool.{cases_Bool, false≢true}
 use Rattle.std.proofs.lemmas.List.{get_or-set_same, get_or-set_other}
@@ -116,7 +116,7 @@ letter_is_ascii (Black, Queen) = omega arith
 letter_is_ascii (Black, King) = omega arith
 
 pub some_there : (m : Option Man) (letter : ℕ) → letter ≡ letter_or_zero m → letter ≢ 0 →
-    (man : Man) × (m ≡ Some man) × (min letter 127 ≡ letter_of man)
+    (man : Man) × (m ≡ Some man) × (letter % 128 ≡ letter_of man)
 some_there None letter e other = absurd (other e)
 some_there (Some man) letter e other =
     let ascii : letter_of man < 128 = letter_is_ascii man in (man, refl, omega arith)

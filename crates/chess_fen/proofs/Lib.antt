@@ -1,3 +1,4 @@
+pub mod Digits
 mod Examples
 pub mod Rows
 pub mod Positions

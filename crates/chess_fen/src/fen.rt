@@ -1,4 +1,4 @@
-ghost use Rattle.std.specs.Prelude.{◌≡◌, ℕ, List, ◌+◌, ◌≤◌, ◌<◌, [], ◌∷◌, ◌++◌, length, decimal};
+ghost use Rattle.std.specs.Prelude.{◌≡◌, ℕ, List, ◌+◌, ◌/◌, ◌%◌, ◌≤◌, ◌<◌, [], ◌∷◌, ◌++◌, length, decimal};
 ghost use Rattle.arrayvec.specs.ArrayString.{array_string_len};
 ghost use Rattle.chess_bits.specs.Square.{IsOnBoard};
 ghost use Rattle.chess_board.specs.RightsOf.{rights_of};
@@ -10,7 +10,6 @@ use arrayvec::ArrayString;
 use bitflags::Flags;
 use chess_bits::{Colour, Square};
 use chess_board::{Board, CastlingRights, Men};
-use itoa::Buffer;
 
 /// Room for a FEN, which has at most 93 bytes: 64 men, 7 strokes, 17 bytes of other fields and 5 spaces.
 pub type Text = ArrayString<96>;
@@ -55,8 +54,8 @@ pub fn push_rank(text: &mut Text, _men: &Men, letters: &[u8; 64], rank: u8)
             empty += 1;
         } else {
             push_run(text, empty);
-            // The bound lets the compiler see one byte of text.
-            push(text, char::from(letter.min(127)));
+            // The remainder is the letter, and lets the compiler see one byte of text.
+            push(text, char::from(letter % 128));
             empty = 0;
         }
     }
@@ -133,15 +132,68 @@ fn push_target(text: &mut Text, target: Option<Square>)
     }
 }
 
-// Appends a space and a number.
+// Appends a digit.
+fn push_digit(text: &mut Text, digit: u16)
+    requires digit { digit < 10 }
+    requires room { array_string_len text.old < 96 }
+    ensures bytes { text.new.bytes ≡ text.old.bytes ++ (48 + digit) ∷ [] }
+    ensures len { array_string_len text.new ≡ array_string_len text.old + 1 }
+{
+    push(text, char::from(b'0' + (digit % 10) as u8));
+}
+
+// Appends the last two digits of a number.
+fn push_pair(text: &mut Text, number: u16)
+    requires room { array_string_len text.old + 2 ≤ 96 }
+    ensures bytes { text.new.bytes ≡ (text.old.bytes ++ (48 + number / 10 % 10) ∷ []) ++ (48 + number % 10) ∷ [] }
+    ensures len { array_string_len text.new ≡ array_string_len text.old + 2 }
+{
+    push_digit(text, number / 10 % 10);
+    push_digit(text, number % 10);
+}
+
+// Appends a number of one or two digits.
+fn push_below_hundred(text: &mut Text, number: u16)
+    requires number { number < 100 }
+    requires room { array_string_len text.old + 2 ≤ 96 }
+    ensures bytes { text.new.bytes ≡ text.old.bytes ++ decimal number }
+    ensures len { array_string_len text.new ≤ array_string_len text.old + 2 }
+{
+    if number < 10 {
+        push_digit(text, number);
+    } else {
+        push_pair(text, number);
+    }
+}
+
+// Appends a number of up to four digits.
+fn push_below_myriad(text: &mut Text, number: u16)
+    requires number { number < 10000 }
+    requires room { array_string_len text.old + 4 ≤ 96 }
+    ensures bytes { text.new.bytes ≡ text.old.bytes ++ decimal number }
+    ensures len { array_string_len text.new ≤ array_string_len text.old + 4 }
+{
+    if number < 100 {
+        push_below_hundred(text, number);
+    } else {
+        push_below_hundred(text, number / 100);
+        push_pair(text, number);
+    }
+}
+
+// Appends a space and a number, digit by digit: a text of the number would be dear to copy.
 fn push_number(text: &mut Text, number: u16)
     requires room { array_string_len text.old + 6 ≤ 96 }
     ensures bytes { text.new.bytes ≡ text.old.bytes ++ 32 ∷ decimal number }
     ensures len { array_string_len text.new ≤ array_string_len text.old + 6 }
 {
     push(text, ' ');
-    let mut buffer = Buffer::new();
-    text.push_str(buffer.format(number));
+    if number < 10000 {
+        push_below_myriad(text, number);
+    } else {
+        push_below_myriad(text, number / 100);
+        push_pair(text, number);
+    }
 }
 
 /// Appends the other five fields to a placement.

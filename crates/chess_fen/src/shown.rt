@@ -245,8 +245,9 @@ fn push_filled(text: &mut Text, rank: &RankText)
     ensures len { array_string_len text.new ≤ array_string_len text.old + 8 }
 {
     let end = text.len() + rank.end;
-    // So many bytes are one word for the compiler.
-    text.push_str(&rank.filled.as_str()[..8]);
+    // So many bytes of a text that lies apart are one word for the compiler.
+    let filled = rank.filled;
+    text.push_str(&filled.as_str()[..8]);
     text.truncate(end);
 }
 

@@ -37,7 +37,7 @@ loop-file-preserved c =
           let (man, there, shown) = some_there (man_at c.args._men.now (square file rank))
           (slice_index c.args.letters.now c.from.result) letter w.if-letter-eq0.false in
           let character : w.from-else-letter-eq0.result ≡ letter_of man =
-          w.from-else-letter-eq0.ensures ∙ w.min.ensures ∙ shown in
+          w.from-else-letter-eq0.ensures ∙ shown in
           let written : after ≡ (before ++ run_text empty) ++ (letter_of man ∷ []) =
           ap (λ t. t.bytes) w.text-is ∙ w.push.ensures.bytes
           ∙ ap (λ t. t ++ (w.from-else-letter-eq0.result ∷ [])) w.push_run.ensures.bytes
