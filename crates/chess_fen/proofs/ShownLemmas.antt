@@ -1,9 +1,7 @@
 -- What changes between two boards, and the texts of their ranks.
-use Rattle.std.proofs.Common.{ℕ, ◌≡◌, ◌≢◌, ◌≤◌, ◌<◌, Bool, true, false, not, ◌||◌, ◌&&◌, List, [], ◌∷◌, ◌++◌, length, get_or, set, Option, Some, None, refl, ap, sym, ◌∙◌, inl, inr, arith, append_assoc, length-append, take, replicate, ◌+◌, ◌-◌}
+use Rattle.std.proofs.Common.{ℕ, ◌≡◌, ◌≢◌, ◌≤◌, ◌<◌, Bool, true, false, cond, not, ◌||◌, ◌&&◌, List, [], ◌∷◌, ◌++◌, length, get_or, set, Option, Some, None, refl, ap, sym, ◌∙◌, inl, inr, arith, append_assoc, length-append, take, replicate, ◌+◌, ◌-◌}
 use Rattle.std.specs.List.{list_any, join_with_byte}
-use Rattle.std.specs.Prelude.{slice_index_or, ◌==◌}
 use Rattle.std.proofs.lemmas.Bool.{cases_Bool, false≢true}
-use Rattle.std.proofs.lemmas.Bool.Decides.{Decides-eqb}
 use Rattle.std.proofs.lemmas.List.{get_or-set_same, get_or-set_other, get_or-replicate, get_or-take, length-take-le}
 use Rattle.std.proofs.Math.Seq.{take-append-add, take-append_seam, get_or-append_right}
 use Rattle.chess_bits.specs.declared.men.Colour.TheVariants.{White, Black}
@@ -11,10 +9,10 @@ use Rattle.chess_bits.specs.declared.men.Kind.{Kind}
 use Rattle.chess_bits.specs.declared.men.Kind.TheVariants as kinds
 use Rattle.chess_bits.specs.Square.{Square, IsOnBoard, is_square, number_of, square}
 use Rattle.chess_bits.specs.Man.{Man, is_of, holds}
-use Rattle.chess_bits.specs.Table.{has, empty, union, without}
+use Rattle.chess_bits.specs.Table.{has, put, empty, union, without}
 use Rattle.chess_bits.proofs.ManLemmas.{is_kind-true, is_kind-same}
 use Rattle.chess_bits.proofs.SetLemmas.{has-union, has-without, length-union, length-without}
-use Rattle.chess_bits.proofs.TableLemmas.{is_square-true, is_square-false, number_of-below}
+use Rattle.chess_bits.proofs.TableLemmas.{is_square-true, is_square-other, is_square-false, number_of-below, at-put}
 use Rattle.chess_board.specs.Occupancy.{squares_with, is_a}
 use Rattle.chess_board.specs.Position.{Placement, man_at}
 use Rattle.chess_board.proofs.AttackLemmas.{has-squares_with}
@@ -108,27 +106,27 @@ relettered letters men q s rest whole on_q on_s gone before = elim (cases_Bool (
 ]
 
 -- and its rank is told
-pub touched_rank : (touched : List Bool) (q s : Square) (rest : List Square) → length touched ≡ 9 → q.rank ≤ 8 →
+pub touched_rank : (touched : List Bool) (q s : Square) (rest : List Square) → length touched ≡ 64 → IsOnBoard q →
     list_any (is_square s) rest ≡ false →
-    (list_any (is_square s) (q ∷ rest) ≡ false → get_or touched s.rank false ≡ true) →
-    get_or (set touched q.rank true) s.rank false ≡ true
-touched_rank touched q s rest whole high gone before = elim (cases_Bool (q.rank == s.rank)) [
-  | inl same ↦
-      let e : q.rank ≡ s.rank = (Decides-eqb q.rank s.rank).0 same in
-      let below : q.rank < length touched = omega (arith, whole, high) in
-      ap (λ (n : ℕ). get_or (set touched q.rank true) n false) (sym e)
-      ∙ get_or-set_same touched q.rank true false below
-  | inr other ↦
-      let ne : s.rank ≢ q.rank = λ (e : s.rank ≡ q.rank). false≢true (sym other ∙ (Decides-eqb q.rank s.rank).1 (sym e)) in
-      let apart : is_square s q ≡ false = elsewhere s q ne in
-      get_or-set_other touched q.rank s.rank true false ne
-      ∙ before (ap (λ (b : Bool). b || list_any (is_square s) rest) apart ∙ gone)
-]
-  where
-    elsewhere : (s q : Square) → s.rank ≢ q.rank → is_square s q ≡ false
-    elsewhere s q ne = elim (cases_Bool (is_square s q)) [
-      | inl same ↦ absurd (ne (ap (λ (x : Square). x.rank) (is_square-true s q same)))
-      | inr apart ↦ apart
+    (list_any (is_square s) (q ∷ rest) ≡ false → has touched (square 1 s.rank) ≡ true) →
+    has (put touched (square 1 q.rank) true) (square 1 s.rank) ≡ true
+touched_rank touched q s rest whole on gone before =
+    let first : Square = square 1 q.rank in
+    let on_first : IsOnBoard first = record {
+      file_from = omega arith;
+      file_to = omega arith;
+      rank_from = on.rank_from;
+      rank_to = on.rank_to;
+    } in
+    at-put false touched first (square 1 s.rank) true whole on_first
+    ∙ elim (cases_Bool (is_square (square 1 s.rank) first)) [
+      | inl same ↦ ap (λ (b : Bool). cond b true (has touched (square 1 s.rank))) same
+      | inr other ↦
+          let apart : is_square s q ≡ false =
+          is_square-other s q (λ e. is_square-false (square 1 s.rank) first other
+          (ap (λ (x : Square). square 1 x.rank) e)) in
+          ap (λ (b : Bool). cond b true (has touched (square 1 s.rank))) other
+          ∙ before (ap (λ (b : Bool). b || list_any (is_square s) rest) apart ∙ gone)
     ]
 
 cons-same : {A : Type 0} (a b : A) (xs ys : List A) → a ≡ b → xs ≡ ys → a ∷ xs ≡ b ∷ ys
@@ -182,7 +180,7 @@ each_kind P pawn knight bishop rook queen king kinds.Queen = queen
 each_kind P pawn knight bishop rook queen king kinds.King = king
 
 pub ranks_told : (old new : Placement) (changed touched : List Bool) → HasChanges old new changed →
-    ((s : Square) → IsOnBoard s → has changed s ≡ true → slice_index_or touched s.rank false ≡ true) →
+    ((s : Square) → IsOnBoard s → has changed s ≡ true → has touched (square 1 s.rank) ≡ true) →
     TellsRanks old new touched
 ranks_told old new changed touched same told = λ rank low high none. same_rank old new rank
     (λ file from to. elim (cases_Bool (has changed (square file rank))) [

@@ -1,6 +1,6 @@
 -- What a board keeps of its text while it changes.
-use Rattle.std.specs.Prelude.{ℕ, ◌≡◌, ◌≤◌, ◌<◌, ◌++◌, Bool, false, List, length, take, replicate, slice_index, slice_index_or}
-use Rattle.chess_bits.specs.Square.{Square}
+use Rattle.std.specs.Prelude.{ℕ, ◌≡◌, ◌≤◌, ◌<◌, ◌++◌, Bool, false, List, length, take, replicate, slice_index}
+use Rattle.chess_bits.specs.Square.{Square, square}
 use Rattle.chess_bits.specs.Table.{has}
 use Rattle.chess_board.specs.Position.{Placement, man_at}
 use Rattle.chess_notation.specs.Fen.{rank_of, row_text}
@@ -40,7 +40,7 @@ pub record AreRankTexts (texts : RankTexts) (placement : Placement) : Type 0 whe
 abbrev pub HasChanges : Placement → Placement → List Bool → Type 0
 HasChanges old new set = (s : Square) → has set s ≡ false → man_at old s ≡ man_at new s
 
--- A rank of which this is false has the same men in both placements.
+-- A rank whose first square the set has not has the same men in both placements.
 abbrev pub TellsRanks : Placement → Placement → List Bool → Type 0
-TellsRanks old new touched = (rank : ℕ) → 1 ≤ rank → rank ≤ 8 → slice_index_or touched rank false ≡ false →
+TellsRanks old new touched = (rank : ℕ) → 1 ≤ rank → rank ≤ 8 → has touched (square 1 rank) ≡ false →
     rank_of old rank ≡ rank_of new rank

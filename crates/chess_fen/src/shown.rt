@@ -1,14 +1,14 @@
 //! A board with its FEN at hand.
 ghost use Rattle.std.specs.Prelude.{◌≡◌, ◌≤◌, ◌+◌, ◌++◌, ◌∷◌, ℕ, false, [], length};
 ghost use Rattle.arrayvec.specs.ArrayString.{array_string_len};
-ghost use Rattle.chess_bits.specs.Square.{Square, IsOnBoard};
+ghost use Rattle.chess_bits.specs.Square.{Square as Geometric, IsOnBoard};
 ghost use Rattle.chess_bits.specs.Table.{has};
 ghost use Rattle.chess_notation.specs.Fen.{rank_of, placement_text, fen_of, IsFenOf, AreLetters};
 ghost use Rattle.chess_fen.specs.Shown.{IsFilled, filled_up, shown_part, IsRankText, AreRankTexts, HasChanges, TellsRanks};
 
 use crate::fen::{Text, push, push_fields, push_rank};
 use crate::letters::{letter_at, letters_of};
-use chess_bits::{Bits, Colour, Kind};
+use chess_bits::{Bits, Colour, Kind, Square};
 use chess_board::{Board, Men};
 use std::marker::Model;
 
@@ -91,7 +91,7 @@ impl ShownBoard {
             self.board.men(),
             board.men(),
             &self.letters,
-            &touched,
+            touched,
         );
         write_fen(&mut self.shown, &board, &self.ranks);
         self.board = board;
@@ -155,8 +155,8 @@ fn with_differing(so_far: Bits, a: Bits, b: Bits) -> Bits
     requires a { length a ≡ 64 }
     requires b { length b ≡ 64 }
     ensures whole { length result ≡ 64 }
-    ensures before { (s : Square) → has result s ≡ false → has so_far s ≡ false }
-    ensures same { (s : Square) → has result s ≡ false → has a s ≡ has b s }
+    ensures before { (s : Geometric) → has result s ≡ false → has so_far s ≡ false }
+    ensures same { (s : Geometric) → has result s ≡ false → has a s ≡ has b s }
 {
     so_far.union(a.without(b).union(b.without(a)))
 }
@@ -181,18 +181,18 @@ fn changes(old: &Men, new: &Men) -> Bits
     with_differing(queens, old.of_kind(Kind::King), new.of_kind(Kind::King))
 }
 
-// Writes the letters on the squares that changed, and tells the ranks of these. The men before stand in the contract
-// alone.
-fn reletter(letters: &mut [u8; 64], _old: &Men, men: &Men, changed: Bits) -> [bool; 9]
+// Writes the letters on the squares that changed, and tells the ranks of these by their first squares. The men before
+// stand in the contract alone.
+fn reletter(letters: &mut [u8; 64], _old: &Men, men: &Men, changed: Bits) -> Bits
     requires letters { AreLetters letters.old _old.now }
     requires changed { HasChanges _old.now men.now changed }
     ensures letters { AreLetters letters.new men.now }
     ensures touched { TellsRanks _old.now men.now result }
 {
-    let mut touched = [false; 9];
+    let mut touched = Bits::new();
     for square in changed.iter() {
         letters[usize::from(square.number())] = letter_at(men, square);
-        touched[usize::from(square.rank())] = true;
+        touched.insert(Square::at(1, square.rank()));
     }
     touched
 }
@@ -203,17 +203,17 @@ fn renew(
     _old: &Men,
     men: &Men,
     letters: &[u8; 64],
-    touched: &[bool; 9],
+    touched: Bits,
     rank: u8,
 )
     requires text { IsRankText text.old _old.now rank }
     requires letters { AreLetters letters.now men.now }
-    requires touched { TellsRanks _old.now men.now touched.now }
+    requires touched { TellsRanks _old.now men.now touched }
     requires from { 1 ≤ rank }
     requires to { rank ≤ 8 }
     ensures { IsRankText text.new men.now rank }
 {
-    if touched[usize::from(rank)] {
+    if touched.contains(Square::at(1, rank)) {
         text.filled.clear();
         push_rank(&mut text.filled, men, letters, rank);
         text.end = fill(&mut text.filled);
@@ -221,10 +221,10 @@ fn renew(
 }
 
 // The same of all ranks.
-fn renew_all(texts: &mut RankTexts, old: &Men, men: &Men, letters: &[u8; 64], touched: &[bool; 9])
+fn renew_all(texts: &mut RankTexts, old: &Men, men: &Men, letters: &[u8; 64], touched: Bits)
     requires texts { AreRankTexts texts.old old.now }
     requires letters { AreLetters letters.now men.now }
-    requires touched { TellsRanks old.now men.now touched.now }
+    requires touched { TellsRanks old.now men.now touched }
     ensures { AreRankTexts texts.new men.now }
 {
     renew(&mut texts.eighth, old, men, letters, touched, 8);

@@ -1,13 +1,14 @@
-use Rattle.std.proofs.Common.{◌≡◌, ◌∙◌, ap, sym, refl, false, true, inl, inr, ℕ, ◌∷◌, get_or, set}
+use Rattle.std.proofs.Common.{◌≡◌, ◌∙◌, ap, sym, refl, false, true, inl, inr, ℕ, ◌∷◌, get_or, set, length, List, Bool}
 use Rattle.std.specs.List.{list_any}
 use Rattle.std.proofs.lemmas.Bool.{cases_Bool, false≢true}
 use Rattle.std.proofs.lemmas.List.{length-set}
-use Rattle.chess_bits.specs.Square.{is_square, number_of}
+use Rattle.chess_bits.specs.Square.{Square, is_square, number_of, square}
 use Rattle.chess_bits.specs.SquaresOf.{squares_left}
-use Rattle.chess_bits.specs.Table.{members, has}
+use Rattle.chess_bits.specs.Table.{members, has, put}
+use Rattle.chess_bits.proofs.TableLemmas.{length-put}
 use Rattle.chess_notation.specs.Fen.{letter_or_zero}
 use Rattle.chess_fen.proofs.LetterLemmas.{listed}
-use Rattle.chess_fen.proofs.ShownLemmas.{relettered, touched_rank, ranks_told}
+use Rattle.chess_fen.proofs.ShownLemmas.{relettered, touched_rank, ranks_told, whole-empty}
 use Rattle.chess_fen.proofs.shown.reletter.Goals as goal
 
 pub loop-square-init : goal.loop-square-init
@@ -22,7 +23,7 @@ loop-square-init c =
       touched = λ s on here gone. absurd (false≢true (sym gone ∙ ap (list_any (is_square s)) start
           ∙ listed c.args.changed s on here));
       whole = c.told-letters;
-      ranks = refl;
+      ranks = ap length c.new-touched.ensures ∙ whole-empty;
     }
 
 pub loop-square-preserved : goal.loop-square-preserved
@@ -32,7 +33,9 @@ loop-square-preserved c =
     let before = c.loop-square.invariant in
     let steps : squares_left c.loop-square.square-iterator ≡ q ∷ rest = c.in-Some.ensures.steps in
     let place : c.from.result ≡ number_of q = c.from.ensures ∙ c.number.ensures.number in
-    let rank_is : c.from-in-loop-square.result ≡ q.rank = c.from-in-loop-square.ensures ∙ c.rank.ensures.rank in
+    let first : c.at.result ≡ square 1 q.rank = c.at.ensures ∙ ap (square 1) c.rank.ensures.rank in
+    let touched : c.insert.new.self ≡ put c.loop-square.touched (square 1 q.rank) true =
+    c.insert.ensures.inserted ∙ ap (λ (x : Square). put c.loop-square.touched x true) first in
     record {
       letters = λ s on gone.
           ap (λ (n : ℕ). get_or (set c.loop-square.letters n c.letter_at.result) (number_of s) 0) place
@@ -40,11 +43,11 @@ loop-square-preserved c =
           ∙ relettered c.loop-square.letters c.args.men.now q s rest before.whole c.number.ensures.on_board on gone
           (λ e. before.letters s on (ap (list_any (is_square s)) steps ∙ e));
       touched = λ s on here gone.
-          ap (λ (n : ℕ). get_or (set c.loop-square.touched n true) s.rank false) rank_is
-          ∙ touched_rank c.loop-square.touched q s rest before.ranks c.number.ensures.on_board.rank_to gone
+          ap (λ (ts : List Bool). has ts (square 1 s.rank)) touched
+          ∙ touched_rank c.loop-square.touched q s rest before.ranks c.number.ensures.on_board gone
           (λ e. before.touched s on here (ap (list_any (is_square s)) steps ∙ e));
       whole = length-set c.loop-square.letters c.from.result c.letter_at.result ∙ before.whole;
-      ranks = length-set c.loop-square.touched c.from-in-loop-square.result true ∙ before.ranks;
+      ranks = ap length touched ∙ length-put c.loop-square.touched (square 1 q.rank) true ∙ before.ranks;
     }
 
 pub returns-clause-letters : goal.returns-clause-letters

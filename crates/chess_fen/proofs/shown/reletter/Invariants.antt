@@ -1,6 +1,6 @@
-use Rattle.std.specs.Prelude.{◌≡◌, true, false, slice_index, slice_index_or, length}
+use Rattle.std.specs.Prelude.{◌≡◌, true, false, slice_index, length}
 use Rattle.std.specs.List.{list_any}
-use Rattle.chess_bits.specs.Square.{Square, IsOnBoard, is_square, number_of}
+use Rattle.chess_bits.specs.Square.{Square, IsOnBoard, is_square, number_of, square}
 use Rattle.chess_bits.specs.Table.{has}
 use Rattle.chess_bits.specs.SquaresOf.{squares_left}
 use Rattle.chess_board.specs.Position.{man_at}
@@ -13,7 +13,7 @@ invariant-loop-square l = record {
   letters : (s : Square) → IsOnBoard s → list_any (is_square s) (squares_left l.square-iterator) ≡ false →
       slice_index l.letters (number_of s) ≡ letter_or_zero (man_at l.men s);
   touched : (s : Square) → IsOnBoard s → has l.fn.changed s ≡ true →
-      list_any (is_square s) (squares_left l.square-iterator) ≡ false → slice_index_or l.touched s.rank false ≡ true;
+      list_any (is_square s) (squares_left l.square-iterator) ≡ false → has l.touched (square 1 s.rank) ≡ true;
   whole : length l.letters ≡ 64;
-  ranks : length l.touched ≡ 9;
+  ranks : length l.touched ≡ 64;
 }
