@@ -234,6 +234,10 @@ impl Board {
         ensures rights { rights_of result ≡ after.rights_after self.now mv.now }
         ensures known { HasKnownFlags result }
     {
+        // Once no right is left, as in most of a game, no move changes that.
+        if self.rights.is_none() {
+            return self.rights;
+        }
         CastlingRights::of(
             self.keeps_right(mv, Colour::White, Wing::King),
             self.keeps_right(mv, Colour::White, Wing::Queen),

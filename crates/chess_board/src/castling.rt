@@ -1,4 +1,4 @@
-ghost use Rattle.std.specs.Prelude.{⊤, ◌≡◌, ◌<◌, [], ◌∷◌, codes};
+ghost use Rattle.std.specs.Prelude.{⊤, ◌≡◌, ◌<◌, [], ◌∷◌, codes, false, IsTrue};
 ghost use Rattle.chess_board.specs.Position.{has_right, home_rank as spec_home_rank, king_home as spec_king_home, rook_home as spec_rook_home};
 ghost use Rattle.chess_board.specs.Next.{castled_king as spec_castled_king, castled_rook as spec_castled_rook};
 ghost use Rattle.chess_board.specs.RightsOf.{rights_of, HasKnownFlags};
@@ -81,6 +81,13 @@ impl CastlingRights {
             self.allows(Colour::Black, Wing::King),
             self.allows(Colour::Black, Wing::Queen),
         )
+    }
+
+    /// Whether no flag is set, so that no right is left.
+    pub fn is_none(self) -> bool
+        ensures { IsTrue result → rights_of self ≡ record { white_king = false; white_queen = false; black_king = false; black_queen = false } }
+    {
+        self.0 == 0
     }
 
     /// Whether the colour may still castle to the wing (FIDE article 3.8.2.1).
