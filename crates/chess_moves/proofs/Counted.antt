@@ -73,7 +73,7 @@ length-flat f test (x ∷ xs) each =
           rw (filter-not_here test x xs left, length-append (f x) (flat_map f xs)) (omega arith)
     ]
 
-filter-both : {A : Type 0} (a b : A → Bool) (xs : List A) →
+pub filter-both : {A : Type 0} (a b : A → Bool) (xs : List A) →
     filter (λ x. a x && b x) xs ≡ filter b (filter a xs)
 filter-both a b [] = refl
 filter-both {A} a b (x ∷ xs) = elim (cases_Bool (a x)) [

@@ -16,3 +16,5 @@ pub mod Watching
 pub mod Safely
 pub mod Counted
 pub mod LastSquares
+pub mod FreeMen
+pub mod Tallied

@@ -3,6 +3,7 @@
 
 mod castling;
 mod counting;
+mod free;
 mod legality;
 mod listing;
 mod masks;

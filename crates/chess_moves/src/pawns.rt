@@ -21,7 +21,7 @@ fn pawn_rank(side: Colour) -> u8
 }
 
 // Where a pawn goes one square forward, to an empty square (FIDE article 3.7.1).
-fn one_step(board: &Board, from: Square) -> Bits
+pub fn one_step(board: &Board, from: Square) -> Bits
     ensures { IsSetOf result (λ to. rules.Advances board.now (plain from to)) }
 {
     match from.step(board.side().forward()) {
@@ -31,7 +31,7 @@ fn one_step(board: &Board, from: Square) -> Bits
 }
 
 // Where a pawn goes two squares forward from its first rank, both empty (FIDE article 3.7.2).
-fn two_steps(board: &Board, from: Square) -> Bits
+pub fn two_steps(board: &Board, from: Square) -> Bits
     ensures { IsSetOf result (λ to. rules.AdvancesTwo board.now (plain from to)) }
 {
     let side = board.side();

@@ -1,4 +1,5 @@
 ghost use Rattle.std.specs.Prelude.{◌≡◌, ◌↔◌, IsTrue, None};
+ghost use Rattle.chess_bits.specs.declared.men.Kind.TheVariants as kinds;
 ghost use Rattle.chess_bits.specs.Square.{IsOnBoard};
 ghost use Rattle.chess_bits.specs.Table.{IsSetOf};
 ghost use Rattle.chess_bits.specs.Man.{is_of};
@@ -16,6 +17,13 @@ pub fn is_same(a: Square, b: Square) -> bool
     ensures { IsTrue result ↔ (a ≡ b) }
 {
     a.number() == b.number()
+}
+
+// Whether a man is a pawn.
+pub fn is_pawn(kind: Kind) -> bool
+    ensures { IsTrue result ↔ (kind ≡ kinds.Pawn) }
+{
+    kind == Kind::Pawn
 }
 
 // Whether no man stands on a square.

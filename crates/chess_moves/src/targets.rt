@@ -14,7 +14,7 @@ use chess_bits::{Bits, Kind, Square};
 use chess_board::{Board, Wing, castled_king};
 
 // The squares that a man of the side to move attacks.
-fn attacked(board: &Board, from: Square, kind: Kind) -> Bits
+pub fn attacked(board: &Board, from: Square, kind: Kind) -> Bits
     ensures { IsSetOf result (Attacks (occupied_of board.now.placement) board.now.side kind from) }
 {
     let occupied = board.men().occupied();

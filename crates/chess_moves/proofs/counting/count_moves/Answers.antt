@@ -1,48 +1,13 @@
-use Rattle.std.proofs.Common.{◌≡◌, ◌∙◌, length, arith, ap, sym}
-use Rattle.std.specs.Prelude.{flat_map}
+use Rattle.std.proofs.Common.{◌∙◌, ap}
 use Rattle.chess_bits.specs.declared.men.Colour.{Colour}
 use Rattle.chess_bits.specs.Man.{is_of}
-use Rattle.chess_bits.specs.Table.{members}
-use Rattle.chess_bits.specs.SquaresOf.{squares_left}
 use Rattle.chess_board.specs.Occupancy.{squares_with}
-use Rattle.chess_board.specs.Computing.{legal_moves_of}
-use Rattle.chess_moves.specs.Listing.{legal_from}
-use Rattle.chess_moves.proofs.Listed.{legal_moves_of-parts}
-use Rattle.chess_moves.proofs.Bound.{length-legal_moves_of}
-use Rattle.chess_moves.proofs.Counted.{count_room, count_end, counted}
+use Rattle.chess_moves.proofs.Tallied.{tally_start}
 use Rattle.chess_moves.proofs.counting.count_moves.Goals as goal
 
-pub loop-from-init : goal.loop-from-init
-loop-from-init c =
+pub counted-pawns-requires-clause-tally : goal.counted-pawns-requires-clause-tally
+counted-pawns-requires-clause-tally c =
     let p = c.args.board.now in
-    let start : squares_left c.into_iter-from-iterator.result ≡ members (squares_with (is_of p.side) p.placement) =
-    ap squares_left c.into_iter-from-iterator.ensures.into_iter_gives ∙ c.iter-from-items.ensures
-    ∙ ap members (c.men_of.ensures.squares
-    ∙ ap (λ (side : Colour). squares_with (is_of side) p.placement) c.side.ensures) in
-    let all : length (flat_map (legal_from p) (squares_left c.into_iter-from-iterator.result)) ≡
-    length (legal_moves_of p) =
-    ap length (ap (flat_map (legal_from p)) start ∙ sym (legal_moves_of-parts p)) in
-    omega arith
-
-pub overflow_add-count : goal.overflow_add-count
-overflow_add-count c =
-    let p = c.args.board.now in
-    let more = count_room (legal_from p) c.loop-from.count (length (legal_moves_of p)) c.in-Some.from
-    (squares_left c.next.new.self) (squares_left c.loop-from.from-iterator) c.loop-from.invariant
-    c.in-Some.ensures.steps in
-    omega (arith, more, c.count_from-count.ensures, length-legal_moves_of p c.men_of.ensures.valid)
-
-pub loop-from-preserved : goal.loop-from-preserved
-loop-from-preserved c =
-    let p = c.args.board.now in
-    let more = count_room (legal_from p) c.loop-from.count (length (legal_moves_of p)) c.in-Some.from
-    (squares_left c.next.new.self) (squares_left c.loop-from.from-iterator) c.loop-from.invariant
-    c.in-Some.ensures.steps in
-    rw c.count_from-count.ensures more
-
-pub returns : goal.returns
-returns c =
-    let p = c.args.board.now in
-    counted p c.loop-from.count
-    (count_end (legal_from p) c.loop-from.count (length (legal_moves_of p)) (squares_left c.loop-from.from-iterator)
-    c.loop-from.invariant c.in-None.ensures.steps.0)
+    tally_start p c.men_of.result
+    (c.men_of.ensures.squares ∙ ap (λ (side : Colour). squares_with (is_of side) p.placement) c.side.ensures)
+    c.men_of.ensures.held.whole
