@@ -100,6 +100,23 @@ pub trait Device {
         ensures cause { CountsFailure result (failures self.old) (failures self.new) }
         ensures calls_left { TakesOne result (calls_left self.old) (calls_left self.new) };
 
+    /// As `sync`, for use within what a later `sync` ends, before anybody is told that it lasts. A device that also looks
+    /// whether it is still in its place may leave that to the later one.
+    fn barrier(&mut self) -> Result<(), DeviceFault>
+        ensures sectors { sector_count self.new ≡ sector_count self.old }
+        ensures model { (state self.new).keeps_model ↔ (state self.old).keeps_model }
+        ensures ok { (state self.old).keeps_model
+            → OnOk result (IsStable (state self.old).reads (state self.new)) }
+        ensures err { (state self.old).keeps_model
+            → OnErr result (MayBeStable (state self.old) (state self.new)) }
+        ensures time { (state self.old).keeps_model
+            → Elapses (state self.old) (state self.new) (state self.old).image }
+        ensures cause { CountsFailure result (failures self.old) (failures self.new) }
+        ensures calls_left { TakesOne result (calls_left self.old) (calls_left self.new) }
+    {
+        self.sync()
+    }
+
     /// The parts of the state belong together.
     ghost coherent: { (device : Self) → IsCoherent (sector_count device) (state device) };
 }

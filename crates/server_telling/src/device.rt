@@ -92,4 +92,14 @@ impl<R: Eprint, D: Device + KeepsError> Device for TellingDevice<'_, R, D> {
             }
         }
     }
+
+    fn barrier(&mut self) -> Result<(), DeviceFault> {
+        match self.device.barrier() {
+            Ok(()) => Ok(()),
+            Err(fault) => {
+                self.tell("a sync failed");
+                Err(fault)
+            }
+        }
+    }
 }

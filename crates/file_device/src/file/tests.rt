@@ -6,7 +6,7 @@ use sector_dev::{CrashDevice, Device, DeviceFault, Fate, Got, MemoryDevice, Once
 use std::fs::OpenOptions;
 use std::io::{self, ErrorKind};
 use std::os::fd::AsRawFd;
-use std::os::unix::fs::{FileExt, MetadataExt};
+use std::os::unix::fs::{FileExt, MetadataExt, symlink};
 use std::path::PathBuf;
 use std::process::Abort;
 use std::{env, fs, process};
@@ -414,6 +414,15 @@ fn a_sync_finds_a_file_that_was_cut_or_lost(rt: HostRuntime) {
     }
 }
 
+// A barrier asks nothing of the file's place, and the sync behind it does; after that a barrier fails too.
+#[test]
+fn a_barrier_leaves_the_look_to_the_sync(rt: HostRuntime) {
+    let mut device = FileDevice::over(fake_of(Some(Standing::Lost)), 2);
+    assert!(rt; device.barrier().is_ok() && device.failures == 0);
+    assert!(rt; device.sync().is_err() && device.failures == 1);
+    assert!(rt; device.barrier().is_err() && device.failures == 2);
+}
+
 // Whether a sync fails, and the error is of this kind.
 fn sync_fails(device: &mut FileDevice, kind: ErrorKind) -> bool {
     device.sync().is_err() && device.last_error().map(|error| error.kind()) == Some(kind)
@@ -464,6 +473,24 @@ fn a_renamed_file_fails_to_sync(rt: HostRuntime) {
     assert!(rt; fs::rename(&rt, &path, &other).is_ok());
     assert!(rt; sync_fails(&mut device, ErrorKind::NotFound));
     assert!(rt; fs::remove_file(&rt, &other).is_ok() && fs::remove_file(&rt, &link).is_ok());
+}
+
+// A name may be a link: then it leads where the link does at that time.
+#[test]
+fn a_link_that_is_changed_fails_to_sync(rt: HostRuntime) {
+    let path = free_path(&rt, "linked").expect(&rt, "a path");
+    let link = free_path(&rt, "to-linked").expect(&rt, "a path");
+    let other = free_path(&rt, "unlinked").expect(&rt, "a path");
+    assert!(rt;
+        FileDevice::create(&rt, &path, 2).is_ok() && FileDevice::create(&rt, &other, 2).is_ok()
+    );
+    assert!(rt; symlink(&rt, &path, &link).is_ok());
+    let mut device = FileDevice::open(&rt, &link).expect(&rt, "a file");
+    assert!(rt; device.sync().is_ok());
+    assert!(rt; fs::remove_file(&rt, &link).is_ok() && symlink(&rt, &other, &link).is_ok());
+    assert!(rt; sync_fails(&mut device, ErrorKind::NotFound));
+    assert!(rt; fs::remove_file(&rt, &path).is_ok() && fs::remove_file(&rt, &other).is_ok());
+    assert!(rt; fs::remove_file(&rt, &link).is_ok());
 }
 
 // Three pages: a hole, bytes that are not zero, and a hole with a part of a page behind it.

@@ -23,6 +23,8 @@ fn on_null(rt: &HostRuntime) -> io::Result<NamedFile> {
         file: File::open(rt, "/dev/null")?,
         path: ArrayString::new(),
         is_block: false,
+        place: ArrayString::new(),
+        is_direct: false,
     })
 }
 
