@@ -170,7 +170,8 @@ silent_again None client a b at h silent = absurd silent
 silent_again (Some most) client a b at h silent = record {
   long = silent.long;
   written = silent.written;
-  answered = subst (λ (o : Option SessionState). IfSome o (λ s. s.heard.bytes ≡ [])) (h client.sid) silent.answered;
+  answered = subst (λ (o : Option SessionState). IfSome o (λ s. (s.heard.bytes ≡ []) × (due s ≡ []))) (h client.sid)
+      silent.answered;
   unfinished = silent.unfinished;
 }
 
@@ -185,7 +186,8 @@ silent_reason (Some most) client after sessions at told heard sid holds waits si
     subst (λ (c : Option Closing). IsReason c (IsSilent after sessions at most) ⊥ ⊥) (sym told) (record {
       long = subst (λ (n : ℕ). n + most ≤ at) (sym heard) silent.long;
       written = waits ∙ silent.written;
-      answered = subst (λ (n : ℕ). IfSome (session_at sessions n) (λ s. s.heard.bytes ≡ [])) (sym sid) silent.answered;
+      answered = subst (λ (n : ℕ). IfSome (session_at sessions n) (λ s. (s.heard.bytes ≡ []) × (due s ≡ []))) (sym sid)
+          silent.answered;
       unfinished = subst (λ (l : List ℕ). IsUnfinished l) (sym holds) silent.unfinished;
     })
 

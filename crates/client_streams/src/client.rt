@@ -124,6 +124,7 @@ impl<S> Client<S> {
             && at - self.heard_at >= most
             && self.outgoing.is_empty()
             && sessions.waiting(self.sid) == 0
+            && !sessions.is_due(self.sid)
             && self.incoming.is_unfinished()
     }
 }
