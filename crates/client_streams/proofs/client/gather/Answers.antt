@@ -30,7 +30,7 @@ loop-preserved c =
     let (is_open, same, others, given) = c.loop.invariant in
     let step = gives (session_at c.loop.sessions c.args.sid) c.loop.sessions c.output.new.self c.args.sid c.output.result
     c.in-Some.reply (waiting c.loop.outgoing) (waiting c.push.new.outgoing) c.in-Some.is is_open c.output.ensures.given
-    c.output.ensures.after c.in_ok-push.ensures in (
+    c.output.ensures.after c.in_ok-push.ensures.ok in (
       step.stays,
       step.same ∙ same,
       others-trans c.args.sessions.now c.loop.sessions c.output.new.self c.args.sid others step.others,
@@ -79,3 +79,6 @@ returns-in_err-push-clause-given c =
     given_more c.args.sid c.args.sessions.now c.loop.sessions c.output.new.self given
     (output_gives (session_at c.loop.sessions c.args.sid) c.loop.sessions c.output.new.self c.args.sid c.output.result refl
     is_open c.output.ensures.given c.output.ensures.after)
+
+pub returns-in_err-push-clause-refused : goal.returns-in_err-push-clause-refused
+returns-in_err-push-clause-refused c = c.in_err-push.ensures.refused
