@@ -16,10 +16,9 @@ abbrev pub WasRefused : {S : Type 0} → Client S → Type 0
 WasRefused client = (client.memory.was_refused ≡ true) ⊎ (client.outgoing.was_refused ≡ true)
 
 -- Neither has come about.
-pub record IsSound {S : Type 0} (client : Client S) : Type 0 where
-  pub wire : client.wire.has_failed ≡ false
-  pub memory : client.memory.was_refused ≡ false
-  pub answers : client.outgoing.was_refused ≡ false
+abbrev pub IsSound : {S : Type 0} → Client S → Type 0
+IsSound client = (client.wire.has_failed ≡ false) × (client.memory.was_refused ≡ false)
+    × (client.outgoing.was_refused ≡ false)
 
 -- A reason is told, and it holds.
 abbrev pub Tells : Option Closing → Type 0 → Type 0 → Type 0 → Type 0 → Type 0 → Type 0
