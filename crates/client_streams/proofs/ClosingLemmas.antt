@@ -1,6 +1,6 @@
 -- Why a session is over, after a write.
 use Rattle.std.proofs.Common.{◌≡◌, ◌↔◌, Bool, true, false, ℕ, List, [], Option, Some, None, IfSome, refl, sym, ◌∙◌, subst, inl, inr}
-use Rattle.std.specs.Prelude.{IsTrue, IsSome}
+use Rattle.std.specs.Prelude.{Result, Ok, Err, OnErr, IsTrue, IsSome}
 use Rattle.std.proofs.lemmas.Bool.{cases_Bool, false≢true}
 use Rattle.session_lines.specs.Lines.{IsUnfinished}
 use Rattle.chess_sessions.specs.Session.{SessionState, due}
@@ -11,6 +11,11 @@ use Rattle.client_streams.specs.declared.outgoing.Sent.{Sent}
 use Rattle.client_streams.specs.declared.outgoing.Sent.TheVariants as sents
 use Rattle.client_streams.specs.Closings.{HasFailed, WasRefused, Tells, IsTrouble, IsOver, HasEnded, HasLeft}
 use Rattle.client_streams.specs.Incoming.{held}
+
+-- it holds whatever is answered
+pub on_err : {T E : Type 0} (r : Result T E) (P : Type 0) → P → OnErr r P
+on_err (Ok x) P holds = tt
+on_err (Err e) P holds = holds
 
 -- it is closed for a fault, and the connection has failed
 pub has_failed : {S : Type 0} (after : Client S) → after.closing ≡ Some closings.Fault → HasFailed after → IsTrouble after

@@ -5,6 +5,7 @@ use Rattle.client_streams.specs.Clients.{bytes_of}
 use Rattle.client_streams.specs.Sending.{waiting}
 use Rattle.client_streams.proofs.RoundLemmas.{given_more, output_gives}
 use Rattle.client_streams.proofs.ClientLemmas.{gives, gives-none, gave_all, others-trans}
+use Rattle.client_streams.proofs.ClosingLemmas.{on_err}
 use Rattle.client_streams.proofs.client.gather.Goals as goal
 
 pub returns-in_err-push-clause-open : goal.returns-in_err-push-clause-open
@@ -81,4 +82,4 @@ returns-in_err-push-clause-given c =
     is_open c.output.ensures.given c.output.ensures.after)
 
 pub returns-in_err-push-clause-refused : goal.returns-in_err-push-clause-refused
-returns-in_err-push-clause-refused c = c.in_err-push.ensures.refused
+returns-in_err-push-clause-refused c = on_err c.from_residual.result _ c.in_err-push.ensures.refused
