@@ -88,11 +88,7 @@ impl Incoming {
 
     #[tactic(auto, using(crate::proofs::HeardLemmas::brings, crate::proofs::HeardLemmas::at_end))]
     /// Reads once, without waiting where the reader doesn't wait, and holds back what came.
-    pub fn read_from<R: Read>(
-        &mut self,
-        reader: &mut Wire<R>,
-        piece: &mut [u8; PIECE_ROOM],
-    ) -> Came
+    pub fn read_from<R: Read>(&mut self, reader: &mut Wire<R>, piece: &mut [u8; PIECE_ROOM]) -> Came
         requires { IsUnfinished (held self.old) }
         ensures takes { Takes (R.remaining reader.old.stream) (R.remaining reader.new.stream) (held self.old) (held self.new) }
         ensures brings { Brings (R.remaining reader.old.stream) (R.remaining reader.new.stream) result }
