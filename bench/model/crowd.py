@@ -11,6 +11,8 @@ LATE, NEW = "%", "&"
 # Who stands when the crowd comes, in the order of connecting, and whose connection has ended before.
 STOOD = "AD" + CLIENTS[6:62] + "+*/=#" + NEW
 ENDED = "CEF" + LATE
+# How many the server has turned away by then.
+AWAY = 1
 
 doing, sent = [], []
 
@@ -50,6 +52,9 @@ byte_by_byte(OTHERS)
 do(f"{LATE} !")
 connects(LATE)
 has(LATE, "end")
+# It came twice, and was counted each time; and by another address of the machine nobody comes.
+do("away", "elsewhere")
+sent += [f"away {AWAY + 2}", "elsewhere false"]
 # The first closes, and ten turns later another has its place.
 do(f"{SILENT} !", "turns 10")
 connects(NEW)

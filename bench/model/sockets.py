@@ -32,6 +32,7 @@ class Server:
         self.moment, self.silence = MOMENT, silence
         self.clients = []       # in the order in which they connected
         self.gone = []          # those that dropped the connection
+        self.away = 0           # how many found no place
 
     def client(self, letter):
         for client in self.clients:
@@ -60,6 +61,7 @@ class Server:
                 client.heard_at = self.moment
                 client.sid = self.hub.connect()
                 if client.sid is None:
+                    self.away += 1
                     self.close(client)
                 return True
         return False
@@ -116,7 +118,12 @@ def play(path):
                 server.tell()
                 continue
             letters, _, act = text.partition(' ')
-            if letters == 'turns':
+            if text == 'away':
+                print('away', server.away)
+            elif text == 'elsewhere':
+                # It listens on 127.0.0.1 alone.
+                print('elsewhere false')
+            elif letters == 'turns':
                 for _ in range(int(act)):
                     server.turn()
             elif letters == 'moment':

@@ -63,6 +63,16 @@ impl Session {
         self.lines.is_too_long() && !self.lines.has_line()
     }
 
+    // Whether an answer was not taken, or the farewell that is due.
+    fn is_due(&self) -> bool
+        ensures { result ≡ false ↔ (due (shown self.now) ≡ []) }
+    {
+        if !self.answers.is_empty() {
+            return true;
+        }
+        self.is_done() && !self.has_left
+    }
+
     // The oldest answer that was not taken, and behind all answers the farewell.
     fn output(&mut self, alloc: Global) -> Option<Reply>
         ensures given { option_map said result ≡ first_due (due (shown self.old)) }
@@ -164,6 +174,17 @@ impl Sessions {
     {
         match self.slab.get(sid) {
             Some(session) => session.lines.waiting(),
+            None => unreachable!(),
+        }
+    }
+
+    /// Whether anything is due to a session that it was not given: an answer, or `bye LineTooLong`.
+    pub fn is_due(&self, sid: Sid) -> bool
+        requires { IsSome (session_at self.now sid) }
+        ensures { IfSome (session_at self.now sid) (λ s. result ≡ false ↔ (due s ≡ [])) }
+    {
+        match self.slab.get(sid) {
+            Some(session) => session.is_due(),
             None => unreachable!(),
         }
     }

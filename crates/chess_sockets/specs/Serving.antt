@@ -10,6 +10,7 @@ use Rattle.chess_hub.specs.Calls.{Call, Connected, Closed, Fed, Turned, Given}
 use Rattle.chess_hub.specs.Law.{HubState, Steps, Stays}
 use Rattle.chess_hub.specs.Turning.{AsksFor}
 use Rattle.client_streams.specs.declared.client.Client.{Client}
+use Rattle.client_streams.specs.Closings.{IsSound}
 use Rattle.client_streams.specs.Incoming.{held}
 use Rattle.client_streams.specs.Rounds as rounds
 use Rattle.client_streams.specs.Sending.{waiting}
@@ -70,15 +71,16 @@ abbrev pub open_in : {S : Type 0} → Sessions → List (Client S) → List (Cli
 open_in sessions clients = filter (λ client. is_some (session_at sessions client.sid)) clients
 
 -- A client begins at this moment: its stream is as it is made of a connection, nothing of it is held back, nothing waits for
--- it, it has not waited, and it may send more.
+-- it, it has not waited, it may send more, and no trouble has come about.
 pub record Begins {C S : Type 0} (IsMade : C → S → Type 0) (client : Client S) (at : ℕ) : Type 0 where
   pub connection : C
-  pub made : IsMade connection client.stream
+  pub made : IsMade connection client.wire.stream
   pub moment : client.heard_at ≡ at
   pub lasts : client.has_ended ≡ false
   pub wait : client.waited ≡ 0
   pub incoming : held client.incoming ≡ []
   pub outgoing : waiting client.outgoing ≡ []
+  pub sound : IsSound client
 
 -- At most one client comes and begins at this moment, and a session begins for it.
 abbrev pub AreWelcomed : {C S : Type 0} → (C → S → Type 0) → ℕ → List (Client S) → HubState → HubState → Type 0

@@ -264,6 +264,8 @@ xxxxxxxxxxxxxxxxxxxxxxxxxxxxxxxxxxxxxxxxxxxxxxxxxxxxxxxxxxxxxxxxxxxxxxxxxxxxxxxx
 xxxxxxxxxxxxxxxxxxxxxxxxxxxxxxxxxxxxxxxxxxxxxxxxxxxxxxxxxxxxxxxxxxxxxxxxxxxxxxxxxxxxxxxxxxxxxxxxxxxx\
 xxxxxxxxxxxxxxxxxxxxxxxxxxxxxxxxxxxxxxxxxxxxxxxxxxxxxxxxxxxxxxxxxxxxxxxxxxxxxxxxxxxxxxxxxxxxxxxxxxxx";
 
+const BYE: &str = "bye LineTooLong\n";
+
 #[test]
 fn answers_go_in_pieces(rt: HostRuntime) {
     let alloc = rt.alloc();
@@ -376,7 +378,18 @@ fn who_sends_a_long_line_is_closed(rt: HostRuntime) {
     let alloc = rt.alloc();
     let floods = made(alloc, &[Gives::Text(LONG)], Takes::All);
     let told = left(false, Some(1), 255, 300);
-    assert_eq!(rt; play(alloc, floods, "bye LineTooLong\n", 300, None), told);
+    assert_eq!(rt; play(alloc, floods, BYE, 300, None), told);
+}
+
+#[test]
+fn who_sends_a_long_line_and_reads_slowly_is_given_its_farewell(rt: HostRuntime) {
+    let alloc = rt.alloc();
+    let slow = Takes::Some(3);
+    let floods = made(alloc, &[Gives::Text(LONG)], slow);
+    assert_eq!(rt; play(alloc, floods, BYE, 5, None), left(true, None, 1, 5));
+    let floods = made(alloc, &[Gives::Text(LONG)], slow);
+    let told = left(false, Some(1), 255, 300);
+    assert_eq!(rt; play(alloc, floods, BYE, 300, None), told);
 }
 
 #[test]
@@ -484,4 +497,33 @@ fn who_asks_for_much_is_answered_in_turn(rt: HostRuntime) {
     assert_eq!(rt; flood(alloc, 8), Some((0, 1)));
     assert_eq!(rt; flood(alloc, 9), Some((1, 1)));
     assert_eq!(rt; flood(alloc, 100), Some((11, 12)));
+}
+
+// How many answers a client has a turn after it came and asked for the list, where two others were given 40 lists each and
+// are idle.
+fn behind_a_flood(alloc: Global) -> Option<usize> {
+    let mut hub = hub(alloc)?;
+    let mut clients = Vec::new(alloc);
+    for _ in 0..2 {
+        let asks = made(alloc, &[Gives::Text(LISTS), Gives::Nothing], Takes::All);
+        if !connect(&mut clients, &mut hub, alloc, asks) {
+            return None;
+        }
+    }
+    if !take_turns(&mut clients, &mut hub, each_millisecond(80, None)) {
+        return None;
+    }
+    let asks = made(alloc, &[Gives::Text("list\n"), Gives::Nothing], Takes::All);
+    let plays = connect(&mut clients, &mut hub, alloc, asks)
+        && take_turns(&mut clients, &mut hub, each_millisecond(1, None));
+    if plays {
+        count_lines(clients.get(2)?.stream().written.as_slice(), LISTED)
+    } else {
+        None
+    }
+}
+
+#[test]
+fn who_waited_once_holds_nobody_up(rt: HostRuntime) {
+    assert_eq!(rt; behind_a_flood(rt.alloc()), Some(1));
 }

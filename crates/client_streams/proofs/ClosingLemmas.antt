@@ -1,6 +1,6 @@
 -- Why a session is over, after a write.
 use Rattle.std.proofs.Common.{◌≡◌, ◌↔◌, Bool, true, false, ℕ, List, [], Option, Some, None, IfSome, refl, sym, ◌∙◌, subst, inl, inr}
-use Rattle.std.specs.Prelude.{IsTrue, IsSome}
+use Rattle.std.specs.Prelude.{Result, Ok, Err, OnErr, IsTrue, IsSome}
 use Rattle.std.proofs.lemmas.Bool.{cases_Bool, false≢true}
 use Rattle.session_lines.specs.Lines.{IsUnfinished}
 use Rattle.chess_sessions.specs.Session.{SessionState, due}
@@ -9,15 +9,29 @@ use Rattle.client_streams.specs.declared.closing.Closing.{Closing}
 use Rattle.client_streams.specs.declared.closing.Closing.TheVariants as closings
 use Rattle.client_streams.specs.declared.outgoing.Sent.{Sent}
 use Rattle.client_streams.specs.declared.outgoing.Sent.TheVariants as sents
-use Rattle.client_streams.specs.Closings.{IsReason, IsOver, HasEnded, HasLeft}
+use Rattle.client_streams.specs.Closings.{HasFailed, WasRefused, Tells, IsTrouble, IsOver, HasEnded, HasLeft}
 use Rattle.client_streams.specs.Incoming.{held}
 
+-- it holds whatever is answered
+pub on_err : {T E : Type 0} (r : Result T E) (P : Type 0) → P → OnErr r P
+on_err (Ok x) P holds = tt
+on_err (Err e) P holds = holds
+
+-- it is closed for a fault, and the connection has failed
+pub has_failed : {S : Type 0} (after : Client S) → after.closing ≡ Some closings.Fault → HasFailed after → IsTrouble after
+has_failed after told failed =
+    subst (λ (r : Option Closing). Tells r (HasFailed after) (WasRefused after) ⊥ ⊥ ⊥) (sym told) failed
+
 module _ {S : Type 0} (after : Client S) (closing : Closing) (told : after.closing ≡ Some closing) (left : List ℕ) where
-  because : (session : Option SessionState) (other : Closing) → closing ≡ other
-      → IsReason (Some other) ⊥ (HasEnded after session left) (HasLeft session left) → IsOver after session left
+  abbrev Has : Option Closing → Option SessionState → Type 0
+  Has reason session =
+      Tells reason (HasFailed after) (WasRefused after) ⊥ (HasEnded after session left) (HasLeft session left)
+
+  pub because : (session : Option SessionState) (other : Closing) → closing ≡ other → Has (Some other) session
+      → IsOver after session left
   because session other is has =
-      subst (λ (r : Option Closing). IsReason r ⊥ (HasEnded after session left) (HasLeft session left)) (sym told)
-      (subst (λ (c : Closing). IsReason (Some c) ⊥ (HasEnded after session left) (HasLeft session left)) (sym is) has)
+      subst (λ (r : Option Closing). Has r session) (sym told)
+      (subst (λ (c : Closing). Has (Some c) session) (sym is) has)
 
   -- who is over once all is written: the peer of a session that has not left sends no more, and no line of it waits
   abbrev pub Ends : Bool → Bool → SessionState → Type 0
@@ -47,14 +61,14 @@ module _ {S : Type 0} (after : Client S) (closing : Closing) (told : after.closi
 
   pub reason_over : (session : Option SessionState) (sent : Sent) (over any : Bool) → over ≡ true → IsSome session →
       (sent ≡ sents.Part → over ≡ false) → (sent ≡ sents.All → IfSome session (Ends over any)) →
-      (sent ≡ sents.Fault → closing ≡ closings.Fault) →
+      (sent ≡ sents.Fault → closing ≡ closings.Fault) → (sent ≡ sents.Fault → HasFailed after) →
       (sent ≡ sents.All → IfSome session (λ s. s.has_left ≡ true → closing ≡ closings.Farewell)) →
       (sent ≡ sents.All → IfSome session (λ s. s.has_left ≡ false → closing ≡ closings.End)) →
       (sent ≡ sents.All → IfSome session (λ s. due s ≡ [])) → (sent ≡ sents.All → left ≡ []) →
       IsOver after session left
-  reason_over session sents.Fault over any is is_open part ends fault farewell ended none written =
-      because session closings.Fault (fault refl) tt
-  reason_over session sents.Part over any is is_open part ends fault farewell ended none written =
+  reason_over session sents.Fault over any is is_open part ends fault failed farewell ended none written =
+      because session closings.Fault (fault refl) (failed refl)
+  reason_over session sents.Part over any is is_open part ends fault failed farewell ended none written =
       absurd (false≢true (sym (part refl) ∙ is))
-  reason_over session sents.All over any is is_open part ends fault farewell ended none written =
+  reason_over session sents.All over any is is_open part ends fault failed farewell ended none written =
       over_written session over any is is_open (ends refl) (farewell refl) (ended refl) (none refl) (written refl)

@@ -16,7 +16,7 @@ use Rattle.client_streams.specs.declared.client.Client.{Client}
 use Rattle.client_streams.specs.Clients.{OthersStay, IsSilent, IsHeardAt, IsEndSeen, HasWaitedOn, TakesIn, HandsOut, bytes_of_all, to_go}
 use Rattle.client_streams.specs.declared.closing.Closing.{Closing}
 use Rattle.client_streams.specs.declared.closing.Closing.TheVariants.{Fault, NoMemory, Silence, End, Farewell}
-use Rattle.client_streams.specs.Closings.{IsReason, IsTrouble, IsOver}
+use Rattle.client_streams.specs.Closings.{HasFailed, WasRefused, Tells, IsReason, IsOver}
 use Rattle.client_streams.specs.Incoming.{held}
 use Rattle.client_streams.specs.Sending.{waiting, HandsOn}
 use Rattle.client_streams.specs.Portions.{IsDearLine}
@@ -170,7 +170,8 @@ silent_again None client a b at h silent = absurd silent
 silent_again (Some most) client a b at h silent = record {
   long = silent.long;
   written = silent.written;
-  answered = subst (λ (o : Option SessionState). IfSome o (λ s. s.heard.bytes ≡ [])) (h client.sid) silent.answered;
+  answered = subst (λ (o : Option SessionState). IfSome o (λ s. (s.heard.bytes ≡ []) × (due s ≡ []))) (h client.sid)
+      silent.answered;
   unfinished = silent.unfinished;
 }
 
@@ -179,35 +180,39 @@ pub silent_reason : {S : Type 0} (silence : Option ℕ) (client after : Client S
     after.closing ≡ Some Silence → after.heard_at ≡ client.heard_at → after.sid ≡ client.sid →
     held after.incoming ≡ held client.incoming → waiting after.outgoing ≡ waiting client.outgoing →
     IsSomeAnd silence (IsSilent client sessions at) →
-    IsReason after.closing (IsSomeAnd silence (IsSilent after sessions at)) ⊥ ⊥
+    IsReason after (IsSomeAnd silence (IsSilent after sessions at)) ⊥ ⊥
 silent_reason None client after sessions at told heard sid holds waits silent = absurd silent
 silent_reason (Some most) client after sessions at told heard sid holds waits silent =
-    subst (λ (c : Option Closing). IsReason c (IsSilent after sessions at most) ⊥ ⊥) (sym told) (record {
+    subst (λ (c : Option Closing). Tells c (HasFailed after) (WasRefused after) (IsSilent after sessions at most) ⊥ ⊥)
+    (sym told) (record {
       long = subst (λ (n : ℕ). n + most ≤ at) (sym heard) silent.long;
       written = waits ∙ silent.written;
-      answered = subst (λ (n : ℕ). IfSome (session_at sessions n) (λ s. s.heard.bytes ≡ [])) (sym sid) silent.answered;
+      answered = subst (λ (n : ℕ). IfSome (session_at sessions n) (λ s. (s.heard.bytes ≡ []) × (due s ≡ []))) (sym sid)
+          silent.answered;
       unfinished = subst (λ (l : List ℕ). IsUnfinished l) (sym holds) silent.unfinished;
     })
 
 -- said of sessions that are as they were
-reason_again : {S : Type 0} (silence : Option ℕ) (client : Client S) (a b : Sessions) (at : ℕ) (closing : Option Closing) →
-    IsUnchanged a b → IsReason closing (IsSomeAnd silence (IsSilent client b at)) ⊥ ⊥ →
-    IsReason closing (IsSomeAnd silence (IsSilent client a at)) ⊥ ⊥
-reason_again silence client a b at None h is = is
-reason_again silence client a b at (Some Fault) h is = is
-reason_again silence client a b at (Some NoMemory) h is = is
-reason_again silence client a b at (Some Silence) h is = silent_again silence client a b at h is
-reason_again silence client a b at (Some End) h is = is
-reason_again silence client a b at (Some Farewell) h is = is
+reason_again : {S : Type 0} (silence : Option ℕ) (client : Client S) (a b : Sessions) (at : ℕ) (failed refused : Type 0)
+    (closing : Option Closing) → IsUnchanged a b →
+    Tells closing failed refused (IsSomeAnd silence (IsSilent client b at)) ⊥ ⊥ →
+    Tells closing failed refused (IsSomeAnd silence (IsSilent client a at)) ⊥ ⊥
+reason_again silence client a b at failed refused None h is = is
+reason_again silence client a b at failed refused (Some Fault) h is = is
+reason_again silence client a b at failed refused (Some NoMemory) h is = is
+reason_again silence client a b at failed refused (Some Silence) h is = silent_again silence client a b at h is
+reason_again silence client a b at failed refused (Some End) h is = is
+reason_again silence client a b at failed refused (Some Farewell) h is = is
 
 -- the connection has failed, or memory was refused
-pub reason_of_trouble : (silent : Type 0) (closing : Option Closing) → IsTrouble closing → IsReason closing silent ⊥ ⊥
-reason_of_trouble silent None is = is
-reason_of_trouble silent (Some Fault) is = is
-reason_of_trouble silent (Some NoMemory) is = is
-reason_of_trouble silent (Some Silence) is = absurd is
-reason_of_trouble silent (Some End) is = is
-reason_of_trouble silent (Some Farewell) is = is
+pub reason_of_trouble : (failed refused silent : Type 0) (closing : Option Closing) → Tells closing failed refused ⊥ ⊥ ⊥ →
+    Tells closing failed refused silent ⊥ ⊥
+reason_of_trouble failed refused silent None is = is
+reason_of_trouble failed refused silent (Some Fault) is = is
+reason_of_trouble failed refused silent (Some NoMemory) is = is
+reason_of_trouble failed refused silent (Some Silence) is = absurd is
+reason_of_trouble failed refused silent (Some End) is = is
+reason_of_trouble failed refused silent (Some Farewell) is = is
 
 -- a session that is as it was is not closed
 pub not_now : {P : Type 0} (m n : Option SessionState) → n ≡ m → IsSome m → n ≡ None → P
@@ -223,14 +228,14 @@ module _ {S : Type 0} (remaining : S → Option (List ℕ)) (silence : Option �
   abbrev pub HasReason : Client S → Client S → Sessions → Sessions → Type 0
   HasReason client after old new =
       IsSome (session_at old client.sid) → session_at new client.sid ≡ None
-      → IsReason after.closing (IsSomeAnd silence (IsSilent after old at)) ⊥ ⊥
+      → IsReason after (IsSomeAnd silence (IsSilent after old at)) ⊥ ⊥
 
   pub passed_over : (client : Client S) (s : Intake) → IsRead remaining silence at client client s s
   passed_over client s = record {
     sid = refl;
     outgoing = refl;
     taken = [];
-    consumed = Consumes-nil (remaining client.stream);
+    consumed = Consumes-nil (remaining client.wire.stream);
     unfinished = λ some. absurd (some refl);
     fed = [];
     order = append-nil (held client.incoming);
@@ -240,20 +245,20 @@ module _ {S : Type 0} (remaining : S → Option (List ℕ)) (silence : Option �
     dear = none-dear;
     wait = waits-still (held client.incoming) client.waited client.waited refl;
     unread = λ waits. (refl, refl, unchanged-refl s.sessions);
-    heard = heard_as_before (remaining client.stream) at client.heard_at;
-    ended = end_as_before (remaining client.stream) client.has_ended;
+    heard = heard_as_before (remaining client.wire.stream) at client.heard_at;
+    ended = end_as_before (remaining client.wire.stream) client.has_ended;
     closed = λ none. (refl, unchanged-refl s.sessions);
     reason = λ is_open none. not_closed (session_at s.sessions client.sid) _ is_open none;
   }
 
   pub is_read : (client after : Client S) (old new : Intake) → after.sid ≡ client.sid →
       waiting after.outgoing ≡ waiting client.outgoing →
-      (waiting client.outgoing ≢ [] → (after.stream ≡ client.stream) × (held after.incoming ≡ held client.incoming)
+      (waiting client.outgoing ≢ [] → (after.wire.stream ≡ client.wire.stream) × (held after.incoming ≡ held client.incoming)
       × IsUnchanged old.sessions new.sessions) →
-      IsHeardAt (remaining client.stream) (remaining after.stream) at client.heard_at after.heard_at →
-      IsEndSeen (remaining after.stream) client.has_ended after.has_ended →
+      IsHeardAt (remaining client.wire.stream) (remaining after.wire.stream) at client.heard_at after.heard_at →
+      IsEndSeen (remaining after.wire.stream) client.has_ended after.has_ended →
       PassesClosed client after old.sessions new.sessions → HasReason client after old.sessions new.sessions →
-      Sends old.room new.room (remaining client.stream) (remaining after.stream) (held client.incoming)
+      Sends old.room new.room (remaining client.wire.stream) (remaining after.wire.stream) (held client.incoming)
       (held after.incoming) client.waited after.waited client.sid old.sessions new.sessions →
       IsRead remaining silence at client after old new
   is_read client after old new sid outgoing unread heard ended closed reason sends = record {
@@ -279,33 +284,33 @@ module _ {S : Type 0} (remaining : S → Option (List ℕ)) (silence : Option �
   -- Nothing came of a client. Its session is closed, or all stays.
   pub read_nothing : (client after : Client S) (room : ℕ) (old new : Sessions) (done : Bool) →
       after.sid ≡ client.sid → waiting after.outgoing ≡ waiting client.outgoing →
-      IsHeardAt (remaining client.stream) (remaining after.stream) at client.heard_at after.heard_at →
-      IsEndSeen (remaining after.stream) client.has_ended after.has_ended →
-      Keeps (remaining client.stream) (remaining after.stream) → held after.incoming ≡ held client.incoming →
+      IsHeardAt (remaining client.wire.stream) (remaining after.wire.stream) at client.heard_at after.heard_at →
+      IsEndSeen (remaining after.wire.stream) client.has_ended after.has_ended →
+      Keeps (remaining client.wire.stream) (remaining after.wire.stream) → held after.incoming ≡ held client.incoming →
       after.waited ≡ client.waited → IsSome (session_at old client.sid) → OnTrue done (waiting client.outgoing ≡ []) →
-      (waiting client.outgoing ≢ [] → after.stream ≡ client.stream) → OnTrue done (Changes old new client.sid None) →
-      OnTrue done (IsReason after.closing (IsSomeAnd silence (IsSilent after old at)) ⊥ ⊥) →
+      (waiting client.outgoing ≢ [] → after.wire.stream ≡ client.wire.stream) → OnTrue done (Changes old new client.sid None) →
+      OnTrue done (IsReason after (IsSomeAnd silence (IsSilent after old at)) ⊥ ⊥) →
       OnFalse done (IsUnchanged old new) →
       IsRead remaining silence at client after (intake old room) (intake new room)
   read_nothing client after room old new true sid outgoing heard ended kept same still is_open silent stream closed reason stays =
       is_read client after (intake old room) (intake new room) sid outgoing
       (λ waits. absurd (waits silent)) heard ended (not_closed (session_at old client.sid) _ is_open) (λ was none. reason)
-      (sends room room (remaining client.stream) (remaining after.stream) (held client.incoming) (held after.incoming)
+      (sends room room (remaining client.wire.stream) (remaining after.wire.stream) (held client.incoming) (held after.incoming)
       client.sid old new (session_at old client.sid) (session_at new client.sid) refl refl is_open
-      (takes-in client.waited after.waited room room (session_at old client.sid) (session_at new client.sid) (remaining client.stream)
-      (remaining after.stream) (held client.incoming) (held after.incoming) (held after.incoming)
-      (takes-kept (remaining client.stream) (remaining after.stream) (held client.incoming) (held after.incoming) kept same)
+      (takes-in client.waited after.waited room room (session_at old client.sid) (session_at new client.sid) (remaining client.wire.stream)
+      (remaining after.wire.stream) (held client.incoming) (held after.incoming) (held after.incoming)
+      (takes-kept (remaining client.wire.stream) (remaining after.wire.stream) (held client.incoming) (held after.incoming) kept same)
       (gives-closed room room (session_at old client.sid) (session_at new client.sid) (held after.incoming) (omega arith)
       closed.changed (waits-still (held after.incoming) client.waited after.waited still))) closed.others)
   read_nothing client after room old new false sid outgoing heard ended kept same still is_open silent stream closed reason stays =
       is_read client after (intake old room) (intake new room) sid outgoing
       (λ waits. (stream waits, same, stays)) heard ended (not_closed (session_at old client.sid) _ is_open)
       (not_now (session_at old client.sid) (session_at new client.sid) (stays client.sid))
-      (sends room room (remaining client.stream) (remaining after.stream) (held client.incoming) (held after.incoming)
+      (sends room room (remaining client.wire.stream) (remaining after.wire.stream) (held client.incoming) (held after.incoming)
       client.sid old new (session_at old client.sid) (session_at new client.sid) refl refl is_open
-      (takes-in client.waited after.waited room room (session_at old client.sid) (session_at new client.sid) (remaining client.stream)
-      (remaining after.stream) (held client.incoming) (held after.incoming) (held after.incoming)
-      (takes-kept (remaining client.stream) (remaining after.stream) (held client.incoming) (held after.incoming) kept same)
+      (takes-in client.waited after.waited room room (session_at old client.sid) (session_at new client.sid) (remaining client.wire.stream)
+      (remaining after.wire.stream) (held client.incoming) (held after.incoming) (held after.incoming)
+      (takes-kept (remaining client.wire.stream) (remaining after.wire.stream) (held client.incoming) (held after.incoming) kept same)
       (gives-nothing room room (session_at old client.sid) (session_at new client.sid) (held after.incoming) (omega arith)
       (stays client.sid) (waits-still (held after.incoming) client.waited after.waited still))) (λ other differs. stays other))
 
@@ -330,7 +335,7 @@ module _ {S : Type 0} (remaining : S → Option (List ℕ)) (silence : Option �
     heard = read.heard;
     ended = read.ended;
     closed = closed_after client after a.sessions b.sessions c.sessions h.0 read.closed;
-    reason = λ is_open none. reason_again silence after a.sessions b.sessions at after.closing h.0
+    reason = λ is_open none. reason_again silence after a.sessions b.sessions at (HasFailed after) (WasRefused after) after.closing h.0
         (read.reason (subst (λ (o : Option SessionState). IsSome o) (sym (h.0 client.sid)) is_open) none);
   }
 
@@ -508,7 +513,7 @@ hands_since b c m n w next same h = record {
 module _ {S : Type 0} (contents : S → Option (List ℕ)) (client after : Client S) (old mid new : Sessions)
     (given : AreGiven client.sid old mid) where
   pub closes_for : Changes mid new client.sid None →
-      (hands : HandsOut (contents client.stream) (contents after.stream)
+      (hands : HandsOut (contents client.wire.stream) (contents after.wire.stream)
       (to_go (session_at old client.sid) (waiting client.outgoing))
       (to_go (session_at new client.sid) (waiting after.outgoing))) →
       IsOver after (session_at mid client.sid) hands.left → IsHandedOut contents client after old new
@@ -516,7 +521,7 @@ module _ {S : Type 0} (contents : S → Option (List ℕ)) (client after : Clien
       record { given = closes client.sid old mid new given closed; hands = hands; reason = λ none. reason }
 
 pub goes_on_open : {S : Type 0} (contents : S → Option (List ℕ)) (client after : Client S) (old new : Sessions) →
-    AreGiven client.sid old new → HandsOut (contents client.stream) (contents after.stream)
+    AreGiven client.sid old new → HandsOut (contents client.wire.stream) (contents after.wire.stream)
     (to_go (session_at old client.sid) (waiting client.outgoing))
     (to_go (session_at new client.sid) (waiting after.outgoing)) → IsSome (session_at new client.sid) →
     IsHandedOut contents client after old new
@@ -543,7 +548,7 @@ module _ {S : Type 0} (contents : S → Option (List ℕ)) where
     ended = refl;
     wait = refl;
     given = goes_on client.sid t t (given_none_yet client.sid t t (unchanged-refl t));
-    hands = hands_none (contents client.stream) (to_go (session_at t client.sid) (waiting client.outgoing));
+    hands = hands_none (contents client.wire.stream) (to_go (session_at t client.sid) (waiting client.outgoing));
     closed = λ none. (refl, unchanged-refl t);
     reason = λ is_open none. not_closed (session_at t client.sid) _ is_open none;
   }
@@ -561,7 +566,7 @@ module _ {S : Type 0} (contents : S → Option (List ℕ)) where
       given = given_later client.sid a b written.given.between h written.given.given;
       closed = written.given.closed;
     };
-    hands = hands_since (contents client.stream) (contents after.stream) (session_at a client.sid)
+    hands = hands_since (contents client.wire.stream) (contents after.wire.stream) (session_at a client.sid)
         (session_at b client.sid) (waiting client.outgoing) (to_go (session_at c client.sid) (waiting after.outgoing))
         (h client.sid) written.hands;
     closed = closed_after client after a b c h written.closed;

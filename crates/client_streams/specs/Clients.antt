@@ -24,11 +24,11 @@ abbrev pub OthersStay : Sessions → Sessions → ℕ → Type 0
 OthersStay old new sid = (other : ℕ) → other ≢ sid → session_at new other ≡ session_at old other
 
 -- Nothing came of a client for so long, by this moment, and nothing waits for it: nothing to be written, no line of its
--- session, and no line that is held back.
+-- session and nothing that this is due, and no line that is held back.
 pub record IsSilent {S : Type 0} (client : Client S) (sessions : Sessions) (at most : ℕ) : Type 0 where
   pub long : client.heard_at + most ≤ at
   pub written : waiting client.outgoing ≡ []
-  pub answered : IfSome (session_at sessions client.sid) (λ s. s.heard.bytes ≡ [])
+  pub answered : IfSome (session_at sessions client.sid) (λ s. (s.heard.bytes ≡ []) × (due s ≡ []))
   pub unfinished : IsUnfinished (held client.incoming)
 
 -- A client of an open session has waited so long with a line that asks for much.

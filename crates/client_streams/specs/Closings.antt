@@ -1,5 +1,5 @@
 -- Why the session of a client is closed.
-use Rattle.std.specs.Prelude.{ℕ, ◌≡◌, true, List, [], Option, Some, None, IfSome, IsSomeAnd}
+use Rattle.std.specs.Prelude.{ℕ, ◌≡◌, ◌⊎◌, true, false, List, [], Option, Some, None, IfSome, IsSomeAnd}
 use Rattle.session_lines.specs.Lines.{IsUnfinished}
 use Rattle.chess_sessions.specs.Session.{SessionState, due}
 use Rattle.client_streams.specs.declared.client.Client.{Client}
@@ -7,19 +7,36 @@ use Rattle.client_streams.specs.declared.closing.Closing.{Closing}
 use Rattle.client_streams.specs.declared.closing.Closing.TheVariants.{Fault, NoMemory, Silence, End, Farewell}
 use Rattle.client_streams.specs.Incoming.{held}
 
--- A reason is told, and this holds where it is silence, an end or a farewell. Of a connection that has failed, and of memory
--- that was refused, nothing more is known.
-abbrev pub IsReason : Option Closing → Type 0 → Type 0 → Type 0 → Type 0
-IsReason None silent ended left = ⊥
-IsReason (Some Fault) silent ended left = Unit {0}
-IsReason (Some NoMemory) silent ended left = Unit {0}
-IsReason (Some Silence) silent ended left = silent
-IsReason (Some End) silent ended left = ended
-IsReason (Some Farewell) silent ended left = left
+-- A read of the connection has failed, or a write.
+abbrev pub HasFailed : {S : Type 0} → Client S → Type 0
+HasFailed client = client.wire.has_failed ≡ true
+
+-- Memory was refused for what the client sends, or for its answers.
+abbrev pub WasRefused : {S : Type 0} → Client S → Type 0
+WasRefused client = (client.memory.was_refused ≡ true) ⊎ (client.outgoing.was_refused ≡ true)
+
+-- Neither has come about.
+abbrev pub IsSound : {S : Type 0} → Client S → Type 0
+IsSound client = (client.wire.has_failed ≡ false) × (client.memory.was_refused ≡ false)
+    × (client.outgoing.was_refused ≡ false)
+
+-- A reason is told, and it holds.
+abbrev pub Tells : Option Closing → Type 0 → Type 0 → Type 0 → Type 0 → Type 0 → Type 0
+Tells None failed refused silent ended left = ⊥
+Tells (Some Fault) failed refused silent ended left = failed
+Tells (Some NoMemory) failed refused silent ended left = refused
+Tells (Some Silence) failed refused silent ended left = silent
+Tells (Some End) failed refused silent ended left = ended
+Tells (Some Farewell) failed refused silent ended left = left
+
+-- A client's reason is that its connection has failed, or that memory was refused for it; or it is silent, or has ended, or
+-- has left, where this means that.
+abbrev pub IsReason : {S : Type 0} → Client S → Type 0 → Type 0 → Type 0 → Type 0
+IsReason client silent ended left = Tells client.closing (HasFailed client) (WasRefused client) silent ended left
 
 -- The connection has failed, or memory was refused.
-abbrev pub IsTrouble : Option Closing → Type 0
-IsTrouble closing = IsReason closing ⊥ ⊥ ⊥
+abbrev pub IsTrouble : {S : Type 0} → Client S → Type 0
+IsTrouble client = IsReason client ⊥ ⊥ ⊥
 
 -- The session was given all that is due to it, and of what was to go nothing is left behind the write.
 pub record HasAll (session : Option SessionState) (left : List ℕ) : Type 0 where
@@ -41,4 +58,4 @@ pub record HasLeft (session : Option SessionState) (left : List ℕ) : Type 0 wh
 -- Why a session is closed behind a write: the connection has failed, or memory was refused; or its peer has ended, or it has
 -- left.
 abbrev pub IsOver : {S : Type 0} → Client S → Option SessionState → List ℕ → Type 0
-IsOver client session left = IsReason client.closing ⊥ (HasEnded client session left) (HasLeft session left)
+IsOver client session left = IsReason client ⊥ (HasEnded client session left) (HasLeft session left)

@@ -64,7 +64,7 @@ pub record IsRead {S : Type 0} (remaining : S → Option (List ℕ)) (silence : 
   pub sid : after.sid ≡ client.sid
   pub outgoing : waiting after.outgoing ≡ waiting client.outgoing
   pub taken : List ℕ
-  pub consumed : Consumes (remaining client.stream) (remaining after.stream) taken
+  pub consumed : Consumes (remaining client.wire.stream) (remaining after.wire.stream) taken
   pub unfinished : taken ≢ [] → IsUnfinished (held client.incoming)
   pub fed : List ℕ
   pub order : held client.incoming ++ taken ≡ fed ++ held after.incoming
@@ -73,13 +73,13 @@ pub record IsRead {S : Type 0} (remaining : S → Option (List ℕ)) (silence : 
   pub fewer : new.room ≤ old.room
   pub dear : IsDearLine fed → new.room + 1 ≤ old.room
   pub wait : HasWaitedOn fed (held after.incoming) client.waited after.waited
-  pub unread : waiting client.outgoing ≢ [] → (after.stream ≡ client.stream)
+  pub unread : waiting client.outgoing ≢ [] → (after.wire.stream ≡ client.wire.stream)
       × (held after.incoming ≡ held client.incoming) × IsUnchanged old.sessions new.sessions
-  pub heard : IsHeardAt (remaining client.stream) (remaining after.stream) at client.heard_at after.heard_at
-  pub ended : IsEndSeen (remaining after.stream) client.has_ended after.has_ended
+  pub heard : IsHeardAt (remaining client.wire.stream) (remaining after.wire.stream) at client.heard_at after.heard_at
+  pub ended : IsEndSeen (remaining after.wire.stream) client.has_ended after.has_ended
   pub closed : PassesClosed client after old.sessions new.sessions
   pub reason : IsSome (session_at old.sessions client.sid) → session_at new.sessions client.sid ≡ None
-      → IsReason after.closing (IsSomeAnd silence (IsSilent after old.sessions at)) ⊥ ⊥
+      → IsReason after (IsSomeAnd silence (IsSilent after old.sessions at)) ⊥ ⊥
 
 -- Each client is read for. A turn has room for one line that asks for much.
 abbrev pub AreRead : {S : Type 0} → (S → Option (List ℕ)) → Option ℕ → ℕ → List (Client S) → List (Client S) → Sessions
@@ -119,7 +119,7 @@ pub record IsGivenOut (sid : ℕ) (old new : Sessions) : Type 0 where
 pub record IsHandedOut {S : Type 0} (contents : S → Option (List ℕ)) (client after : Client S) (old new : Sessions)
     : Type 0 where
   pub given : IsGivenOut client.sid old new
-  pub hands : HandsOut (contents client.stream) (contents after.stream)
+  pub hands : HandsOut (contents client.wire.stream) (contents after.wire.stream)
       (to_go (session_at old client.sid) (waiting client.outgoing))
       (to_go (session_at new client.sid) (waiting after.outgoing))
   pub reason : session_at new client.sid ≡ None → IsOver after (session_at given.between client.sid) hands.left
@@ -134,7 +134,7 @@ pub record IsWritten {S : Type 0} (contents : S → Option (List ℕ)) (client a
   pub ended : after.has_ended ≡ client.has_ended
   pub wait : after.waited ≡ client.waited
   pub given : IsGivenOut client.sid old new
-  pub hands : HandsOut (contents client.stream) (contents after.stream)
+  pub hands : HandsOut (contents client.wire.stream) (contents after.wire.stream)
       (to_go (session_at old client.sid) (waiting client.outgoing))
       (to_go (session_at new client.sid) (waiting after.outgoing))
   pub reason : IsSome (session_at old client.sid) → session_at new client.sid ≡ None

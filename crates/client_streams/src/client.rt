@@ -1,11 +1,9 @@
 //! A connection and its session.
-ghost use Rattle.std.specs.Prelude.{◌≡◌, ◌≢◌, ◌≤◌, ◌++◌, ◌+◌, ◌-◌, ◌↔◌, ◌⊎◌, true, false, [], Some, None, length, IsTrue, IsSome, IfSome, IsSomeAnd, IfOk, OnOk, OnErr};
-ghost use Rattle.std.specs.Bool.{OnTrue, OnFalse};
+ghost use Rattle.std.specs.Prelude.{◌≡◌, ◌≢◌, ◌≤◌, ◌++◌, ◌+◌, ◌-◌, ◌↔◌, ◌⊎◌, true, false, [], Some, None, IsTrue, IfSome, IfOk, OnOk, OnErr};
 ghost use Rattle.std.specs.Io.KnownBytes.{Keeps};
 ghost use Rattle.chess_sessions.specs.Session.{said, session_at, due, Changes};
-ghost use Rattle.client_streams.specs.Clients.{IsOpen, OthersStay, IsSilent, IsHeardAt, IsEndSeen, HasHeard, GivesOn, TakesIn, HandsOut, bytes_of, to_go};
-ghost use Rattle.client_streams.specs.Closings.{IsTrouble};
-ghost use Rattle.client_streams.specs.Portions.{IsPortion};
+ghost use Rattle.client_streams.specs.Clients.{IsOpen, OthersStay, IsSilent, IsHeardAt, IsEndSeen, GivesOn, TakesIn, HandsOut, bytes_of, to_go};
+ghost use Rattle.client_streams.specs.Closings.{IsSound, IsTrouble};
 ghost use Rattle.session_lines.specs.Lines.{IsUnfinished};
 ghost use Rattle.client_streams.specs.Incoming.{held};
 ghost use Rattle.client_streams.specs.Pieces.{Takes};
@@ -14,24 +12,26 @@ ghost use Rattle.client_streams.specs.Rounds.{AreGiven, IsHandedOut};
 
 use crate::closing::Closing;
 use crate::incoming::Incoming;
+use crate::memory::Memory;
 use crate::outgoing::{Outgoing, Sent};
 use crate::pieces::{Came, PIECE_ROOM};
 use crate::room::Room;
+use crate::wire::Wire;
 use chess_answer::Reply;
 use chess_sessions::{Sessions, Sid};
-use session_lines::FeedFault;
 use std::alloc::{AllocError, Global};
 use std::io::{Read, Write};
 
 /// A connection, and the session that its bytes go to.
 #[derive(Drop)]
 pub struct Client<S> {
-    stream: S,
+    wire: Wire<S>,
     sid: Sid,
     /// Bytes on their way to the session.
     incoming: Incoming,
     /// Answers on their way to the peer.
     outgoing: Outgoing,
+    memory: Memory,
     /// Whether the peer sends no more.
     has_ended: bool,
     /// Whether it was read to its end for now: the last read found nothing, and none was put off since.
@@ -54,17 +54,19 @@ impl<S> Client<S> {
     /// A connection that begins, for a session that is open.
     pub fn new(alloc: Global, stream: S, sid: Sid, at: u64) -> Client<S>
         ensures sid { result.sid ≡ sid }
-        ensures stream { result.stream ≡ stream }
+        ensures stream { result.wire.stream ≡ stream }
+        ensures sound { IsSound result }
         ensures heard { result.heard_at ≡ at }
         ensures wait { result.waited ≡ 0 }
         ensures lasts { result.has_ended ≡ false }
         ensures nothing { (held result.incoming ≡ []) × (waiting result.outgoing ≡ []) }
     {
         Client {
-            stream,
+            wire: Wire::new(stream),
             sid,
             incoming: Incoming::new(),
             outgoing: Outgoing::new(alloc),
+            memory: Memory::new(),
             has_ended: false,
             is_quiet: false,
             heard_at: at,
@@ -76,9 +78,9 @@ impl<S> Client<S> {
 
     /// The connection.
     pub fn stream(&self) -> &S
-        ensures { result.now ≡ self.now.stream }
+        ensures { result.now ≡ self.now.wire.stream }
     {
-        &self.stream
+        self.wire.stream()
     }
 
     /// The number of its session.
@@ -106,9 +108,10 @@ impl<S> Client<S> {
     pub(crate) fn close(&mut self, sessions: &mut Sessions, closing: Closing)
         ensures closed { Changes sessions.old sessions.new self.old.sid None }
         ensures told { self.new.closing ≡ Some closing }
+        ensures marks { (self.new.wire ≡ self.old.wire) × (self.new.outgoing ≡ self.old.outgoing) }
         ensures peer { (self.new.sid ≡ self.old.sid) × (self.new.has_ended ≡ self.old.has_ended)
             × (self.new.is_quiet ≡ self.old.is_quiet) × (held self.new.incoming ≡ held self.old.incoming)
-            × (waiting self.new.outgoing ≡ waiting self.old.outgoing) × (self.new.stream ≡ self.old.stream)
+            × (waiting self.new.outgoing ≡ waiting self.old.outgoing) × (self.new.wire.stream ≡ self.old.wire.stream)
             × (self.new.heard_at ≡ self.old.heard_at) × (self.new.waited ≡ self.old.waited) }
     {
         sessions.close(self.sid);
@@ -124,34 +127,15 @@ impl<S> Client<S> {
             && at - self.heard_at >= most
             && self.outgoing.is_empty()
             && sessions.waiting(self.sid) == 0
+            && !sessions.is_due(self.sid)
             && self.incoming.is_unfinished()
-    }
-}
-
-// Gives a session of which nothing waits a portion; what comes behind a line that is too long is dropped. Where memory is
-// refused the session is closed, and it answers false.
-fn feed(sessions: &mut Sessions, sid: Sid, portion: &[u8]) -> bool
-    requires open { IsOpen sessions.old sid }
-    requires small { length portion.now ≤ 4096 }
-    requires portion { IsPortion portion.now }
-    requires alone { IfSome (session_at sessions.old sid) (λ s. s.heard.bytes ≡ []) }
-    ensures heard { IfSome (session_at sessions.old sid) (λ s. OnTrue result (IsSomeAnd
-        (session_at sessions.new sid) (HasHeard s portion.now))) }
-    ensures closed { OnFalse result (session_at sessions.new sid ≡ None) }
-    ensures others { OthersStay sessions.old sessions.new sid }
-{
-    match sessions.feed(sid, portion) {
-        Ok(()) | Err(FeedFault::LineTooLong) => true,
-        Err(FeedFault::NoMemory) => {
-            sessions.close(sid);
-            false
-        }
     }
 }
 
 // Puts an answer behind what waits to be written.
 fn push(outgoing: &mut Outgoing, reply: &Reply) -> Result<(), AllocError>
-    ensures { OnOk result (waiting outgoing.new ≡ waiting outgoing.old ++ bytes_of (said reply.now)) }
+    ensures ok { OnOk result (waiting outgoing.new ≡ waiting outgoing.old ++ bytes_of (said reply.now)) }
+    ensures refused { OnErr result (outgoing.new.was_refused ≡ true) }
 {
     outgoing.push(reply.line.as_str().as_bytes())?;
     outgoing.push(b"\n")?;
@@ -180,6 +164,7 @@ fn gather(
     ensures all { IfOk result (λ gathered. gathered.is_all ≡ true
         → IfSome (session_at sessions.new sid) (λ s. due s ≡ [])) }
     ensures given { AreGiven sid sessions.old sessions.new }
+    ensures refused { OnErr result (outgoing.new.was_refused ≡ true) }
     ensures others { OthersStay sessions.old sessions.new sid }
 {
     let mut any = false;
@@ -219,22 +204,23 @@ impl<S: Read + Write> Client<S> {
     // now.
     fn read_more(&mut self, at: u64, piece: &mut [u8; PIECE_ROOM]) -> Came
         requires { IsUnfinished (held self.old.incoming) }
-        ensures takes { Takes (S.remaining self.old.stream) (S.remaining self.new.stream) (held self.old.incoming)
+        ensures takes { Takes (S.remaining self.old.wire.stream) (S.remaining self.new.wire.stream) (held self.old.incoming)
             (held self.new.incoming) }
-        ensures heard { IsHeardAt (S.remaining self.old.stream) (S.remaining self.new.stream) at self.old.heard_at
+        ensures heard { IsHeardAt (S.remaining self.old.wire.stream) (S.remaining self.new.wire.stream) at self.old.heard_at
             self.new.heard_at }
-        ensures ended { IsEndSeen (S.remaining self.new.stream) self.old.has_ended self.new.has_ended }
+        ensures ended { IsEndSeen (S.remaining self.new.wire.stream) self.old.has_ended self.new.has_ended }
         ensures quiet { self.new.is_quiet ≡ true → (result ≡ Came.Nothing)
-            × Keeps (S.remaining self.old.stream) (S.remaining self.new.stream)
+            × Keeps (S.remaining self.old.wire.stream) (S.remaining self.new.wire.stream)
             × (held self.new.incoming ≡ held self.old.incoming) }
         ensures peer { (self.new.sid ≡ self.old.sid) × (waiting self.new.outgoing ≡ waiting self.old.outgoing)
             × (self.new.waited ≡ self.old.waited) }
+        ensures failed { result ≡ Came.Fault → self.new.wire.has_failed ≡ true }
     {
         self.is_quiet = false;
         if self.has_ended {
             return Came::Nothing;
         }
-        let came = self.incoming.read_from(&mut self.stream, piece);
+        let came = self.incoming.read_from(&mut self.wire, piece);
         match came {
             Came::Nothing => self.is_quiet = true,
             Came::Bytes(_) => self.heard_at = at,
@@ -255,8 +241,8 @@ impl<S: Read + Write> Client<S> {
         ensures quiet { self.new.is_quiet ≡ self.old.is_quiet }
         ensures heard { self.new.heard_at ≡ self.old.heard_at }
         ensures ended { self.new.has_ended ≡ self.old.has_ended }
-        ensures stream { self.new.stream ≡ self.old.stream }
-        ensures reason { session_at sessions.new self.old.sid ≡ None → IsTrouble self.new.closing }
+        ensures stream { self.new.wire.stream ≡ self.old.wire.stream }
+        ensures reason { session_at sessions.new self.old.sid ≡ None → IsTrouble self.new }
         ensures others { OthersStay sessions.old sessions.new self.old.sid }
     {
         if sessions.waiting(self.sid) > 0 {
@@ -268,7 +254,7 @@ impl<S: Read + Write> Client<S> {
             return;
         }
         let count = portion.len();
-        if feed(sessions, self.sid, portion) {
+        if self.memory.feed(sessions, self.sid, portion) {
             self.waited = 0;
             self.incoming.give_up(count);
         } else {
@@ -290,21 +276,21 @@ impl<S: Read + Write> Client<S> {
     ) -> bool
         requires { IsOpen sessions.old self.old.sid }
         ensures taken { IfSome (session_at sessions.old self.old.sid) (λ s. TakesIn room.old.lines room.new.lines
-            (S.remaining self.old.stream) (S.remaining self.new.stream) (held self.old.incoming)
+            (S.remaining self.old.wire.stream) (S.remaining self.new.wire.stream) (held self.old.incoming)
             (held self.new.incoming) self.old.waited self.new.waited s (session_at sessions.new self.old.sid)) }
         ensures peer { (self.new.sid ≡ self.old.sid) × (waiting self.new.outgoing ≡ waiting self.old.outgoing) }
-        ensures heard { IsHeardAt (S.remaining self.old.stream) (S.remaining self.new.stream) at self.old.heard_at
+        ensures heard { IsHeardAt (S.remaining self.old.wire.stream) (S.remaining self.new.wire.stream) at self.old.heard_at
             self.new.heard_at }
-        ensures ended { IsEndSeen (S.remaining self.new.stream) self.old.has_ended self.new.has_ended }
+        ensures ended { IsEndSeen (S.remaining self.new.wire.stream) self.old.has_ended self.new.has_ended }
         // Who has sent something is asked for more.
         ensures quiet { self.new.is_quiet ≡ true → (result ≡ false)
-            × Keeps (S.remaining self.old.stream) (S.remaining self.new.stream)
+            × Keeps (S.remaining self.old.wire.stream) (S.remaining self.new.wire.stream)
             × (held self.new.incoming ≡ held self.old.incoming) × (sessions.new ≡ sessions.old)
             × (room.new.lines ≡ room.old.lines) × (self.new.waited ≡ self.old.waited) }
         // Of who doesn't take its answers nothing is read, and nothing that it sent goes on.
-        ensures unread { waiting self.old.outgoing ≢ [] → (self.new.stream ≡ self.old.stream)
+        ensures unread { waiting self.old.outgoing ≢ [] → (self.new.wire.stream ≡ self.old.wire.stream)
             × (held self.new.incoming ≡ held self.old.incoming) × (sessions.new ≡ sessions.old) }
-        ensures reason { session_at sessions.new self.old.sid ≡ None → IsTrouble self.new.closing }
+        ensures reason { session_at sessions.new self.old.sid ≡ None → IsTrouble self.new }
         ensures others { OthersStay sessions.old sessions.new self.old.sid }
     {
         self.is_quiet = false;
@@ -329,21 +315,23 @@ impl<S: Read + Write> Client<S> {
     fn write_out(&mut self, sessions: &mut Sessions) -> Result<Wrote, AllocError>
         requires { IsOpen sessions.old self.old.sid }
         ensures open { IsOpen sessions.new self.old.sid }
-        ensures hands { OnOk result (HandsOut (S.contents self.old.stream) (S.contents self.new.stream)
+        ensures hands { OnOk result (HandsOut (S.contents self.old.wire.stream) (S.contents self.new.wire.stream)
             (to_go (session_at sessions.old self.old.sid) (waiting self.old.outgoing))
             (to_go (session_at sessions.new self.old.sid) (waiting self.new.outgoing))) }
-        ensures refused { OnErr result (HandsOut (S.contents self.old.stream) (S.contents self.new.stream)
+        ensures refused { OnErr result (HandsOut (S.contents self.old.wire.stream) (S.contents self.new.wire.stream)
             (to_go (session_at sessions.old self.old.sid) (waiting self.old.outgoing)) None) }
         ensures all { IfOk result (λ wrote. wrote.sent ≡ Sent.All → waiting self.new.outgoing ≡ []) }
         ensures due { IfOk result (λ wrote. wrote.sent ≡ Sent.All
             → IfSome (session_at sessions.new self.old.sid) (λ s. due s ≡ [])) }
+        ensures failed { IfOk result (λ wrote. wrote.sent ≡ Sent.Fault → self.new.wire.has_failed ≡ true) }
+        ensures memory { OnErr result (self.new.outgoing.was_refused ≡ true) }
         ensures given { AreGiven self.old.sid sessions.old sessions.new }
         ensures peer { (self.new.sid ≡ self.old.sid) × (self.new.has_ended ≡ self.old.has_ended)
             × (self.new.is_quiet ≡ self.old.is_quiet) × (held self.new.incoming ≡ held self.old.incoming)
             × (self.new.heard_at ≡ self.old.heard_at) × (self.new.waited ≡ self.old.waited) }
         ensures others { OthersStay sessions.old sessions.new self.old.sid }
     {
-        let sent = self.outgoing.write_to(&mut self.stream);
+        let sent = self.outgoing.write_to(&mut self.wire);
         if sent != Sent::All {
             return Ok(Wrote { any: false, sent });
         }
@@ -351,7 +339,7 @@ impl<S: Read + Write> Client<S> {
             Ok(gathered) => gathered,
             Err(refused) => return Err(refused),
         };
-        let sent = self.outgoing.write_to(&mut self.stream);
+        let sent = self.outgoing.write_to(&mut self.wire);
         Ok(Wrote {
             any: gathered.any,
             sent: as_far(sent, gathered.is_all),
@@ -370,9 +358,10 @@ impl<S: Read + Write> Client<S> {
         ensures left { wrote.sent ≡ Sent.All → IfSome (session_at sessions.now self.old.sid)
             (λ s. s.has_left ≡ true → (self.new.patience ≡ self.old.patience - 1) × (IsTrue result
             ↔ ((self.old.has_ended ≡ true) ⊎ (self.old.is_quiet ≡ true) ⊎ (self.old.patience ≤ 1)))) }
+        ensures marks { self.new.wire ≡ self.old.wire }
         ensures peer { (self.new.sid ≡ self.old.sid) × (self.new.has_ended ≡ self.old.has_ended)
             × (self.new.is_quiet ≡ self.old.is_quiet) × (held self.new.incoming ≡ held self.old.incoming)
-            × (waiting self.new.outgoing ≡ waiting self.old.outgoing) × (self.new.stream ≡ self.old.stream)
+            × (waiting self.new.outgoing ≡ waiting self.old.outgoing) × (self.new.wire.stream ≡ self.old.wire.stream)
             × (self.new.heard_at ≡ self.old.heard_at) × (self.new.waited ≡ self.old.waited) }
     {
         match wrote.sent {

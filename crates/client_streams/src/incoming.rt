@@ -1,11 +1,12 @@
 //! What a peer has sent and its session was not given yet.
-ghost use Rattle.std.specs.Prelude.{ℕ, ◌≡◌, ◌≤◌, ◌↔◌, ◌⊎◌, [], IsTrue, length, take, drop};
+ghost use Rattle.std.specs.Prelude.{ℕ, ◌≡◌, ◌≤◌, ◌↔◌, ◌⊎◌, true, [], IsTrue, length, take, drop};
 ghost use Rattle.session_lines.specs.Lines.{HasNoFeed, IsUnfinished};
 ghost use Rattle.client_streams.specs.Portions.{is_dear, AreLines, AreFewLines, BeginDear, IsPortionOf};
 ghost use Rattle.std.specs.Io.KnownBytes.{Keeps, IsAtEnd};
 ghost use Rattle.client_streams.specs.Pieces.{Brings, Takes};
 
-use crate::pieces::{Came, PIECE_ROOM, read_piece};
+use crate::pieces::{Came, PIECE_ROOM};
+use crate::wire::Wire;
 use arrayvec::ArrayVec;
 use session_lines::{LINE_ROOM, first_feed};
 use std::io::Read;
@@ -87,16 +88,17 @@ impl Incoming {
 
     #[tactic(auto, using(crate::proofs::HeardLemmas::brings, crate::proofs::HeardLemmas::at_end))]
     /// Reads once, without waiting where the reader doesn't wait, and holds back what came.
-    pub fn read_from<R: Read>(&mut self, reader: &mut R, piece: &mut [u8; PIECE_ROOM]) -> Came
+    pub fn read_from<R: Read>(&mut self, reader: &mut Wire<R>, piece: &mut [u8; PIECE_ROOM]) -> Came
         requires { IsUnfinished (held self.old) }
-        ensures takes { Takes (R.remaining reader.old) (R.remaining reader.new) (held self.old) (held self.new) }
-        ensures brings { Brings (R.remaining reader.old) (R.remaining reader.new) result }
-        ensures end { result ≡ Came.End → IsAtEnd (R.remaining reader.new) }
-        ensures nothing { result ≡ Came.Nothing → Keeps (R.remaining reader.old) (R.remaining reader.new)
+        ensures takes { Takes (R.remaining reader.old.stream) (R.remaining reader.new.stream) (held self.old) (held self.new) }
+        ensures brings { Brings (R.remaining reader.old.stream) (R.remaining reader.new.stream) result }
+        ensures end { result ≡ Came.End → IsAtEnd (R.remaining reader.new.stream) }
+        ensures nothing { result ≡ Came.Nothing → Keeps (R.remaining reader.old.stream) (R.remaining reader.new.stream)
             × (held self.new ≡ held self.old) }
+        ensures failed { result ≡ Came.Fault → reader.new.has_failed ≡ true }
     {
         let room = PIECE_ROOM - self.bytes.len();
-        let came = read_piece(reader, &mut piece[..room]);
+        let came = reader.receive(&mut piece[..room]);
         if let Came::Bytes(count) = came {
             let _ = self.bytes.try_extend_from_slice(&piece[..count]);
         }

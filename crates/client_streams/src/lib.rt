@@ -7,11 +7,13 @@ mod client;
 mod closing;
 mod door;
 mod incoming;
+mod memory;
 mod outgoing;
 mod pieces;
 mod room;
 mod rounds;
 mod watch;
+mod wire;
 
 pub use client::Client;
 pub use closing::Closing;

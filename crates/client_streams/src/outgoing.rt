@@ -1,7 +1,8 @@
 //! What is to be written on a connection.
-ghost use Rattle.std.specs.Prelude.{◌≡◌, ◌≤◌, ◌++◌, ◌↔◌, [], IsTrue, OnOk, OnErr, length, take, vec_capacity};
+ghost use Rattle.std.specs.Prelude.{◌≡◌, ◌≤◌, ◌++◌, ◌↔◌, [], true, false, IsTrue, OnOk, OnErr, length, take, vec_capacity};
 ghost use Rattle.std.specs.Io.KnownBytes.{Appends};
 
+use crate::wire::Wire;
 use std::alloc::{AllocError, Global};
 use std::io::{ErrorKind, Write};
 
@@ -18,13 +19,13 @@ pub enum Sent {
 
 /// How many bytes were written, and whether that was all.
 #[derive(Clone, Copy)]
-struct Written {
-    count: usize,
-    sent: Sent,
+pub struct Written {
+    pub count: usize,
+    pub sent: Sent,
 }
 
 /// Writes a text until the writer takes no more.
-fn send<W: Write>(writer: &mut W, text: &[u8]) -> Written
+pub(crate) fn send<W: Write>(writer: &mut W, text: &[u8]) -> Written
     ensures within { result.count ≤ length text.now }
     ensures front { Appends (W.contents writer.old) (W.contents writer.new) (take result.count text.now) }
     ensures all { result.sent ≡ Sent.All ↔ (result.count ≡ length text.now) }
@@ -66,6 +67,8 @@ pub struct Outgoing {
     text: Vec<u8>,
     /// So many bytes of the text are written.
     sent: usize,
+    /// Whether memory was refused for one. Only `push` tells.
+    was_refused: bool,
     ghost within: { sent ≤ length text.items },
 }
 
@@ -74,12 +77,14 @@ impl Outgoing {
 
     /// Nothing waits.
     pub fn new(alloc: Global) -> Outgoing
-        ensures { waiting result ≡ [] }
+        ensures nothing { waiting result ≡ [] }
+        ensures sound { result.was_refused ≡ false }
     {
         Outgoing {
             alloc,
             text: Vec::new(alloc),
             sent: 0,
+            was_refused: false,
         }
     }
 
@@ -97,18 +102,27 @@ impl Outgoing {
         self.text.len() - self.sent
     }
 
-    /// Puts bytes behind those that wait. `AllocError` where memory is refused; then nothing has changed.
+    /// Puts bytes behind those that wait. `AllocError` where memory is refused; then no more waits than before.
     pub fn push(&mut self, bytes: &[u8]) -> Result<(), AllocError>
         ensures ok { OnOk result (waiting self.new ≡ waiting self.old ++ bytes.now) }
         ensures err { OnErr result (waiting self.new ≡ waiting self.old) }
+        ensures refused { OnErr result (self.new.was_refused ≡ true) }
+        ensures sound { OnOk result (self.new.was_refused ≡ self.old.was_refused) }
     {
-        self.text.extend_from_slice(bytes)
+        match self.text.extend_from_slice(bytes) {
+            Ok(()) => Ok(()),
+            Err(refused) => {
+                self.was_refused = true;
+                Err(refused)
+            }
+        }
     }
 
     // Nothing waits: its room is kept, or given back where it is large.
     fn clear(&mut self)
         ensures nothing { waiting self.new ≡ [] }
         ensures room { vec_capacity self.new.text ≤ 65_536 }
+        ensures sound { self.new.was_refused ≡ self.old.was_refused }
     {
         self.text.clear();
         self.sent = 0;
@@ -119,14 +133,16 @@ impl Outgoing {
 
     /// Writes what waits, until the writer takes no more. Where all is written, no more room is kept for it than 65,536
     /// bytes.
-    pub fn write_to<W: Write>(&mut self, writer: &mut W) -> Sent
+    pub fn write_to<W: Write>(&mut self, writer: &mut Wire<W>) -> Sent
         // What was written stood at the front of what waited, and the rest waits on, also after a fault.
-        ensures front { HandsOn (W.contents writer.old) (W.contents writer.new) (waiting self.old)
+        ensures front { HandsOn (W.contents writer.old.stream) (W.contents writer.new.stream) (waiting self.old)
             (waiting self.new) }
         ensures all { result ≡ Sent.All ↔ (waiting self.new ≡ []) }
         ensures room { waiting self.new ≡ [] → vec_capacity self.new.text ≤ 65_536 }
+        ensures failed { result ≡ Sent.Fault → writer.new.has_failed ≡ true }
+        ensures sound { self.new.was_refused ≡ self.old.was_refused }
     {
-        let written = send(writer, &self.text[self.sent..]);
+        let written = writer.transmit(&self.text[self.sent..]);
         self.sent += written.count;
         if self.is_empty() {
             self.clear();

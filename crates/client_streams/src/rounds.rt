@@ -46,7 +46,7 @@ fn close_silent<S>(client: &mut Client<S>, sessions: &mut Sessions, reading: Rea
     ensures told { OnTrue result (client.new.closing ≡ Some Closing.Silence) }
     ensures stays { OnFalse result (sessions.new ≡ sessions.old) }
     ensures peer { (client.new.sid ≡ client.old.sid) × (held client.new.incoming ≡ held client.old.incoming)
-        × (waiting client.new.outgoing ≡ waiting client.old.outgoing) × (client.new.stream ≡ client.old.stream)
+        × (waiting client.new.outgoing ≡ waiting client.old.outgoing) × (client.new.wire.stream ≡ client.old.wire.stream)
         × (client.new.heard_at ≡ client.old.heard_at) × (client.new.has_ended ≡ client.old.has_ended)
         × (client.new.waited ≡ client.old.waited) }
 {

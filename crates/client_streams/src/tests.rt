@@ -6,6 +6,7 @@ use crate::incoming::Incoming;
 use crate::outgoing::{Outgoing, Sent};
 use crate::pieces::{Came, PIECE_ROOM};
 use crate::rounds::{Reading, hand_out_all, take_in_all};
+use crate::wire::Wire;
 use chess_sessions::{Sessions, Sid};
 use std::alloc::Global;
 use std::io;
@@ -70,7 +71,7 @@ show 1\nshow 2\nshow 3\nshow 4\nshow 5\nshow 6\nshow 7\nshow 8\nlist\npgn 1\nsh"
 
 #[test]
 fn gives_lines_in_portions(rt: HostRuntime) {
-    let mut reader = made(rt.alloc(), &[LINES], 0);
+    let mut reader = Wire::new(made(rt.alloc(), &[LINES], 0));
     let mut piece = [0; PIECE_ROOM];
     let mut incoming = Incoming::new();
     assert_eq!(rt;
@@ -97,7 +98,7 @@ fn gives_lines_in_portions(rt: HostRuntime) {
 #[test]
 fn writes_in_pieces(rt: HostRuntime) -> Result<(), Fail> {
     let alloc = rt.alloc();
-    let mut writer = made(alloc, &[], 3);
+    let mut writer = Wire::new(made(alloc, &[], 3));
     let mut outgoing = Outgoing::new(alloc);
     outgoing.push(b"ok name ann\n")?;
     assert_eq!(rt; outgoing.write_to(&mut writer), Sent::Part);
@@ -106,7 +107,7 @@ fn writes_in_pieces(rt: HostRuntime) -> Result<(), Fail> {
         assert_eq!(rt; outgoing.write_to(&mut writer), sent);
     }
     assert!(rt; outgoing.is_empty());
-    assert!(rt; writer.written.as_slice() == "ok name ann\n".as_bytes());
+    assert!(rt; writer.stream().written.as_slice() == "ok name ann\n".as_bytes());
     Ok(())
 }
 

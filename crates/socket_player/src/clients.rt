@@ -53,6 +53,11 @@ impl Clients {
         Ok(())
     }
 
+    /// Whether the server's port is reached by another address of this machine than the clients'.
+    pub fn reach_elsewhere<R: Net<Stream = TcpStream>>(&self, net: &R) -> bool {
+        TcpStream::connect(net, (Ipv4Addr::new(127, 0, 0, 2), self.port)).is_ok()
+    }
+
     /// Has each of these letters' clients do what a text says; at its first it connects. It sends the text with a line
     /// feed; where the text ends with `\`, what is before that, without. At `-` it sends no more, and at `!` it drops the
     /// connection.

@@ -7,6 +7,8 @@
 //! - `turns COUNT`: the server takes so many turns, and no rest;
 //! - clients' letters and ` ?`: the server takes turns until each of these clients has a line or its end, and what came to
 //!   each client is written, as above. After 1,000 turns the run ends;
+//! - `away`: how many connections were turned away since the server began is written; `elsewhere`: whether it is reached by
+//!   another address of this machine;
 //! - `moment MOMENT`: that of the turns from now on, in milliseconds, 1,000 at first;
 //! - `silence COUNT`: a new server, without clients and over a new store, closes who is silent for so many milliseconds;
 //!   with 0 nobody.
@@ -139,6 +141,14 @@ impl<'a> Game<'a> {
         if line == "turns" {
             self.take_turns()?;
             return self.clients.told().ok();
+        }
+        if line == "away" {
+            let away = self.server.turned_away();
+            return println!(rt; "away {away}").ok();
+        }
+        if line == "elsewhere" {
+            let is_reached = self.clients.reach_elsewhere(rt);
+            return println!(rt; "elsewhere {is_reached}").ok();
         }
         let (word, rest) = line.split_once(" ")?;
         match (word, rest) {

@@ -108,32 +108,49 @@ fn serve(
     Ok(())
 }
 
+/// What is seen where no memory was refused.
+const NOTHING: Seen = Seen {
+    refusals: 0,
+    told: 0,
+    closed: 0,
+};
+
+/// In so many turns both have all their answers.
+const TURNS: u64 = 20;
+
+// Serves both where no memory is refused.
+fn served(alloc: Global) -> Option<Seen> {
+    let (mut hub, mut clients) = begin(alloc)?;
+    serve(&mut clients, &mut hub, TURNS).ok()?;
+    look(clients.as_slice(), &hub)
+}
+
+#[test]
+fn all_is_answered_where_no_memory_is_refused(rt: HostRuntime) {
+    assert_eq!(rt; served(rt.alloc()), Some(NOTHING));
+}
+
 #[test]
 fn refused_memory(rt: HostRuntime) {
     // What is refused before is no matter of serving.
     let Some((mut hub, mut clients)) = begin(rt.alloc()) else {
         return;
     };
-    let nothing = Seen {
-        refusals: 0,
-        told: 0,
-        closed: 0,
-    };
-    match serve(&mut clients, &mut hub, 20) {
+    match serve(&mut clients, &mut hub, TURNS) {
         Ok(()) => {
             let found = look(clients.as_slice(), &hub);
             assert!(rt;
-                found == Some(nothing)
+                found == Some(NOTHING)
                     || found
                         == Some(Seen {
                             refusals: 1,
-                            ..nothing
+                            ..NOTHING
                         })
-                    || found == Some(Seen { told: 1, ..nothing })
+                    || found == Some(Seen { told: 1, ..NOTHING })
                     || found
                         == Some(Seen {
                             closed: 1,
-                            ..nothing
+                            ..NOTHING
                         })
             );
         }

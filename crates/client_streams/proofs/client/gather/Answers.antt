@@ -5,6 +5,7 @@ use Rattle.client_streams.specs.Clients.{bytes_of}
 use Rattle.client_streams.specs.Sending.{waiting}
 use Rattle.client_streams.proofs.RoundLemmas.{given_more, output_gives}
 use Rattle.client_streams.proofs.ClientLemmas.{gives, gives-none, gave_all, others-trans}
+use Rattle.client_streams.proofs.ClosingLemmas.{on_err}
 use Rattle.client_streams.proofs.client.gather.Goals as goal
 
 pub returns-in_err-push-clause-open : goal.returns-in_err-push-clause-open
@@ -30,7 +31,7 @@ loop-preserved c =
     let (is_open, same, others, given) = c.loop.invariant in
     let step = gives (session_at c.loop.sessions c.args.sid) c.loop.sessions c.output.new.self c.args.sid c.output.result
     c.in-Some.reply (waiting c.loop.outgoing) (waiting c.push.new.outgoing) c.in-Some.is is_open c.output.ensures.given
-    c.output.ensures.after c.in_ok-push.ensures in (
+    c.output.ensures.after c.in_ok-push.ensures.ok in (
       step.stays,
       step.same ∙ same,
       others-trans c.args.sessions.now c.loop.sessions c.output.new.self c.args.sid others step.others,
@@ -79,3 +80,6 @@ returns-in_err-push-clause-given c =
     given_more c.args.sid c.args.sessions.now c.loop.sessions c.output.new.self given
     (output_gives (session_at c.loop.sessions c.args.sid) c.loop.sessions c.output.new.self c.args.sid c.output.result refl
     is_open c.output.ensures.given c.output.ensures.after)
+
+pub returns-in_err-push-clause-refused : goal.returns-in_err-push-clause-refused
+returns-in_err-push-clause-refused c = on_err c.from_residual.result _ c.in_err-push.ensures.refused

@@ -5,7 +5,7 @@ use Rattle.std.specs.Io.KnownBytes.{Keeps}
 use Rattle.std.specs.Bool.{OnTrue}
 use Rattle.chess_sessions.specs.Session.{session_at, Changes}
 use Rattle.client_streams.specs.Clients.{IsSilent}
-use Rattle.client_streams.specs.Closings.{IsReason}
+use Rattle.client_streams.specs.Closings.{HasFailed, WasRefused, IsReason}
 use Rattle.client_streams.specs.Incoming.{held}
 use Rattle.client_streams.specs.Rounds.{intake, IsRead}
 use Rattle.client_streams.proofs.HeardLemmas.{heard_on, end_on}
@@ -41,16 +41,16 @@ returns-then-is_quiet g c =
     (c.is_open.ensures.0 c.if-not-is_open.false) in
     subst (λ n. IsRead rest silence at client last (intake old room) (intake new n)) (sym left)
     (read_nothing rest silence at client last room old new done (sid ∙ peer.0) (waits_on ∙ peer.1)
-    (heard_on (rest client.stream) (rest after.stream) (rest last.stream) at client.heard_at after.heard_at last.heard_at
+    (heard_on (rest client.wire.stream) (rest after.wire.stream) (rest last.wire.stream) at client.heard_at after.heard_at last.heard_at
     c.take_in-any.ensures.heard (ap rest stream) heard_at)
-    (end_on (rest after.stream) (rest last.stream) client.has_ended after.has_ended last.has_ended
+    (end_on (rest after.wire.stream) (rest last.wire.stream) client.has_ended after.has_ended last.has_ended
     c.take_in-any.ensures.ended (ap rest stream) has_ended)
-    (subst (λ s. Keeps (rest client.stream) (rest s)) (sym stream) kept) (holds ∙ same) (still ∙ wait) open_now
+    (subst (λ s. Keeps (rest client.wire.stream) (rest s)) (sym stream) kept) (holds ∙ same) (still ∙ wait) open_now
     (on_true done (λ is. sym peer.1 ∙ silent_written silence after between at (c.close_silent.ensures.silent.0 is)))
     (λ waits. stream ∙ (c.take_in-any.ensures.unread waits).0)
     (subst (λ s. OnTrue done (Changes s new client.sid None)) stays
     (subst (λ n. OnTrue done (Changes between new n None)) peer.0 c.close_silent.ensures.closed))
-    (subst (λ s. OnTrue done (IsReason last.closing (IsSomeAnd silence (IsSilent last s at)) ⊥ ⊥)) stays
+    (subst (λ s. OnTrue done (IsReason last (IsSomeAnd silence (IsSilent last s at)) ⊥ ⊥)) stays
     (both_true done (λ is told. silent_reason silence after last between at told heard_at sid holds waits_on
     (c.close_silent.ensures.silent.0 is)) c.close_silent.ensures.told))
     (on_false done (λ e. unchanged_by old new (e ∙ stays)) c.close_silent.ensures.stays))
@@ -73,8 +73,9 @@ returns g c =
     let same = c.take_in-any.ensures.unread waits in
     (same.0, same.1, unchanged_by old new same.2)) c.take_in-any.ensures.heard c.take_in-any.ensures.ended
     (not_closed before _ open_now)
-    (λ was none. reason_of_trouble (IsSomeAnd c.args.reading.silence (IsSilent after old c.args.reading.at)) after.closing
+    (λ was none. reason_of_trouble (HasFailed after) (WasRefused after)
+    (IsSomeAnd c.args.reading.silence (IsSilent after old c.args.reading.at)) after.closing
     (c.take_in-any.ensures.reason none))
-    (sends room left (rest client.stream) (rest after.stream) (held client.incoming) (held after.incoming) client.sid
+    (sends room left (rest client.wire.stream) (rest after.wire.stream) (held client.incoming) (held after.incoming) client.sid
     old new before (session_at new client.sid) refl refl open_now c.take_in-any.ensures.taken
     c.take_in-any.ensures.others)

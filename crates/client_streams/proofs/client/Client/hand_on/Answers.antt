@@ -55,3 +55,6 @@ returns-then-feed-clause-reason g c =
     heard_open (session_at c.args.sessions.now c.args.self.now.sid)
     (session_at c.feed.new.sessions c.args.self.now.sid) c.portion-portion.result.now c.requires
     c.if-feed.ensures.heard
+
+pub returns-else-feed-clause-reason : goal.returns-else-feed-clause-reason
+returns-else-feed-clause-reason g c = λ none. inl c.if-feed.ensures.refused

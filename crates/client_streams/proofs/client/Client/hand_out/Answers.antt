@@ -1,15 +1,14 @@
 -- The session is closed behind what it was given.
-use Rattle.std.proofs.Common.{◌≡◌, ◌↔◌, ◌∙◌, ℕ, Bool, true, false, List, [], Option, None, IfSome, ap, subst, sym}
+use Rattle.std.proofs.Common.{◌≡◌, ◌↔◌, ◌∙◌, ℕ, Bool, true, false, List, [], Option, None, IfSome, ap, inr, refl, subst, sym}
 use Rattle.std.specs.Prelude.{IsTrue}
 use Rattle.session_lines.specs.Lines.{IsUnfinished}
 use Rattle.chess_sessions.specs.Session.{Changes, session_at, due}
-use Rattle.client_streams.specs.declared.closing.Closing.{Closing}
-use Rattle.client_streams.specs.declared.closing.Closing.TheVariants.{End, Farewell}
+use Rattle.client_streams.specs.declared.closing.Closing.TheVariants.{NoMemory, End, Farewell}
 use Rattle.client_streams.specs.Clients.{IsOpen, HandsOut, to_go}
 use Rattle.client_streams.specs.Incoming.{held}
 use Rattle.client_streams.specs.Sending.{waiting}
-use Rattle.client_streams.specs.Closings.{IsReason, IsOver, HasEnded, HasLeft}
-use Rattle.client_streams.proofs.ClosingLemmas.{reason_over}
+use Rattle.client_streams.specs.Closings.{IsOver}
+use Rattle.client_streams.proofs.ClosingLemmas.{because, reason_over}
 use Rattle.client_streams.proofs.RoundLemmas.{goes_on_open, closes_for, hands_closed, nothing_left}
 use Rattle.client_streams.proofs.client.Client.hand_out.Goals as goal
 
@@ -32,7 +31,7 @@ returns-then-is_over-clause-given g c =
     let stays = c.write_out.ensures.peer.0 in
     let closed = subst (λ (n : ℕ). Changes mid new n None) (kept.0 ∙ stays) c.close-then-is_over.ensures.closed in
     let handed = c.in-Ok.ensures.hands in
-    let hands = hands_closed (contents client.stream) (contents wrote.stream) (contents after.stream)
+    let hands = hands_closed (contents client.wire.stream) (contents wrote.wire.stream) (contents after.wire.stream)
     (to_go (session_at old client.sid) (waiting client.outgoing))
     (to_go (session_at mid client.sid) (waiting wrote.outgoing)) (session_at new client.sid) (waiting after.outgoing)
     (ap contents (told.5 ∙ kept.5)) closed.changed handed in
@@ -45,6 +44,8 @@ returns-then-is_over-clause-given g c =
     (subst (λ (l : List ℕ). IfSome at (λ s. s.has_left ≡ false → (IsTrue done ↔ ((wrote.has_ended ≡ true) × (any ≡ false)
     × (s.heard.bytes ≡ []) × IsUnfinished l)))) (sym (told.3 ∙ kept.3)) (c.is_over.ensures.answered all)))
     c.reason-reason.ensures.fault
+    (λ fault. ap (λ w. w.has_failed) (c.close-then-is_over.ensures.marks.0 ∙ c.is_over.ensures.marks)
+    ∙ c.in-Ok.ensures.failed fault)
     (λ all. subst (λ (n : ℕ). IfSome (session_at mid n) (λ s. s.has_left ≡ true → reason ≡ Farewell)) kept.0
     (c.reason-reason.ensures.farewell all))
     (λ all. subst (λ (n : ℕ). IfSome (session_at mid n) (λ s. s.has_left ≡ false → reason ≡ End)) kept.0
@@ -63,12 +64,12 @@ returns-in_default-clause-given g c =
     let after = c.close.new.self in
     let contents = g.S.Write.contents in
     let closed = subst (λ (n : ℕ). Changes mid new n None) c.write_out.ensures.peer.0 c.close.ensures.closed in
-    let hands = hands_closed (contents client.stream) (contents wrote.stream) (contents after.stream)
+    let hands = hands_closed (contents client.wire.stream) (contents wrote.wire.stream) (contents after.wire.stream)
     (to_go (session_at old client.sid) (waiting client.outgoing)) None (session_at new client.sid) (waiting after.outgoing)
     (ap contents c.close.ensures.peer.5) closed.changed c.in_default.ensures.refused in
     closes_for contents client after old mid new c.write_out.ensures.given closed hands
-    (subst (λ (r : Option Closing). IsReason r ⊥ (HasEnded after (session_at mid client.sid) hands.left)
-    (HasLeft (session_at mid client.sid) hands.left)) (sym c.close.ensures.told) tt)
+    (because after NoMemory c.close.ensures.told hands.left (session_at mid client.sid) NoMemory refl
+    (inr (ap (λ o. o.was_refused) c.close.ensures.marks.1 ∙ c.in_default.ensures.memory)))
 
 -- the session goes on
 pub returns-then-wrote-clause-given : goal.returns-then-wrote-clause-given
@@ -81,9 +82,9 @@ returns-then-wrote-clause-given g c =
     let contents = g.S.Write.contents in
     let kept = c.is_over.ensures.peer in
     goes_on_open contents client after old mid c.write_out.ensures.given
-    (subst (λ (x : Option (List ℕ)). HandsOut (contents client.stream) x
+    (subst (λ (x : Option (List ℕ)). HandsOut (contents client.wire.stream) x
     (to_go (session_at old client.sid) (waiting client.outgoing)) (to_go (session_at mid client.sid) (waiting after.outgoing)))
-    (sym (ap contents kept.5)) (subst (λ (l : List ℕ). HandsOut (contents client.stream) (contents wrote.stream)
+    (sym (ap contents kept.5)) (subst (λ (l : List ℕ). HandsOut (contents client.wire.stream) (contents wrote.wire.stream)
     (to_go (session_at old client.sid) (waiting client.outgoing)) (to_go (session_at mid client.sid) l)) (sym kept.4)
     c.in-Ok.ensures.hands)) c.write_out.ensures.open
 
@@ -97,9 +98,9 @@ returns-then-was_stuck-clause-given g c =
     let contents = g.S.Write.contents in
     let kept = c.is_over.ensures.peer in
     goes_on_open contents client after old mid c.write_out.ensures.given
-    (subst (λ (x : Option (List ℕ)). HandsOut (contents client.stream) x
+    (subst (λ (x : Option (List ℕ)). HandsOut (contents client.wire.stream) x
     (to_go (session_at old client.sid) (waiting client.outgoing)) (to_go (session_at mid client.sid) (waiting after.outgoing)))
-    (sym (ap contents kept.5)) (subst (λ (l : List ℕ). HandsOut (contents client.stream) (contents wrote.stream)
+    (sym (ap contents kept.5)) (subst (λ (l : List ℕ). HandsOut (contents client.wire.stream) (contents wrote.wire.stream)
     (to_go (session_at old client.sid) (waiting client.outgoing)) (to_go (session_at mid client.sid) l)) (sym kept.4)
     c.in-Ok.ensures.hands)) c.write_out.ensures.open
 
@@ -113,8 +114,8 @@ returns-else-was_stuck-clause-given g c =
     let contents = g.S.Write.contents in
     let kept = c.is_over.ensures.peer in
     goes_on_open contents client after old mid c.write_out.ensures.given
-    (subst (λ (x : Option (List ℕ)). HandsOut (contents client.stream) x
+    (subst (λ (x : Option (List ℕ)). HandsOut (contents client.wire.stream) x
     (to_go (session_at old client.sid) (waiting client.outgoing)) (to_go (session_at mid client.sid) (waiting after.outgoing)))
-    (sym (ap contents kept.5)) (subst (λ (l : List ℕ). HandsOut (contents client.stream) (contents wrote.stream)
+    (sym (ap contents kept.5)) (subst (λ (l : List ℕ). HandsOut (contents client.wire.stream) (contents wrote.wire.stream)
     (to_go (session_at old client.sid) (waiting client.outgoing)) (to_go (session_at mid client.sid) l)) (sym kept.4)
     c.in-Ok.ensures.hands)) c.write_out.ensures.open

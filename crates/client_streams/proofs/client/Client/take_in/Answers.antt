@@ -1,12 +1,12 @@
 -- What came is held back, and then the session is given what stands in front.
 use Rattle.std.proofs.Common.{◌≡◌, ◌∙◌, ℕ, List, Option, None, IfSome, ap, refl, subst, sym, arith}
 use Rattle.chess_sessions.specs.Session.{Changes, session_at}
-use Rattle.client_streams.specs.declared.closing.Closing.{Closing}
 use Rattle.client_streams.specs.Clients.{GivesOn, TakesIn}
 use Rattle.client_streams.specs.Closings.{IsTrouble}
 use Rattle.client_streams.specs.Incoming.{held}
 use Rattle.client_streams.proofs.HeardLemmas.{heard_as_before, heard_on, end_as_before, end_on}
 use Rattle.client_streams.proofs.RoundLemmas.{not_closed}
+use Rattle.client_streams.proofs.ClosingLemmas.{has_failed}
 use Rattle.client_streams.proofs.TakingLemmas.{takes-nothing, takes-in, gives-nothing, gives-closed, waits-still}
 use Rattle.client_streams.proofs.client.Client.take_in.Goals as goal
 
@@ -15,7 +15,7 @@ returns-then-not-is_empty-clause-taken g c =
     let client = c.args.self.now in
     let room = c.args.room.now.lines in
     let m = session_at c.args.sessions.now client.sid in
-    let bytes = g.S.Read.remaining client.stream in
+    let bytes = g.S.Read.remaining client.wire.stream in
     let holds = held client.incoming in
     takes-in client.waited client.waited room room m m bytes bytes holds holds holds (takes-nothing bytes holds)
     (gives-nothing room room m m holds (omega arith) refl (waits-still holds client.waited client.waited refl))
@@ -28,11 +28,11 @@ returns-then-not-is_unfinished-clause-taken g c =
     let new = c.hand_on.new.sessions in
     let rest = g.S.Read.remaining in
     subst (λ (b : Option (List ℕ)). IfSome (session_at old client.sid) (λ s. TakesIn c.args.room.now.lines
-    c.hand_on.new.room.lines (rest client.stream) b (held client.incoming) (held after.incoming) client.waited after.waited s
+    c.hand_on.new.room.lines (rest client.wire.stream) b (held client.incoming) (held after.incoming) client.waited after.waited s
     (session_at new client.sid))) (sym (ap rest c.hand_on.ensures.stream))
     (takes-in client.waited after.waited c.args.room.now.lines c.hand_on.new.room.lines (session_at old client.sid) (session_at new client.sid)
-    (rest client.stream) (rest client.stream) (held client.incoming) (held client.incoming) (held after.incoming)
-    (takes-nothing (rest client.stream) (held client.incoming)) c.hand_on.ensures.gives)
+    (rest client.wire.stream) (rest client.wire.stream) (held client.incoming) (held client.incoming) (held after.incoming)
+    (takes-nothing (rest client.wire.stream) (held client.incoming)) c.hand_on.ensures.gives)
 
 pub returns-in-Nothing-clause-taken : goal.returns-in-Nothing-clause-taken
 returns-in-Nothing-clause-taken g c =
@@ -40,7 +40,7 @@ returns-in-Nothing-clause-taken g c =
     let after = c.read_more.new.self in
     let room = c.args.room.now.lines in
     let m = session_at c.args.sessions.now client.sid in
-    takes-in client.waited after.waited room room m m (g.S.Read.remaining client.stream) (g.S.Read.remaining after.stream) (held client.incoming)
+    takes-in client.waited after.waited room room m m (g.S.Read.remaining client.wire.stream) (g.S.Read.remaining after.wire.stream) (held client.incoming)
     (held after.incoming) (held after.incoming) c.read_more.ensures.takes
     (gives-nothing room room m m (held after.incoming) (omega arith) refl
     (waits-still (held after.incoming) client.waited after.waited c.read_more.ensures.peer.2))
@@ -51,7 +51,7 @@ returns-in-End-clause-taken g c =
     let after = c.read_more.new.self in
     let room = c.args.room.now.lines in
     let m = session_at c.args.sessions.now client.sid in
-    takes-in client.waited after.waited room room m m (g.S.Read.remaining client.stream) (g.S.Read.remaining after.stream) (held client.incoming)
+    takes-in client.waited after.waited room room m m (g.S.Read.remaining client.wire.stream) (g.S.Read.remaining after.wire.stream) (held client.incoming)
     (held after.incoming) (held after.incoming) c.read_more.ensures.takes
     (gives-nothing room room m m (held after.incoming) (omega arith) refl
     (waits-still (held after.incoming) client.waited after.waited c.read_more.ensures.peer.2))
@@ -67,12 +67,12 @@ returns-in-Fault-clause-taken g c =
     let rest = g.S.Read.remaining in
     let closed = subst (λ (n : ℕ). Changes old new n None) c.read_more.ensures.peer.0 c.close.ensures.closed in
     let (sid, ended, quiet, holds, waits, stream, heard_at, wait) = c.close.ensures.peer in
-    subst (λ (b : Option (List ℕ)). IfSome (session_at old client.sid) (λ s. TakesIn room room (rest client.stream) b
+    subst (λ (b : Option (List ℕ)). IfSome (session_at old client.sid) (λ s. TakesIn room room (rest client.wire.stream) b
     (held client.incoming) (held after.incoming) client.waited after.waited s (session_at new client.sid)))
     (sym (ap rest stream))
-    (subst (λ (l : List ℕ). IfSome (session_at old client.sid) (λ s. TakesIn room room (rest client.stream)
-    (rest between.stream) (held client.incoming) l client.waited after.waited s (session_at new client.sid))) (sym holds)
-    (takes-in client.waited after.waited room room (session_at old client.sid) (session_at new client.sid) (rest client.stream) (rest between.stream)
+    (subst (λ (l : List ℕ). IfSome (session_at old client.sid) (λ s. TakesIn room room (rest client.wire.stream)
+    (rest between.wire.stream) (held client.incoming) l client.waited after.waited s (session_at new client.sid))) (sym holds)
+    (takes-in client.waited after.waited room room (session_at old client.sid) (session_at new client.sid) (rest client.wire.stream) (rest between.wire.stream)
     (held client.incoming) (held between.incoming) (held between.incoming) c.read_more.ensures.takes
     (gives-closed room room (session_at old client.sid) (session_at new client.sid) (held between.incoming) (omega arith)
     closed.changed (waits-still (held between.incoming) client.waited after.waited (wait ∙ c.read_more.ensures.peer.2)))))
@@ -84,7 +84,7 @@ returns-in-Fault-clause-heard g c =
     let after = c.close.new.self in
     let rest = g.S.Read.remaining in
     let (sid, ended, quiet, holds, waits, stream, heard_at, wait) = c.close.ensures.peer in
-    heard_on (rest client.stream) (rest between.stream) (rest after.stream) c.args.at client.heard_at between.heard_at
+    heard_on (rest client.wire.stream) (rest between.wire.stream) (rest after.wire.stream) c.args.at client.heard_at between.heard_at
     after.heard_at c.read_more.ensures.heard (ap rest stream) heard_at
 
 pub returns-in-Bytes-clause-taken : goal.returns-in-Bytes-clause-taken
@@ -102,10 +102,10 @@ returns-in-Bytes-clause-taken g c =
     (subst (λ (w : ℕ). IfSome (session_at old between.sid) (λ s. GivesOn room left (held between.incoming)
     (held after.incoming) w after.waited s (session_at new between.sid))) c.read_more.ensures.peer.2
     c.hand_on-in-Bytes.ensures.gives) in
-    subst (λ (b : Option (List ℕ)). IfSome (session_at old client.sid) (λ s. TakesIn room left (rest client.stream) b
+    subst (λ (b : Option (List ℕ)). IfSome (session_at old client.sid) (λ s. TakesIn room left (rest client.wire.stream) b
     (held client.incoming) (held after.incoming) client.waited after.waited s (session_at new client.sid)))
     (sym (ap rest c.hand_on-in-Bytes.ensures.stream))
-    (takes-in client.waited after.waited room left (session_at old client.sid) (session_at new client.sid) (rest client.stream) (rest between.stream)
+    (takes-in client.waited after.waited room left (session_at old client.sid) (session_at new client.sid) (rest client.wire.stream) (rest between.wire.stream)
     (held client.incoming) (held between.incoming) (held after.incoming) c.read_more.ensures.takes gives)
 
 pub returns-then-not-is_unfinished-clause-heard : goal.returns-then-not-is_unfinished-clause-heard
@@ -113,8 +113,8 @@ returns-then-not-is_unfinished-clause-heard g c =
     let client = c.args.self.now in
     let rest = g.S.Read.remaining in
     let after = c.hand_on.new.self in
-    heard_on (rest client.stream) (rest client.stream) (rest after.stream) c.args.at client.heard_at client.heard_at
-    after.heard_at (heard_as_before (rest client.stream) c.args.at client.heard_at) (ap rest c.hand_on.ensures.stream)
+    heard_on (rest client.wire.stream) (rest client.wire.stream) (rest after.wire.stream) c.args.at client.heard_at client.heard_at
+    after.heard_at (heard_as_before (rest client.wire.stream) c.args.at client.heard_at) (ap rest c.hand_on.ensures.stream)
     c.hand_on.ensures.heard
 
 pub returns-in-Bytes-clause-heard : goal.returns-in-Bytes-clause-heard
@@ -123,7 +123,7 @@ returns-in-Bytes-clause-heard g c =
     let between = c.read_more.new.self in
     let after = c.hand_on-in-Bytes.new.self in
     let rest = g.S.Read.remaining in
-    heard_on (rest client.stream) (rest between.stream) (rest after.stream) c.args.at client.heard_at between.heard_at
+    heard_on (rest client.wire.stream) (rest between.wire.stream) (rest after.wire.stream) c.args.at client.heard_at between.heard_at
     after.heard_at c.read_more.ensures.heard (ap rest c.hand_on-in-Bytes.ensures.stream) c.hand_on-in-Bytes.ensures.heard
 
 pub returns-then-not-is_unfinished-clause-ended : goal.returns-then-not-is_unfinished-clause-ended
@@ -131,8 +131,8 @@ returns-then-not-is_unfinished-clause-ended g c =
     let client = c.args.self.now in
     let rest = g.S.Read.remaining in
     let after = c.hand_on.new.self in
-    end_on (rest client.stream) (rest after.stream) client.has_ended client.has_ended after.has_ended
-    (end_as_before (rest client.stream) client.has_ended) (ap rest c.hand_on.ensures.stream) c.hand_on.ensures.ended
+    end_on (rest client.wire.stream) (rest after.wire.stream) client.has_ended client.has_ended after.has_ended
+    (end_as_before (rest client.wire.stream) client.has_ended) (ap rest c.hand_on.ensures.stream) c.hand_on.ensures.ended
 
 pub returns-in-Fault-clause-ended : goal.returns-in-Fault-clause-ended
 returns-in-Fault-clause-ended g c =
@@ -141,7 +141,7 @@ returns-in-Fault-clause-ended g c =
     let after = c.close.new.self in
     let rest = g.S.Read.remaining in
     let (sid, ended, quiet, holds, waits, stream, heard_at, wait) = c.close.ensures.peer in
-    end_on (rest between.stream) (rest after.stream) client.has_ended between.has_ended after.has_ended
+    end_on (rest between.wire.stream) (rest after.wire.stream) client.has_ended between.has_ended after.has_ended
     c.read_more.ensures.ended (ap rest stream) ended
 
 pub returns-in-Bytes-clause-ended : goal.returns-in-Bytes-clause-ended
@@ -150,7 +150,7 @@ returns-in-Bytes-clause-ended g c =
     let between = c.read_more.new.self in
     let after = c.hand_on-in-Bytes.new.self in
     let rest = g.S.Read.remaining in
-    end_on (rest between.stream) (rest after.stream) client.has_ended between.has_ended after.has_ended
+    end_on (rest between.wire.stream) (rest after.wire.stream) client.has_ended between.has_ended after.has_ended
     c.read_more.ensures.ended (ap rest c.hand_on-in-Bytes.ensures.stream) c.hand_on-in-Bytes.ensures.ended
 
 pub returns-then-not-is_empty-clause-reason : goal.returns-then-not-is_empty-clause-reason
@@ -167,9 +167,10 @@ returns-in-End-clause-reason g c =
 
 pub returns-in-Fault-clause-reason : goal.returns-in-Fault-clause-reason
 returns-in-Fault-clause-reason g c =
-    λ none. subst (λ (r : Option Closing). IsTrouble r) (sym c.close.ensures.told) tt
+    λ none. has_failed c.close.new.self c.close.ensures.told
+    (ap (λ w. w.has_failed) c.close.ensures.marks.0 ∙ c.read_more.ensures.failed c.in-Fault.is)
 
 pub returns-in-Bytes-clause-reason : goal.returns-in-Bytes-clause-reason
 returns-in-Bytes-clause-reason g c =
-    subst (λ (n : ℕ). session_at c.hand_on-in-Bytes.new.sessions n ≡ None → IsTrouble c.hand_on-in-Bytes.new.self.closing)
+    subst (λ (n : ℕ). session_at c.hand_on-in-Bytes.new.sessions n ≡ None → IsTrouble c.hand_on-in-Bytes.new.self)
     c.read_more.ensures.peer.0 c.hand_on-in-Bytes.ensures.reason

@@ -1,0 +1,139 @@
+//! That what is asked for reaches the server, over loopback.
+use crate::serving::serve_store;
+use rec_codec::Limits;
+use sector_dev::MemoryDevice;
+use server_telling::Teller;
+use server_words::Serving;
+use std::alloc::Global;
+use std::cell::Cell;
+use std::fmt::Display;
+use std::io;
+use std::net::{Ipv4Addr, Net, SocketAddr, TcpListener, TcpStream};
+use std::rt::Clock;
+use std::time::{Duration, Instant};
+
+/// A machine on which a client connects before the server listens, and sends nothing.
+#[derive(Drop)]
+struct Machine<'a> {
+    rt: &'a HostRuntime,
+    /// What the server is to listen on.
+    listener: TcpListener,
+    client: TcpStream,
+    /// Whether the client has found its connection closed.
+    has_end: Cell<bool>,
+}
+
+// The machine, and the client on it.
+fn on_loopback(rt: &HostRuntime) -> io::Result<Machine<'_>> {
+    let listener = TcpListener::bind(rt, (Ipv4Addr::LOCALHOST, 0))?;
+    let client = TcpStream::connect(rt, listener.local_addr()?)?;
+    client.set_nonblocking(true)?;
+    Ok(Machine {
+        rt,
+        listener,
+        client,
+        has_end: Cell::new(false),
+    })
+}
+
+impl Clock for Machine<'_> {
+    fn monotonic(&self) -> io::Result<Duration> {
+        if matches!(self.client.peek(&mut [0]), Ok(0)) {
+            self.has_end.set(true);
+        }
+        Clock::monotonic(self.rt)
+    }
+
+    fn since_1970(&self) -> io::Result<Duration> {
+        Clock::since_1970(self.rt)
+    }
+}
+
+impl Net for Machine<'_> {
+    type Stream = TcpStream;
+
+    type Listener = TcpListener;
+
+    fn bind(&self, _addr: SocketAddr) -> io::Result<TcpListener> {
+        self.listener.try_clone()
+    }
+
+    fn connect(&self, addr: SocketAddr) -> io::Result<TcpStream> {
+        Net::connect(self.rt, addr)
+    }
+}
+
+impl Print for Machine<'_> {
+    fn print<D: Display + Drop>(&self, _value: D) -> io::Result<()> {
+        Ok(())
+    }
+
+    fn println<D: Display + Drop>(&self, _value: D) -> io::Result<()> {
+        Ok(())
+    }
+
+    fn write_all(&self, _bytes: &[u8]) -> io::Result<()> {
+        Ok(())
+    }
+}
+
+impl Eprint for Machine<'_> {
+    fn eprint<D: Display + Drop>(&self, _value: D) -> io::Result<()> {
+        Ok(())
+    }
+
+    fn eprintln<D: Display + Drop>(&self, _value: D) -> io::Result<()> {
+        Ok(())
+    }
+}
+
+/// So many turns are taken, nearly all of which find nothing to do.
+const TURNS: u32 = 30;
+
+/// What came of serving.
+#[derive(Clone, Copy, Debug, PartialEq, Eq)]
+struct Outcome {
+    /// Whether the client's connection was closed while the server served.
+    has_closed: bool,
+    /// Whether the turns took 200 ms: a rest takes 10.
+    has_rested: bool,
+}
+
+// Serves a store in memory for some turns, in which a client may be silent for so many milliseconds. `None` where memory was
+// refused, and at a fault.
+fn served(rt: &HostRuntime, silence: Option<u64>) -> Option<Outcome> {
+    let alloc: Global = rt.alloc();
+    let limits = Limits {
+        games: 4,
+        plies: 60,
+    };
+    let Ok(store) = store_opening::create(alloc, MemoryDevice::new(alloc, 212).ok()?, limits) else {
+        return None;
+    };
+    let machine = on_loopback(rt).ok()?;
+    let teller = Teller::new(&machine, true);
+    let serving = Serving {
+        journal: "",
+        port: 0,
+        turns: Some(TURNS),
+        silence,
+        is_quiet: true,
+    };
+    let begun = Instant::now(rt).ok()?;
+    serve_store(&machine, alloc, &teller, &serving, store, 0).ok()?;
+    Some(Outcome {
+        has_closed: machine.has_end.get(),
+        has_rested: begun.elapsed(rt).ok()? >= Duration::from_millis(200),
+    })
+}
+
+#[test]
+fn closes_the_silent_and_rests(rt: HostRuntime) {
+    for (silence, has_closed) in [(Some(5), true), (Some(60_000), false), (None, false)] {
+        let wanted = Outcome {
+            has_closed,
+            has_rested: true,
+        };
+        assert_eq!(rt; served(&rt, silence), Some(wanted));
+    }
+}
