@@ -6,26 +6,26 @@ use Rattle.std.specs.Str.{bytes_eq}
 use Rattle.std.proofs.lemmas.Bool.{false≢true}
 use Rattle.std.proofs.lemmas.Bool.Decides.{Decides-eqb}
 use Rattle.rec_codec.specs.Name.{IsName}
-use Rattle.lobby_desk.specs.declared.words.Sort.{Sort}
-use Rattle.lobby_desk.specs.declared.words.Sort.TheVariants as sorts
-use Rattle.lobby_desk.specs.declared.refusals.Refusal.TheVariants as refusals
-use Rattle.lobby_desk.specs.declared.planning.Plan.{Plan}
-use Rattle.lobby_desk.specs.declared.planning.Plan.TheVariants as plans
-use Rattle.lobby_desk.specs.declared.planning.Standing.{Standing}
-use Rattle.lobby_desk.specs.declared.players.Identity.{Identity}
+use Rattle.lobby_words.specs.declared.words.Sort.{Sort}
+use Rattle.lobby_words.specs.declared.words.Sort.TheVariants as sorts
+use Rattle.lobby_words.specs.declared.refusals.Refusal.TheVariants as refusals
+use Rattle.lobby_words.specs.declared.planning.Plan.{Plan}
+use Rattle.lobby_words.specs.declared.planning.Plan.TheVariants as plans
+use Rattle.lobby_words.specs.declared.planning.Standing.{Standing}
+use Rattle.lobby_words.specs.declared.planning.Identity.{Identity}
 use Rattle.lobby_desk.specs.declared.players.Player.{Player}
 use Rattle.lobby_desk.specs.declared.watching.Watch.{Watch}
-use Rattle.lobby_desk.specs.Words.{word_of, rest_of, is_message, sort_of, is_act_sort, is_drop_sort, is_name_sort, is_login_sort, number_in}
-use Rattle.lobby_desk.specs.Plans.{asked, act_plan, drop_plan, login_plan, numbered_plan, plan_of}
+use Rattle.lobby_words.specs.Words.{word_of, rest_of, is_message, sort_of, is_act_sort, is_drop_sort, is_name_sort, is_login_sort, number_in}
+use Rattle.lobby_words.specs.Plans.{asked, act_plan, drop_plan, login_plan, numbered_plan, plan_of}
 use Rattle.lobby_desk.specs.Lines.{lines_of, act_lines, said_after, name_line, game_line, is_said, notice_lines, IsNamed}
-use Rattle.lobby_desk.specs.Answers.{is_accepted, first_line, act_game}
+use Rattle.lobby_words.specs.Answers.{is_accepted, first_line, act_game, is_whole, answer}
 use Rattle.lobby_desk.specs.Watching.{watch_if, sit_if}
 use Rattle.lobby_desk.specs.Events.{Event, Opened, Closed, Said, Hurried, Heard, Gone, Here, Telling, ForItself, ForPositions, ForTable, ForGame, ForAct, Owed, Nobody, Asker, Dropper, Followers, owed_last, sort_asker, asker, followers_of, follower}
-use Rattle.lobby_desk.specs.Tellings.{Known, is_whole, answer, open_now, watch_heard, watch_next, watches_now, table_heard, table_next, table_now, owed_answered, owed_now, known_now, presence, lost, AreToldAll, IsTold}
+use Rattle.lobby_desk.specs.Tellings.{Known, open_now, watch_heard, watch_next, watches_now, table_heard, table_next, table_now, owed_answered, owed_now, known_now, presence, lost, AreToldAll, IsTold}
 use Rattle.lobby_desk.specs.Who.{View, BeginsView, IsSaid, IsHeard, IsDropped, IsSentFor, IsSentNext, IsSentHeard, IsDone, IsKnown, who_noted, name_of, speaker}
 use Rattle.lobby_desk.specs.History.{Step, comes, has_come, shown_by, player_said, player_after, player_in, is_drop, name_behind, name_through, name_before, name_in, ActsUnder, ActsRight, NoActs, NoDrops, AllRead, IsOf, open_in, known_in, IsArbiter, AsksNow, HasAsked, IsDropOf, IsRight, AreWhole, AllRight, AllTold, IsRun}
 use Rattle.lobby_desk.proofs.Found.{and_first, and_second, and_both}
-use Rattle.lobby_desk.proofs.Numbers.{number_small}
+use Rattle.lobby_words.proofs.Numbers.{number_small}
 use Rattle.lobby_desk.proofs.Sent.{is_said_same}
 use Rattle.lobby_desk.proofs.Lines.{show_whole, fen_whole, pgn_whole, list_whole, name_whole, show_reads, fen_reads, pgn_reads, list_reads, name_names}
 

@@ -1,14 +1,14 @@
 -- What is promised of whatever came in and went out.
 use Rattle.std.specs.Prelude.{ℕ, ◌≡◌, ◌⊎◌, Bool, true, false, ◌&&◌, ◌||◌, ◌==◌, List, [], ◌∷◌, Option, None, Some, if◌then◌else◌}
 use Rattle.std.specs.List.{AllByRecursion}
-use Rattle.lobby_desk.specs.declared.words.Sort.TheVariants as sorts
-use Rattle.lobby_desk.specs.declared.players.Identity.{Identity}
+use Rattle.lobby_words.specs.declared.words.Sort.TheVariants as sorts
+use Rattle.lobby_words.specs.declared.planning.Identity.{Identity}
 use Rattle.lobby_desk.specs.declared.players.Player.{Player}
-use Rattle.lobby_desk.specs.Words.{rest_of, is_message, sort_of, is_act_sort, is_drop_sort, is_name_sort, is_login_sort}
+use Rattle.lobby_words.specs.Words.{rest_of, is_message, sort_of, is_act_sort, is_drop_sort, is_name_sort, is_login_sort}
 use Rattle.lobby_desk.specs.Players.{holder_of}
-use Rattle.lobby_desk.specs.Answers.{IsSeated}
+use Rattle.lobby_words.specs.Answers.{IsSeated, answer}
 use Rattle.lobby_desk.specs.Events.{Event, Opened, Closed, Said, Heard, Gone, Here, Telling, Owed, Dropper}
-use Rattle.lobby_desk.specs.Tellings.{Known, known_now, open_now, answer, IsTold}
+use Rattle.lobby_desk.specs.Tellings.{Known, known_now, open_now, IsTold}
 use Rattle.lobby_desk.specs.Who.{View, BeginsView, IsStep, speaker}
 
 -- one event, the lines that went to the server for it, and what connections were told

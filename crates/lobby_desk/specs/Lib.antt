@@ -1,9 +1,6 @@
-pub mod Words
 pub mod Players
 pub mod Lines
-pub mod Answers
 pub mod Watching
-pub mod Plans
 pub mod Pace
 pub mod Events
 pub mod Tellings

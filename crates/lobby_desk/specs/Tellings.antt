@@ -4,9 +4,8 @@ use Rattle.std.specs.List.{list_any}
 use Rattle.lobby_desk.specs.declared.watching.Watch.{Watch}
 use Rattle.lobby_desk.specs.declared.telling.Kind.{Kind}
 use Rattle.lobby_desk.specs.declared.telling.Kind.TheVariants as kinds
-use Rattle.lobby_desk.specs.Words.{rest_of, is_message, sort_of, is_leave_sort, is_leave_lobby_sort, number_in}
-use Rattle.lobby_desk.specs.Lines.{ended}
-use Rattle.lobby_desk.specs.Answers.{left_after, is_accepted, is_over}
+use Rattle.lobby_words.specs.Words.{rest_of, is_message, sort_of, is_leave_sort, is_leave_lobby_sort, number_in}
+use Rattle.lobby_words.specs.Answers.{left_after, is_whole, answer, is_accepted, is_over}
 use Rattle.lobby_desk.specs.Watching.{at_table, watch_if, sit_if, unwatched, none_watched, risen, followers}
 use Rattle.lobby_desk.specs.Events.{Event, Opened, Closed, Said, Hurried, Heard, Gone, Here, Telling, to_one, to_one_as, Ask, ForPositions, ForGame, ForTable, Owed, Nobody, Asker, Dropper, Followers, owed_last, asker, follower}
 
@@ -20,13 +19,6 @@ pub record Known : Type 0 where
   pub last : List ℕ
   pub watches : List Watch
   pub table : List ℕ
-
--- whether a line ends an answer where so many lines were still to come, and the answer behind these lines
-abbrev pub is_whole : ℕ → List ℕ → Bool
-is_whole left line = left_after left line == 0
-
-abbrev pub answer : List ℕ → List ℕ → List ℕ
-answer begun line = begun ++ ended line
 
 -- the front of the answer to a `watch` that is accepted, and of that to `lobby`
 abbrev pub watch_front : ℕ → List ℕ

@@ -4,32 +4,24 @@ use Rattle.std.specs.Str.{bytes_eq}
 use Rattle.std.specs.BTreeMap.{BTreeMap, get}
 use Rattle.std.specs.Ordering.{nat_cmp}
 use Rattle.std.specs.String.{string_bytes}
-use Rattle.std.specs.declared.string.String.{String}
-use Rattle.lobby_desk.specs.declared.coming.Coming.{Coming}
 use Rattle.rec_codec.specs.Name.{IsName}
-use Rattle.lobby_desk.specs.declared.planning.Plan.{Plan}
-use Rattle.lobby_desk.specs.declared.planning.Plan.TheVariants as plans
-use Rattle.lobby_desk.specs.declared.planning.Standing.{Standing}
-use Rattle.lobby_desk.specs.declared.players.Identity.{Identity}
+use Rattle.lobby_words.specs.declared.planning.Plan.{Plan}
+use Rattle.lobby_words.specs.declared.planning.Plan.TheVariants as plans
+use Rattle.lobby_words.specs.declared.planning.Standing.{Standing}
+use Rattle.lobby_words.specs.declared.planning.Identity.{Identity}
 use Rattle.lobby_desk.specs.declared.players.Player.{Player}
 use Rattle.lobby_desk.specs.declared.players.Visitor.{Visitor}
 use Rattle.lobby_desk.specs.declared.watching.Watch.{Watch}
 use Rattle.lobby_desk.specs.declared.desk.Desk.{Desk}
-use Rattle.lobby_desk.specs.Words.{word_of, rest_of, is_message, sort_of, number_in}
+use Rattle.lobby_words.specs.Words.{word_of, rest_of, is_message, sort_of, number_in}
 use Rattle.lobby_desk.specs.Players.{holder_of}
-use Rattle.lobby_desk.specs.Plans.{refusal_text, plan_of}
+use Rattle.lobby_words.specs.Plans.{refusal_text, plan_of}
 use Rattle.lobby_desk.specs.Lines.{bytes_of, lines_of, act_lines, said_after, notice_lines, IsNamed}
-use Rattle.lobby_desk.specs.Answers.{IsSeated, IsSeatless, act_game}
+use Rattle.lobby_words.specs.Answers.{IsSeated, IsSeatless, act_game, is_whole, answer}
 use Rattle.lobby_desk.specs.Watching.{unwatched, risen, is_full}
 pub use Rattle.lobby_desk.specs.Watching.{at_table}
 use Rattle.lobby_desk.specs.Events.{Event, Opened, Closed, Said, Hurried, Heard, Gone, Here, Telling, to_one, ForAct, Owed, Asker, Dropper, owed_of, owed_last, plan_asker, follower}
-use Rattle.lobby_desk.specs.Tellings.{Known, is_whole, answer, open_now, watch_heard, watch_next, table_heard, table_next, watches_now, table_now, owed_now, left_now, begun_now, last_now, owed_answered, owes, presence, IsTold, IsToldFor, IsToldNext}
-
--- a line of an answer is taken: the whole answer is given where it was the last
-abbrev pub IsTaken : {A : Type 0} → Coming → List ℕ → Option (String A) → Coming → Type 0
-IsTaken old line None new = (is_whole old.left line ≡ false) × (string_bytes new.text ≡ answer (string_bytes old.text) line)
-IsTaken old line (Some text) new =
-    (is_whole old.left line ≡ true) × (string_bytes text ≡ answer (string_bytes old.text) line) × (string_bytes new.text ≡ [])
+use Rattle.lobby_desk.specs.Tellings.{Known, open_now, watch_heard, watch_next, table_heard, table_next, watches_now, table_now, owed_now, left_now, begun_now, last_now, owed_answered, owes, presence, IsTold, IsToldFor, IsToldNext}
 
 -- the player for whom a connection acts
 abbrev pub who_in : BTreeMap ℕ Visitor → ℕ → Option Identity

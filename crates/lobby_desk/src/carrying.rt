@@ -5,11 +5,11 @@ ghost use Rattle.lobby_desk.specs.Lines.{bytes_of, lines_of, said_after, IsNamed
 ghost use Rattle.lobby_desk.specs.Events.{Telling, tellings, owed_of, owed_last, plan_asker};
 ghost use Rattle.lobby_desk.specs.Who.{who_in, open_in_map, until_in, who_noted, plan_watches, plan_table, is_own, IsOwnText, IsAnswered};
 
-use crate::planning::Plan;
-use crate::players::{Identity, Player, Visitor};
+use crate::players::{Player, Visitor};
 use crate::server_line::{Acting, Due, ServerLine};
 use crate::telling::{Kind, Told, headed, tell};
 use crate::watching::{Watch, rise, unwatch};
+use lobby_words::{Identity, Plan};
 use rec_codec::Name;
 use std::alloc::{AllocError, Global};
 use std::collections::BTreeMap;

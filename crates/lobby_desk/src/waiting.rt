@@ -1,10 +1,10 @@
 //! The games that wait for a second player, as far as the server's answers have told.
 ghost use Rattle.std.specs.Prelude.{◌≡◌, codes};
 ghost use Rattle.std.specs.Str.{bytes_eq};
-ghost use Rattle.lobby_desk.specs.Words.{word_of};
+ghost use Rattle.lobby_words.specs.Words.{word_of};
 
 use crate::server_line::{Acting, Due};
-use crate::words::{cut, number_named};
+use lobby_words::{cut, number_named};
 use rec_codec::Name;
 use std::alloc::{AllocError, Global};
 use std::collections::VecDeque;

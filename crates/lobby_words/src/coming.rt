@@ -1,9 +1,8 @@
 //! The answers that come from the server, line by line.
 ghost use Rattle.std.specs.Prelude.{◌≡◌, ◌==◌, [], IfOk, OnOk};
 ghost use Rattle.std.specs.String.{string_bytes};
-ghost use Rattle.lobby_desk.specs.Tellings.{answer};
-ghost use Rattle.lobby_desk.specs.Who.{IsTaken};
-ghost use Rattle.lobby_desk.specs.Answers as answers;
+ghost use Rattle.lobby_words.specs.Answers.{answer, IsTaken};
+ghost use Rattle.lobby_words.specs.Answers as answers;
 
 use crate::words::{cut, number_or_0};
 use std::alloc::{AllocError, Global};

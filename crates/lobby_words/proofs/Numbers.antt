@@ -2,13 +2,19 @@
 use Rattle.std.proofs.Common.{ℕ, ◌≡◌, ◌<◌, ◌^◌, Bool, true, false, ◌&&◌, List, Option, None, Some, IfSome, decimal, refl, sym, ap, ◌∙◌, arith}
 use Rattle.std.specs.Prelude.{if◌then◌else◌, nat_lt}
 use Rattle.std.specs.Str.{bytes_eq}
-use Rattle.std.specs.Str.Parse.{digits_value}
+use Rattle.std.specs.Str.Parse.{AllDigits, digits_value}
 use Rattle.std.proofs.lemmas.Bool.Decides.{nat_tests}
 use Rattle.std.proofs.lemmas.Fmt.{digits_value-decimal}
 use Rattle.std.proofs.lemmas.Slice.Eq.{bytes_eq-Decides}
-use Rattle.lobby_desk.specs.Words.{number_in}
-use Rattle.lobby_desk.proofs.Found.{and_both}
-use Rattle.lobby_desk.proofs.Lines.{own}
+use Rattle.std.proofs.lemmas.Str.Parse.{IsNumeralModel}
+use Rattle.lobby_words.specs.Words.{number_in}
+
+pub own : IsNumeralModel (AllDigits 10) (digits_value 10)
+own = record { to = λ _ h. h; from = λ _ h. h; same = λ _ _. refl }
+
+and_both : (a b : Bool) → a ≡ true → b ≡ true → (a && b) ≡ true
+and_both true b h k = k
+and_both false b h k = h
 
 below : (v : ℕ) → nat_lt v (2 ^ 32) ≡ true → v < 2 ^ 32
 below v h = grind (arith, nat_tests)

@@ -1,5 +1,5 @@
 use Rattle.std.proofs.Common.{ℕ, ◌==◌, sym, ap, ◌∙◌}
-use Rattle.lobby_desk.proofs.coming.Coming.take.Goals as goal
+use Rattle.lobby_words.proofs.coming.Coming.take.Goals as goal
 
 pub returns-then-whole-clause-taken : goal.returns-then-whole-clause-taken
 returns-then-whole-clause-taken c = (

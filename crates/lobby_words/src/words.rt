@@ -1,7 +1,7 @@
 //! What the first word of a message says.
 ghost use Rattle.std.specs.Prelude.{ℕ, ◌≡◌, ◌<◌, ◌^◌, Some, IfSome, decimal};
 ghost use Rattle.std.specs.List.{list_all};
-ghost use Rattle.lobby_desk.specs.Words as words;
+ghost use Rattle.lobby_words.specs.Words as words;
 
 use itoa::Buffer;
 

@@ -1,8 +1,8 @@
 use Rattle.std.proofs.Common.{◌≡◌, ap, sym, ◌∙◌, Bool, ℕ, Option}
-use Rattle.lobby_desk.specs.declared.words.Sort.{Sort}
-use Rattle.lobby_desk.specs.Words.{sort_of, number_in, rest_of}
-use Rattle.lobby_desk.specs.Plans.{sort_plan, plan_of}
-use Rattle.lobby_desk.proofs.planning.plan_of.Goals as goal
+use Rattle.lobby_words.specs.declared.words.Sort.{Sort}
+use Rattle.lobby_words.specs.Words.{sort_of, number_in, rest_of}
+use Rattle.lobby_words.specs.Plans.{sort_plan, plan_of}
+use Rattle.lobby_words.proofs.planning.plan_of.Goals as goal
 
 pub returns-then-is_line : goal.returns-then-is_line
 returns-then-is_line c =

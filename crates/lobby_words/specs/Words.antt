@@ -3,8 +3,8 @@ use Rattle.std.specs.Prelude.{ℕ, ◌^◌, Bool, true, false, ◌&&◌, ◌||�
 use Rattle.std.specs.List.{before_first, after_first, list_all}
 use Rattle.std.specs.Str.{bytes_eq}
 use Rattle.std.specs.Str.Parse.{digits_value}
-use Rattle.lobby_desk.specs.declared.words.Sort.{Sort}
-use Rattle.lobby_desk.specs.declared.words.Sort.TheVariants as sorts
+use Rattle.lobby_words.specs.declared.words.Sort.{Sort}
+use Rattle.lobby_words.specs.declared.words.Sort.TheVariants as sorts
 
 -- what stands before the first space, and what stands behind it; all of a text without one is its word
 abbrev pub word_of : List ℕ → List ℕ

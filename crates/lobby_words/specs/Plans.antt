@@ -1,13 +1,13 @@
 -- What is done about a message.
 use Rattle.std.specs.Prelude.{ℕ, Bool, true, false, List, codes, Option, None, Some, if◌then◌else◌}
-use Rattle.lobby_desk.specs.declared.words.Sort.{Sort}
-use Rattle.lobby_desk.specs.declared.words.Sort.TheVariants as sorts
-use Rattle.lobby_desk.specs.declared.players.Identity.{Identity}
-use Rattle.lobby_desk.specs.declared.refusals.Refusal.{Refusal}
-use Rattle.lobby_desk.specs.declared.refusals.Refusal.TheVariants as refusals
-use Rattle.lobby_desk.specs.declared.planning.Plan.{Plan}
-use Rattle.lobby_desk.specs.declared.planning.Plan.TheVariants as plans
-use Rattle.lobby_desk.specs.declared.planning.Standing.{Standing}
+use Rattle.lobby_words.specs.declared.words.Sort.{Sort}
+use Rattle.lobby_words.specs.declared.words.Sort.TheVariants as sorts
+use Rattle.lobby_words.specs.declared.planning.Identity.{Identity}
+use Rattle.lobby_words.specs.declared.refusals.Refusal.{Refusal}
+use Rattle.lobby_words.specs.declared.refusals.Refusal.TheVariants as refusals
+use Rattle.lobby_words.specs.declared.planning.Plan.{Plan}
+use Rattle.lobby_words.specs.declared.planning.Plan.TheVariants as plans
+use Rattle.lobby_words.specs.declared.planning.Standing.{Standing}
 
 -- the line that says why a message is refused
 abbrev pub refusal_text : Refusal → List ℕ

@@ -1,9 +1,12 @@
 -- The answers that come from the server.
-use Rattle.std.specs.Prelude.{ℕ, ◌≡◌, ◌-◌, ◌⊎◌, ◌==◌, ◌||◌, Bool, not, List, ◌++◌, codes, Option, None, if◌then◌else◌}
+use Rattle.std.specs.Prelude.{ℕ, ◌≡◌, ◌-◌, ◌⊎◌, ◌==◌, ◌||◌, Bool, true, false, not, List, [], ◌∷◌, ◌++◌, codes, Option, Some, None, if◌then◌else◌}
 use Rattle.std.specs.List.{starts_with, ends_with, before_first}
 use Rattle.std.specs.Str.{bytes_eq}
+use Rattle.std.specs.String.{string_bytes}
+use Rattle.std.specs.declared.string.String.{String}
 use Rattle.rec_codec.specs.Name.{IsName}
-use Rattle.lobby_desk.specs.Words.{word_of, rest_of, number_in, number_or_0}
+use Rattle.lobby_words.specs.declared.coming.Coming.{Coming}
+use Rattle.lobby_words.specs.Words.{word_of, rest_of, number_in, number_or_0}
 
 -- how many lines stand behind the first line of an answer: as many as `ok list K` and `ok pgn G K` say, and else none
 abbrev pub lines_behind : List ℕ → ℕ
@@ -17,6 +20,23 @@ lines_behind line =
 -- How many lines of an answer are still to come behind a line, where so many were to come before it; 0 where none had come.
 abbrev pub left_after : ℕ → List ℕ → ℕ
 left_after left line = if left == 0 then lines_behind line else left - 1
+
+-- a line with the line feed that ends it
+abbrev pub ended : List ℕ → List ℕ
+ended line = line ++ 10 ∷ []
+
+-- whether a line ends an answer where so many lines were still to come, and the answer behind these lines
+abbrev pub is_whole : ℕ → List ℕ → Bool
+is_whole left line = left_after left line == 0
+
+abbrev pub answer : List ℕ → List ℕ → List ℕ
+answer begun line = begun ++ ended line
+
+-- a line of an answer is taken: the whole answer is given where it was the last
+abbrev pub IsTaken : {A : Type 0} → Coming → List ℕ → Option (String A) → Coming → Type 0
+IsTaken old line None new = (is_whole old.left line ≡ false) × (string_bytes new.text ≡ answer (string_bytes old.text) line)
+IsTaken old line (Some text) new =
+    (is_whole old.left line ≡ true) × (string_bytes text ≡ answer (string_bytes old.text) line) × (string_bytes new.text ≡ [])
 
 -- whether the server does what it was asked
 abbrev pub is_accepted : List ℕ → Bool
@@ -49,10 +69,6 @@ act_game answer = game_in (first_line answer)
 -- whether a game is over, as the answer to `show` says: its last field is the article, and `-` while the game goes on
 abbrev pub is_over : List ℕ → Bool
 is_over shown = not (ends_with (λ a b. a == b) shown (codes " -\n"))
-
--- the lines of a notice that tell of an act: who did it, what it was, and what the server answered
-abbrev pub act_told : List ℕ → List ℕ → List ℕ → List ℕ
-act_told by text answer = codes "by " ++ by ++ codes " " ++ text ++ codes "\n" ++ answer
 
 -- whether those who are told of the table are told of an act whatever comes of it
 abbrev pub is_table_act : List ℕ → Bool

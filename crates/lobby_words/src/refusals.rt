@@ -1,6 +1,6 @@
 //! What the lobby itself refuses.
 ghost use Rattle.std.specs.Prelude.{◌≡◌};
-ghost use Rattle.lobby_desk.specs.Plans.{refusal_text};
+ghost use Rattle.lobby_words.specs.Plans.{refusal_text};
 
 /// Why the lobby does not do what a message asks.
 #[derive(Clone, Copy, Debug, PartialEq, Eq)]

@@ -1,11 +1,18 @@
 //! What is done about a message.
 ghost use Rattle.std.specs.Prelude.{◌≡◌};
-ghost use Rattle.lobby_desk.specs.Words as words;
-ghost use Rattle.lobby_desk.specs.Plans as plans;
+ghost use Rattle.lobby_words.specs.Words as words;
+ghost use Rattle.lobby_words.specs.Plans as plans;
 
-use crate::players::Identity;
 use crate::refusals::Refusal;
 use crate::words::{Sort, cut, is_message, number_named, sort_of};
+use rec_codec::Name;
+
+/// For whom a connection acts.
+#[derive(Clone, Copy)]
+pub struct Identity {
+    pub name: Name,
+    pub is_arbiter: bool,
+}
 
 /// What is done about a message.
 #[derive(Clone, Copy)]

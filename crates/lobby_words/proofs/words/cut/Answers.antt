@@ -1,7 +1,7 @@
 use Rattle.std.proofs.Common.{arith, ap, sym, ◌∙◌, ℕ, take}
 use Rattle.std.proofs.Math.Seq.{take-length}
 use Rattle.std.proofs.lemmas.Str.Pattern.{split_once_first}
-use Rattle.lobby_desk.proofs.words.cut.Goals as goal
+use Rattle.lobby_words.proofs.words.cut.Goals as goal
 
 pub returns-in-Some-clause-word : goal.returns-in-Some-clause-word
 returns-in-Some-clause-word c =

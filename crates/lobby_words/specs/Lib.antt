@@ -1,0 +1,3 @@
+pub mod Words
+pub mod Answers
+pub mod Plans
