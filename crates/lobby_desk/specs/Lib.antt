@@ -3,6 +3,7 @@ pub mod Lines
 pub mod Watching
 pub mod Pace
 pub mod Events
+pub mod Waiting
 pub mod Tellings
 pub mod Who
 pub mod History

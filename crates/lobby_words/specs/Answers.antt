@@ -42,12 +42,23 @@ IsTaken old line (Some text) new =
 abbrev pub is_accepted : List ℕ → Bool
 is_accepted answer = starts_with (λ a b. a == b) answer (codes "ok ")
 
--- The answer to `show` says that this name has a seat in this game: `ok show G WHITE BLACK ..`.
+-- the name of White, and that of Black, in an answer to `show`: `ok show G WHITE BLACK ..`
+abbrev pub white_in : List ℕ → List ℕ
+white_in answer = word_of (rest_of (rest_of (rest_of answer)))
+
+abbrev pub black_in : List ℕ → List ℕ
+black_in answer = word_of (rest_of (rest_of (rest_of (rest_of answer))))
+
+-- The answer to `show` says that this name has a seat in this game.
 pub record IsSeated (answer game name : List ℕ) : Type 0 where
   pub accepted : word_of answer ≡ codes "ok"
   pub shows : word_of (rest_of answer) ≡ codes "show"
   pub numbered : word_of (rest_of (rest_of answer)) ≡ game
-  pub seat : (name ≡ word_of (rest_of (rest_of (rest_of answer)))) ⊎ (name ≡ word_of (rest_of (rest_of (rest_of (rest_of answer)))))
+  pub seat : (name ≡ white_in answer) ⊎ (name ≡ black_in answer)
+
+-- It is White's name, where somebody is White.
+abbrev pub IsFirstSeated : List ℕ → List ℕ → Type 0
+IsFirstSeated answer name = IsName (white_in answer) → name ≡ white_in answer
 
 -- The answer to `show` names nobody who has a seat in this game.
 abbrev pub IsSeatless : List ℕ → List ℕ → Type 0

@@ -2,7 +2,7 @@
 ghost use Rattle.std.specs.Prelude.{codes, ◌≡◌, ◌==◌, IfSome, IfNone};
 ghost use Rattle.std.specs.List.{ends_with};
 ghost use Rattle.rec_codec.specs.Name.{IsName};
-ghost use Rattle.lobby_words.specs.Answers.{IsSeated, IsSeatless, first_line, act_game, is_table_act, is_accepted, is_over};
+ghost use Rattle.lobby_words.specs.Answers.{IsSeated, IsFirstSeated, IsSeatless, first_line, act_game, is_table_act, is_accepted, is_over};
 
 use crate::words::{cut, number_named};
 use rec_codec::Name;
@@ -66,9 +66,10 @@ pub fn is_accepted(answer: &str) -> bool
     answer.starts_with("ok ")
 }
 
-/// A player who has a seat in a game, as the answer to `show` says.
+/// The player who has a seat in a game, as the answer to `show` says: White, and Black where nobody is White.
 pub fn seated(answer: &str, game: &str) -> Option<Name>
     ensures some { IfSome result (λ name. IsName name × IsSeated answer.now game.now name) }
+    ensures first { IfSome result (λ name. IsFirstSeated answer.now name) }
     ensures none { IfNone result (IsSeatless answer.now game.now) }
 {
     let (ok, rest) = cut(answer);

@@ -3,12 +3,14 @@
 
 mod answers;
 mod coming;
+mod listing;
 mod planning;
 mod refusals;
 mod words;
 
 pub use answers::{game_told, is_accepted, is_over, is_table_act, seated};
 pub use coming::Coming;
+pub use listing::{Waiting, ends_wait, is_list, is_open, waiting_in};
 pub use planning::{Identity, Plan, Standing, plan_of};
 pub use refusals::Refusal;
 pub use words::{Sort, cut, number_named};
