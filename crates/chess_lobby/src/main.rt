@@ -6,6 +6,8 @@ mod clock;
 mod command_line;
 mod page;
 mod serving;
+#[cfg(test)]
+mod tests;
 
 use adding::add_player;
 use anyhow::Result;

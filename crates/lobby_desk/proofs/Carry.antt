@@ -1,17 +1,18 @@
 -- What a plan leaves and tells.
 use Rattle.std.proofs.Common.{ℕ, ◌≡◌, Bool, true, false, ◌&&◌, List, [], ◌∷◌, Option, None, Some, refl}
 use Rattle.std.specs.Prelude.{if◌then◌else◌}
-use Rattle.lobby_desk.specs.declared.words.Sort.{Sort}
-use Rattle.lobby_desk.specs.declared.words.Sort.TheVariants as sorts
-use Rattle.lobby_desk.specs.declared.refusals.Refusal.{Refusal}
-use Rattle.lobby_desk.specs.declared.refusals.Refusal.TheVariants as refusals
-use Rattle.lobby_desk.specs.declared.planning.Plan.{Plan}
-use Rattle.lobby_desk.specs.declared.planning.Plan.TheVariants as plans
-use Rattle.lobby_desk.specs.declared.planning.Standing.{Standing}
-use Rattle.lobby_desk.specs.declared.players.Identity.{Identity}
+use Rattle.lobby_words.specs.declared.words.Sort.{Sort}
+use Rattle.lobby_words.specs.declared.words.Sort.TheVariants as sorts
+use Rattle.lobby_words.specs.declared.refusals.Refusal.{Refusal}
+use Rattle.lobby_words.specs.declared.refusals.Refusal.TheVariants as refusals
+use Rattle.lobby_words.specs.declared.planning.Plan.{Plan}
+use Rattle.lobby_words.specs.declared.planning.Plan.TheVariants as plans
+use Rattle.lobby_words.specs.declared.planning.Standing.{Standing}
+use Rattle.lobby_words.specs.declared.planning.Identity.{Identity}
+use Rattle.lobby_desk.specs.declared.players.Player.{Player}
 use Rattle.lobby_desk.specs.declared.watching.Watch.{Watch}
-use Rattle.lobby_desk.specs.Words.{is_leave_sort, is_leave_lobby_sort, or_0}
-use Rattle.lobby_desk.specs.Plans.{asked, act_plan, drop_plan, login_plan, numbered_plan, plan_of}
+use Rattle.lobby_words.specs.Words.{is_leave_sort, is_leave_lobby_sort, or_0}
+use Rattle.lobby_words.specs.Plans.{asked, act_plan, drop_plan, login_plan, numbered_plan, plan_of}
 use Rattle.lobby_desk.specs.Lines.{lines_of, is_said, name_line}
 use Rattle.lobby_desk.specs.Events.{Telling, ForItself, ForPositions, ForTable, ForGame, ForAct, Owed, Asker, Dropper, owed_last, plan_asker, sort_asker}
 use Rattle.lobby_desk.specs.Watching.{risen}
@@ -189,16 +190,16 @@ act_sent : (b : Bool) (name text : List ℕ) (c : ℕ) (tells : List Telling) �
 act_sent true name text c tells h = h
 act_sent false name text c tells h = h
 
-pub answered_or_sent : (plan : Plan) (said : Option (List ℕ)) (text : List ℕ) (c : ℕ) (tells : List Telling) → IsAnswered plan c tells →
+pub answered_or_sent : (players : List Player) (plan : Plan) (said : Option (List ℕ)) (text : List ℕ) (c : ℕ) (tells : List Telling) → IsAnswered players plan c tells →
     IsToldOrSent (lines_of plan said text) c tells
-answered_or_sent (plans.Refuse refusal) said text c tells h = (h.0, h.2)
-answered_or_sent plans.Read said text c tells h = h
-answered_or_sent (plans.Act who) said text c tells h = act_sent (is_said said who.name) who.name text c tells h
-answered_or_sent (plans.Drop who game) said text c tells h = h
-answered_or_sent (plans.Login who) said text c tells h = (h.0, h.2)
-answered_or_sent plans.Players said text c tells h = (h.0, h.2)
-answered_or_sent plans.Lobby said text c tells h = h
-answered_or_sent plans.LeaveLobby said text c tells h = (h.0, h.2)
-answered_or_sent (plans.Watch game) said text c tells h = h
-answered_or_sent (plans.Leave game) said text c tells h = (h.0, h.2)
-answered_or_sent (plans.Line game) said text c tells h = h
+answered_or_sent players (plans.Refuse refusal) said text c tells h = (h.0, h.2)
+answered_or_sent players plans.Read said text c tells h = h
+answered_or_sent players (plans.Act who) said text c tells h = act_sent (is_said said who.name) who.name text c tells h
+answered_or_sent players (plans.Drop who game) said text c tells h = h
+answered_or_sent players (plans.Login who) said text c tells h = (h.0, h.2)
+answered_or_sent players plans.Players said text c tells h = (h.0, h.2)
+answered_or_sent players plans.Lobby said text c tells h = h
+answered_or_sent players plans.LeaveLobby said text c tells h = (h.0, h.2)
+answered_or_sent players (plans.Watch game) said text c tells h = h
+answered_or_sent players (plans.Leave game) said text c tells h = (h.0, h.2)
+answered_or_sent players (plans.Line game) said text c tells h = h

@@ -2,8 +2,9 @@ pub mod Sent
 pub mod Found
 pub mod Opened
 pub mod Lines
-pub mod Numbers
 pub mod Carry
+pub mod Waited
+pub mod PlayerRows
 pub mod Watched
 pub mod Steps
 pub mod Runs

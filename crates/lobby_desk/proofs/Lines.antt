@@ -2,19 +2,17 @@
 use Rattle.std.proofs.Common.{ℕ, ◌≡◌, ◌<◌, ◌≤◌, ◌^◌, true, ◌&&◌, List, [], ◌∷◌, length, length-append, codes, decimal, refl, ap, ◌∙◌, arith}
 use Rattle.std.specs.Int.{IsInRange}
 use Rattle.std.specs.List.{list_all}
-use Rattle.std.specs.Str.Parse.{AllDigits, digits_value}
+use Rattle.std.specs.Str.Parse.{AllDigits}
 use Rattle.std.proofs.lemmas.Bool.Decides.{nat_tests}
 use Rattle.std.proofs.lemmas.Fmt.{digits_decimal, length-decimal-le}
 use Rattle.std.proofs.lemmas.List.Folds.{list_all-append}
-use Rattle.std.proofs.lemmas.Str.Parse.{IsNumeralModel, digit_at}
+use Rattle.std.proofs.lemmas.Str.Parse.{digit_at}
 use Rattle.rec_codec.specs.Name.{IsName, is_name_byte}
-use Rattle.lobby_desk.specs.declared.words.Sort.TheVariants as sorts
-use Rattle.lobby_desk.specs.Words.{is_message, is_message_byte, sort_of, rest_of, is_read_word}
+use Rattle.lobby_words.specs.declared.words.Sort.TheVariants as sorts
+use Rattle.lobby_words.specs.Words.{is_message, is_message_byte, sort_of, rest_of, is_read_word}
 use Rattle.lobby_desk.specs.Lines.{name_line, game_line}
+use Rattle.lobby_words.proofs.Numbers.{own}
 use Rattle.lobby_desk.proofs.Found.{and_first, and_second, and_both}
-
-pub own : IsNumeralModel (AllDigits 10) (digits_value 10)
-own = record { to = λ _ h. h; from = λ _ h. h; same = λ _ _. refl }
 
 byte_shown : (c : ℕ) → 32 ≤ c → c ≤ 126 → is_message_byte c ≡ true
 byte_shown c low high = grind (arith, nat_tests)

@@ -6,26 +6,27 @@ use Rattle.std.specs.Str.{bytes_eq}
 use Rattle.std.proofs.lemmas.Bool.{false≢true}
 use Rattle.std.proofs.lemmas.Bool.Decides.{Decides-eqb}
 use Rattle.rec_codec.specs.Name.{IsName}
-use Rattle.lobby_desk.specs.declared.words.Sort.{Sort}
-use Rattle.lobby_desk.specs.declared.words.Sort.TheVariants as sorts
-use Rattle.lobby_desk.specs.declared.refusals.Refusal.TheVariants as refusals
-use Rattle.lobby_desk.specs.declared.planning.Plan.{Plan}
-use Rattle.lobby_desk.specs.declared.planning.Plan.TheVariants as plans
-use Rattle.lobby_desk.specs.declared.planning.Standing.{Standing}
-use Rattle.lobby_desk.specs.declared.players.Identity.{Identity}
+use Rattle.lobby_words.specs.declared.words.Sort.{Sort}
+use Rattle.lobby_words.specs.declared.words.Sort.TheVariants as sorts
+use Rattle.lobby_words.specs.declared.refusals.Refusal.TheVariants as refusals
+use Rattle.lobby_words.specs.declared.planning.Plan.{Plan}
+use Rattle.lobby_words.specs.declared.planning.Plan.TheVariants as plans
+use Rattle.lobby_words.specs.declared.planning.Standing.{Standing}
+use Rattle.lobby_words.specs.declared.planning.Identity.{Identity}
 use Rattle.lobby_desk.specs.declared.players.Player.{Player}
+use Rattle.lobby_words.specs.declared.listing.Waiting.{Waiting}
 use Rattle.lobby_desk.specs.declared.watching.Watch.{Watch}
-use Rattle.lobby_desk.specs.Words.{word_of, rest_of, is_message, sort_of, is_act_sort, is_drop_sort, is_name_sort, is_login_sort, number_in}
-use Rattle.lobby_desk.specs.Plans.{asked, act_plan, drop_plan, login_plan, numbered_plan, plan_of}
+use Rattle.lobby_words.specs.Words.{word_of, rest_of, is_message, sort_of, is_act_sort, is_drop_sort, is_name_sort, is_login_sort, number_in}
+use Rattle.lobby_words.specs.Plans.{asked, act_plan, drop_plan, login_plan, numbered_plan, plan_of}
 use Rattle.lobby_desk.specs.Lines.{lines_of, act_lines, said_after, name_line, game_line, is_said, notice_lines, IsNamed}
-use Rattle.lobby_desk.specs.Answers.{is_accepted, first_line, act_game}
+use Rattle.lobby_words.specs.Answers.{is_accepted, first_line, act_game, is_whole, answer}
 use Rattle.lobby_desk.specs.Watching.{watch_if, sit_if}
 use Rattle.lobby_desk.specs.Events.{Event, Opened, Closed, Said, Hurried, Heard, Gone, Here, Telling, ForItself, ForPositions, ForTable, ForGame, ForAct, Owed, Nobody, Asker, Dropper, Followers, owed_last, sort_asker, asker, followers_of, follower}
-use Rattle.lobby_desk.specs.Tellings.{Known, is_whole, answer, open_now, watch_heard, watch_next, watches_now, table_heard, table_next, table_now, owed_answered, owed_now, known_now, presence, lost, AreToldAll, IsTold}
+use Rattle.lobby_desk.specs.Tellings.{Known, open_now, watch_heard, watch_next, watches_now, table_heard, table_next, table_now, owed_answered, owed_now, known_now, presence, lost, AreToldAll, IsTold}
 use Rattle.lobby_desk.specs.Who.{View, BeginsView, IsSaid, IsHeard, IsDropped, IsSentFor, IsSentNext, IsSentHeard, IsDone, IsKnown, who_noted, name_of, speaker}
 use Rattle.lobby_desk.specs.History.{Step, comes, has_come, shown_by, player_said, player_after, player_in, is_drop, name_behind, name_through, name_before, name_in, ActsUnder, ActsRight, NoActs, NoDrops, AllRead, IsOf, open_in, known_in, IsArbiter, AsksNow, HasAsked, IsDropOf, IsRight, AreWhole, AllRight, AllTold, IsRun}
 use Rattle.lobby_desk.proofs.Found.{and_first, and_second, and_both}
-use Rattle.lobby_desk.proofs.Numbers.{number_small}
+use Rattle.lobby_words.proofs.Numbers.{number_small}
 use Rattle.lobby_desk.proofs.Sent.{is_said_same}
 use Rattle.lobby_desk.proofs.Lines.{show_whole, fen_whole, pgn_whole, list_whole, name_whole, show_reads, fen_reads, pgn_reads, list_reads, name_names}
 
@@ -306,19 +307,20 @@ said_good players old c text lines tells new h =
     subst (λ (n : Option (List ℕ)). Good text (old.who c) old.said lines n) (sym h.said_is) lined
 
 -- what is known is the same if each part of it is
-abbrev known_of : List Owed → ℕ → List ℕ → List ℕ → List Watch → List ℕ → Known
-known_of owed left begun last watches table =
-    record { owed = owed; left = left; begun = begun; last = last; watches = watches; table = table }
+abbrev known_of : List Owed → ℕ → List ℕ → List ℕ → List Watch → List ℕ → List Waiting → Known
+known_of owed left begun last watches table waiting =
+    record { owed = owed; left = left; begun = begun; last = last; watches = watches; table = table; waiting = waiting }
 
 same_known : (a b : Known) → a.owed ≡ b.owed → a.left ≡ b.left → a.begun ≡ b.begun → a.last ≡ b.last → a.watches ≡ b.watches →
-    a.table ≡ b.table → a ≡ b
-same_known a b owed left begun last watches table =
-    ap (λ (x : List Owed). known_of x a.left a.begun a.last a.watches a.table) owed
-    ∙ (ap (λ (x : ℕ). known_of b.owed x a.begun a.last a.watches a.table) left
-    ∙ (ap (λ (x : List ℕ). known_of b.owed b.left x a.last a.watches a.table) begun
-    ∙ (ap (λ (x : List ℕ). known_of b.owed b.left b.begun x a.watches a.table) last
-    ∙ (ap (λ (x : List Watch). known_of b.owed b.left b.begun b.last x a.table) watches
-    ∙ ap (λ (x : List ℕ). known_of b.owed b.left b.begun b.last b.watches x) table))))
+    a.table ≡ b.table → a.waiting ≡ b.waiting → a ≡ b
+same_known a b owed left begun last watches table waiting =
+    ap (λ (x : List Owed). known_of x a.left a.begun a.last a.watches a.table a.waiting) owed
+    ∙ (ap (λ (x : ℕ). known_of b.owed x a.begun a.last a.watches a.table a.waiting) left
+    ∙ (ap (λ (x : List ℕ). known_of b.owed b.left x a.last a.watches a.table a.waiting) begun
+    ∙ (ap (λ (x : List ℕ). known_of b.owed b.left b.begun x a.watches a.table a.waiting) last
+    ∙ (ap (λ (x : List Watch). known_of b.owed b.left b.begun b.last x a.table a.waiting) watches
+    ∙ (ap (λ (x : List ℕ). known_of b.owed b.left b.begun b.last b.watches x a.waiting) table
+    ∙ ap (λ (x : List Waiting). known_of b.owed b.left b.begun b.last b.watches b.table x) waiting)))))
 
 -- who watches depends on who is open alone
 watch_alike : (f g : ℕ → Bool) → ((c : ℕ) → f c ≡ g c) → (before : List ℕ) (o : Owed) (watches : List Watch) →
@@ -375,13 +377,13 @@ tables_alike Here f g same k = refl
 known_alike : (event : Event) (by : List ℕ) (lines : List (List ℕ)) (f g : ℕ → Bool) → ((c : ℕ) → f c ≡ g c) → (k : Known) →
     known_now event by lines f k ≡ known_now event by lines g k
 known_alike event by lines f g same k =
-    same_known (known_now event by lines f k) (known_now event by lines g k) refl refl refl refl (watches_alike event f g same k) (tables_alike event f g same k)
+    same_known (known_now event by lines f k) (known_now event by lines g k) refl refl refl refl (watches_alike event f g same k) (tables_alike event f g same k) refl
 
 -- what is known of the connections and of the server then is what the past says
 known_then : (event : Event) (by : List ℕ) (lines : List (List ℕ)) (f g : ℕ → Bool) → ((c : ℕ) → f c ≡ g c) → (old new past : Known) →
     IsKnown event by lines f old new → old ≡ past → new ≡ known_now event by lines g past
 known_then event by lines f g same old new past known is =
-    same_known new (known_now event by lines f old) known.owed known.left known.begun known.last known.watches known.table
+    same_known new (known_now event by lines f old) known.owed known.left known.begun known.last known.watches known.table known.waiting
     ∙ (known_alike event by lines f g same old ∙ ap (λ (k : Known). known_now event by lines g k) is)
 
 -- for whom a connection acts that speaks
@@ -657,6 +659,7 @@ dropped_heard players past line c by text others waits asked lines later h =
         waits = waits;
         name = h.name;
         seated = h.seated;
+        first = h.first;
         acts = subst (λ (ls : List (List ℕ)). ActsUnder (name_in past) ls h.name) (sym h.lines_are) under.acts;
         of_text = subst (λ (ls : List (List ℕ)). AllByRecursion (IsOf text) ls) (sym h.lines_are) under.of_text;
       });
@@ -788,7 +791,7 @@ asked_then players past old Here lines tells now agrees step = tt
 
 begins_known : (players : List Player) (now : View) → BeginsView now → now.known ≡ known_in players []
 begins_known players now begins =
-    same_known now.known (known_in players []) begins.owed begins.left begins.begun begins.last begins.watches begins.table
+    same_known now.known (known_in players []) begins.owed begins.left begins.begun begins.last begins.watches begins.table begins.waiting
 
 pub record RunGood (players : List Player) (steps : List Step) (now : View) : Type 0 where
   pub agrees : Agrees players steps now

@@ -1,17 +1,17 @@
 -- What comes in and what goes out.
-use Rattle.std.specs.Prelude.{ℕ, Bool, List, [], ◌∷◌, map, Option, None, Some}
+use Rattle.std.specs.Prelude.{ℕ, Bool, List, [], ◌∷◌, ◌++◌, codes, map, Option, None, Some}
 use Rattle.std.specs.String.{string_bytes}
 use Rattle.lobby_desk.specs.declared.telling.Kind.{Kind}
 use Rattle.lobby_desk.specs.declared.telling.Kind.TheVariants as kinds
 use Rattle.lobby_desk.specs.declared.telling.Told.{Told}
 use Rattle.lobby_desk.specs.declared.server_line.Due.{Due}
 use Rattle.lobby_desk.specs.declared.server_line.Due.TheVariants as dues
-use Rattle.lobby_desk.specs.declared.planning.Plan.{Plan}
-use Rattle.lobby_desk.specs.declared.planning.Plan.TheVariants as plans
-use Rattle.lobby_desk.specs.declared.words.Sort.{Sort}
-use Rattle.lobby_desk.specs.declared.words.Sort.TheVariants as sorts
-use Rattle.lobby_desk.specs.Words.{rest_of, sort_of, number_in, or_0}
-use Rattle.lobby_desk.specs.Answers.{act_game, act_told, is_table_act}
+use Rattle.lobby_words.specs.declared.planning.Plan.{Plan}
+use Rattle.lobby_words.specs.declared.planning.Plan.TheVariants as plans
+use Rattle.lobby_words.specs.declared.words.Sort.{Sort}
+use Rattle.lobby_words.specs.declared.words.Sort.TheVariants as sorts
+use Rattle.lobby_words.specs.Words.{rest_of, sort_of, number_in, or_0}
+use Rattle.lobby_words.specs.Answers.{act_game, is_table_act}
 
 -- what comes in; of a message that comes too fast nothing is read
 pub data Event : Type 0 where
@@ -98,6 +98,10 @@ plan_asker (plans.Line game) c text = Asker c ForPositions
 plan_asker plans.Lobby c text = Asker c ForTable
 plan_asker (plans.Watch game) c text = Asker c (ForGame game)
 plan_asker _ c text = Asker c ForItself
+
+-- the lines of a notice that tell of an act: who did it, what it was, and what the server answered
+abbrev pub act_told : List ℕ → List ℕ → List ℕ → List ℕ
+act_told by text answer = codes "by " ++ by ++ codes " " ++ text ++ codes "\n" ++ answer
 
 -- Whose the answer to the last line is that goes out for an answer: the drop's for which that was asked; or those who are told of
 -- the game in which an act was done.

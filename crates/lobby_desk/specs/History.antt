@@ -1,14 +1,14 @@
 -- What is promised of whatever came in and went out.
 use Rattle.std.specs.Prelude.{ℕ, ◌≡◌, ◌⊎◌, Bool, true, false, ◌&&◌, ◌||◌, ◌==◌, List, [], ◌∷◌, Option, None, Some, if◌then◌else◌}
 use Rattle.std.specs.List.{AllByRecursion}
-use Rattle.lobby_desk.specs.declared.words.Sort.TheVariants as sorts
-use Rattle.lobby_desk.specs.declared.players.Identity.{Identity}
+use Rattle.lobby_words.specs.declared.words.Sort.TheVariants as sorts
+use Rattle.lobby_words.specs.declared.planning.Identity.{Identity}
 use Rattle.lobby_desk.specs.declared.players.Player.{Player}
-use Rattle.lobby_desk.specs.Words.{rest_of, is_message, sort_of, is_act_sort, is_drop_sort, is_name_sort, is_login_sort}
+use Rattle.lobby_words.specs.Words.{rest_of, is_message, sort_of, is_act_sort, is_drop_sort, is_name_sort, is_login_sort}
 use Rattle.lobby_desk.specs.Players.{holder_of}
-use Rattle.lobby_desk.specs.Answers.{IsSeated}
+use Rattle.lobby_words.specs.Answers.{IsSeated, IsFirstSeated, answer}
 use Rattle.lobby_desk.specs.Events.{Event, Opened, Closed, Said, Heard, Gone, Here, Telling, Owed, Dropper}
-use Rattle.lobby_desk.specs.Tellings.{Known, known_now, open_now, answer, IsTold}
+use Rattle.lobby_desk.specs.Tellings.{Known, known_now, open_now, IsTold}
 use Rattle.lobby_desk.specs.Who.{View, BeginsView, IsStep, speaker}
 
 -- one event, the lines that went to the server for it, and what connections were told
@@ -99,7 +99,7 @@ open_in (s ∷ past) c = open_now s.event c (open_in past c)
 
 -- what is known of the connections and of the server behind a past
 abbrev pub known_in : List Player → List Step → Known
-known_in players [] = record { owed = []; left = 0; begun = []; last = []; watches = []; table = [] }
+known_in players [] = record { owed = []; left = 0; begun = []; last = []; watches = []; table = []; waiting = [] }
 known_in players (s ∷ past) =
     known_now s.event (speaker (player_in players past) s.event) s.lines (open_in past) (known_in players past)
 
@@ -119,7 +119,7 @@ HasAsked players (s ∷ past) c text = AsksNow players past s.event c text ⊎ H
 
 -- A drop goes out behind an answer of the server. It is the message of a connection that had shown an arbiter's token when it
 -- said it; the answer is the one for which this message waits; and the drop stands under the name of a player who, as that
--- answer says, has a seat in the game.
+-- answer says, has a seat in the game: of White, where somebody is White.
 pub record IsDropOf (players : List Player) (past : List Step) (line : List ℕ) (lines : List (List ℕ)) : Type 0 where
   pub c : ℕ
   pub by : List ℕ
@@ -129,6 +129,7 @@ pub record IsDropOf (players : List Player) (past : List Step) (line : List ℕ)
   pub waits : (known_in players past).owed ≡ Dropper c by text ∷ others
   pub name : List ℕ
   pub seated : IsSeated (answer (known_in players past).begun line) (rest_of text) name
+  pub first : IsFirstSeated (answer (known_in players past).begun line) name
   pub acts : ActsUnder (name_in past) lines name
   pub of_text : AllByRecursion (IsOf text) lines
 

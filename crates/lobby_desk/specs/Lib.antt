@@ -1,11 +1,9 @@
-pub mod Words
 pub mod Players
 pub mod Lines
-pub mod Answers
 pub mod Watching
-pub mod Plans
 pub mod Pace
 pub mod Events
+pub mod Waiting
 pub mod Tellings
 pub mod Who
 pub mod History

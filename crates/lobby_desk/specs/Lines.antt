@@ -1,13 +1,10 @@
 -- Lines to the server.
 use Rattle.std.specs.Prelude.{ℕ, Bool, false, List, [], ◌∷◌, ◌++◌, Option, Some, None, codes, decimal, if◌then◌else◌}
 use Rattle.std.specs.Str.{bytes_eq}
-use Rattle.lobby_desk.specs.declared.planning.Plan.{Plan}
-use Rattle.lobby_desk.specs.declared.planning.Plan.TheVariants as plans
+use Rattle.lobby_words.specs.declared.planning.Plan.{Plan}
+use Rattle.lobby_words.specs.declared.planning.Plan.TheVariants as plans
 use Rattle.rec_codec.specs.Name.{IsName}
-
--- a line with the line feed that ends it
-abbrev pub ended : List ℕ → List ℕ
-ended line = line ++ 10 ∷ []
+pub use Rattle.lobby_words.specs.Answers.{ended}
 
 -- lines, one behind the other
 abbrev pub bytes_of : List (List ℕ) → List ℕ

@@ -1,9 +1,11 @@
--- Whom a token shows.
-use Rattle.std.specs.Prelude.{ℕ, Bool, List, Option, Some, None, find, option_map, if◌then◌else◌}
+-- Whom a token shows, and how players are told.
+use Rattle.std.specs.Prelude.{ℕ, Bool, List, [], length, ◌++◌, codes, decimal, Option, Some, None, find, option_map, if◌then◌else◌}
+use Rattle.std.specs.List.{flat_map}
+use Rattle.std.specs.String.{string_bytes}
 use Rattle.std.specs.Str.{bytes_eq}
 use Rattle.sha2.specs.Sha256.{sha256}
 use Rattle.lobby_desk.specs.declared.players.Player.{Player}
-use Rattle.lobby_desk.specs.declared.players.Identity.{Identity}
+use Rattle.lobby_words.specs.declared.planning.Identity.{Identity}
 
 abbrev pub identity_of : Player → Identity
 identity_of player = record { name = player.name; is_arbiter = player.is_arbiter }
@@ -19,3 +21,28 @@ or_holder None is_holder who = if is_holder then Some who else None
 -- the first player whose sum is that of the token
 unfoldable pub holder_of : List Player → List ℕ → Option Identity
 holder_of players token = option_map identity_of (find (has_sum (sha256 token)) players)
+
+-- a player as he is told: name, role and full name
+abbrev pub role_text : Bool → List ℕ
+role_text is_arbiter = if is_arbiter then codes " arbiter " else codes " player "
+
+abbrev pub player_row : List ℕ → Bool → List ℕ → List ℕ
+player_row name is_arbiter full_name = name ++ role_text is_arbiter ++ full_name ++ codes "\n"
+
+abbrev pub row_of : Player → List ℕ
+row_of player = player_row player.name player.is_arbiter (string_bytes player.full_name)
+
+-- the full name of the first player of this name
+abbrev pub full_name_or_none : Option Player → List ℕ
+full_name_or_none None = []
+full_name_or_none (Some player) = string_bytes player.full_name
+
+abbrev pub full_name_of : List Player → List ℕ → List ℕ
+full_name_of players name = full_name_or_none (find (λ player. bytes_eq player.name name) players)
+
+-- the answer to a `login` of this player, and that to `players`
+abbrev pub login_text : List Player → Identity → List ℕ
+login_text players who = codes "ok login " ++ player_row who.name who.is_arbiter (full_name_of players who.name)
+
+abbrev pub players_text : List Player → List ℕ
+players_text players = codes "ok players " ++ decimal (length players) ++ codes "\n" ++ flat_map row_of players

@@ -1,18 +1,19 @@
 -- What connections are told.
 use Rattle.std.specs.Prelude.{ℕ, ◌≡◌, Bool, true, false, ◌&&◌, ◌||◌, ◌==◌, List, [], ◌∷◌, ◌++◌, codes, decimal, Option, None, Some, if◌then◌else◌}
 use Rattle.std.specs.List.{list_any}
+use Rattle.lobby_words.specs.declared.listing.Waiting.{Waiting}
 use Rattle.lobby_desk.specs.declared.watching.Watch.{Watch}
 use Rattle.lobby_desk.specs.declared.telling.Kind.{Kind}
 use Rattle.lobby_desk.specs.declared.telling.Kind.TheVariants as kinds
-use Rattle.lobby_desk.specs.Words.{rest_of, is_message, sort_of, is_leave_sort, is_leave_lobby_sort, number_in}
-use Rattle.lobby_desk.specs.Lines.{ended}
-use Rattle.lobby_desk.specs.Answers.{left_after, is_accepted, is_over}
+use Rattle.lobby_words.specs.Words.{rest_of, is_message, sort_of, is_leave_sort, is_leave_lobby_sort, number_in}
+use Rattle.lobby_words.specs.Answers.{left_after, is_whole, answer, is_accepted, is_over, act_game}
 use Rattle.lobby_desk.specs.Watching.{at_table, watch_if, sit_if, unwatched, none_watched, risen, followers}
-use Rattle.lobby_desk.specs.Events.{Event, Opened, Closed, Said, Hurried, Heard, Gone, Here, Telling, to_one, to_one_as, Ask, ForPositions, ForGame, ForTable, Owed, Nobody, Asker, Dropper, Followers, owed_last, asker, follower}
+use Rattle.lobby_desk.specs.Events.{Event, Opened, Closed, Said, Hurried, Heard, Gone, Here, Telling, to_one, to_one_as, Ask, ForPositions, ForGame, ForTable, ForAct, Owed, Nobody, Asker, Dropper, Followers, owed_last, asker, follower}
+use Rattle.lobby_desk.specs.Waiting.{waiting_told, waiting_listed}
 
 -- What is known of the connections and of the server: for whom the next answers of the server are, the oldest first; how many
 -- lines of the answer that has begun are still to come, and those that came; the last whole answer; who watches which game, and
--- who is told of the table, each in the order in which they came to.
+-- who is told of the table, each in the order in which they came to; and which games wait for a second player.
 pub record Known : Type 0 where
   pub owed : List Owed
   pub left : ℕ
@@ -20,13 +21,7 @@ pub record Known : Type 0 where
   pub last : List ℕ
   pub watches : List Watch
   pub table : List ℕ
-
--- whether a line ends an answer where so many lines were still to come, and the answer behind these lines
-abbrev pub is_whole : ℕ → List ℕ → Bool
-is_whole left line = left_after left line == 0
-
-abbrev pub answer : List ℕ → List ℕ → List ℕ
-answer begun line = begun ++ ended line
+  pub waiting : List Waiting
 
 -- the front of the answer to a `watch` that is accepted, and of that to `lobby`
 abbrev pub watch_front : ℕ → List ℕ
@@ -82,6 +77,23 @@ table_now (Said c text) is_open k = if leaves_table text then risen c k.table el
 table_now (Heard line) is_open k = if is_whole k.left line then table_next is_open k.owed k.table else k.table
 table_now _ is_open k = k.table
 
+-- Which games wait for a second player after an answer, by whose it is: an act was done in the game that its answer names; and
+-- whoever asked for it, the answer to `list` tells all that wait.
+abbrev pub waiting_heard : Owed → List ℕ → List Waiting → List Waiting
+waiting_heard (Asker c (ForAct by text)) now waiting = waiting_told by text (act_game now) waiting
+waiting_heard _ now waiting = waiting
+
+abbrev pub waiting_next : List Owed → List ℕ → List Waiting → List Waiting
+waiting_next [] now waiting = waiting
+waiting_next (o ∷ owed) now waiting = waiting_heard o now waiting
+
+abbrev pub waiting_answered : List Owed → List ℕ → List Waiting → List Waiting
+waiting_answered owed now waiting = waiting_listed now (waiting_next owed now waiting)
+
+abbrev pub waiting_now : Event → Known → List Waiting
+waiting_now (Heard line) k = if is_whole k.left line then waiting_answered k.owed (answer k.begun line) k.waiting else k.waiting
+waiting_now _ k = k.waiting
+
 -- the first of them is answered so, and these lines go out for it
 abbrev pub owed_answered : List Owed → List ℕ → List (List ℕ) → List Owed
 owed_answered [] now lines = []
@@ -121,6 +133,7 @@ known_now event by lines is_open k = record {
   last = last_now event k;
   watches = watches_now event is_open k;
   table = table_now event is_open k;
+  waiting = waiting_now event k;
 }
 
 -- one message, to this connection

@@ -1,35 +1,28 @@
 -- For whom connections act, and what a step of the desk does.
-use Rattle.std.specs.Prelude.{ℕ, ◌≡◌, ◌⊎◌, Bool, true, false, ◌||◌, ◌==◌, List, [], ◌∷◌, ◌++◌, ◌+◌, codes, decimal, map, Option, None, Some, is_some, option_and_then, if◌then◌else◌}
-use Rattle.std.specs.Str.{bytes_eq}
+use Rattle.std.specs.Prelude.{ℕ, ◌≡◌, ◌⊎◌, Bool, true, false, ◌&&◌, ◌||◌, ◌==◌, List, [], ◌∷◌, ◌++◌, ◌+◌, codes, decimal, map, Option, None, Some, is_some, option_and_then, if◌then◌else◌}
 use Rattle.std.specs.BTreeMap.{BTreeMap, get}
 use Rattle.std.specs.Ordering.{nat_cmp}
 use Rattle.std.specs.String.{string_bytes}
-use Rattle.std.specs.declared.string.String.{String}
-use Rattle.lobby_desk.specs.declared.coming.Coming.{Coming}
 use Rattle.rec_codec.specs.Name.{IsName}
-use Rattle.lobby_desk.specs.declared.planning.Plan.{Plan}
-use Rattle.lobby_desk.specs.declared.planning.Plan.TheVariants as plans
-use Rattle.lobby_desk.specs.declared.planning.Standing.{Standing}
-use Rattle.lobby_desk.specs.declared.players.Identity.{Identity}
+use Rattle.lobby_words.specs.declared.planning.Plan.{Plan}
+use Rattle.lobby_words.specs.declared.planning.Plan.TheVariants as plans
+use Rattle.lobby_words.specs.declared.planning.Standing.{Standing}
+use Rattle.lobby_words.specs.declared.planning.Identity.{Identity}
 use Rattle.lobby_desk.specs.declared.players.Player.{Player}
 use Rattle.lobby_desk.specs.declared.players.Visitor.{Visitor}
 use Rattle.lobby_desk.specs.declared.watching.Watch.{Watch}
 use Rattle.lobby_desk.specs.declared.desk.Desk.{Desk}
-use Rattle.lobby_desk.specs.Words.{word_of, rest_of, is_message, sort_of, number_in}
-use Rattle.lobby_desk.specs.Players.{holder_of}
-use Rattle.lobby_desk.specs.Plans.{refusal_text, plan_of}
+use Rattle.lobby_words.specs.Words.{rest_of, is_message, sort_of, number_in}
+use Rattle.lobby_words.specs.Waiting.{is_open as opens_game}
+use Rattle.lobby_desk.specs.Players.{holder_of, login_text, players_text}
+use Rattle.lobby_words.specs.Plans.{refusal_text, plan_of}
 use Rattle.lobby_desk.specs.Lines.{bytes_of, lines_of, act_lines, said_after, notice_lines, IsNamed}
-use Rattle.lobby_desk.specs.Answers.{IsSeated, IsSeatless, act_game}
+use Rattle.lobby_words.specs.Answers.{IsSeated, IsFirstSeated, IsSeatless, act_game, is_whole, answer}
 use Rattle.lobby_desk.specs.Watching.{unwatched, risen, is_full}
+use Rattle.lobby_desk.specs.Waiting.{is_crowded}
 pub use Rattle.lobby_desk.specs.Watching.{at_table}
 use Rattle.lobby_desk.specs.Events.{Event, Opened, Closed, Said, Hurried, Heard, Gone, Here, Telling, to_one, ForAct, Owed, Asker, Dropper, owed_of, owed_last, plan_asker, follower}
-use Rattle.lobby_desk.specs.Tellings.{Known, is_whole, answer, open_now, watch_heard, watch_next, table_heard, table_next, watches_now, table_now, owed_now, left_now, begun_now, last_now, owed_answered, owes, presence, IsTold, IsToldFor, IsToldNext}
-
--- a line of an answer is taken: the whole answer is given where it was the last
-abbrev pub IsTaken : {A : Type 0} → Coming → List ℕ → Option (String A) → Coming → Type 0
-IsTaken old line None new = (is_whole old.left line ≡ false) × (string_bytes new.text ≡ answer (string_bytes old.text) line)
-IsTaken old line (Some text) new =
-    (is_whole old.left line ≡ true) × (string_bytes text ≡ answer (string_bytes old.text) line) × (string_bytes new.text ≡ [])
+use Rattle.lobby_desk.specs.Tellings.{Known, open_now, watch_heard, watch_next, table_heard, table_next, watches_now, table_now, waiting_heard, waiting_next, waiting_now, owed_now, left_now, begun_now, last_now, owed_answered, owes, presence, IsTold, IsToldFor, IsToldNext}
 
 -- the player for whom a connection acts
 abbrev pub who_in : BTreeMap ℕ Visitor → ℕ → Option Identity
@@ -96,19 +89,21 @@ is_own plans.LeaveLobby = true
 is_own (plans.Leave game) = true
 is_own _ = false
 
--- Such an answer: a refusal says why, and what is left is named; the texts for `login` and `players` are not told here.
-abbrev pub IsOwnText : Plan → List ℕ → Type 0
-IsOwnText (plans.Refuse refusal) text = text ≡ refusal_text refusal
-IsOwnText plans.LeaveLobby text = text ≡ codes "ok leave lobby\n"
-IsOwnText (plans.Leave game) text = text ≡ codes "ok leave " ++ decimal game ++ codes "\n"
-IsOwnText _ text = Unit {0}
+-- Such an answer: a refusal says why; the player is told, or all players are; what is left is named.
+abbrev pub IsOwnText : List Player → Plan → List ℕ → Type 0
+IsOwnText players (plans.Refuse refusal) text = text ≡ refusal_text refusal
+IsOwnText players (plans.Login who) text = text ≡ login_text players who
+IsOwnText players plans.Players text = text ≡ players_text players
+IsOwnText players plans.LeaveLobby text = text ≡ codes "ok leave lobby\n"
+IsOwnText players (plans.Leave game) text = text ≡ codes "ok leave " ++ decimal game ++ codes "\n"
+IsOwnText players _ text = Unit {0}
 
-abbrev pub IsAnsweredIf : Bool → Plan → ℕ → List Telling → Type 0
-IsAnsweredIf true plan c tells = (text : List ℕ) × IsOwnText plan text × (tells ≡ to_one c text ∷ [])
-IsAnsweredIf false plan c tells = tells ≡ []
+abbrev pub IsAnsweredIf : Bool → List Player → Plan → ℕ → List Telling → Type 0
+IsAnsweredIf true players plan c tells = (text : List ℕ) × IsOwnText players plan text × (tells ≡ to_one c text ∷ [])
+IsAnsweredIf false players plan c tells = tells ≡ []
 
-abbrev pub IsAnswered : Plan → ℕ → List Telling → Type 0
-IsAnswered plan c tells = IsAnsweredIf (is_own plan) plan c tells
+abbrev pub IsAnswered : List Player → Plan → ℕ → List Telling → Type 0
+IsAnswered players plan c tells = IsAnsweredIf (is_own plan) players plan c tells
 
 abbrev pub known : Desk → Known
 known desk = record {
@@ -118,6 +113,7 @@ known desk = record {
   last = string_bytes desk.last;
   watches = desk.watches.items;
   table = desk.table.items;
+  waiting = desk.waiting.items;
 }
 
 -- the connection is open, and no answer is owed to it
@@ -149,6 +145,7 @@ pub record BeginsView (now : View) : Type 0 where
   pub last : now.known.last ≡ []
   pub watches : now.known.watches ≡ []
   pub table : now.known.table ≡ []
+  pub waiting : now.known.waiting ≡ []
 
 abbrev pub Begins : Desk → Type 0
 Begins desk = BeginsView (view desk)
@@ -158,30 +155,37 @@ abbrev pub said_event : Bool → ℕ → List ℕ → Event
 said_event true c text = Hurried c
 said_event false c text = Said c text
 
+-- whether a message opens a game, and no game more of its player may wait for a second player
+abbrev pub crowds : Known → Option Identity → List ℕ → Bool
+crowds k None text = false
+crowds k (Some who) text = opens_game text && is_crowded k.waiting k.owed who.name
+
 -- The plan for a message is carried out: these lines go out, and of the players for whom connections act no more changes
--- than a login says. That too many games wait for a second player is said to `open` alone.
+-- than a login says.
 pub record IsSaid (players : List Player) (old : View) (c : ℕ) (text : List ℕ) (lines : List (List ℕ)) (tells : List Telling) (new : View) : Type 0 where
   pub standing : Standing
   pub who : standing.who ≡ old.who c
   pub holder : standing.holder ≡ holder_of players (rest_of text)
   pub here : standing.is_here ≡ old.here
   pub full : standing.is_full ≡ is_full old.known.watches c (number_in (rest_of text))
-  pub crowded : standing.is_crowded ≡ true → bytes_eq (word_of text) (codes "open") ≡ true
+  pub crowded : standing.is_crowded ≡ crowds old.known (old.who c) text
   pub plan : Plan
   pub planned : plan ≡ plan_of (is_message text) (sort_of text) standing (number_in (rest_of text))
   pub named : IsNamed plan
   pub lines_are : lines ≡ lines_of plan old.said text
-  pub answers : IsAnswered plan c tells
+  pub answers : IsAnswered players plan c tells
   pub next_is : new.next ≡ old.next
   pub said_is : new.said ≡ said_after plan old.said
   pub here_is : new.here ≡ old.here
   pub who_is : (d : ℕ) → new.who d ≡ (if c == d then who_noted plan (old.who d) else old.who d)
 
--- A drop that waited goes out, under the name of a player who has a seat in its game, as the answer to `show` says.
+-- A drop that waited goes out, under the name of a player who has a seat in its game, as the answer to `show` says: White, where
+-- somebody is White.
 pub record IsDropped (said : Option (List ℕ)) (now text : List ℕ) (lines : List (List ℕ)) (later : Option (List ℕ)) : Type 0 where
   pub name : List ℕ
   pub named : IsName name
   pub seated : IsSeated now (rest_of text) name
+  pub first : IsFirstSeated now name
   pub lines_are : lines ≡ act_lines said name text
   pub said_is : later ≡ Some name
 
@@ -266,6 +270,7 @@ pub record IsKnown (event : Event) (by : List ℕ) (lines : List (List ℕ)) (is
   pub last : new.last ≡ last_now event old
   pub watches : new.watches ≡ watches_now event is_open old
   pub table : new.table ≡ table_now event is_open old
+  pub waiting : new.waiting ≡ waiting_now event old
 
 -- a step: what comes in, the lines that go to the server, and what connections are told
 pub record IsStep (players : List Player) (old : View) (event : Event) (lines : List (List ℕ)) (tells : List Telling) (new : View) : Type 0 where
@@ -290,7 +295,7 @@ pub record Carried (old : Desk) (from : ℕ) (text : List ℕ) (plan : Plan) (un
   pub tells : List Telling
   pub sent : after ≡ before ++ bytes_of (lines_of plan old.line.said text)
   pub told : told_after ≡ told_before ++ tells
-  pub answers : IsAnswered plan from tells
+  pub answers : IsAnswered old.players.items plan from tells
   pub named : IsNamed plan
   pub said_is : new.line.said ≡ said_after plan old.line.said
   pub here_is : new.line.is_here ≡ old.line.is_here
@@ -300,6 +305,7 @@ pub record Carried (old : Desk) (from : ℕ) (text : List ℕ) (plan : Plan) (un
   pub untils : (c : ℕ) → until_of new c ≡ (if from == c then until else until_of old c)
   pub watches : new.watches.items ≡ plan_watches plan from old.watches.items
   pub table : new.table.items ≡ plan_table plan from old.table.items
+  pub waiting : new.waiting ≡ old.waiting
   pub coming : new.coming ≡ old.coming
   pub last : new.last ≡ old.last
   pub players : new.players ≡ old.players
@@ -316,6 +322,7 @@ pub record AnswersTo (o : Owed) (now : List ℕ) (old : Desk) (before after : Li
   pub owed : (known new).owed ≡ (known old).owed ++ owed_last (follower o now) lines
   pub watches : new.watches.items ≡ watch_heard (open_of old) (string_bytes old.last) o old.watches.items
   pub table : new.table.items ≡ table_heard (open_of old) o old.table.items
+  pub waiting : new.waiting.items ≡ waiting_heard o now old.waiting.items
   pub here_is : new.line.is_here ≡ old.line.is_here
   pub visitors : new.visitors ≡ old.visitors
   pub coming : new.coming ≡ old.coming
@@ -334,6 +341,7 @@ pub record Answered (now : List ℕ) (old : Desk) (before after : List ℕ) (tol
   pub owed : (known new).owed ≡ owed_answered (known old).owed now lines
   pub watches : new.watches.items ≡ watch_next (open_of old) (string_bytes old.last) (known old).owed old.watches.items
   pub table : new.table.items ≡ table_next (open_of old) (known old).owed old.table.items
+  pub waiting : new.waiting.items ≡ waiting_next (known old).owed now old.waiting.items
   pub here_is : new.line.is_here ≡ old.line.is_here
   pub visitors : new.visitors ≡ old.visitors
   pub coming : new.coming ≡ old.coming

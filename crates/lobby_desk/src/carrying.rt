@@ -5,12 +5,12 @@ ghost use Rattle.lobby_desk.specs.Lines.{bytes_of, lines_of, said_after, IsNamed
 ghost use Rattle.lobby_desk.specs.Events.{Telling, tellings, owed_of, owed_last, plan_asker};
 ghost use Rattle.lobby_desk.specs.Who.{who_in, open_in_map, until_in, who_noted, plan_watches, plan_table, is_own, IsOwnText, IsAnswered};
 
-use crate::planning::Plan;
-use crate::players::{Identity, Player, Visitor};
+use crate::players::{Player, Visitor};
+use crate::rows::{login_line, player_rows};
 use crate::server_line::{Acting, Due, ServerLine};
 use crate::telling::{Kind, Told, headed, tell};
 use crate::watching::{Watch, rise, unwatch};
-use rec_codec::Name;
+use lobby_words::{Identity, Plan};
 use std::alloc::{AllocError, Global};
 use std::collections::BTreeMap;
 
@@ -34,7 +34,7 @@ pub fn answer_plan(
     plan: &Plan,
     told: &mut Vec<Told>,
 ) -> Result<(), AllocError>
-    ensures { OnOk result ((tells : List Telling) × (tellings told.new.items ≡ tellings told.old.items ++ tells) × IsAnswered plan.now from tells) }
+    ensures { OnOk result ((tells : List Telling) × (tellings told.new.items ≡ tellings told.old.items ++ tells) × IsAnswered players.now plan.now from tells) }
 {
     match own_answer(alloc, plan, players)? {
         None => Ok(()),
@@ -45,7 +45,7 @@ pub fn answer_plan(
 // The line that a connection is answered for a plan by which nothing is sent.
 fn own_answer(alloc: Global, plan: &Plan, players: &[Player]) -> Result<Option<String>, AllocError>
     ensures own { IfOk result (λ answer. is_some answer ≡ is_own plan.now) }
-    ensures text { IfOk result (λ answer. IfSome answer (λ text. IsOwnText plan.now (string_bytes text))) }
+    ensures text { IfOk result (λ answer. IfSome answer (λ text. IsOwnText players.now plan.now (string_bytes text))) }
 {
     match plan {
         Plan::Refuse(refusal) => Ok(Some(String::from_str(alloc, refusal.line())?)),
@@ -55,47 +55,6 @@ fn own_answer(alloc: Global, plan: &Plan, players: &[Player]) -> Result<Option<S
         Plan::Leave(game) => Ok(Some(headed(alloc, "ok leave ", *game)?)),
         _ => Ok(None),
     }
-}
-
-// A player's name, role and full name, and a line feed.
-fn push_player(
-    text: &mut String,
-    name: &Name,
-    is_arbiter: bool,
-    full_name: &str,
-) -> Result<(), AllocError> {
-    text.push_str(name.as_str())?;
-    text.push_str(if is_arbiter { " arbiter " } else { " player " })?;
-    text.push_str(full_name)?;
-    text.push('\n')
-}
-
-// The answer to a `login` that is accepted.
-fn login_line(alloc: Global, who: &Identity, players: &[Player]) -> Result<String, AllocError> {
-    let mut text = String::from_str(alloc, "ok login ")?;
-    let mut full_name = "";
-    for player in players {
-        if player.name.as_str() == who.name.as_str() {
-            full_name = player.full_name.as_str();
-        }
-    }
-    push_player(&mut text, &who.name, who.is_arbiter, full_name)?;
-    Ok(text)
-}
-
-// The answer to `players`.
-fn player_rows(alloc: Global, players: &[Player]) -> Result<String, AllocError> {
-    let count = players.len();
-    let mut text = format!(in alloc; "ok players {count}\n")?;
-    for player in players {
-        push_player(
-            &mut text,
-            &player.name,
-            player.is_arbiter,
-            player.full_name.as_str(),
-        )?;
-    }
-    Ok(text)
 }
 
 // A connection's act, as it waits.

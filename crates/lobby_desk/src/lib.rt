@@ -4,22 +4,19 @@
 
 mod answering;
 mod carrying;
-mod coming;
 mod desk;
 mod law;
 mod pace;
-mod planning;
 mod players;
-mod refusals;
+mod rows;
 mod server_line;
 mod telling;
 #[cfg(test)]
 mod tests;
 mod waiting;
 mod watching;
-mod words;
 
 pub use desk::Desk;
 pub use law::{law_of_lines, law_of_tellings};
-pub use players::{Identity, Player};
+pub use players::Player;
 pub use telling::{Kind, Told};

@@ -3,6 +3,7 @@ ghost use Rattle.std.specs.Prelude.{◌≡◌};
 ghost use Rattle.std.specs.Str.{bytes_eq};
 ghost use Rattle.lobby_desk.specs.Players.{identity_of, or_holder, holder_of};
 
+use lobby_words::Identity;
 use rec_codec::Name;
 use sha2::{Digest, Sha256};
 
@@ -13,13 +14,6 @@ pub struct Player {
     pub full_name: String,
     /// The SHA-256 of the token's text.
     pub sum: [u8; 32],
-    pub is_arbiter: bool,
-}
-
-/// For whom a connection acts.
-#[derive(Clone, Copy)]
-pub struct Identity {
-    pub name: Name,
     pub is_arbiter: bool,
 }
 

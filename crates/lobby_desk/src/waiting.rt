@@ -1,10 +1,15 @@
 //! The games that wait for a second player, as far as the server's answers have told.
-ghost use Rattle.std.specs.Prelude.{◌≡◌, codes};
+ghost use Rattle.std.specs.Prelude.{◌≡◌, ◌==◌, ◌+◌, ◌&&◌, not, nat_le, filter, map, OnOk};
+ghost use Rattle.std.specs.List.{count_by};
 ghost use Rattle.std.specs.Str.{bytes_eq};
-ghost use Rattle.lobby_desk.specs.Words.{word_of};
+ghost use Rattle.std.specs.String.{string_bytes};
+ghost use Rattle.lobby_words.specs.declared.listing.Waiting.{Waiting};
+ghost use Rattle.lobby_words.specs.Waiting.{is_open};
+ghost use Rattle.lobby_desk.specs.Events.{owed_of};
+ghost use Rattle.lobby_desk.specs.Waiting.{is_opening, is_crowded, waiting_acted, waiting_told, waiting_listed};
 
 use crate::server_line::{Acting, Due};
-use crate::words::{cut, number_named};
+use lobby_words::{Waiting, ends_wait, is_list, is_open, waiting_in};
 use rec_codec::Name;
 use std::alloc::{AllocError, Global};
 use std::collections::VecDeque;
@@ -12,100 +17,126 @@ use std::collections::VecDeque;
 // The most games of one player that wait.
 const WAIT_ROOM: usize = 16;
 
-/// A game that waits, and the player who has a seat in it.
-#[derive(Clone, Copy)]
-pub struct Waiting {
-    game: u32,
-    by: Name,
-}
-
-/// Whether a message opens a game.
-pub fn is_open(text: &str) -> bool
-    ensures { result ≡ bytes_eq (word_of text.now) (codes "open") }
+// Whether a game waits with this player in it.
+fn is_by(one: &Waiting, name: &Name) -> bool
+    ensures { result ≡ bytes_eq one.now.by name.now }
 {
-    let (word, _) = cut(text);
-    word == "open"
+    one.by.as_str() == name.as_str()
 }
 
-/// Whether no game more of a player may be opened. Those count whose opening is not answered yet.
-pub fn is_crowded(waiting: &[Waiting], queue: &VecDeque<Due>, who: &Name) -> bool {
-    let name = who.as_str();
-    let mut left = WAIT_ROOM;
+// How many games wait with this player in them.
+fn waiting_by(waiting: &[Waiting], name: &Name) -> usize
+    ensures { result ≡ count_by (λ (w : Waiting). bytes_eq w.by name.now) waiting.now }
+{
+    let mut count = 0;
     for one in waiting {
-        if one.by.as_str() == name {
-            left = left.saturating_sub(1);
+        if is_by(one, name) {
+            count += 1;
         }
     }
-    for due in queue.iter() {
-        if is_opening(due, name) {
-            left = left.saturating_sub(1);
-        }
-    }
-    left == 0
+    count
 }
 
-// Whether the answer to a player's `open` is due.
-fn is_opening(due: &Due, name: &str) -> bool {
+// Whether an act is an `open` of this player.
+fn opens_by(act: &Acting, name: &Name) -> bool
+    ensures { result ≡ (bytes_eq act.now.who name.now && is_open (string_bytes act.now.text)) }
+{
+    let is_his = act.who.as_str() == name.as_str();
+    let opens = is_open(act.text.as_str());
+    is_his & opens
+}
+
+// Whether the answer to an `open` of this player is due.
+fn is_opening(due: &Due, name: &Name) -> bool
+    ensures { result ≡ is_opening name.now (owed_of due.now) }
+{
     match due {
-        Due::Act(act) => act.who.as_str() == name && is_open(act.text.as_str()),
+        Due::Act(act) => opens_by(act, name),
         _ => false,
     }
 }
 
-/// Notes an act, where it was accepted in a game.
+// How many answers to an `open` of this player are due.
+fn openings(dues: &[Due], name: &Name) -> usize
+    ensures { result ≡ count_by (λ due. is_opening name.now (owed_of due)) dues.now }
+{
+    let mut count = 0;
+    for due in dues {
+        if is_opening(due, name) {
+            count += 1;
+        }
+    }
+    count
+}
+
+// Whether three numbers are as many as may be.
+fn are_many(a: usize, b: usize, c: usize) -> bool
+    ensures { result ≡ nat_le 16 (a + (b + c)) }
+{
+    let left = WAIT_ROOM
+        .saturating_sub(a)
+        .saturating_sub(b)
+        .saturating_sub(c);
+    left == 0
+}
+
+/// Whether no game more of a player may be opened. Those count whose opening is not answered yet.
+pub fn is_crowded(waiting: &[Waiting], queue: &VecDeque<Due>, name: &Name) -> bool
+    ensures { result ≡ is_crowded waiting.now (map owed_of queue.now.items) name.now }
+{
+    let (first, second) = queue.as_slices();
+    are_many(
+        waiting_by(waiting, name),
+        openings(first, name),
+        openings(second, name),
+    )
+}
+
+// A game waits no more.
+fn take_off(waiting: &mut Vec<Waiting>, game: u32)
+    ensures { waiting.new.items ≡ filter (λ (w : Waiting). not (w.game == game)) waiting.old.items }
+{
+    waiting.retain(|one| one.game != game);
+}
+
+// Notes an act that was done in a game.
+fn note_game(waiting: &mut Vec<Waiting>, act: &Acting, game: u32) -> Result<(), AllocError>
+    ensures { OnOk result (waiting.new.items ≡ waiting_acted act.now.who (string_bytes act.now.text) game waiting.old.items) }
+{
+    let text = act.text.as_str();
+    if is_open(text) {
+        waiting.push(Waiting { game, by: act.who })?;
+        Ok(())
+    } else if ends_wait(text) {
+        take_off(waiting, game);
+        Ok(())
+    } else {
+        Ok(())
+    }
+}
+
+/// Notes an act, where it was done in a game.
 pub fn note_act(
     waiting: &mut Vec<Waiting>,
     act: &Acting,
     game: Option<u32>,
-) -> Result<(), AllocError> {
-    let Some(game) = game else {
-        return Ok(());
-    };
-    let (word, _) = cut(act.text.as_str());
-    if word == "open" {
-        waiting.push(Waiting { game, by: act.who })?;
-    } else if word == "join" || word == "drop" {
-        waiting.retain(|one| one.game != game);
+) -> Result<(), AllocError>
+    ensures { OnOk result (waiting.new.items ≡ waiting_told act.now.who (string_bytes act.now.text) game waiting.old.items) }
+{
+    match game {
+        None => Ok(()),
+        Some(game) => note_game(waiting, act, game),
     }
-    Ok(())
 }
 
 /// Takes the games that wait from an answer, where it is one to `list`.
-pub fn note_list(
-    waiting: &mut Vec<Waiting>,
-    alloc: Global,
-    answer: &str,
-) -> Result<(), AllocError> {
-    if answer.starts_with("ok list ") {
+pub fn note_list(waiting: &mut Vec<Waiting>, alloc: Global, answer: &str) -> Result<(), AllocError>
+    ensures { OnOk result (waiting.new.items ≡ waiting_listed answer.now waiting.old.items) }
+{
+    if is_list(answer) {
         *waiting = waiting_in(alloc, answer)?;
-    }
-    Ok(())
-}
-
-// The games that wait, of the answer to `list`.
-fn waiting_in(alloc: Global, list: &str) -> Result<Vec<Waiting>, AllocError> {
-    let mut waiting = Vec::new(alloc);
-    for row in list.lines() {
-        if let Some(one) = waiting_row(row) {
-            waiting.push(one)?;
-        }
-    }
-    Ok(waiting)
-}
-
-// The game of a row `G WHITE BLACK PLY RESULT` that has one empty seat.
-fn waiting_row(row: &str) -> Option<Waiting> {
-    let (number, rest) = cut(row);
-    let (white, rest) = cut(rest);
-    let (black, _) = cut(rest);
-    let game = number_named(number)?;
-    let seated = if white == "-" {
-        black
-    } else if black == "-" {
-        white
+        Ok(())
     } else {
-        return None;
-    };
-    let by = Name::try_new(seated)?;
-    Some(Waiting { game, by })
+        Ok(())
+    }
 }

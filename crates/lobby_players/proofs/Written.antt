@@ -13,7 +13,7 @@ use Rattle.text_parts.specs.Parts.{parts_of}
 use Rattle.hex.specs.Hex.{decode_sized, encode_lower, is_hex_digit}
 use Rattle.hex.proofs.HexLemmas.{IsOk-decode_sized}
 use Rattle.rec_codec.specs.Name.{IsName, is_name_byte}
-use Rattle.lobby_desk.specs.Words.{word_of}
+use Rattle.lobby_words.specs.Words.{word_of}
 use Rattle.lobby_desk.specs.Lines.{ended, bytes_of}
 use Rattle.lobby_desk.specs.declared.players.Player.{Player}
 use Rattle.lobby_players.specs.File.{Entry, IsWord, IsLineOf, AreTwo, AreLinesOf, IsFileOf, lines_of, spoken, is_silent, is_full_name, is_shown_byte, role_text, has_name, has_sum, entry_of, entries_of}

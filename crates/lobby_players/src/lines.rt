@@ -1,7 +1,7 @@
 //! What stands in front of a line.
 ghost use Rattle.std.specs.Prelude.{◌≡◌};
 ghost use Rattle.lobby_players.specs.File.{is_silent};
-ghost use Rattle.lobby_desk.specs.Words.{word_of};
+ghost use Rattle.lobby_words.specs.Words.{word_of};
 
 /// Whether a line tells of no player.
 pub fn is_silent(line: &str) -> bool

@@ -1,5 +1,5 @@
 -- One browser's connection, from its first byte on.
-use Rattle.std.specs.Prelude.{ℕ, ◌≡◌, ◌≢◌, ◌<◌, ◌⊎◌, Bool, true, false, List, [], ◌∷◌, ◌++◌, drop, length, ⊤, Option, Some, None, Result, Ok, Err}
+use Rattle.std.specs.Prelude.{ℕ, ◌≡◌, ◌≢◌, ◌<◌, ◌≤◌, ◌⊎◌, Bool, true, false, List, [], ◌∷◌, ◌++◌, drop, length, ⊤, Option, Some, None, Result, Ok, Err}
 use Rattle.http.specs.declared.request.Request.{Request}
 use Rattle.http_server.specs.declared.state.Config.{Config}
 use Rattle.http_server.specs.declared.state.State.TheVariants.{Open, Upgraded}
@@ -67,10 +67,11 @@ Answers config site old (At.Http connection) =
 Answers config site old (At.Socket socket) = HandsOver config site old socket
 Answers config site old At.Over = ⊤
 
--- bytes are taken
+-- Bytes are taken: of a socket while it is not over, and neither too many wait to be read nor too many to be written.
 abbrev pub WantsBytes : Stage → Type 0
 WantsBytes (At.Http connection) = WantsRead (config_of connection) (history connection)
-WantsBytes (At.Socket socket) = (socket.is_over ≡ false) × (length socket.input.items < 8192)
+WantsBytes (At.Socket socket) =
+    (socket.is_over ≡ false) × (length socket.input.items < 8192) × (length socket.output.items ≤ 65536)
 WantsBytes At.Over = ⊥
 
 -- something may be said

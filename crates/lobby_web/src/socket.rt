@@ -24,6 +24,9 @@ pub const MOST_IN_MESSAGE: usize = 4_096;
 /// With so many bytes unread no more are taken. A frame of the most bytes is whole before that.
 pub const MOST_UNREAD: usize = 8_192;
 
+/// While more bytes than these wait for a browser, no more are taken of it: what it sends may bring it more.
+pub const MOST_UNTAKEN: usize = 65_536;
+
 /// While more bytes than these wait for a browser, nothing more is said to it.
 pub const MOST_WAITING: usize = 1_048_576;
 
@@ -154,9 +157,10 @@ impl Socket {
 
     /// Whether more bytes are taken.
     pub fn wants_read(&self) -> bool
-        ensures { IsTrue result ↔ ((self.now.is_over ≡ false) × (length self.now.input.items < MOST_UNREAD)) }
+        ensures { IsTrue result ↔ ((self.now.is_over ≡ false) × (length self.now.input.items < MOST_UNREAD)
+            × (length self.now.output.items ≤ MOST_UNTAKEN)) }
     {
-        !self.is_over && self.input.len() < MOST_UNREAD
+        !self.is_over && self.input.len() < MOST_UNREAD && self.output.len() <= MOST_UNTAKEN
     }
 
     /// The next bytes to write.

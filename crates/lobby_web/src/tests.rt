@@ -436,3 +436,36 @@ fn a_flood_is_not_taken(rt: HostRuntime) {
     hear(&rt, &mut trial);
     assert!(rt; trial.browser.is_over() && trial.said.as_slice().starts_with(b"open\nlist\naaaa"));
 }
+
+// Pieces of this come as long as bytes are wanted, and what they bring is heard; nothing is written. It tells how many came.
+fn flood(rt: &impl Abort, trial: &mut Trial, site: &Site, piece: &[u8]) -> usize {
+    for count in 0..MOST {
+        if !trial.browser.wants_read() {
+            return count;
+        }
+        trial.browser.take(site, piece);
+        hear(rt, trial);
+    }
+    MOST
+}
+
+// So many pings of 125 bytes.
+fn pings(rt: &impl Abort, lab: &Lab, count: usize) -> Vec<u8> {
+    let ping = long(rt, lab, b"\x89\xfd\0\0\0\0", 131);
+    let mut all = Vec::new(lab.alloc);
+    for _ in 0..count {
+        all.extend_from_slice(&ping).expect(rt, "memory");
+    }
+    all
+}
+
+#[test]
+fn who_pings_and_takes_nothing_is_not_read(rt: HostRuntime) {
+    let lab = lab_of(&rt, rt.alloc(), RandomState::new(&rt).expect(&rt, "keys"));
+    let mut trial = whole(&rt, &lab, UPGRADE);
+    // 100 pongs have 12,700 bytes, so that six pieces bring more than 65,536.
+    let piece = pings(&rt, &lab, 100);
+    assert!(rt; flood(&rt, &mut trial, &lab.site, &piece) == 6 && !trial.browser.is_over());
+    write(&rt, &mut trial, &lab.site);
+    assert!(rt; trial.written.len() == SWITCH.len() + 76_200 && trial.browser.wants_read());
+}

@@ -3,7 +3,7 @@ use Rattle.std.specs.Prelude.{find, option_map}
 use Rattle.std.proofs.lemmas.List.{take_more}
 use Rattle.std.proofs.Math.Seq.{take-length}
 use Rattle.lobby_desk.specs.declared.players.Player.{Player}
-use Rattle.lobby_desk.specs.declared.players.Identity.{Identity}
+use Rattle.lobby_words.specs.declared.planning.Identity.{Identity}
 use Rattle.lobby_desk.specs.Players.{identity_of, has_sum, or_holder, holder_of}
 use Rattle.lobby_desk.proofs.Found.{found_more}
 use Rattle.lobby_desk.proofs.players.holder_of.Goals as goal

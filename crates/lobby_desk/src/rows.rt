@@ -1,0 +1,95 @@
+//! How players are told.
+ghost use Rattle.std.specs.Prelude.{◌≡◌, ◌++◌, codes, decimal, length, IfOk, OnOk, find};
+ghost use Rattle.std.specs.List.{flat_map};
+ghost use Rattle.std.specs.Option.{option_copied};
+ghost use Rattle.std.specs.Str.{bytes_eq};
+ghost use Rattle.std.specs.String.{string_bytes};
+ghost use Rattle.lobby_desk.specs.Players.{role_text, player_row, row_of, full_name_of, login_text, players_text};
+
+use crate::players::Player;
+use itoa::Buffer;
+use lobby_words::Identity;
+use std::alloc::{AllocError, Global};
+
+fn role_text(is_arbiter: bool) -> &'static str
+    ensures { result.now ≡ role_text is_arbiter }
+{
+    if is_arbiter { " arbiter " } else { " player " }
+}
+
+// A player's name, role and full name, and a line feed.
+fn push_row(
+    text: &mut String,
+    name: &str,
+    is_arbiter: bool,
+    full_name: &str,
+) -> Result<(), AllocError>
+    ensures { OnOk result (string_bytes text.new ≡ string_bytes text.old ++ player_row name.now is_arbiter full_name.now) }
+{
+    text.push_str(name)?;
+    text.push_str(role_text(is_arbiter))?;
+    text.push_str(full_name)?;
+    text.push('\n')?;
+    Ok(())
+}
+
+// The row of a player.
+fn push_player(text: &mut String, player: &Player) -> Result<(), AllocError>
+    ensures { OnOk result (string_bytes text.new ≡ string_bytes text.old ++ row_of player.now) }
+{
+    push_row(
+        text,
+        player.name.as_str(),
+        player.is_arbiter,
+        player.full_name.as_str(),
+    )
+}
+
+// The first player of a name.
+fn named<'a>(players: &'a [Player], name: &str) -> Option<&'a Player>
+    ensures { option_copied result ≡ find (λ player. bytes_eq player.name name.now) players.now }
+{
+    players.iter().find(|player| player.name.as_str() == name)
+}
+
+// The full name of the first player of a name.
+fn full_name_of<'a>(players: &'a [Player], name: &str) -> &'a str
+    ensures { result.now ≡ full_name_of players.now name.now }
+{
+    match named(players, name) {
+        None => "",
+        Some(player) => player.full_name.as_str(),
+    }
+}
+
+/// The answer to a `login` that is accepted.
+pub fn login_line(alloc: Global, who: &Identity, players: &[Player]) -> Result<String, AllocError>
+    ensures { IfOk result (λ text. string_bytes text ≡ login_text players.now who.now) }
+{
+    let mut text = String::from_str(alloc, "ok login ")?;
+    let name = who.name.as_str();
+    push_row(&mut text, name, who.is_arbiter, full_name_of(players, name))?;
+    Ok(text)
+}
+
+// How many players there are.
+fn count_line(alloc: Global, count: usize) -> Result<String, AllocError>
+    ensures { IfOk result (λ text. string_bytes text ≡ codes "ok players " ++ decimal count ++ codes "\n") }
+{
+    let mut buffer = Buffer::new();
+    let mut text = String::from_str(alloc, "ok players ")?;
+    text.push_str(buffer.format(count))?;
+    text.push('\n')?;
+    Ok(text)
+}
+
+/// The answer to `players`.
+pub fn player_rows(alloc: Global, players: &[Player]) -> Result<String, AllocError>
+    ensures { IfOk result (λ text. string_bytes text ≡ players_text players.now) }
+{
+    let mut text = count_line(alloc, players.len())?;
+    for player in players {
+        push_player(&mut text, player)?;
+    }
+    Ok(text)
+}

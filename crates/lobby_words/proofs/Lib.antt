@@ -1,0 +1,3 @@
+pub mod Numbers
+mod Names
+mod Rows

@@ -1,0 +1,72 @@
+-- What is done about a message.
+use Rattle.std.specs.Prelude.{ℕ, Bool, true, false, List, codes, Option, None, Some, if◌then◌else◌}
+use Rattle.lobby_words.specs.declared.words.Sort.{Sort}
+use Rattle.lobby_words.specs.declared.words.Sort.TheVariants as sorts
+use Rattle.lobby_words.specs.declared.planning.Identity.{Identity}
+use Rattle.lobby_words.specs.declared.refusals.Refusal.{Refusal}
+use Rattle.lobby_words.specs.declared.refusals.Refusal.TheVariants as refusals
+use Rattle.lobby_words.specs.declared.planning.Plan.{Plan}
+use Rattle.lobby_words.specs.declared.planning.Plan.TheVariants as plans
+use Rattle.lobby_words.specs.declared.planning.Standing.{Standing}
+
+-- the line that says why a message is refused
+abbrev pub refusal_text : Refusal → List ℕ
+refusal_text refusals.BadLine = codes "no 1 BadLine\n"
+refusal_text refusals.NoToken = codes "no 31 NoToken\n"
+refusal_text refusals.BadToken = codes "no 32 BadToken\n"
+refusal_text refusals.NotArbiter = codes "no 33 NotArbiter\n"
+refusal_text refusals.TooManyOpen = codes "no 35 TooManyOpen\n"
+refusal_text refusals.NoServer = codes "no 36 NoServer\n"
+refusal_text refusals.TooManyWatched = codes "no 37 TooManyWatched\n"
+
+-- what asks for the server
+abbrev pub asked : Standing → Plan → Plan
+asked s plan = if s.is_here then plan else plans.Refuse refusals.NoServer
+
+-- an act of a connection that acts for this player: not without a token, and no game more than may wait for a second player
+abbrev pub act_plan : Standing → Option Identity → Plan
+act_plan s None = plans.Refuse refusals.NoToken
+act_plan s (Some who) =
+    if s.is_crowded then asked s (plans.Refuse refusals.TooManyOpen) else asked s (plans.Act who)
+
+-- a drop: not without an arbiter's token
+abbrev pub drop_plan : Standing → Option Identity → ℕ → Plan
+drop_plan s None game = plans.Refuse refusals.NoToken
+drop_plan s (Some who) game = if who.is_arbiter then asked s (plans.Drop who game) else plans.Refuse refusals.NotArbiter
+
+-- a token is shown, and this player has it
+abbrev pub login_plan : Option Identity → Plan
+login_plan None = plans.Refuse refusals.BadToken
+login_plan (Some who) = plans.Login who
+
+-- a word with the number of a game
+abbrev pub game_plan : Sort → Standing → ℕ → Plan
+game_plan sorts.Watch s game =
+    if s.is_full then asked s (plans.Refuse refusals.TooManyWatched) else asked s (plans.Watch game)
+game_plan sorts.Line s game = asked s (plans.Line game)
+game_plan sorts.Drop s game = drop_plan s s.who game
+game_plan _ s game = plans.Leave game
+
+abbrev pub numbered_plan : Sort → Standing → Option ℕ → Plan
+numbered_plan sort s None = plans.Refuse refusals.BadLine
+numbered_plan sort s (Some game) = game_plan sort s game
+
+-- a message of this sort, behind whose word this number stands, if any does
+abbrev pub sort_plan : Sort → Standing → Option ℕ → Plan
+sort_plan sorts.Read s game = asked s plans.Read
+sort_plan sorts.Act s game = act_plan s s.who
+sort_plan sorts.Drop s game = numbered_plan sorts.Drop s game
+sort_plan sorts.Login s game = login_plan s.holder
+sort_plan sorts.Players s game = plans.Players
+sort_plan sorts.Lobby s game = asked s plans.Lobby
+sort_plan sorts.LeaveLobby s game = plans.LeaveLobby
+sort_plan sorts.Name s game = plans.Refuse refusals.BadLine
+sort_plan sorts.Nothing s game = plans.Refuse refusals.BadLine
+sort_plan sorts.Watch s game = numbered_plan sorts.Watch s game
+sort_plan sorts.Leave s game = numbered_plan sorts.Leave s game
+sort_plan sorts.Line s game = numbered_plan sorts.Line s game
+
+-- a message, and whether it may be a line
+abbrev pub plan_of : Bool → Sort → Standing → Option ℕ → Plan
+plan_of true sort s game = sort_plan sort s game
+plan_of false sort s game = plans.Refuse refusals.BadLine

@@ -1,0 +1,97 @@
+-- What the first word of a message says.
+use Rattle.std.specs.Prelude.{ℕ, ◌^◌, Bool, true, false, ◌&&◌, ◌||◌, ◌==◌, not, nat_le, nat_lt, List, length, codes, decimal, Option, None, Some, if◌then◌else◌}
+use Rattle.std.specs.List.{before_first, after_first, list_all}
+use Rattle.std.specs.Str.{bytes_eq}
+use Rattle.std.specs.Str.Parse.{digits_value}
+use Rattle.lobby_words.specs.declared.words.Sort.{Sort}
+use Rattle.lobby_words.specs.declared.words.Sort.TheVariants as sorts
+
+-- what stands before the first space, and what stands behind it; all of a text without one is its word
+abbrev pub word_of : List ℕ → List ℕ
+word_of text = before_first (λ b. b == 32) text
+
+abbrev pub rest_of : List ℕ → List ℕ
+rest_of text = after_first (λ b. b == 32) text
+
+abbrev pub is_message_byte : ℕ → Bool
+is_message_byte b = nat_le 32 b && nat_le b 126
+
+-- 1 to 255 bytes, each of them 32 to 126
+abbrev pub is_message : List ℕ → Bool
+is_message text = nat_le 1 (length text) && nat_le (length text) 255 && list_all is_message_byte text
+
+-- the words of the server's lines that change nothing
+unfoldable pub is_read_word : List ℕ → Bool
+is_read_word w =
+    bytes_eq w (codes "show") || bytes_eq w (codes "fen") || bytes_eq w (codes "pgn") || bytes_eq w (codes "list")
+
+-- the words of acts, but `drop`
+unfoldable pub is_act_word : List ℕ → Bool
+is_act_word w =
+    bytes_eq w (codes "open") || bytes_eq w (codes "join") || bytes_eq w (codes "move") || bytes_eq w (codes "offer")
+    || bytes_eq w (codes "accept") || bytes_eq w (codes "decline") || bytes_eq w (codes "resign")
+    || bytes_eq w (codes "claim") || bytes_eq w (codes "flag")
+
+abbrev pub whole_sort : List ℕ → Sort
+whole_sort text =
+    if bytes_eq text (codes "players") then sorts.Players
+    else (if bytes_eq text (codes "lobby") then sorts.Lobby
+    else (if bytes_eq text (codes "leave lobby") then sorts.LeaveLobby
+    else sorts.Nothing))
+
+abbrev pub own_sort : List ℕ → List ℕ → Sort
+own_sort w text =
+    if bytes_eq w (codes "login") then sorts.Login
+    else (if bytes_eq w (codes "watch") then sorts.Watch
+    else (if bytes_eq w (codes "line") then sorts.Line
+    else (if bytes_eq w (codes "leave") && not (bytes_eq text (codes "leave lobby")) then sorts.Leave
+    else whole_sort text)))
+
+-- what a message asks for
+unfoldable pub sort_of : List ℕ → Sort
+sort_of text =
+    if bytes_eq (word_of text) (codes "name") then sorts.Name
+    else (if is_read_word (word_of text) then sorts.Read
+    else (if is_act_word (word_of text) then sorts.Act
+    else (if bytes_eq (word_of text) (codes "drop") then sorts.Drop
+    else own_sort (word_of text) text)))
+
+-- the lines of the server that change something, `drop` and the others
+abbrev pub is_act_sort : Sort → Bool
+is_act_sort sorts.Act = true
+is_act_sort sorts.Drop = true
+is_act_sort _ = false
+
+abbrev pub is_drop_sort : Sort → Bool
+is_drop_sort sorts.Drop = true
+is_drop_sort _ = false
+
+abbrev pub is_name_sort : Sort → Bool
+is_name_sort sorts.Name = true
+is_name_sort _ = false
+
+abbrev pub is_login_sort : Sort → Bool
+is_login_sort sorts.Login = true
+is_login_sort _ = false
+
+abbrev pub is_leave_sort : Sort → Bool
+is_leave_sort sorts.Leave = true
+is_leave_sort _ = false
+
+abbrev pub is_leave_lobby_sort : Sort → Bool
+is_leave_lobby_sort sorts.LeaveLobby = true
+is_leave_lobby_sort _ = false
+
+-- the number below 2 ^ 32 that a text spells without a leading zero, and nothing else
+unfoldable pub number_in : List ℕ → Option ℕ
+number_in text =
+    if nat_lt (digits_value 10 text) (2 ^ 32) && bytes_eq (decimal (digits_value 10 text)) text
+    then Some (digits_value 10 text)
+    else None
+
+abbrev pub or_0 : Option ℕ → ℕ
+or_0 None = 0
+or_0 (Some n) = n
+
+abbrev pub number_or_0 : List ℕ → ℕ
+number_or_0 text = or_0 (number_in text)

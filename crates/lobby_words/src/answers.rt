@@ -1,0 +1,91 @@
+//! What the answers of the server say.
+ghost use Rattle.std.specs.Prelude.{codes, ◌≡◌, ◌==◌, IfSome, IfNone};
+ghost use Rattle.std.specs.List.{ends_with};
+ghost use Rattle.rec_codec.specs.Name.{IsName};
+ghost use Rattle.lobby_words.specs.Answers.{IsSeated, IsFirstSeated, IsSeatless, first_line, act_game, is_table_act, is_accepted, is_over};
+
+use crate::words::{cut, number_named};
+use rec_codec::Name;
+
+// What stands before the first line feed.
+fn first_line(answer: &str) -> &str
+    ensures { result.now ≡ first_line answer.now }
+{
+    match answer.split_once('\n') {
+        Some((line, _)) => line,
+        None => answer,
+    }
+}
+
+/// The game that an answer to an act names, where the act was done.
+pub fn game_told(answer: &str) -> Option<u32>
+    ensures { result ≡ act_game answer.now }
+{
+    let (word, rest) = cut(first_line(answer));
+    let (second, rest) = cut(rest);
+    let (third, _) = cut(rest);
+    if word == "ok" {
+        number_named(third)
+    } else if word == "fallen" {
+        number_named(second)
+    } else {
+        None
+    }
+}
+
+/// Whether those who are told of the table are told of an act, whatever comes of it.
+pub fn is_table_act(text: &str) -> bool
+    ensures { result ≡ is_table_act text.now }
+{
+    let (word, _) = cut(text);
+    let is_open = word == "open";
+    let is_join = word == "join";
+    let is_drop = word == "drop";
+    is_open | is_join | is_drop
+}
+
+// Whether the last field of the answer to `show` is `-`.
+fn goes_on(shown: &str) -> bool
+    ensures { result ≡ ends_with (λ a b. a == b) shown.now (codes " -\n") }
+{
+    shown.ends_with(" -\n")
+}
+
+/// Whether a game is over, as the answer to `show` says.
+pub fn is_over(shown: &str) -> bool
+    ensures { result ≡ is_over shown.now }
+{
+    let goes_on = goes_on(shown);
+    !goes_on
+}
+
+/// Whether the server does what it was asked.
+pub fn is_accepted(answer: &str) -> bool
+    ensures { result ≡ is_accepted answer.now }
+{
+    answer.starts_with("ok ")
+}
+
+/// The player who has a seat in a game, as the answer to `show` says: White, and Black where nobody is White.
+pub fn seated(answer: &str, game: &str) -> Option<Name>
+    ensures some { IfSome result (λ name. IsName name × IsSeated answer.now game.now name) }
+    ensures first { IfSome result (λ name. IsFirstSeated answer.now name) }
+    ensures none { IfNone result (IsSeatless answer.now game.now) }
+{
+    let (ok, rest) = cut(answer);
+    let (show, rest) = cut(rest);
+    let (number, rest) = cut(rest);
+    let (white, rest) = cut(rest);
+    let (black, _) = cut(rest);
+    let is_ok = ok == "ok";
+    let is_show = show == "show";
+    let is_game = number == game;
+    if is_ok & is_show & is_game {
+        match Name::try_new(white) {
+            Some(name) => Some(name),
+            None => Name::try_new(black),
+        }
+    } else {
+        None
+    }
+}

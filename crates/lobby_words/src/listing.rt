@@ -1,0 +1,97 @@
+//! The games that wait for a second player, as the server's answers tell.
+ghost use Rattle.std.specs.Prelude.{◌≡◌, ◌++◌, ◌∷◌, [], IfOk, OnOk};
+ghost use Rattle.std.specs.List.{filter_map};
+ghost use Rattle.lobby_words.specs.Waiting.{is_open, ends_wait, waiting_of, waiting_row, is_list, waiting_in};
+
+use crate::words::{cut, number_named};
+use rec_codec::Name;
+use std::alloc::{AllocError, Global};
+use text_parts::parts;
+
+/// A game that waits, and the player who has a seat in it.
+#[derive(Clone, Copy)]
+pub struct Waiting {
+    pub game: u32,
+    pub by: Name,
+}
+
+/// Whether a message opens a game.
+pub fn is_open(text: &str) -> bool
+    ensures { result ≡ is_open text.now }
+{
+    let (word, _) = cut(text);
+    word == "open"
+}
+
+/// Whether a message is one by which a game waits no more.
+pub fn ends_wait(text: &str) -> bool
+    ensures { result ≡ ends_wait text.now }
+{
+    let (word, _) = cut(text);
+    let is_join = word == "join";
+    let is_drop = word == "drop";
+    is_join | is_drop
+}
+
+// The game of a number, where this is who has the one seat in it.
+#[tactic(auto, using(crate::proofs::Names::name_is, crate::proofs::Names::name_is_not))]
+fn waiting_of(game: Option<u32>, seated: &str) -> Option<Waiting>
+    ensures { result ≡ waiting_of game seated.now }
+{
+    match game {
+        None => None,
+        Some(game) => match Name::try_new(seated) {
+            Some(by) => Some(Waiting { game, by }),
+            None => None,
+        },
+    }
+}
+
+// The game of a row `G WHITE BLACK ..` that has one empty seat.
+fn waiting_row(row: &str) -> Option<Waiting>
+    ensures { result ≡ waiting_row row.now }
+{
+    let (number, rest) = cut(row);
+    let (white, rest) = cut(rest);
+    let (black, _) = cut(rest);
+    let game = number_named(number);
+    if white == "-" {
+        waiting_of(game, black)
+    } else if black == "-" {
+        waiting_of(game, white)
+    } else {
+        None
+    }
+}
+
+// Puts the game of a row behind others, if it waits.
+fn add_row(waiting: &mut Vec<Waiting>, row: &str) -> Result<(), AllocError>
+    ensures { OnOk result (waiting.new.items ≡ waiting.old.items ++ filter_map waiting_row (row.now ∷ [])) }
+{
+    match waiting_row(row) {
+        None => Ok(()),
+        Some(one) => {
+            waiting.push(one)?;
+            Ok(())
+        }
+    }
+}
+
+/// Whether an answer is one to `list` that is accepted.
+pub fn is_list(answer: &str) -> bool
+    ensures { result ≡ is_list answer.now }
+{
+    answer.starts_with("ok list ")
+}
+
+/// The games that wait by the rows of the answer to `list`.
+pub fn waiting_in(alloc: Global, list: &str) -> Result<Vec<Waiting>, AllocError>
+    ensures { IfOk result (λ waiting. waiting.items ≡ waiting_in list.now) }
+{
+    let rows = parts(alloc, list, '\n')?;
+    let mut waiting = Vec::new(alloc);
+    for row in rows.as_slice() {
+        add_row(&mut waiting, row)?;
+    }
+    Ok(waiting)
+}

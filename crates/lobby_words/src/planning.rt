@@ -1,0 +1,154 @@
+//! What is done about a message.
+ghost use Rattle.std.specs.Prelude.{◌≡◌};
+ghost use Rattle.lobby_words.specs.Words as words;
+ghost use Rattle.lobby_words.specs.Plans as plans;
+
+use crate::refusals::Refusal;
+use crate::words::{Sort, cut, is_message, number_named, sort_of};
+use rec_codec::Name;
+
+/// For whom a connection acts.
+#[derive(Clone, Copy)]
+pub struct Identity {
+    pub name: Name,
+    pub is_arbiter: bool,
+}
+
+/// What is done about a message.
+#[derive(Clone, Copy)]
+pub enum Plan {
+    Refuse(Refusal),
+    /// The message is passed on.
+    Read,
+    /// The message is passed on under a name.
+    Act(Identity),
+    /// Who is seated in the game is asked for, and the message is passed on under a name of theirs.
+    Drop(Identity, u32),
+    Login(Identity),
+    Players,
+    Lobby,
+    LeaveLobby,
+    Watch(u32),
+    Leave(u32),
+    Line(u32),
+}
+
+/// What a plan rests on.
+#[derive(Clone, Copy)]
+pub struct Standing {
+    /// For whom the connection acts.
+    pub who: Option<Identity>,
+    /// Who has the token that stands behind the message's word.
+    pub holder: Option<Identity>,
+    /// Whether the server is there.
+    pub is_here: bool,
+    /// Whether the connection watches as many games as may be.
+    pub is_full: bool,
+    /// Whether the message opens a game where the player has as many waiting for a second player as may be.
+    pub is_crowded: bool,
+}
+
+// What asks for the server.
+fn asked(standing: &Standing, plan: Plan) -> Plan
+    ensures { result ≡ plans.asked standing.now plan }
+{
+    if standing.is_here {
+        plan
+    } else {
+        Plan::Refuse(Refusal::NoServer)
+    }
+}
+
+// An act but a drop.
+fn act_plan(standing: &Standing) -> Plan
+    ensures { result ≡ plans.act_plan standing.now standing.now.who }
+{
+    match standing.who {
+        None => Plan::Refuse(Refusal::NoToken),
+        Some(who) => {
+            if standing.is_crowded {
+                asked(standing, Plan::Refuse(Refusal::TooManyOpen))
+            } else {
+                asked(standing, Plan::Act(who))
+            }
+        }
+    }
+}
+
+// A drop.
+fn drop_plan(standing: &Standing, game: u32) -> Plan
+    ensures { result ≡ plans.drop_plan standing.now standing.now.who game }
+{
+    match standing.who {
+        None => Plan::Refuse(Refusal::NoToken),
+        Some(who) => {
+            if who.is_arbiter {
+                asked(standing, Plan::Drop(who, game))
+            } else {
+                Plan::Refuse(Refusal::NotArbiter)
+            }
+        }
+    }
+}
+
+// A token is shown.
+fn login_plan(holder: Option<Identity>) -> Plan
+    ensures { result ≡ plans.login_plan holder }
+{
+    match holder {
+        None => Plan::Refuse(Refusal::BadToken),
+        Some(who) => Plan::Login(who),
+    }
+}
+
+// A word with the number of a game.
+fn game_plan(sort: Sort, standing: &Standing, game: u32) -> Plan
+    ensures { result ≡ plans.game_plan sort standing.now game }
+{
+    match sort {
+        Sort::Watch => {
+            if standing.is_full {
+                asked(standing, Plan::Refuse(Refusal::TooManyWatched))
+            } else {
+                asked(standing, Plan::Watch(game))
+            }
+        }
+        Sort::Line => asked(standing, Plan::Line(game)),
+        Sort::Drop => drop_plan(standing, game),
+        _ => Plan::Leave(game),
+    }
+}
+
+// What is done about a message of a sort.
+fn sort_plan(sort: Sort, standing: &Standing, game: Option<u32>) -> Plan
+    ensures { result ≡ plans.sort_plan sort standing.now game }
+{
+    match sort {
+        Sort::Read => asked(standing, Plan::Read),
+        Sort::Act => act_plan(standing),
+        Sort::Login => login_plan(standing.holder),
+        Sort::Players => Plan::Players,
+        Sort::Lobby => asked(standing, Plan::Lobby),
+        Sort::LeaveLobby => Plan::LeaveLobby,
+        Sort::Name | Sort::Nothing => Plan::Refuse(Refusal::BadLine),
+        Sort::Watch | Sort::Leave | Sort::Line | Sort::Drop => match game {
+            None => Plan::Refuse(Refusal::BadLine),
+            Some(game) => game_plan(sort, standing, game),
+        },
+    }
+}
+
+/// What is done about a message.
+pub fn plan_of(standing: &Standing, text: &str) -> Plan
+    ensures { result ≡ plans.plan_of (words.is_message text.now) (words.sort_of text.now) standing.now (words.number_in (words.rest_of text.now)) }
+{
+    let (_, rest) = cut(text);
+    let game = number_named(rest);
+    let sort = sort_of(text);
+    let is_line = is_message(text);
+    if is_line {
+        sort_plan(sort, standing, game)
+    } else {
+        Plan::Refuse(Refusal::BadLine)
+    }
+}

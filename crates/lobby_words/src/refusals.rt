@@ -1,0 +1,39 @@
+//! What the lobby itself refuses.
+ghost use Rattle.std.specs.Prelude.{◌≡◌};
+ghost use Rattle.lobby_words.specs.Plans.{refusal_text};
+
+/// Why the lobby does not do what a message asks.
+#[derive(Clone, Copy, Debug, PartialEq, Eq)]
+pub enum Refusal {
+    /// The message has no form.
+    BadLine,
+    /// No token was shown.
+    NoToken,
+    /// No player has the token.
+    BadToken,
+    /// Who asks is no arbiter.
+    NotArbiter,
+    /// As many games of the player wait for a second player as may be.
+    TooManyOpen,
+    /// The server is not there.
+    NoServer,
+    /// As many games are watched as may be.
+    TooManyWatched,
+}
+
+impl Refusal {
+    /// The line that says so.
+    pub fn line(self) -> &'static str
+        ensures { result.now ≡ refusal_text self }
+    {
+        match self {
+            Refusal::BadLine => "no 1 BadLine\n",
+            Refusal::NoToken => "no 31 NoToken\n",
+            Refusal::BadToken => "no 32 BadToken\n",
+            Refusal::NotArbiter => "no 33 NotArbiter\n",
+            Refusal::TooManyOpen => "no 35 TooManyOpen\n",
+            Refusal::NoServer => "no 36 NoServer\n",
+            Refusal::TooManyWatched => "no 37 TooManyWatched\n",
+        }
+    }
+}

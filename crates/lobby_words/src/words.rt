@@ -1,0 +1,176 @@
+//! What the first word of a message says.
+ghost use Rattle.std.specs.Prelude.{ℕ, ◌≡◌, ◌<◌, ◌^◌, Some, IfSome, decimal};
+ghost use Rattle.std.specs.List.{list_all};
+ghost use Rattle.lobby_words.specs.Words as words;
+
+use itoa::Buffer;
+
+/// What a message asks for.
+#[derive(Clone, Copy, PartialEq, Eq)]
+pub enum Sort {
+    /// A line of the server that changes nothing.
+    Read,
+    /// An act, but `drop`.
+    Act,
+    Drop,
+    Login,
+    Players,
+    Lobby,
+    LeaveLobby,
+    Watch,
+    Leave,
+    Line,
+    /// The server's `name`, which no connection says.
+    Name,
+    /// Nothing that is known here.
+    Nothing,
+}
+
+/// The first word, and what stands behind the space after it.
+pub fn cut(text: &str) -> (&str, &str)
+    ensures word { result.0.now ≡ words.word_of text.entry.now }
+    ensures rest { result.1.now ≡ words.rest_of text.entry.now }
+{
+    match text.split_once(' ') {
+        Some((word, rest)) => (word, rest),
+        None => (text, ""),
+    }
+}
+
+// Whether a byte may stand in a message.
+fn is_message_byte(byte: u8) -> bool
+    ensures { result ≡ words.is_message_byte byte }
+{
+    32 <= byte && byte <= 126
+}
+
+// Whether each byte may stand in a message.
+fn are_message_bytes(bytes: &[u8]) -> bool
+    ensures { result ≡ list_all words.is_message_byte bytes.now }
+{
+    bytes.iter().all(|byte| is_message_byte(*byte))
+}
+
+/// Whether a message may be passed on as a line: 1 to 255 bytes, each of them 32 to 126.
+pub fn is_message(text: &str) -> bool
+    ensures { result ≡ words.is_message text.now }
+{
+    let bytes = text.as_bytes();
+    let some = 1 <= bytes.len();
+    let short = bytes.len() <= 255;
+    let shown = are_message_bytes(bytes);
+    some & short & shown
+}
+
+// Whether a line of the server with this word changes nothing.
+#[tactic(auto, unfolding(crate::specs::Words::is_read_word))]
+fn is_read_word(word: &str) -> bool
+    ensures { result ≡ words.is_read_word word.now }
+{
+    let show = word == "show";
+    let fen = word == "fen";
+    let pgn = word == "pgn";
+    let list = word == "list";
+    show | fen | pgn | list
+}
+
+// Whether a line of the server with this word is an act, but `drop`.
+#[tactic(auto, unfolding(crate::specs::Words::is_act_word))]
+fn is_act_word(word: &str) -> bool
+    ensures { result ≡ words.is_act_word word.now }
+{
+    let opening = word == "open";
+    let join = word == "join";
+    let play = word == "move";
+    let offer = word == "offer";
+    let accept = word == "accept";
+    let decline = word == "decline";
+    let resign = word == "resign";
+    let claim = word == "claim";
+    let flag = word == "flag";
+    opening | join | play | offer | accept | decline | resign | claim | flag
+}
+
+// What a message of one word asks for, or one of two that has no number.
+fn whole_sort(text: &str) -> Sort
+    ensures { result ≡ words.whole_sort text.now }
+{
+    if text == "players" {
+        Sort::Players
+    } else if text == "lobby" {
+        Sort::Lobby
+    } else if text == "leave lobby" {
+        Sort::LeaveLobby
+    } else {
+        Sort::Nothing
+    }
+}
+
+// What a message of the lobby's own words asks for.
+fn own_sort(word: &str, text: &str) -> Sort
+    ensures { result ≡ words.own_sort word.now text.now }
+{
+    if word == "login" {
+        Sort::Login
+    } else if word == "watch" {
+        Sort::Watch
+    } else if word == "line" {
+        Sort::Line
+    } else if word == "leave" && text != "leave lobby" {
+        Sort::Leave
+    } else {
+        whole_sort(text)
+    }
+}
+
+/// What a message asks for.
+#[tactic(auto, unfolding(crate::specs::Words::sort_of))]
+pub fn sort_of(text: &str) -> Sort
+    ensures { result ≡ words.sort_of text.now }
+{
+    let (word, _) = cut(text);
+    if word == "name" {
+        Sort::Name
+    } else if is_read_word(word) {
+        Sort::Read
+    } else if is_act_word(word) {
+        Sort::Act
+    } else if word == "drop" {
+        Sort::Drop
+    } else {
+        own_sort(word, text)
+    }
+}
+
+/// The number that a text spells, in the one spelling that a line of the server has.
+pub fn number_named(text: &str) -> Option<u32>
+    ensures { result ≡ words.number_in text.now }
+{
+    number_read(text)
+}
+
+// The number that is read and must be what is written for it.
+fn number_read(text: &str) -> Option<u32>
+    ensures some { IfSome result (λ n. (n < 2 ^ 32) × (text.now ≡ decimal n)) }
+    ensures every { (n : ℕ) → n < 2 ^ 32 → text.now ≡ decimal n → result ≡ Some n }
+{
+    let Ok(number) = text.parse::<u32>() else {
+        return None;
+    };
+    let mut buffer = Buffer::new();
+    if buffer.format(number) == text {
+        Some(number)
+    } else {
+        None
+    }
+}
+
+/// The same, and 0 where a text spells no number.
+pub fn number_or_0(text: &str) -> u32
+    ensures { result ≡ words.number_or_0 text.now }
+{
+    match number_named(text) {
+        Some(number) => number,
+        None => 0,
+    }
+}
