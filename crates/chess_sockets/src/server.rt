@@ -219,7 +219,8 @@ impl<D: Device, S: Read + Write + From<TcpStream> + Drop> Server<D, S> {
     }
 
     // Accepts at most one connection, and tells whether one came; after calm rests none, unless one may wait, and without a
-    // rest only now and then. One that came and is no client is counted. What fails at it ends nothing, and is no turn's work, so that a rest comes before the next.
+    // rest only now and then. One that came and is no client is counted. What fails at it ends nothing, and is no turn's
+    // work, so that a rest comes before the next.
     fn welcome(&mut self, at: u64) -> bool
         ensures welcomes { IsWelcomed S.from_gives at self.old.door.given self.new.door.given self.old.turned_away
             self.new.turned_away self.old.clients.items self.new.clients.items
