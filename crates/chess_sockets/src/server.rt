@@ -1,5 +1,5 @@
 //! The server.
-ghost use Rattle.std.specs.Prelude.{ℕ, ◌≡◌, ◌+◌, ◌↔◌, ◌⊎◌, ◌<◌, true, false, [], Some, None, Ok, IsTrue, IsSomeAnd, IfOk, IfErr, OnOk, length};
+ghost use Rattle.std.specs.Prelude.{ℕ, ◌≡◌, ◌+◌, ◌↔◌, true, false, [], Some, None, Ok, IsTrue, IsSomeAnd, IfOk, IfErr, OnOk, length};
 ghost use Rattle.std.specs.Bool.{OnTrue, OnFalse};
 ghost use Rattle.table_commits.specs.Means.{IsKept};
 ghost use Rattle.chess_hub.specs.Faults.{CountsFault, refusals_after};
@@ -47,8 +47,6 @@ pub struct Server<D: Device, S = TcpStream> {
     clients: Vec<Client<S>>,
     watch: Watch,
     rested: Rested,
-    /// So many turns on end have asked for no connection.
-    unasked: u8,
     /// For how many milliseconds a client may be silent.
     silence: Option<u64>,
     /// How many connections were dropped for want of a place or of memory.
@@ -58,24 +56,12 @@ pub struct Server<D: Device, S = TcpStream> {
 /// The most lines that a turn takes: one at least of each session that has one.
 const LINES: usize = 64;
 
-/// So many turns on end that follow each other without a rest ask for no connection, and the next does.
-const UNASKED: u8 = 15;
-
-// Whether a turn asks for a connection: always where the last try has not found that none waits, so that a failure leaves
-// no connection waiting; else after rests of which one was not calm, and without a rest in one turn of sixteen, since to
-// ask for nothing costs as much as to read a line.
-fn asks_for_one(rested: Rested, found: Found, unasked: u8) -> bool
-    ensures { result ≡ false ↔ ((found ≡ Found.Nobody)
-        × ((rested ≡ Rested.Calm) ⊎ ((rested ≡ Rested.Not) × (unasked < 15)))) }
+// Whether a turn asks for a connection: always, but after calm rests only where the last try has not found that none waits.
+// So a failure leaves no connection waiting.
+fn asks_for_one(rested: Rested, found: Found) -> bool
+    ensures { result ≡ false ↔ ((rested ≡ Rested.Calm) × (found ≡ Found.Nobody)) }
 {
-    if may_wait(found) {
-        return true;
-    }
-    match rested {
-        Rested::Calm => false,
-        Rested::Woken => true,
-        Rested::Not => unasked >= UNASKED,
-    }
+    rested != Rested::Calm || may_wait(found)
 }
 
 // Reads for each session, has the hub answer lines that wait, and writes; and tells whether there was anything to read or
@@ -144,7 +130,6 @@ impl<D: Device, S: Read + Write + From<TcpStream> + Drop> Server<D, S> {
             clients: Vec::new(alloc),
             watch,
             rested: Rested::Not,
-            unasked: 0,
             silence,
             turned_away: 0,
         })
@@ -218,9 +203,8 @@ impl<D: Device, S: Read + Write + From<TcpStream> + Drop> Server<D, S> {
         }
     }
 
-    // Accepts at most one connection, and tells whether one came; after calm rests none, unless one may wait, and without a
-    // rest only now and then. One that came and is no client is counted. What fails at it ends nothing, and is no turn's
-    // work, so that a rest comes before the next.
+    // Accepts at most one connection, and tells whether one came; after calm rests none, unless one may wait. One that came
+    // and is no client is counted. What fails at it ends nothing, and is no turn's work, so that a rest comes before the next.
     fn welcome(&mut self, at: u64) -> bool
         ensures welcomes { IsWelcomed S.from_gives at self.old.door.given self.new.door.given self.old.turned_away
             self.new.turned_away self.old.clients.items self.new.clients.items
@@ -232,11 +216,9 @@ impl<D: Device, S: Read + Write + From<TcpStream> + Drop> Server<D, S> {
         ensures silence { self.new.silence ≡ self.old.silence }
         ensures waits { self.new.watch.calm_waits ≡ self.old.watch.calm_waits }
     {
-        if !asks_for_one(self.rested, self.door.found(), self.unasked) {
-            self.unasked = self.unasked.saturating_add(1);
+        if !asks_for_one(self.rested, self.door.found()) {
             return false;
         }
-        self.unasked = 0;
         match next_connection(&mut self.door) {
             Some(stream) => {
                 self.greet(stream, at);
@@ -266,8 +248,7 @@ impl<D: Device, S: Read + Write + From<TcpStream> + Drop> Server<D, S> {
     /// are; gives each, once the lines before are answered and their answers are written, up to 16 lines that ask for
     /// little, or one that asks for much, of which a turn gives one; has the hub answer up to 64 lines; and writes what
     /// can be written. After calm rests it accepts none, unless an accept has failed, and reads only for clients that
-    /// were not read to their end; where no rest came before it and none waited at the last try, one turn of sixteen asks
-    /// for a connection. It waits for nothing. `Err` is a fault that ends serving: that of a store, or
+    /// were not read to their end. It waits for nothing. `Err` is a fault that ends serving: that of a store, or
     /// `NoMemory`, where memory was refused to the hub; what is one client's own trouble, want of memory too, closes
     /// that client alone.
     ///

@@ -17,10 +17,6 @@ use std::net::{Net, TcpListener, TcpStream};
 use std::rt::{Clock, Files};
 use std::time::Instant;
 
-/// Behind a turn that found something to do so many look again before a rest: the next line of a game mostly comes while
-/// they do, and to fall asleep and be woken takes longer than they.
-const LOOKS: u32 = 4;
-
 // Takes the turns of a server: so many, or as many as 64 bits count.
 fn take_turns<R: Clock + Eprint, D: Device>(
     clock: &mut SteadyClock<'_, R>,
@@ -31,12 +27,10 @@ fn take_turns<R: Clock + Eprint, D: Device>(
     ensures { IfErr result IsServeFault }
 {
     let mut away = TurnedAway::new();
-    let mut looks = 0;
     for _ in 0..turns.map_or(u64::MAX, u64::from) {
         let at = clock.next();
         match server.turn(at) {
-            Ok(Turned::Worked) => looks = LOOKS,
-            Ok(Turned::Idle) if looks > 0 => looks -= 1,
+            Ok(Turned::Worked) => {}
             Ok(Turned::Idle) => server.rest(),
             Err(fault) => return Err(Fault::Hub(fault)),
         }
@@ -136,8 +130,8 @@ where
 }
 
 /// Serves players on a port, over the games of a journal's file, and first prints `port P`, P being the port that it
-/// listens on. Where a turn found nothing to do, and the four before it neither, it waits until a socket is ready or 10 ms
-/// have passed. Its moments are those of the system's clock as it was at the start, which goes on evenly.
+/// listens on. Where a turn found nothing to do it waits until a socket is ready or 10 ms have passed. Its moments are
+/// those of the system's clock as it was at the start, which goes on evenly.
 pub fn serve<R>(rt: &R, alloc: Global, serving: &Serving<'_>) -> Result<(), Fault>
 where
     R: Files<File = File>
