@@ -27,6 +27,12 @@ def has(clients, line):
     sent.extend(f"{client} {line}" for client in clients)
 
 
+def is_told(client, line):
+    """Without a turn more, this client alone has something, this line."""
+    do("told")
+    sent.append(f"{client} {line}")
+
+
 def connects(client):
     do(f"{client} \\", "turns 10")
 
@@ -45,13 +51,13 @@ has(STOOD, "end")
 do(f"{STOOD}{ENDED} !")
 for client in CLIENTS + LATE:
     connects(client)
-has(LATE, "end")
+is_told(LATE, "end")
 do(f"{HALF} li\\")
 byte_by_byte(OTHERS)
 # None of the 64 has been let go.
 do(f"{LATE} !")
 connects(LATE)
-has(LATE, "end")
+is_told(LATE, "end")
 # It came twice, and was counted each time; and by another address of the machine nobody comes.
 do("away", "elsewhere")
 sent += [f"away {AWAY + 2}", "elsewhere false"]

@@ -118,7 +118,9 @@ def play(path):
                 server.tell()
                 continue
             letters, _, act = text.partition(' ')
-            if text == 'away':
+            if text == 'told':
+                server.tell()
+            elif text == 'away':
                 print('away', server.away)
             elif text == 'elsewhere':
                 # It listens on 127.0.0.1 alone.

@@ -5,6 +5,7 @@
 //! - `turns`: the server takes turns until nothing more comes, and what came to each client is written, its letter before
 //!   each line, the clients in the order in which they connected;
 //! - `turns COUNT`: the server takes so many turns, and no rest;
+//! - `told`: what came to each client is written, as above, and the server takes no turn;
 //! - clients' letters and ` ?`: the server takes turns until each of these clients has a line or its end, and what came to
 //!   each client is written, as above. After 1,000 turns the run ends;
 //! - `away`: how many connections were turned away since the server began is written; `elsewhere`: whether it is reached by
@@ -142,13 +143,16 @@ impl<'a> Game<'a> {
             self.take_turns()?;
             return self.clients.told().ok();
         }
+        if line == "told" {
+            return self.clients.told().ok();
+        }
         if line == "away" {
             let away = self.server.turned_away();
-            return println!(rt; "away {away}").ok();
+            return format!(in self.rt.alloc(); "away {away}\n").ok();
         }
         if line == "elsewhere" {
-            let is_reached = self.clients.reach_elsewhere(rt);
-            return println!(rt; "elsewhere {is_reached}").ok();
+            let is_reached = self.clients.reach_elsewhere(self.rt);
+            return format!(in self.rt.alloc(); "elsewhere {is_reached}\n").ok();
         }
         let (word, rest) = line.split_once(" ")?;
         match (word, rest) {
