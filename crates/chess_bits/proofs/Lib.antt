@@ -6,3 +6,4 @@ pub mod TableLemmas
 pub mod WordLemmas
 pub mod SetLemmas
 pub mod Reversal
+pub mod Shifts

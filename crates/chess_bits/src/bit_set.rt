@@ -1,7 +1,8 @@
 ghost use Rattle.std.specs.Prelude.{◌≡◌, ◌↔◌, IsTrue, IfSome, IfNone, true, false, [], length};
-ghost use Rattle.chess_bits.specs.Table.{has, put, union, meet, without, empty, members, head_of, IsGreatest};
+ghost use Rattle.chess_bits.specs.Table.{has, put, union, meet, without, empty, members, head_of, IsSetOf, IsGreatest};
 ghost use Rattle.chess_bits.specs.Word.{bools_of};
 ghost use Rattle.chess_bits.specs.Square.{IsOnBoard};
+ghost use Rattle.chess_bits.specs.Attack.{along, north, east, south, west};
 ghost use Rattle.chess_bits.specs.SquaresOf.{squares_left};
 
 use crate::coordinates::Square;
@@ -106,6 +107,42 @@ impl Bits {
     {
         Bits {
             word: self.word & !other.word,
+        }
+    }
+
+    /// The squares from which one step toward rank 8 leads into the set.
+    pub fn south(self) -> Bits
+        ensures { IsSetOf result (λ s. has self (along 1 north s) ≡ true) }
+    {
+        Bits {
+            word: self.word >> 8,
+        }
+    }
+
+    /// The squares from which one step toward rank 1 leads into the set.
+    pub fn north(self) -> Bits
+        ensures { IsSetOf result (λ s. has self (along 1 south s) ≡ true) }
+    {
+        Bits {
+            word: self.word << 8,
+        }
+    }
+
+    /// The squares from which one step toward file h leads into the set.
+    pub fn west(self) -> Bits
+        ensures { IsSetOf result (λ s. has self (along 1 east s) ≡ true) }
+    {
+        Bits {
+            word: (self.word >> 1) & 0x7f7f_7f7f_7f7f_7f7f,
+        }
+    }
+
+    /// The squares from which one step toward file a leads into the set.
+    pub fn east(self) -> Bits
+        ensures { IsSetOf result (λ s. has self (along 1 west s) ≡ true) }
+    {
+        Bits {
+            word: (self.word << 1) & 0xfefe_fefe_fefe_fefe,
         }
     }
 

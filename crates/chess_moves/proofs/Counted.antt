@@ -56,7 +56,7 @@ legal_from-safe p from kind set whole own of =
 
 -- ---- how many
 
-length-flat : {A B : Type 0} (f : A → List B) (test : A → Bool) (xs : List A) →
+pub length-flat : {A B : Type 0} (f : A → List B) (test : A → Bool) (xs : List A) →
     ((x : A) → Contains xs x → length (f x) ≡ cond (test x) 4 1) →
     length (flat_map f xs) ≡ length xs + 3 * length (filter test xs)
 length-flat f test [] each = omega arith
@@ -97,7 +97,7 @@ four_or_one : (b : Bool) (from to : Square) → length (cond b (promotions from 
 four_or_one true from to = refl
 four_or_one false from to = refl
 
-pawn_choices : (side : Colour) (from to : Square) (last : Bool) → (last ≡ true → to.rank ≡ last_rank side) →
+pub pawn_choices : (side : Colour) (from to : Square) (last : Bool) → (last ≡ true → to.rank ≡ last_rank side) →
     (to.rank ≡ last_rank side → last ≡ true) → length (choices side Pawn from to) ≡ cond last 4 1
 pawn_choices side from to last is not_last =
     let same : (to.rank == last_rank side) ≡ last =

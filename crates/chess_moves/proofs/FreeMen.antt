@@ -1,5 +1,5 @@
 -- Where men go that no slider pins and that take nothing en passant.
-use Rattle.std.specs.Prelude.{◌≡◌, ◌≢◌, ◌⊎◌, ◌+◌, ◌-◌, ◌&&◌, not, Bool, true, false, List, length, Option, Some, None}
+use Rattle.std.specs.Prelude.{◌≡◌, ◌≢◌, ◌⊎◌, ◌↔◌, ◌+◌, ◌-◌, ◌&&◌, not, Bool, true, false, List, length, Option, Some, None}
 use Rattle.std.proofs.Common.{arith, refl, sym, ap, subst, ◌∙◌, inl, inr}
 use Rattle.std.proofs.lemmas.Bool.{false≢true, and_parts, false_from_ne_true}
 use Rattle.chess_bits.specs.declared.men.Colour.{Colour}
@@ -19,13 +19,13 @@ use Rattle.chess_board.specs.Position.{Position, man_at, occupied_of, target_ran
 use Rattle.chess_board.specs.Legal.{pawn_rank, HoldsColour, Advances, AdvancesTwo, PawnTakes, TakesEnPassant}
 use Rattle.chess_board.proofs.Candidates.{IsOnBoard-from_man}
 use Rattle.chess_moves.specs.declared.masks.Masks.{Masks}
-use Rattle.chess_moves.specs.Targets.{plain, GoesTo, GoesSafely, IsPiece}
+use Rattle.chess_moves.specs.Targets.{plain, GoesTo, LeavesKingSafe, GoesSafely, IsPiece}
 use Rattle.chess_moves.specs.Masks.{EndsChecks, KeepsLine, HoldsMasks}
 use Rattle.chess_moves.specs.Counting.{IsFree, AreFree}
 use Rattle.chess_moves.proofs.Watching.{own_on}
 use Rattle.chess_moves.proofs.SetForms.{both_set, length-meet, pawn_set}
 use Rattle.chess_moves.proofs.Foes.{kind_set}
-use Rattle.chess_moves.proofs.Safely.{piece_goes_set, pawn_set_none, pawn_set_away}
+use Rattle.chess_moves.proofs.Safely.{masks_tell, pawn_no_king, no_pawn_taken, piece_goes_set, pawn_set_none, pawn_set_away}
 
 -- ---- a man that is not pinned
 
@@ -153,6 +153,18 @@ not_to_target p from t valid own e away goes =
       | inr (inr (inl takes)) ↦ away takes.attacked
       | inr (inr (inr passes)) ↦ away passes.attacked
     ]
+
+-- where a free pawn goes, it goes safely if that ends every check
+pub free_tell : (p : Position) (masks : Masks) (from q : Square) → HoldsMasks p masks → IsFree p masks.pinned Pawn from →
+    IsOnBoard q → GoesTo p Pawn from q → LeavesKingSafe p from q ↔ EndsChecks p masks.king q
+free_tell p masks from q holds free on goes =
+    let apart : p.target ≢ Some q =
+    λ e. not_to_target p from q holds.valid free.own e (free.passes_none q refl e) goes in
+    let tell = masks_tell p masks Pawn from q holds on free.own pawn_no_king (no_pawn_taken p from q apart) goes in
+    let allowed = ends_allowed p masks Pawn from holds free in (
+      λ safe. (tell.0 safe).0,
+      λ ends. tell.1 ((allowed.exact q on).0 ((holds.ends.exact q on).1 ends)),
+    )
 
 by_target : (p : Position) (masks : Masks) (from : Square) (reached : List Bool) (target : Option Square) →
     p.target ≡ target → HoldsMasks p masks → IsFree p masks.pinned Pawn from → IsSetOf reached (GoesTo p Pawn from) →

@@ -1,4 +1,4 @@
--- The words of the first and the last rank.
+-- The words of ranks.
 use Rattle.std.specs.Prelude.{ℕ, ◌≡◌, Bool, true, false, ◌==◌, not, cond, List}
 use Rattle.std.specs.List.{list_all}
 use Rattle.std.proofs.Common.{refl, sym, ◌∙◌}
@@ -55,3 +55,17 @@ white_last = rank_set 18374686479671623680 8 white_ranks
 
 pub black_last : IsSetOf (bools_of 64 255) (λ q. q.rank ≡ 1)
 black_last = rank_set 255 1 black_ranks
+
+white_pawn_ranks : rank_alike (bools_of 64 65280) 2 ≡ true
+unfolding bools_of squares at
+white_pawn_ranks = refl
+
+black_pawn_ranks : rank_alike (bools_of 64 71776119061217280) 7 ≡ true
+unfolding bools_of squares at
+black_pawn_ranks = refl
+
+pub white_first : IsSetOf (bools_of 64 65280) (λ q. q.rank ≡ 2)
+white_first = rank_set 65280 2 white_pawn_ranks
+
+pub black_first : IsSetOf (bools_of 64 71776119061217280) (λ q. q.rank ≡ 7)
+black_first = rank_set 71776119061217280 7 black_pawn_ranks

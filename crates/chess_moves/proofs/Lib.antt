@@ -19,3 +19,4 @@ pub mod LastSquares
 pub mod FreeMen
 pub mod Tallied
 pub mod Open
+pub mod PawnSets

@@ -1,9 +1,11 @@
 use Rattle.std.specs.Prelude.{ℕ, ◌≡◌, ◌+◌, Bool, true, false, List, length, flat_map, Some}
+use Rattle.chess_bits.specs.declared.men.Colour.{Colour}
+use Rattle.chess_bits.specs.declared.men.Colour.TheVariants.{White, Black}
 use Rattle.chess_bits.specs.declared.men.Kind.{Kind}
 use Rattle.chess_bits.specs.declared.men.Kind.TheVariants.{Pawn}
 use Rattle.chess_bits.specs.Square.{Square}
 use Rattle.chess_bits.specs.Table.{has, members}
-use Rattle.chess_bits.specs.Attack.{pawn_attacks, Reaches}
+use Rattle.chess_bits.specs.Attack.{Step, north_east, south_east, south_west, north_west, pawn_attacks, Reaches}
 use Rattle.chess_board.specs.Position.{Position, man_at}
 use Rattle.chess_board.specs.Legal.{HoldsColour}
 use Rattle.chess_board.specs.Computing.{legal_moves_of}
@@ -31,6 +33,15 @@ pub record AreFree (p : Position) (pinned : List Bool) (kind : Kind) (left men :
   pub whole : length men ≡ 64
   pub within : (s : Square) → has men s ≡ true → has left s ≡ true
   pub free : HasFree p pinned kind men
+
+-- the two steps by which the pawns of a side take: toward file h, and toward file a
+abbrev pub eastward : Colour → Step
+eastward White = north_east
+eastward Black = south_east
+
+abbrev pub westward : Colour → Step
+westward White = north_west
+westward Black = south_west
 
 -- own men are left to be counted, and with their moves the count is that of all moves
 pub record IsTally (p : Position) (count : ℕ) (left : List Bool) : Type 0 where

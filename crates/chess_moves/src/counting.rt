@@ -12,6 +12,7 @@ ghost use Rattle.chess_moves.specs.Counting.{moves_of, IsFree, HasFree, IsTally}
 
 use crate::free::{free_of, free_pawn_goes, free_piece_goes};
 use crate::masks::{Masks, masks_of};
+use crate::pawn_sets::{advancing_of, count_advancing};
 use crate::safe::safe_targets;
 use crate::squares::{is_pawn, men_of};
 use chess_bits::{Bits, Colour, Kind, Square};
@@ -135,6 +136,19 @@ fn counted(board: &Board, masks: &Masks, tally: Tally, kind: Kind) -> Tally
     }
 }
 
+// The count with the free pawns that do not reach the last rank, all at once.
+fn counted_advancing(board: &Board, masks: &Masks, tally: Tally) -> Tally
+    requires masks { HoldsMasks board.now masks.now }
+    requires tally { IsTally board.now tally.count tally.left }
+    ensures { IsTally board.now result.count result.left }
+{
+    let pawns = advancing_of(board, masks, tally.left);
+    Tally {
+        count: tally.count + count_advancing(board, masks, pawns),
+        left: tally.left.without(pawns),
+    }
+}
+
 // The count with the men that are left, one by one.
 fn count_rest(board: &Board, masks: &Masks, tally: Tally) -> u32
     requires masks { HoldsMasks board.now masks.now }
@@ -157,7 +171,8 @@ pub fn count_moves(board: &Board) -> u32
         count: 0,
         left: men_of(board, board.side()),
     };
-    let pawns = counted(board, &masks, none, Kind::Pawn);
+    let advancing = counted_advancing(board, &masks, none);
+    let pawns = counted(board, &masks, advancing, Kind::Pawn);
     let knights = counted(board, &masks, pawns, Kind::Knight);
     let bishops = counted(board, &masks, knights, Kind::Bishop);
     let rooks = counted(board, &masks, bishops, Kind::Rook);

@@ -7,6 +7,7 @@ mod free;
 mod legality;
 mod listing;
 mod masks;
+mod pawn_sets;
 mod pawns;
 mod promotions;
 mod safe;
