@@ -16,6 +16,3 @@ mod watch;
 pub use counting::count_moves;
 pub use legality::{after_legal, legal};
 pub use listing::{has_legal, legal_moves};
-
-#[cfg(test)]
-mod tests;
