@@ -64,9 +64,9 @@ fn asks_for_one(rested: Rested, found: Found) -> bool
     rested != Rested::Calm || may_wait(found)
 }
 
-// Reads for each session, has the hub answer lines that wait, and writes; and tells whether there was anything to read or
-// to write.
-pub(crate) fn serve_clients<S: Read + Write, D: Device>(
+/// Reads for each session, has the hub answer lines that wait, and writes; and tells whether there was anything to read or
+/// to write.
+pub fn serve_clients<S: Read + Write, D: Device>(
     clients: &mut Vec<Client<S>>,
     hub: &mut Hub<D>,
     reading: Reading,

@@ -1,7 +1,7 @@
 //! Memory that is refused to clients over connections: `bench/refused-memory` refuses each allocation in turn.
-use super::{Gives, Peer, Takes, connect, hub, made};
-use crate::server::serve_clients;
+use crate::serving::{Gives, Peer, Takes, connect, hub, made};
 use chess_hub::{Hub, HubFault};
+use chess_sockets::serve_clients;
 use chess_store::StoreFault;
 use client_streams::{Client, Reading};
 use sector_dev::MemoryDevice;

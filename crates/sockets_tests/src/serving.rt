@@ -1,8 +1,6 @@
 //! Clients over connections that give and take little, or fail.
-mod memory;
-
-use crate::server::serve_clients;
 use chess_hub::Hub;
+use chess_sockets::serve_clients;
 use chess_store::Store;
 use chess_table::Table;
 use client_streams::{Client, Reading};
@@ -16,7 +14,7 @@ use std::process::Abort;
 
 /// What a connection gives at a read.
 #[derive(Clone, Copy)]
-enum Gives {
+pub enum Gives {
     Text(&'static str),
     Nothing,
     End,
@@ -25,7 +23,7 @@ enum Gives {
 
 /// What a connection does at a write.
 #[derive(Clone, Copy)]
-enum Takes {
+pub enum Takes {
     All,
     /// It takes so many bytes, and nothing at the next write.
     Some(usize),
@@ -41,12 +39,13 @@ const SLOW: usize = 7;
 
 /// A connection that gives these, one at a read, and the last one again and again.
 #[derive(Drop)]
-struct Peer {
+pub struct Peer {
     gives: &'static [Gives],
     reads: usize,
     takes: Takes,
     is_full: bool,
-    written: Vec<u8>,
+    /// What was written to it.
+    pub written: Vec<u8>,
 }
 
 impl Read for Peer {
@@ -107,7 +106,7 @@ list\nlist\nlist\nlist\nlist\nlist\nlist\nlist\nlist\nlist\n";
 
 const LISTED: &str = "ok list 0\n";
 
-fn made(alloc: Global, gives: &'static [Gives], takes: Takes) -> Peer {
+pub fn made(alloc: Global, gives: &'static [Gives], takes: Takes) -> Peer {
     Peer {
         gives,
         reads: 0,
@@ -142,7 +141,7 @@ fn count_lines(written: &[u8], line: &str) -> Option<usize> {
     Some(written.len() / line.len())
 }
 
-fn hub(alloc: Global) -> Option<Hub<MemoryDevice>> {
+pub fn hub(alloc: Global) -> Option<Hub<MemoryDevice>> {
     let limits = Limits {
         games: 4,
         plies: 60,
@@ -207,7 +206,7 @@ fn outcome_of(clients: &[Client<Peer>], hub: &Hub<MemoryDevice>, line: &str) -> 
     })
 }
 
-fn connect(
+pub fn connect(
     clients: &mut Vec<Client<Peer>>,
     hub: &mut Hub<MemoryDevice>,
     alloc: Global,
@@ -268,12 +267,9 @@ xxxxxxxxxxxxxxxxxxxxxxxxxxxxxxxxxxxxxxxxxxxxxxxxxxxxxxxxxxxxxxxxxxxxxxxxxxxxxxxx
 fn answers_go_in_pieces(rt: HostRuntime) {
     let alloc = rt.alloc();
     let slow = Takes::Some(3);
-    assert_eq!(rt;
-        play(alloc, made(alloc, TWO, slow), NAMED, 3, None),
-        left(true, None, 1, 3)
-    );
+    assert!(rt; play(alloc, made(alloc, TWO, slow), NAMED, 3, None) == left(true, None, 1, 3));
     let all = left(true, Some(2), 14, 20);
-    assert_eq!(rt; play(alloc, made(alloc, TWO, slow), NAMED, 20, None), all);
+    assert!(rt; play(alloc, made(alloc, TWO, slow), NAMED, 20, None) == all);
 }
 
 #[test]
@@ -281,32 +277,20 @@ fn broken_connections_are_closed(rt: HostRuntime) {
     let alloc = rt.alloc();
     let resets = &[Gives::Text("name a\n"), Gives::Reset];
     let reset = made(alloc, resets, Takes::All);
-    assert_eq!(rt;
-        play(alloc, reset, NAMED, 5, None),
-        left(false, Some(1), 2, 5)
-    );
+    assert!(rt; play(alloc, reset, NAMED, 5, None) == left(false, Some(1), 2, 5));
     let failed = made(alloc, ONE, Takes::Fails(4));
-    assert_eq!(rt;
-        play(alloc, failed, NAMED, 1, None),
-        left(false, None, 1, 1)
-    );
+    assert!(rt; play(alloc, failed, NAMED, 1, None) == left(false, None, 1, 1));
 }
 
 #[test]
 fn all_lines_before_an_end_are_answered(rt: HostRuntime) {
     let alloc = rt.alloc();
     let whole = Takes::All;
-    assert_eq!(rt;
-        play(alloc, made(alloc, ENDS, whole), NAMED, 1, None),
-        left(true, Some(16), 1, 1)
-    );
-    assert_eq!(rt;
-        play(alloc, made(alloc, ENDS, whole), NAMED, 9, None),
-        left(false, Some(40), 3, 9)
-    );
+    assert!(rt; play(alloc, made(alloc, ENDS, whole), NAMED, 1, None) == left(true, Some(16), 1, 1));
+    assert!(rt; play(alloc, made(alloc, ENDS, whole), NAMED, 9, None) == left(false, Some(40), 3, 9));
     let slow = Takes::Some(7);
     let all = left(false, Some(40), 3, 200);
-    assert_eq!(rt; play(alloc, made(alloc, ENDS, slow), NAMED, 200, None), all);
+    assert!(rt; play(alloc, made(alloc, ENDS, slow), NAMED, 200, None) == all);
 }
 
 const SIXTEEN: &str = "\
@@ -345,9 +329,9 @@ fn lines_that_wait_at_an_end_are_answered(rt: HostRuntime) {
     let alloc = rt.alloc();
     let all = [Some(16); 5];
     let most = [Some(13), Some(13), Some(13), Some(13), Some(12)];
-    assert_eq!(rt; five(alloc, Takes::All, 1), Some((true, most)));
-    assert_eq!(rt; five(alloc, Takes::All, 2), Some((true, all)));
-    assert_eq!(rt; five(alloc, Takes::All, 3), Some((false, all)));
+    assert!(rt; five(alloc, Takes::All, 1) == Some((true, most)));
+    assert!(rt; five(alloc, Takes::All, 2) == Some((true, all)));
+    assert!(rt; five(alloc, Takes::All, 3) == Some((false, all)));
 }
 
 #[test]
@@ -357,18 +341,15 @@ fn who_has_ended_and_reads_slowly_is_given_all(rt: HostRuntime) {
     let part = [None, Some(16), Some(16), Some(16), Some(16)];
     // The end is heard in the second turn, when three answers are to come.
     let slow = Takes::SlowsAt(130);
-    assert_eq!(rt; five(alloc, slow, 4), Some((true, part)));
-    assert_eq!(rt; five(alloc, slow, 20), Some((false, all)));
+    assert!(rt; five(alloc, slow, 4) == Some((true, part)));
+    assert!(rt; five(alloc, slow, 20) == Some((false, all)));
 }
 
 #[test]
 fn who_takes_nothing_is_read_no_further(rt: HostRuntime) {
     let alloc = rt.alloc();
     let floods = made(alloc, &[Gives::Text(NAMES)], Takes::Nothing);
-    assert_eq!(rt;
-        play(alloc, floods, NAMED, 50, None),
-        left(true, Some(0), 1, 50)
-    );
+    assert!(rt; play(alloc, floods, NAMED, 50, None) == left(true, Some(0), 1, 50));
 }
 
 #[test]
@@ -376,7 +357,7 @@ fn who_sends_a_long_line_is_closed(rt: HostRuntime) {
     let alloc = rt.alloc();
     let floods = made(alloc, &[Gives::Text(LONG)], Takes::All);
     let told = left(false, Some(1), 255, 300);
-    assert_eq!(rt; play(alloc, floods, "bye LineTooLong\n", 300, None), told);
+    assert!(rt; play(alloc, floods, "bye LineTooLong\n", 300, None) == told);
 }
 
 #[test]
@@ -384,24 +365,12 @@ fn the_silent_are_closed(rt: HostRuntime) {
     let alloc = rt.alloc();
     let whole = Takes::All;
     let most = Some(100);
-    assert_eq!(rt;
-        play(alloc, made(alloc, ONE, whole), NAMED, 100, most),
-        left(true, Some(1), 100, 100)
-    );
-    assert_eq!(rt;
-        play(alloc, made(alloc, ONE, whole), NAMED, 101, most),
-        left(false, Some(1), 101, 101)
-    );
+    assert!(rt; play(alloc, made(alloc, ONE, whole), NAMED, 100, most) == left(true, Some(1), 100, 100));
+    assert!(rt; play(alloc, made(alloc, ONE, whole), NAMED, 101, most) == left(false, Some(1), 101, 101));
     // Who has answers to take is not, nor is anybody where no limit is set.
     let stuck = made(alloc, ONE, Takes::Nothing);
-    assert_eq!(rt;
-        play(alloc, stuck, NAMED, 200, most),
-        left(true, Some(0), 1, 200)
-    );
-    assert_eq!(rt;
-        play(alloc, made(alloc, ONE, whole), NAMED, 200, None),
-        left(true, Some(1), 200, 200)
-    );
+    assert!(rt; play(alloc, stuck, NAMED, 200, most) == left(true, Some(0), 1, 200));
+    assert!(rt; play(alloc, made(alloc, ONE, whole), NAMED, 200, None) == left(true, Some(1), 200, 200));
 }
 
 #[test]
@@ -420,15 +389,9 @@ fn who_has_sent_is_not_silent(rt: HostRuntime) {
         Gives::Text("name a\n"),
         Gives::Nothing,
     ];
-    assert_eq!(rt;
-        play_at(alloc, made(alloc, again, Takes::All), NAMED, calm),
-        left(true, Some(2), 4, 4)
-    );
+    assert!(rt; play_at(alloc, made(alloc, again, Takes::All), NAMED, calm) == left(true, Some(2), 4, 4));
     let longer = Turns { count: 6, ..calm };
-    assert_eq!(rt;
-        play_at(alloc, made(alloc, again, Takes::All), NAMED, longer),
-        left(false, Some(2), 5, 6)
-    );
+    assert!(rt; play_at(alloc, made(alloc, again, Takes::All), NAMED, longer) == left(false, Some(2), 5, 6));
     // A server that was held up for long reads first.
     let late = Turns {
         step: 1_000_000,
@@ -436,24 +399,15 @@ fn who_has_sent_is_not_silent(rt: HostRuntime) {
         ..calm
     };
     let speaks = &[Gives::Text("name a\n")];
-    assert_eq!(rt;
-        play_at(alloc, made(alloc, speaks, Takes::All), NAMED, late),
-        left(true, Some(4), 4, 4)
-    );
+    assert!(rt; play_at(alloc, made(alloc, speaks, Takes::All), NAMED, late) == left(true, Some(4), 4, 4));
 }
 
 #[test]
 fn lists_are_answered_one_a_turn(rt: HostRuntime) {
     let alloc = rt.alloc();
     let asks = &[Gives::Text(LISTS), Gives::Nothing];
-    assert_eq!(rt;
-        play(alloc, made(alloc, asks, Takes::All), LISTED, 7, None),
-        left(true, Some(7), 1, 7)
-    );
-    assert_eq!(rt;
-        play(alloc, made(alloc, asks, Takes::All), LISTED, 50, None),
-        left(true, Some(40), 11, 50)
-    );
+    assert!(rt; play(alloc, made(alloc, asks, Takes::All), LISTED, 7, None) == left(true, Some(7), 1, 7));
+    assert!(rt; play(alloc, made(alloc, asks, Takes::All), LISTED, 50, None) == left(true, Some(40), 11, 50));
 }
 
 // The fewest and the most answers of nine clients who ask for the list again and again.
@@ -481,7 +435,7 @@ fn flood(alloc: Global, count: u64) -> Option<(usize, usize)> {
 #[test]
 fn who_asks_for_much_is_answered_in_turn(rt: HostRuntime) {
     let alloc = rt.alloc();
-    assert_eq!(rt; flood(alloc, 8), Some((0, 1)));
-    assert_eq!(rt; flood(alloc, 9), Some((1, 1)));
-    assert_eq!(rt; flood(alloc, 100), Some((11, 12)));
+    assert!(rt; flood(alloc, 8) == Some((0, 1)));
+    assert!(rt; flood(alloc, 9) == Some((1, 1)));
+    assert!(rt; flood(alloc, 100) == Some((11, 12)));
 }
