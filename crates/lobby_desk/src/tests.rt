@@ -2,288 +2,288 @@
 use crate::{Desk, Player, Told};
 use rec_codec::Name;
 use sha2::{Digest, Sha256};
-use std::alloc::{AllocError, Global};
-use std::test::Fail;
+use std::alloc::Global;
+use std::process::Abort;
+
+/// Connections by their numbers, and the server.
+const A: u64 = 0;
+
+const B: u64 = 1;
+
+const SERVER: u64 = 2;
+
+/// Who says something, what it is, what goes to the server for it, and what is told: each message behind the letters of the
+/// connections that it goes to.
+type Row = (u64, &'static str, &'static str, &'static str);
+
+/// A desk, and what came of what was said last.
+#[derive(Drop)]
+struct Club {
+    alloc: Global,
+    desk: Desk,
+    at: u64,
+    wire: Vec<u8>,
+    told: Vec<Told>,
+}
 
 // A player whose token is his name.
-fn player(
-    alloc: Global,
-    name: &str,
-    full_name: &str,
-    is_arbiter: bool,
-) -> Result<Option<Player>, AllocError> {
-    let full_name = String::from_str(alloc, full_name)?;
-    match Name::try_new(name) {
-        None => Ok(None),
-        Some(named) => Ok(Some(Player {
-            name: named,
-            full_name,
-            sum: Sha256::digest(name),
-            is_arbiter,
-        })),
+fn player(rt: &impl Abort, alloc: Global, name: &str, full_name: &str, is_arbiter: bool) -> Player {
+    Player {
+        name: Name::try_new(name).expect(rt, "a name"),
+        full_name: String::from_str(alloc, full_name).expect(rt, "memory"),
+        sum: Sha256::digest(name),
+        is_arbiter,
     }
 }
 
-// A desk of three players, one of them an arbiter, with the server there.
-fn club(alloc: Global) -> Result<Desk, AllocError> {
-    let mut players = Vec::new(alloc);
-    if let Some(ann) = player(alloc, "ann", "Ann Lee", false)? {
-        players.push(ann)?;
+fn players_of(rt: &impl Abort, alloc: Global) -> Vec<Player> {
+    let mut all = Vec::new(alloc);
+    all.push(player(rt, alloc, "ann", "Ann Lee", false))
+        .expect(rt, "memory");
+    all.push(player(rt, alloc, "bob", "Bob", false))
+        .expect(rt, "memory");
+    all.push(player(rt, alloc, "eve", "Eve Moss", true))
+        .expect(rt, "memory");
+    all
+}
+
+// A desk with the server there and two connections.
+fn club_of(rt: &impl Abort, alloc: Global) -> Club {
+    let mut club = Club {
+        alloc,
+        desk: Desk::new(alloc, players_of(rt, alloc)),
+        at: 0,
+        wire: Vec::new(alloc),
+        told: Vec::new(alloc),
+    };
+    club.desk.here(&mut club.told).expect(rt, "memory");
+    club.desk.opened(&mut club.told).expect(rt, "memory");
+    club.desk.opened(&mut club.told).expect(rt, "memory");
+    club
+}
+
+// The server says these lines, or is gone where there are none.
+fn hear(rt: &impl Abort, club: &mut Club, lines: &str) {
+    if lines.is_empty() {
+        club.desk.gone(&mut club.told).expect(rt, "memory");
     }
-    if let Some(bob) = player(alloc, "bob", "Bob", false)? {
-        players.push(bob)?;
-    }
-    if let Some(eve) = player(alloc, "eve", "Eve Moss", true)? {
-        players.push(eve)?;
-    }
-    let mut desk = Desk::new(alloc, players);
-    let mut told = Vec::new(alloc);
-    desk.here(&mut told)?;
-    Ok(desk)
-}
-
-// One connection says one thing, which is not waited for.
-fn say(
-    desk: &mut Desk,
-    alloc: Global,
-    from: u64,
-    text: &str,
-    wire: &mut Vec<u8>,
-) -> Result<Vec<Told>, AllocError> {
-    let mut told = Vec::new(alloc);
-    if desk.is_ready(from) {
-        desk.said(from, text, 0, wire, &mut told)?;
-    }
-    Ok(told)
-}
-
-// Everything that was told, each text behind those before.
-fn all_of(alloc: Global, told: &[Told]) -> Result<String, AllocError> {
-    let mut text = String::new(alloc);
-    for one in told {
-        text.push_str(one.text.as_str())?;
-    }
-    Ok(text)
-}
-
-#[test]
-fn an_act_goes_under_the_name_of_its_player(rt: HostRuntime) -> Result<(), Fail> {
-    let alloc = rt.alloc();
-    let mut desk = club(alloc)?;
-    let mut told = Vec::new(alloc);
-    let mut wire = Vec::new(alloc);
-    let ann = desk.opened(&mut told)?;
-    let bob = desk.opened(&mut told)?;
-    let login = say(&mut desk, alloc, ann, "login ann", &mut wire)?;
-    assert_eq!(rt;
-        all_of(alloc, login.as_slice())?.as_str(),
-        "ok login ann player Ann Lee\n"
-    );
-    say(&mut desk, alloc, bob, "login bob", &mut wire)?;
-    say(&mut desk, alloc, ann, "open white 300 2", &mut wire)?;
-    say(&mut desk, alloc, bob, "join 1", &mut wire)?;
-    assert!(rt; wire.as_slice() == b"name ann\nopen white 300 2\nname bob\njoin 1\n".as_slice());
-    Ok(())
-}
-
-#[test]
-fn nothing_goes_for_who_may_not(rt: HostRuntime) -> Result<(), Fail> {
-    let alloc = rt.alloc();
-    let mut desk = club(alloc)?;
-    let mut told = Vec::new(alloc);
-    let mut wire = Vec::new(alloc);
-    let one = desk.opened(&mut told)?;
-    let cases = [
-        ("move 1 0 e4", "no 31 NoToken\n"),
-        ("login an", "no 32 BadToken\n"),
-        ("login ", "no 32 BadToken\n"),
-        ("name ann", "no 1 BadLine\n"),
-        ("", "no 1 BadLine\n"),
-        ("watch 01", "no 1 BadLine\n"),
-        ("list\nname ann", "no 1 BadLine\n"),
-        ("login ann", "ok login ann player Ann Lee\n"),
-        ("drop 1", "no 33 NotArbiter\n"),
-        ("drop 01", "no 1 BadLine\n"),
-        ("name bob", "no 1 BadLine\n"),
-        ("leave 1", "ok leave 1\n"),
-        ("leave lobby", "ok leave lobby\n"),
-    ];
-    for (text, answer) in cases {
-        let told = say(&mut desk, alloc, one, text, &mut wire)?;
-        assert_eq!(rt; all_of(alloc, told.as_slice())?.as_str(), answer);
-    }
-    assert_eq!(rt; wire.len(), 0);
-    Ok(())
-}
-
-#[test]
-fn those_who_watch_are_told(rt: HostRuntime) -> Result<(), Fail> {
-    let alloc = rt.alloc();
-    let mut desk = club(alloc)?;
-    let mut told = Vec::new(alloc);
-    let mut wire = Vec::new(alloc);
-    let ann = desk.opened(&mut told)?;
-    let guest = desk.opened(&mut told)?;
-    say(&mut desk, alloc, ann, "login ann", &mut wire)?;
-    say(&mut desk, alloc, guest, "watch 7", &mut wire)?;
-    say(&mut desk, alloc, ann, "move 7 4 e2e4", &mut wire)?;
-    assert!(rt; wire.as_slice() == b"show 7\nfen 7\nname ann\nmove 7 4 e2e4\n".as_slice());
-    told.clear();
-    desk.heard("ok show 7 ann bob 4 w 1 2 - * -", &mut wire, &mut told)?;
-    assert_eq!(rt; told.len(), 0);
-    desk.heard("ok fen 7 FEN", &mut wire, &mut told)?;
-    assert_eq!(rt;
-        all_of(alloc, told.as_slice())?.as_str(),
-        "ok watch 7\nok show 7 ann bob 4 w 1 2 - * -\nok fen 7 FEN\n"
-    );
-    told.clear();
-    desk.heard("ok name ann", &mut wire, &mut told)?;
-    desk.heard("ok move 7 5 e4", &mut wire, &mut told)?;
-    assert_eq!(rt; told.len(), 1);
-    assert!(rt; told[0].to.as_slice() == [ann].as_slice());
-    told.clear();
-    desk.heard("ok show 7 ann bob 5 b 1 2 - * -", &mut wire, &mut told)?;
-    desk.heard("ok fen 7 NEXT", &mut wire, &mut told)?;
-    assert_eq!(rt; told.len(), 1);
-    assert!(rt; told[0].to.as_slice() == [guest].as_slice());
-    let notice =
-        "told 7\nby ann move 7 4 e2e4\nok move 7 5 e4\nok show 7 ann bob 5 b 1 2 - * -\nok fen 7 NEXT\n";
-    assert_eq!(rt; told[0].text.as_str(), notice);
-    Ok(())
-}
-
-#[test]
-fn an_answer_of_several_lines_is_one_message(rt: HostRuntime) -> Result<(), Fail> {
-    let alloc = rt.alloc();
-    let mut desk = club(alloc)?;
-    let mut told = Vec::new(alloc);
-    let mut wire = Vec::new(alloc);
-    let one = desk.opened(&mut told)?;
-    let two = desk.opened(&mut told)?;
-    say(&mut desk, alloc, one, "list", &mut wire)?;
-    say(&mut desk, alloc, two, "show 9", &mut wire)?;
-    told.clear();
-    for line in ["ok list 2", "1 ann - 0 *", "2 ann bob 3 1-0", "no 3 NoGame"] {
-        desk.heard(line, &mut wire, &mut told)?;
-    }
-    assert_eq!(rt; told.len(), 2);
-    assert_eq!(rt;
-        told[0].text.as_str(),
-        "ok list 2\n1 ann - 0 *\n2 ann bob 3 1-0\n"
-    );
-    assert!(rt; told[0].to.as_slice() == [one].as_slice());
-    assert_eq!(rt; told[1].text.as_str(), "no 3 NoGame\n");
-    assert!(rt; told[1].to.as_slice() == [two].as_slice());
-    Ok(())
-}
-
-#[test]
-fn what_waits_is_lost_with_the_server(rt: HostRuntime) -> Result<(), Fail> {
-    let alloc = rt.alloc();
-    let mut desk = club(alloc)?;
-    let mut told = Vec::new(alloc);
-    let mut wire = Vec::new(alloc);
-    let one = desk.opened(&mut told)?;
-    say(&mut desk, alloc, one, "list", &mut wire)?;
-    told.clear();
-    desk.gone(&mut told)?;
-    assert_eq!(rt;
-        all_of(alloc, told.as_slice())?.as_str(),
-        "lost\nserver gone\n"
-    );
-    let none = say(&mut desk, alloc, one, "list", &mut wire)?;
-    assert_eq!(rt;
-        all_of(alloc, none.as_slice())?.as_str(),
-        "no 36 NoServer\n"
-    );
-    Ok(())
-}
-
-// The server's lines, one after another.
-fn hear(
-    desk: &mut Desk,
-    alloc: Global,
-    lines: &str,
-    wire: &mut Vec<u8>,
-) -> Result<String, AllocError> {
-    let mut told = Vec::new(alloc);
     for line in lines.lines() {
-        desk.heard(line, wire, &mut told)?;
+        club.desk
+            .heard(line, &mut club.wire, &mut club.told)
+            .expect(rt, "memory");
     }
-    all_of(alloc, told.as_slice())
 }
 
-#[test]
-fn an_arbiters_drop_goes_under_a_seated_name(rt: HostRuntime) -> Result<(), Fail> {
-    let alloc = rt.alloc();
-    let mut desk = club(alloc)?;
-    let mut told = Vec::new(alloc);
-    let mut wire = Vec::new(alloc);
-    let eve = desk.opened(&mut told)?;
-    say(&mut desk, alloc, eve, "login eve", &mut wire)?;
-    // What the server says to `show`, what goes out for it, and what the arbiter is told.
-    let cases = [
-        (
-            "ok show 7 ann bob 4 w 1 2 - 1-0 5.1.2\n",
-            "show 7\nname ann\ndrop 7\n",
-            "",
-        ),
-        (
-            "ok show 7 - bob 0 w 1 1 - * -\n",
-            "show 7\nname bob\ndrop 7\n",
-            "",
-        ),
-        ("no 3 NoGame\n", "show 7\n", "no 3 NoGame\n"),
-    ];
-    for (show, sent, answer) in cases {
-        wire.clear();
-        say(&mut desk, alloc, eve, "drop 7", &mut wire)?;
-        let heard = hear(&mut desk, alloc, show, &mut wire)?;
-        assert_eq!(rt; heard.as_str(), answer);
-        assert!(rt; wire.as_slice() == sent.as_bytes());
-        let dropped = hear(&mut desk, alloc, "ok name x\nok drop 7\n", &mut wire)?;
-        assert!(rt; answer.is_empty() == (dropped.as_str() == "ok drop 7\n"));
-        hear(&mut desk, alloc, "no 3 NoGame\nno 3 NoGame\n", &mut wire)?;
+// Somebody says something; a connection to which an answer is owed does not.
+fn say(rt: &impl Abort, club: &mut Club, who: u64, text: &str) {
+    club.wire.clear();
+    club.told.clear();
+    if who == SERVER {
+        hear(rt, club, text);
+    } else if club.desk.is_ready(who) {
+        club.desk
+            .said(who, text, club.at, &mut club.wire, &mut club.told)
+            .expect(rt, "memory");
     }
-    Ok(())
 }
 
-#[test]
-fn too_many_messages_and_games_are_refused(rt: HostRuntime) -> Result<(), Fail> {
-    let alloc = rt.alloc();
-    let mut desk = club(alloc)?;
-    let mut told = Vec::new(alloc);
-    let mut wire = Vec::new(alloc);
-    let ann = desk.opened(&mut told)?;
-    let mut fast = String::new(alloc);
-    for _ in 0..25 {
-        let answer = say(&mut desk, alloc, ann, "leave 1", &mut wire)?;
-        if all_of(alloc, answer.as_slice())?.as_str() == "no 34 TooFast\n" {
-            fast.push('x')?;
+fn letter(connection: u64) -> char {
+    match connection {
+        A => 'a',
+        B => 'b',
+        _ => '?',
+    }
+}
+
+fn push_told(rt: &impl Abort, text: &mut String, told: &Told) {
+    for to in told.to.as_slice() {
+        text.push(letter(*to)).expect(rt, "memory");
+    }
+    text.push(' ').expect(rt, "memory");
+    text.push_str(told.text.as_str()).expect(rt, "memory");
+}
+
+// Everything that was told.
+fn all_told(rt: &impl Abort, club: &Club) -> String {
+    let mut text = String::new(club.alloc);
+    for one in club.told.as_slice() {
+        push_told(rt, &mut text, one);
+    }
+    text
+}
+
+// Whether what is said brings this.
+fn brings(rt: &impl Abort, club: &mut Club, row: &Row) -> bool {
+    let (who, text, sent, told) = *row;
+    say(rt, club, who, text);
+    club.wire.as_slice() == sent.as_bytes() && all_told(rt, club).as_str() == told
+}
+
+// How many of these rows are as they are to be, up to the first that is not.
+fn good(rt: &impl Abort, club: &mut Club, rows: &[Row]) -> usize {
+    for (place, row) in rows.iter().enumerate() {
+        if !brings(rt, club, row) {
+            return place;
         }
     }
-    assert_eq!(rt; fast.as_str(), "xxxxx");
-    told.clear();
-    if desk.is_ready(ann) {
-        desk.said(ann, "login ann", 50, &mut wire, &mut told)?;
+    rows.len()
+}
+
+// The same of a desk at which nothing was said yet.
+fn good_anew(rt: &impl Abort, alloc: Global, rows: &[Row]) -> usize {
+    let mut club = club_of(rt, alloc);
+    good(rt, &mut club, rows)
+}
+
+#[test]
+fn an_act_goes_under_the_name_of_its_player(rt: HostRuntime) {
+    let rows: [Row; 4] = [
+        (A, "login ann", "", "a ok login ann player Ann Lee\n"),
+        (B, "login bob", "", "b ok login bob player Bob\n"),
+        (A, "open white 300 2", "name ann\nopen white 300 2\n", ""),
+        (B, "join 1", "name bob\njoin 1\n", ""),
+    ];
+    assert_eq!(rt; good_anew(&rt, rt.alloc(), &rows), 4);
+}
+
+#[test]
+fn nothing_goes_for_who_may_not(rt: HostRuntime) {
+    let rows: [Row; 13] = [
+        (A, "move 1 0 e4", "", "a no 31 NoToken\n"),
+        (A, "login an", "", "a no 32 BadToken\n"),
+        (A, "login ", "", "a no 32 BadToken\n"),
+        (A, "name ann", "", "a no 1 BadLine\n"),
+        (A, "", "", "a no 1 BadLine\n"),
+        (A, "watch 01", "", "a no 1 BadLine\n"),
+        (A, "list\nname ann", "", "a no 1 BadLine\n"),
+        (A, "login ann", "", "a ok login ann player Ann Lee\n"),
+        (A, "drop 1", "", "a no 33 NotArbiter\n"),
+        (A, "drop 01", "", "a no 1 BadLine\n"),
+        (A, "name bob", "", "a no 1 BadLine\n"),
+        (A, "leave 1", "", "a ok leave 1\n"),
+        (A, "leave lobby", "", "a ok leave lobby\n"),
+    ];
+    assert_eq!(rt; good_anew(&rt, rt.alloc(), &rows), 13);
+}
+
+#[test]
+fn those_who_watch_are_told(rt: HostRuntime) {
+    let rows: [Row; 7] = [
+        (A, "login ann", "", "a ok login ann player Ann Lee\n"),
+        (B, "watch 7", "show 7\nfen 7\n", ""),
+        (A, "move 7 4 e2e4", "name ann\nmove 7 4 e2e4\n", ""),
+        (SERVER, "ok show 7 ann bob 4 w 1 2 - * -", "", ""),
+        (
+            SERVER,
+            "ok fen 7 FEN",
+            "",
+            "b ok watch 7\nok show 7 ann bob 4 w 1 2 - * -\nok fen 7 FEN\n",
+        ),
+        (
+            SERVER,
+            "ok name ann\nok move 7 5 e4",
+            "show 7\nfen 7\n",
+            "a ok move 7 5 e4\n",
+        ),
+        (
+            SERVER,
+            "ok show 7 ann bob 5 b 1 2 - * -\nok fen 7 NEXT",
+            "",
+            "b told 7\nby ann move 7 4 e2e4\nok move 7 5 e4\nok show 7 ann bob 5 b 1 2 - * -\nok fen 7 NEXT\n",
+        ),
+    ];
+    assert_eq!(rt; good_anew(&rt, rt.alloc(), &rows), 7);
+}
+
+#[test]
+fn an_answer_of_several_lines_is_one_message(rt: HostRuntime) {
+    let rows: [Row; 3] = [
+        (A, "list", "list\n", ""),
+        (B, "show 9", "show 9\n", ""),
+        (
+            SERVER,
+            "ok list 2\n1 ann - 0 *\n2 ann bob 3 1-0\nno 3 NoGame",
+            "",
+            "a ok list 2\n1 ann - 0 *\n2 ann bob 3 1-0\nb no 3 NoGame\n",
+        ),
+    ];
+    assert_eq!(rt; good_anew(&rt, rt.alloc(), &rows), 3);
+}
+
+#[test]
+fn what_waits_is_lost_with_the_server(rt: HostRuntime) {
+    let rows: [Row; 3] = [
+        (A, "list", "list\n", ""),
+        (SERVER, "", "", "a lost\nab server gone\n"),
+        (A, "list", "", "a no 36 NoServer\n"),
+    ];
+    assert_eq!(rt; good_anew(&rt, rt.alloc(), &rows), 3);
+}
+
+#[test]
+fn an_arbiters_drop_goes_under_a_seated_name(rt: HostRuntime) {
+    let notice = " told 7\nby ann drop 7\nok drop 7\nno 3 NoGame\nno 3 NoGame\n";
+    let rows: [Row; 12] = [
+        (A, "login eve", "", "a ok login eve arbiter Eve Moss\n"),
+        (A, "drop 7", "show 7\n", ""),
+        (
+            SERVER,
+            "ok show 7 ann bob 4 w 1 2 - 1-0 5.1.2",
+            "name ann\ndrop 7\n",
+            "",
+        ),
+        (
+            SERVER,
+            "ok name x\nok drop 7",
+            "show 7\nfen 7\n",
+            "a ok drop 7\n",
+        ),
+        (SERVER, "no 3 NoGame\nno 3 NoGame", "", notice),
+        (A, "drop 7", "show 7\n", ""),
+        (
+            SERVER,
+            "ok show 7 - bob 0 w 1 1 - * -",
+            "name bob\ndrop 7\n",
+            "",
+        ),
+        (
+            SERVER,
+            "ok name x\nok drop 7",
+            "show 7\nfen 7\n",
+            "a ok drop 7\n",
+        ),
+        (SERVER, "no 3 NoGame\nno 3 NoGame", "", notice),
+        (A, "drop 7", "show 7\n", ""),
+        (SERVER, "no 3 NoGame", "", "a no 3 NoGame\n"),
+        (SERVER, "ok name x\nok drop 7", "", ""),
+    ];
+    assert_eq!(rt; good_anew(&rt, rt.alloc(), &rows), 12);
+}
+
+// How many of so many messages at one moment are not refused as too fast.
+fn taken(rt: &impl Abort, club: &mut Club, count: u64) -> u64 {
+    let mut left = count;
+    for _ in 0..count {
+        say(rt, club, A, "leave 1");
+        if all_told(rt, club).as_str() == "a no 34 TooFast\n" {
+            left = left.saturating_sub(1);
+        }
     }
-    assert_eq!(rt;
-        all_of(alloc, told.as_slice())?.as_str(),
-        "ok login ann player Ann Lee\n"
-    );
-    if desk.is_ready(ann) {
-        desk.said(ann, "list", 2000, &mut wire, &mut told)?;
-    }
+    left
+}
+
+#[test]
+fn too_many_messages_and_games_are_refused(rt: HostRuntime) {
+    let mut club = club_of(&rt, rt.alloc());
+    assert_eq!(rt; taken(&rt, &mut club, 25), 20);
+    club.at = 50;
+    let login: [Row; 1] = [(A, "login ann", "", "a ok login ann player Ann Lee\n")];
+    assert_eq!(rt; good(&rt, &mut club, &login), 1);
+    club.at = 2_000;
+    say(&rt, &mut club, A, "list");
     let list =
         "ok list 17\n1 ann - 0 *\n2 - ann 0 *\n3 ann - 0 *\n4 ann - 0 *\n5 ann - 0 *\n6 ann - 0 *\n7 ann - 0 *\n8 ann - 0 *\n9 ann - 0 *\n10 ann - 0 *\n11 ann - 0 *\n12 ann - 0 *\n13 ann - 0 *\n14 ann - 0 *\n15 ann - 0 *\n16 ann - 0 *\n17 ann bob 0 *\n";
-    hear(&mut desk, alloc, list, &mut wire)?;
-    told.clear();
-    if desk.is_ready(ann) {
-        desk.said(ann, "open white 300 2", 3000, &mut wire, &mut told)?;
-    }
-    assert_eq!(rt;
-        all_of(alloc, told.as_slice())?.as_str(),
-        "no 35 TooManyOpen\n"
-    );
-    Ok(())
+    say(&rt, &mut club, SERVER, list);
+    let open: [Row; 1] = [(A, "open white 300 2", "", "a no 35 TooManyOpen\n")];
+    assert_eq!(rt; good(&rt, &mut club, &open), 1);
 }
