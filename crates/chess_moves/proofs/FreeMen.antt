@@ -16,7 +16,7 @@ use Rattle.chess_bits.proofs.SetLemmas.{has-meet, has-without, length-without, I
 use Rattle.chess_bits.proofs.Reversal.{Attacks-back}
 use Rattle.chess_board.specs.Occupancy.{squares_with, is_a}
 use Rattle.chess_board.specs.Position.{Position, man_at, occupied_of, target_rank, IsValid}
-use Rattle.chess_board.specs.Legal.{pawn_rank, HoldsColour, Advances, AdvancesTwo, PawnTakes, TakesEnPassant, IsPieceMove}
+use Rattle.chess_board.specs.Legal.{pawn_rank, HoldsColour, Advances, AdvancesTwo, PawnTakes, TakesEnPassant}
 use Rattle.chess_board.proofs.Candidates.{IsOnBoard-from_man}
 use Rattle.chess_moves.specs.declared.masks.Masks.{Masks}
 use Rattle.chess_moves.specs.Targets.{plain, GoesTo, GoesSafely, IsPiece}

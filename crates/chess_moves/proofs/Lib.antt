@@ -18,3 +18,4 @@ pub mod Counted
 pub mod LastSquares
 pub mod FreeMen
 pub mod Tallied
+pub mod Open

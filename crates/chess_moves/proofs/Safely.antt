@@ -72,17 +72,25 @@ abbrev pub IsSeenAttacker : Position → List Bool → Square → Square → Typ
 IsSeenAttacker p squares q c =
     IsLeaper p q c ⊎ ((Slides squares straight q c × IsSlider p 0 c) ⊎ (Slides squares diagonal q c × IsSlider p 1 c))
 
+-- men of one set that are in another one too, by what the other's men are
+like_set : (set men : List Bool) (P Q : Square → Type 0) → IsSetOf set (λ c. P c × (has men c ≡ true)) →
+    IsSetOf men Q → IsSetOf set (λ c. P c × Q c)
+like_set set men P Q of of_men =
+    IsSetOf-like set (λ c. P c × (has men c ≡ true)) (λ c. P c × Q c) of
+    (λ c on is. (is.0, (of_men.exact c on).0 is.1)) (λ c on is. (is.0, (of_men.exact c on).1 is.1))
+
 pub seen_set : (p : Position) (q : Square) (squares leapers rooks bishops straights diagonals : List Bool) →
-    IsSetOf leapers (IsLeaper p q) → IsSetOf rooks (Slides squares straight q) →
-    IsSetOf bishops (Slides squares diagonal q) → IsSetOf straights (IsSlider p 0) → IsSetOf diagonals (IsSlider p 1) →
-    IsSetOf (union leapers (union (meet rooks straights) (meet bishops diagonals))) (IsSeenAttacker p squares q)
+    IsSetOf leapers (IsLeaper p q) → IsSetOf rooks (λ c. Slides squares straight q c × (has straights c ≡ true)) →
+    IsSetOf bishops (λ c. Slides squares diagonal q c × (has diagonals c ≡ true)) →
+    IsSetOf straights (IsSlider p 0) → IsSetOf diagonals (IsSlider p 1) →
+    IsSetOf (union leapers (union rooks bishops)) (IsSeenAttacker p squares q)
 seen_set p q squares leapers rooks bishops straights diagonals of_leapers of_rooks of_bishops of_straights of_diagonals =
-    IsSetOf-union leapers (union (meet rooks straights) (meet bishops diagonals)) (IsLeaper p q)
+    IsSetOf-union leapers (union rooks bishops) (IsLeaper p q)
     (λ c. (Slides squares straight q c × IsSlider p 0 c) ⊎ (Slides squares diagonal q c × IsSlider p 1 c)) of_leapers
-    (IsSetOf-union (meet rooks straights) (meet bishops diagonals) (λ c. Slides squares straight q c × IsSlider p 0 c)
+    (IsSetOf-union rooks bishops (λ c. Slides squares straight q c × IsSlider p 0 c)
     (λ c. Slides squares diagonal q c × IsSlider p 1 c)
-    (both_set rooks straights (Slides squares straight q) (IsSlider p 0) of_rooks of_straights)
-    (both_set bishops diagonals (Slides squares diagonal q) (IsSlider p 1) of_bishops of_diagonals))
+    (like_set rooks straights (Slides squares straight q) (IsSlider p 0) of_rooks of_straights)
+    (like_set bishops diagonals (Slides squares diagonal q) (IsSlider p 1) of_bishops of_diagonals))
 
 attacked_from : (p : Position) (k q c : Square) → IsOnBoard c →
     IsSeenAttacker p (put (occupied_of p.placement) k false) q c → IsAttackedWithout p k q
@@ -214,10 +222,10 @@ piece_goes_set p masks kind from reached allowed holds own piece of_reached of_a
 
 -- ---- pawns
 
-pawn_no_king : Pawn ≢ King
+pub pawn_no_king : Pawn ≢ King
 pawn_no_king e = absurd (cc)
 
-no_pawn_taken : (p : Position) (from to : Square) → p.target ≢ Some to → is_en_passant p (plain from to) ≡ false
+pub no_pawn_taken : (p : Position) (from to : Square) → p.target ≢ Some to → is_en_passant p (plain from to) ≡ false
 no_pawn_taken p from to apart =
     no_target_is_plain p (plain from to)
     (false_from_ne_true (is_target p.target to) (λ e. apart (is_target-true p.target to e)))

@@ -1,7 +1,7 @@
 -- Counts of legal moves that are made part by part.
-use Rattle.std.specs.Prelude.{ℕ, ◌≡◌, ◌≢◌, ◌+◌, ◌*◌, ◌≤◌, ◌&&◌, Bool, true, false, not, cond, List, [], ◌∷◌, length, filter, flat_map, Some}
+use Rattle.std.specs.Prelude.{ℕ, ◌≡◌, ◌+◌, ◌*◌, ◌≤◌, ◌&&◌, Bool, true, false, not, List, [], ◌∷◌, length, filter, flat_map, Some}
 use Rattle.std.proofs.Common.{arith, refl, sym, ap, subst, ◌∙◌, inl, inr, length-append}
-use Rattle.std.proofs.lemmas.Bool.{false≢true, cases_Bool, false_from_ne_true}
+use Rattle.std.proofs.lemmas.Bool.{false≢true, cases_Bool}
 use Rattle.chess_bits.specs.declared.men.Kind.{Kind}
 use Rattle.chess_bits.specs.declared.men.Kind.TheVariants.{Pawn}
 use Rattle.chess_bits.specs.Square.{Square, squares}
@@ -12,17 +12,16 @@ use Rattle.chess_bits.proofs.MemberLemmas.{filter-here, filter-not_here}
 use Rattle.chess_bits.proofs.AlongLemmas.{PassesEach, PassesEach-members}
 use Rattle.chess_board.specs.Occupancy.{squares_with}
 use Rattle.chess_board.specs.Position.{Position, man_at, IsValid}
-use Rattle.chess_board.specs.Legal.{HoldsColour, last_rank}
+use Rattle.chess_board.specs.Legal.{last_rank}
 use Rattle.chess_board.specs.Computing.{legal_moves_of}
 use Rattle.chess_moves.specs.Targets.{GoesSafely}
-use Rattle.chess_moves.specs.Moves.{IsNumberOfLegalMoves}
 use Rattle.chess_moves.specs.Listing.{legal_from}
-use Rattle.chess_moves.specs.Counting.{moves_of, IsFree, HasFree, AreFree, IsTally}
+use Rattle.chess_moves.specs.Counting.{moves_of, AreFree, IsTally}
 use Rattle.chess_moves.proofs.ListLemmas.{filter-same}
 use Rattle.chess_moves.proofs.SquareLemmas.{colour-from_test}
 use Rattle.chess_moves.proofs.Listed.{legal_moves_of-parts}
 use Rattle.chess_moves.proofs.Bound.{length-legal_moves_of}
-use Rattle.chess_moves.proofs.Counted.{filter-both, length-pawn, count_room, count_end, counted}
+use Rattle.chess_moves.proofs.Counted.{filter-both, length-pawn, count_room, count_end}
 
 -- ---- two parts of a set
 

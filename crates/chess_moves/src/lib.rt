@@ -16,7 +16,8 @@ mod watch;
 
 pub use counting::count_moves;
 pub use legality::{after_legal, legal};
-pub use listing::{has_legal, legal_moves};
+pub use listing::{has_legal, legal_moves, relist_legal_moves};
+pub use promotions::Moves;
 
 #[cfg(test)]
 mod tests;

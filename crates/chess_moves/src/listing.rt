@@ -43,16 +43,25 @@ fn push_moves_from(board: &Board, masks: &Masks, from: Square, moves: &mut Moves
     }
 }
 
+/// Puts the legal moves of the side to move into a list, as `legal_moves` tells them, in place of what it held. It is for
+/// who lists the moves of many positions: a new list has each of its 512 places filled.
+pub fn relist_legal_moves(board: &Board, moves: &mut ArrayVec<Move, 512>)
+    ensures { IsListOfLegalMoves board.now moves.new.items }
+{
+    moves.clear();
+    let masks = masks_of(board);
+    for from in men_of(board, board.side()).iter() {
+        push_moves_from(board, &masks, from, moves);
+    }
+}
+
 /// The legal moves of the side to move (FIDE articles 3.1 to 3.10), each once and no other, in no promised order. No
 /// valid position has more than 512.
 pub fn legal_moves(board: &Board) -> ArrayVec<Move, 512>
     ensures { IsListOfLegalMoves board.now result.items }
 {
     let mut moves = ArrayVec::new();
-    let masks = masks_of(board);
-    for from in men_of(board, board.side()).iter() {
-        push_moves_from(board, &masks, from, &mut moves);
-    }
+    relist_legal_moves(board, &mut moves);
     moves
 }
 

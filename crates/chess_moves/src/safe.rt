@@ -1,7 +1,8 @@
 //! Where a man may go so that its king is safe.
-ghost use Rattle.std.specs.Prelude.{◌≡◌, ◌↔◌, IsTrue, Some, false, not};
+ghost use Rattle.std.specs.Prelude.{◌≡◌, ◌↔◌, IsTrue, Some, true, false, not, length};
 ghost use Rattle.chess_bits.specs.declared.men.Kind.TheVariants as kinds;
-ghost use Rattle.chess_bits.specs.Table.{put, IsSetOf};
+ghost use Rattle.chess_bits.specs.Table.{has, put, IsSetOf};
+ghost use Rattle.chess_bits.specs.Attack.{Slides, straight as rook_steps, diagonal as bishop_steps};
 ghost use Rattle.chess_board.specs.Position.{man_at, occupied_of, IsInCheck};
 ghost use Rattle.chess_board.specs.Next.{placement_after};
 ghost use Rattle.chess_moves.specs.Targets.{plain as plain_move, GoesTo, LeavesKingSafe, GoesSafely, IsPiece};
@@ -10,7 +11,7 @@ ghost use Rattle.chess_moves.specs.Masks.{IsAttackedWithout, HoldsMasks};
 use crate::masks::{Masks, allowed, leapers};
 use crate::squares::plain;
 use crate::targets::targets;
-use chess_attacks::{bishop, king, rook};
+use chess_attacks::{bishop, king, ray, rook};
 use chess_bits::{Bits, Kind, Square};
 use chess_board::Board;
 
@@ -23,6 +24,34 @@ fn occupied_without(board: &Board, square: Square) -> Bits
     occupied
 }
 
+// The men of a set to which a rook slides from the square. Most often none is on its lines, which is soon seen.
+fn rook_meets(square: Square, occupied: Bits, men: Bits) -> Bits
+    requires { length men ≡ 64 }
+    ensures { IsSetOf result (λ c. Slides occupied rook_steps square c × (has men c ≡ true)) }
+{
+    let file = ray(square, 0).union(ray(square, 4));
+    let rank = ray(square, 2).union(ray(square, 6));
+    if file.union(rank).meet(men).is_empty() {
+        Bits::new()
+    } else {
+        rook(square, occupied).meet(men)
+    }
+}
+
+// Those to which a bishop slides.
+fn bishop_meets(square: Square, occupied: Bits, men: Bits) -> Bits
+    requires { length men ≡ 64 }
+    ensures { IsSetOf result (λ c. Slides occupied bishop_steps square c × (has men c ≡ true)) }
+{
+    let rising = ray(square, 1).union(ray(square, 5));
+    let falling = ray(square, 3).union(ray(square, 7));
+    if rising.union(falling).meet(men).is_empty() {
+        Bits::new()
+    } else {
+        bishop(square, occupied).meet(men)
+    }
+}
+
 // Whether a man of the opponent attacks the square once the king is taken off its own.
 fn is_attacked_without(board: &Board, masks: &Masks, from: Square, to: Square) -> bool
     requires { HoldsMasks board.now masks.now }
@@ -30,8 +59,8 @@ fn is_attacked_without(board: &Board, masks: &Masks, from: Square, to: Square) -
 {
     let _on_board = to.number();
     let occupied = occupied_without(board, from);
-    let straight = rook(to, occupied).meet(masks.straight);
-    let diagonal = bishop(to, occupied).meet(masks.diagonal);
+    let straight = rook_meets(to, occupied, masks.straight);
+    let diagonal = bishop_meets(to, occupied, masks.diagonal);
     !leapers(board, to)
         .union(straight.union(diagonal))
         .is_empty()

@@ -1,4 +1,4 @@
-use Rattle.std.proofs.Common.{◌≡◌, ◌∙◌, length, arith, ap}
+use Rattle.std.proofs.Common.{◌∙◌, arith, ap}
 use Rattle.chess_bits.specs.SquaresOf.{squares_left}
 use Rattle.chess_moves.specs.Listing.{legal_from}
 use Rattle.chess_moves.specs.Counting.{moves_of}

@@ -1,4 +1,4 @@
-use Rattle.std.proofs.Common.{◌≡◌, ◌+◌, ◌∙◌, length, arith, ap}
+use Rattle.std.proofs.Common.{◌≡◌, ◌∙◌, length, arith, ap}
 use Rattle.std.specs.Prelude.{flat_map}
 use Rattle.chess_bits.specs.Table.{members}
 use Rattle.chess_bits.specs.SquaresOf.{squares_left}

@@ -12,7 +12,7 @@ pub apply-requires-clause-legal : goal.apply-requires-clause-legal
 apply-requires-clause-legal c =
     let here : Contains c.as_slice-mv-items.result.now c.mv-item.result =
     (c.loop-mv.mv-index, c.loop-mv-test.true, sym c.mv-item.is) in
-    (c.legal_moves-moves.ensures.exact c.mv-item.result).0 (rw c.as_slice-mv-items.ensures.value at here)
+    (c.relist_legal_moves.ensures.exact c.mv-item.result).0 (rw c.as_slice-mv-items.ensures.value at here)
 
 pub loop-mv-preserved : goal.loop-mv-preserved
 loop-mv-preserved c =
@@ -21,7 +21,7 @@ loop-mv-preserved c =
     let items = c.as_slice-mv-items.result.now in
     let i = c.loop-mv.mv-index in
     let below = c.loop-mv-test.true in
-    let distinct = rw (sym c.as_slice-mv-items.ensures.value) at c.legal_moves-moves.ensures.distinct in
+    let distinct = rw (sym c.as_slice-mv-items.ensures.value) at c.relist_legal_moves.ensures.distinct in
     let n = c.count_moves.ensures in
     let alone = moves_alone c.apply.result n.moves n.listed in
     let counted : IsNumberOfLines (next p m) 1 (length n.moves) = rw c.apply.ensures.next at alone in
@@ -37,7 +37,7 @@ pub returns : goal.returns
 returns c =
     let p = c.args.board.now in
     let items = c.as_slice-mv-items.result.now in
-    let listed = rw (sym c.as_slice-mv-items.ensures.value) at c.legal_moves-moves.ensures in
+    let listed = rw (sym c.as_slice-mv-items.ensures.value) at c.relist_legal_moves.ensures in
     let all : take c.loop-mv.mv-index items ≡ items = take_all c.loop-mv.mv-index items c.loop-mv-test.false in
     let through : HasLinesThrough p items 1 c.loop-mv.count = rw all at c.loop-mv.invariant in
     through_all p items 1 c.loop-mv.count listed through

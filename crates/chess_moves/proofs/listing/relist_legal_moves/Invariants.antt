@@ -3,7 +3,7 @@ use Rattle.std.specs.Prelude.{flat_map}
 use Rattle.chess_bits.specs.SquaresOf.{squares_left}
 use Rattle.chess_board.specs.Computing.{legal_moves_of}
 use Rattle.chess_moves.specs.Listing.{legal_from}
-use Rattle.chess_moves.proofs.listing.legal_moves.Given as goal
+use Rattle.chess_moves.proofs.listing.relist_legal_moves.Given as goal
 
 -- with the moves from the squares that are left, these are all the moves
 abbrev pub invariant-loop-from : goal.invariant-loop-from

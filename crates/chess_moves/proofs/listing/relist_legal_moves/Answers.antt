@@ -11,7 +11,7 @@ use Rattle.chess_moves.specs.Listing.{legal_from}
 use Rattle.chess_moves.proofs.Listed.{legal_moves_of-parts, IsListOfLegalMoves-computed}
 use Rattle.chess_moves.proofs.Taken.{part_room, parts_end}
 use Rattle.chess_moves.proofs.Bound.{length-legal_moves_of}
-use Rattle.chess_moves.proofs.listing.legal_moves.Goals as goal
+use Rattle.chess_moves.proofs.listing.relist_legal_moves.Goals as goal
 
 pub loop-from-init : goal.loop-from-init
 loop-from-init c =
@@ -21,7 +21,7 @@ loop-from-init c =
     ∙ ap members (c.men_of.ensures.squares
     ∙ ap (λ (side : Colour). squares_with (is_of side) p.placement) c.side.ensures) in
     ap (λ (xs : List Move). xs ++ flat_map (legal_from p) (squares_left c.into_iter-from-iterator.result))
-    c.new-moves.ensures
+    c.clear.ensures
     ∙ ap (flat_map (legal_from p)) start ∙ sym (legal_moves_of-parts p)
 
 pub push_moves_from-requires-clause-room : goal.push_moves_from-requires-clause-room
