@@ -6,6 +6,3 @@ mod keys;
 
 pub use histories::History;
 pub use keys::{is_same, key};
-
-#[cfg(test)]
-mod tests;

@@ -1,82 +1,21 @@
 //! Texts of moves as the PGN Standard and played games give them.
 
-use crate::{read, write};
+use crate::boards::{Diagram, board_of, board_with, move_of, parts_of};
 use chess_bits::{Colour, Kind, Square};
 use chess_board::{Board, CastlingRights, Move, Parts};
 use chess_moves::legal;
+use chess_san::{read, write};
 use std::process::Abort;
-
-// The man that a letter of a diagram stands for: capitals are White's.
-fn man_of(letter: u8) -> Option<(Colour, Kind)> {
-    let colour = if letter.is_ascii_uppercase() {
-        Colour::White
-    } else {
-        Colour::Black
-    };
-    let kind = match letter.to_ascii_lowercase() {
-        b'p' => Kind::Pawn,
-        b'n' => Kind::Knight,
-        b'b' => Kind::Bishop,
-        b'r' => Kind::Rook,
-        b'q' => Kind::Queen,
-        b'k' => Kind::King,
-        _ => return None,
-    };
-    Some((colour, kind))
-}
-
-// A diagram, from rank 8 to rank 1.
-type Diagram = [u8; 64];
-
-// Its board, with both counters at a number.
-fn board_with(
-    rt: &impl Abort,
-    diagram: Diagram,
-    side: Colour,
-    rights: CastlingRights,
-    target: Option<Square>,
-    counters: u16,
-) -> Board {
-    let mut men = [None; 64];
-    for i in 0..64 {
-        men[56 - i / 8 * 8 + i % 8] = man_of(diagram[i]);
-    }
-    let parts = Parts {
-        men,
-        side,
-        rights,
-        target,
-        halfmove: counters,
-        fullmove: counters,
-    };
-    Board::try_new(parts).expect(rt, "a board")
-}
-
-fn no_rights() -> CastlingRights {
-    CastlingRights::of(false, false, false, false)
-}
-
-fn board_of(rt: &impl Abort, diagram: Diagram, side: Colour) -> Board {
-    board_with(rt, diagram, side, no_rights(), None, 1)
-}
-
-fn move_of(from: Square, to: Square, promotion: Option<Kind>) -> Move {
-    Move {
-        from,
-        to,
-        promotion,
-    }
-}
 
 // A legal move's SAN is the text, and the text names the move.
 fn expect_text(rt: &impl Abort, board: &Board, mv: &Move, text: &str) {
-    assert!(rt; legal(board, *mv), "at {text}");
-    assert_eq!(rt; write(board, *mv).as_str(), text);
-    assert_eq!(rt; read(board, text), Some(*mv), "at {text}");
+    assert!(rt; legal(board, *mv));
+    assert!(rt; write(board, *mv).as_str() == text);
+    assert!(rt; read(board, text) == Some(*mv));
 }
 
 fn expect_none(rt: &impl Abort, board: &Board, text: &str) {
-    assert_eq!(rt; read(board, text), None, "at {text}");
+    assert!(rt; read(board, text) == None);
 }
 
 #[test]
@@ -93,7 +32,7 @@ fn a_pinned_knight_is_no_rival(rt: HostRuntime) {
     let board = board_of(&rt, diagram, Colour::White);
     let mv = move_of(Square::at(7, 1), Square::at(5, 2), None);
     expect_text(&rt, &board, &mv, "Ne2");
-    assert_eq!(rt; read(&board, "g1e2"), Some(mv));
+    assert!(rt; read(&board, "g1e2") == Some(mv));
     for text in ["Nge2", "N1e2", "Ng1e2", "Nce2", "Ne2+", "Nxe2"] {
         expect_none(&rt, &board, text);
     }
@@ -135,8 +74,8 @@ fn fools_mate(rt: HostRuntime) {
     let board = board_of(&rt, diagram, Colour::Black);
     let mv = move_of(Square::at(4, 8), Square::at(8, 4), None);
     expect_text(&rt, &board, &mv, "Qh4#");
-    assert_eq!(rt; read(&board, "Qh4"), Some(mv));
-    assert_eq!(rt; read(&board, "d8h4"), Some(mv));
+    assert!(rt; read(&board, "Qh4") == Some(mv));
+    assert!(rt; read(&board, "d8h4") == Some(mv));
     expect_none(&rt, &board, "Qh4+");
     expect_none(&rt, &board, "qh4#");
 }
@@ -174,11 +113,14 @@ fn castling_to_the_queens_wing(rt: HostRuntime) {
         ........\
         .r......\
         R...K...";
-    let rights = CastlingRights::of(false, true, false, false);
-    let board = board_with(&rt, diagram, Colour::White, rights, None, 1);
+    let parts = Parts {
+        rights: CastlingRights::of(false, true, false, false),
+        ..parts_of(diagram, Colour::White)
+    };
+    let board = board_with(&rt, parts);
     let mv = move_of(Square::at(5, 1), Square::at(3, 1), None);
     expect_text(&rt, &board, &mv, "O-O-O");
-    assert_eq!(rt; read(&board, "e1c1"), Some(mv));
+    assert!(rt; read(&board, "e1c1") == Some(mv));
     for text in ["O-O", "0-0-0", "o-o-o", "Kc1", "O-O-O+", "e1a1"] {
         expect_none(&rt, &board, text);
     }
@@ -196,7 +138,11 @@ fn a_pawn_takes_en_passant(rt: HostRuntime) {
         ........\
         ....K...";
     let target = Square::at(4, 6);
-    let board = board_with(&rt, diagram, Colour::White, no_rights(), Some(target), 1);
+    let parts = Parts {
+        target: Some(target),
+        ..parts_of(diagram, Colour::White)
+    };
+    let board = board_with(&rt, parts);
     expect_text(
         &rt,
         &board,
@@ -209,7 +155,12 @@ fn a_pawn_takes_en_passant(rt: HostRuntime) {
 
 #[test]
 fn counters_at_their_end_change_no_text(rt: HostRuntime) {
-    let board = board_with(&rt, QUEENS, Colour::White, no_rights(), None, 65_535);
+    let parts = Parts {
+        halfmove: 65_535,
+        fullmove: 65_535,
+        ..parts_of(QUEENS, Colour::White)
+    };
+    let board = board_with(&rt, parts);
     let checks = move_of(Square::at(5, 4), Square::at(5, 8), None);
     expect_text(&rt, &board, &checks, "Qe8+");
 }
@@ -245,13 +196,13 @@ fn other_texts_name_nothing(rt: HostRuntime) {
         "+",
         "O",
     ] {
-        assert_eq!(rt; read(&board, text), None, "at {text}");
+        assert!(rt; read(&board, text) == None);
     }
     let knight = Some(Move {
         from: Square::at(7, 1),
         to: Square::at(6, 3),
         promotion: None,
     });
-    assert_eq!(rt; read(&board, "Nf3"), knight);
-    assert_eq!(rt; read(&board, "g1f3"), knight);
+    assert!(rt; read(&board, "Nf3") == knight);
+    assert!(rt; read(&board, "g1f3") == knight);
 }

@@ -1,63 +1,9 @@
-use crate::{count_moves, has_legal, legal, legal_moves};
-use chess_bits::{Colour, Kind, Square};
-use chess_board::{Board, CastlingRights, Move, Parts};
-use std::process::Abort;
-
-// The man that a letter of a diagram stands for: capitals are White's.
-fn man_of(letter: u8) -> Option<(Colour, Kind)> {
-    let colour = if letter.is_ascii_uppercase() {
-        Colour::White
-    } else {
-        Colour::Black
-    };
-    let kind = match letter.to_ascii_lowercase() {
-        b'p' => Kind::Pawn,
-        b'n' => Kind::Knight,
-        b'b' => Kind::Bishop,
-        b'r' => Kind::Rook,
-        b'q' => Kind::Queen,
-        b'k' => Kind::King,
-        _ => return None,
-    };
-    Some((colour, kind))
-}
-
-// A diagram, from rank 8 to rank 1.
-type Diagram = [u8; 64];
-
-// Its board, with White to move.
-fn board_of(
-    rt: &impl Abort,
-    diagram: &Diagram,
-    rights: CastlingRights,
-    target: Option<Square>,
-) -> Board {
-    let mut men = [None; 64];
-    for i in 0..64 {
-        men[56 - i / 8 * 8 + i % 8] = man_of(diagram[i]);
-    }
-    let parts = Parts {
-        men,
-        side: Colour::White,
-        rights,
-        target,
-        halfmove: 0,
-        fullmove: 1,
-    };
-    Board::try_new(parts).expect(rt, "a board")
-}
-
-fn no_rights() -> CastlingRights {
-    CastlingRights::of(false, false, false, false)
-}
-
-fn move_of(from: Square, to: Square, promotion: Option<Kind>) -> Move {
-    Move {
-        from,
-        to,
-        promotion,
-    }
-}
+//! Legal moves of known positions.
+use crate::boards::{Diagram, board_of, board_with, move_of, parts_of};
+use chess_bits::Colour::White;
+use chess_bits::{Kind, Square};
+use chess_board::{Board, CastlingRights, Parts};
+use chess_moves::{count_moves, has_legal, legal, legal_moves};
 
 // How many lines of so many moves there are.
 fn lines(board: &Board, moves: u8) -> u64 {
@@ -78,7 +24,7 @@ fn a_game_starts_with_20_moves(rt: HostRuntime) {
     let board = Board::initial();
     assert!(rt; legal_moves(&board).len() == 20 && count_moves(&board) == 20 && has_legal(&board));
     for (moves, count) in [(1, 20), (2, 400), (3, 8_902)] {
-        assert_eq!(rt; lines(&board, moves), count);
+        assert!(rt; lines(&board, moves) == count);
     }
 }
 
@@ -96,10 +42,14 @@ const BOTH_MAY_CASTLE: Diagram = *b"\
 #[test]
 fn both_sides_may_castle(rt: HostRuntime) {
     let rights = CastlingRights::of(true, true, true, true);
-    let board = board_of(&rt, &BOTH_MAY_CASTLE, rights, None);
-    assert_eq!(rt; legal_moves(&board).len(), 48);
-    assert_eq!(rt; count_moves(&board), 48);
-    assert_eq!(rt; lines(&board, 2), 2_039);
+    let parts = Parts {
+        rights,
+        ..parts_of(BOTH_MAY_CASTLE, White)
+    };
+    let board = board_with(&rt, parts);
+    assert!(rt; legal_moves(&board).len() == 48);
+    assert!(rt; count_moves(&board) == 48);
+    assert!(rt; lines(&board, 2) == 2_039);
 }
 
 // R6R/3Q4/1Q4Q1/4Q3/2Q4Q/Q4Q2/pp1Q4/kBNN1KB1 w - - 0 1
@@ -115,9 +65,9 @@ const NINE_QUEENS: Diagram = *b"\
 
 #[test]
 fn nine_queens_have_218_moves(rt: HostRuntime) {
-    let board = board_of(&rt, &NINE_QUEENS, no_rights(), None);
-    assert_eq!(rt; legal_moves(&board).len(), 218);
-    assert_eq!(rt; count_moves(&board), 218);
+    let board = board_of(&rt, NINE_QUEENS, White);
+    assert!(rt; legal_moves(&board).len() == 218);
+    assert!(rt; count_moves(&board) == 218);
 }
 
 // 8/8/8/8/8/6k1/6q1/6K1 w - - 0 1
@@ -144,9 +94,9 @@ const STALEMATE: Diagram = *b"\
 
 #[test]
 fn mate_and_stalemate_leave_no_move(rt: HostRuntime) {
-    for (diagram, is_mate) in [(&MATE, true), (&STALEMATE, false)] {
-        let board = board_of(&rt, diagram, no_rights(), None);
-        assert_eq!(rt; board.in_check(), is_mate);
+    for (diagram, is_mate) in [(MATE, true), (STALEMATE, false)] {
+        let board = board_of(&rt, diagram, White);
+        assert!(rt; board.in_check() == is_mate);
         assert!(rt;
             !has_legal(&board) && legal_moves(&board).len() == 0 && count_moves(&board) == 0
         );
@@ -167,12 +117,16 @@ const PINNED_BOTH: Diagram = *b"\
 // Taking en passant would clear the rank between king and rook.
 #[test]
 fn en_passant_does_not_uncover_the_king(rt: HostRuntime) {
-    let board = board_of(&rt, &PINNED_BOTH, no_rights(), Some(Square::at(3, 6)));
+    let parts = Parts {
+        target: Some(Square::at(3, 6)),
+        ..parts_of(PINNED_BOTH, White)
+    };
+    let board = board_with(&rt, parts);
     let takes = move_of(Square::at(4, 5), Square::at(3, 6), None);
     let advances = move_of(Square::at(4, 5), Square::at(4, 6), None);
     assert!(rt; !legal(&board, takes) && legal(&board, advances));
     // Ka4, Ka6, Kb5, Kb6 and d6; c5 attacks b4.
-    assert_eq!(rt; legal_moves(&board).len(), 5);
+    assert!(rt; legal_moves(&board).len() == 5);
 }
 
 // 4k3/8/8/8/8/8/1r6/R3K3 w Q - 0 1, or with other rights.
@@ -191,9 +145,13 @@ const ROOK_ATTACKS_B1: Diagram = *b"\
 fn castles_past_an_attack_on_b1(rt: HostRuntime) {
     for may_castle in [true, false] {
         let rights = CastlingRights::of(false, may_castle, false, false);
-        let board = board_of(&rt, &ROOK_ATTACKS_B1, rights, None);
+        let parts = Parts {
+            rights,
+            ..parts_of(ROOK_ATTACKS_B1, White)
+        };
+        let board = board_with(&rt, parts);
         let castles = move_of(Square::at(5, 1), Square::at(3, 1), None);
-        assert_eq!(rt; legal(&board, castles), may_castle);
+        assert!(rt; legal(&board, castles) == may_castle);
     }
 }
 
@@ -210,8 +168,8 @@ const PAWN_TAKES: Diagram = *b"\
 
 #[test]
 fn pawn_on_the_last_rank_becomes_a_piece(rt: HostRuntime) {
-    let board = board_of(&rt, &PAWN_TAKES, no_rights(), None);
-    assert_eq!(rt; count_moves(&board), 14);
+    let board = board_of(&rt, PAWN_TAKES, White);
+    assert!(rt; count_moves(&board) == 14);
     for (promotion, is_legal) in [
         (None, false),
         (Some(Kind::Queen), true),
@@ -220,7 +178,7 @@ fn pawn_on_the_last_rank_becomes_a_piece(rt: HostRuntime) {
         (Some(Kind::Pawn), false),
     ] {
         let takes = move_of(Square::at(1, 7), Square::at(2, 8), promotion);
-        assert_eq!(rt; legal(&board, takes), is_legal);
+        assert!(rt; legal(&board, takes) == is_legal);
     }
 }
 
@@ -238,7 +196,7 @@ const DOUBLE_CHECK: Diagram = *b"\
 // Neither taking the knight nor a bishop on e3 ends both checks: Kd1, Kf1 and Kf2.
 #[test]
 fn only_the_king_answers_a_double_check(rt: HostRuntime) {
-    let board = board_of(&rt, &DOUBLE_CHECK, no_rights(), None);
+    let board = board_of(&rt, DOUBLE_CHECK, White);
     assert!(rt; count_moves(&board) == 3 && legal_moves(&board).len() == 3);
     assert!(rt; !legal(&board, move_of(Square::at(7, 2), Square::at(6, 3), None)));
 }
@@ -257,7 +215,7 @@ const THREE_PINS: Diagram = *b"\
 // The rook has six moves along its pin and the bishop three, the knight none: and Kd1, Kf1.
 #[test]
 fn pinned_men_stay_on_their_lines(rt: HostRuntime) {
-    let board = board_of(&rt, &THREE_PINS, no_rights(), None);
+    let board = board_of(&rt, THREE_PINS, White);
     assert!(rt; count_moves(&board) == 11 && legal_moves(&board).len() == 11);
 }
 
@@ -275,6 +233,6 @@ const CHECK_ON_A_FILE: Diagram = *b"\
 // The king stands no safer on e3, behind the square that it left.
 #[test]
 fn a_king_does_not_step_back_along_the_ray(rt: HostRuntime) {
-    let board = board_of(&rt, &CHECK_ON_A_FILE, no_rights(), None);
+    let board = board_of(&rt, CHECK_ON_A_FILE, White);
     assert!(rt; count_moves(&board) == 6 && legal_moves(&board).len() == 6);
 }

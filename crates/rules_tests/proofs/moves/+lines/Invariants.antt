@@ -1,4 +1,4 @@
-use Rattle.chess_moves.proofs.tests.+lines.Given as goal
+use Rattle.rules_tests.proofs.moves.+lines.Given as goal
 
 abbrev pub decreases-lines : goal.decreases-lines
 decreases-lines l = l.moves
