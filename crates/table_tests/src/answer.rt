@@ -2,7 +2,7 @@
 ghost use Rattle.std.specs.Prelude.{◌≡◌, IsTrue};
 ghost use Rattle.chess_entry.specs.Bounds.{IsStart};
 
-use crate::{
+use chess_answer::{
     act_line, fen_line, list_line, named_line, opened_line, pgn_reply, refusal_line, show_line,
     write_row,
 };
@@ -12,7 +12,6 @@ use chess_entry::{Entry, Event, GameNumber, Name, Opening, Refusal};
 use chess_game::{Game, is_finished};
 use std::alloc::Global;
 use std::process::Abort;
-use std::test::Fail;
 
 // Whether a game may start there.
 fn may_start(board: &Board) -> bool
@@ -23,11 +22,9 @@ fn may_start(board: &Board) -> bool
 }
 
 // Game 7, which ann opens as White with 300 s.
-fn waiting(alloc: Global, ann: Name) -> Result<Game, Fail> {
+fn waiting(rt: &impl Abort, alloc: Global, ann: Name) -> Game {
     let start = Board::initial();
-    if !may_start(&start) {
-        return Err("a start".into());
-    }
+    assert!(rt; may_start(&start));
     let opening = Opening {
         colour: Colour::White,
         initial: 300,
@@ -36,43 +33,45 @@ fn waiting(alloc: Global, ann: Name) -> Result<Game, Fail> {
         name: ann,
         start,
     };
-    Ok(Game::open(alloc, GameNumber::new(7), &opening)?)
+    Game::open(alloc, GameNumber::new(7), &opening).expect(rt, "memory")
 }
 
-#[test]
-fn a_game_that_waits(rt: HostRuntime) -> Result<(), Fail> {
-    let ann = Name::try_new("ann").ok_or("a name")?;
-    let game = waiting(rt.alloc(), ann)?;
-    if game.moment() > 9_000 {
-        return Err("a moment".into());
-    }
+// Whether the lines of that game are these.
+fn check_lines(rt: &impl Abort, game: &Game, ann: &Name) {
     let drop = Entry {
         game: game.number(),
         moment: 0,
         event: Event::Drop,
     };
-    let reply = pgn_reply(rt.alloc(), &game)?;
-    let mut rows = String::new(rt.alloc());
-    write_row(&mut rows, &game)?;
+    assert!(rt; game.moment() <= 9_000);
     for (line, wanted) in [
-        (named_line(&ann), "ok name ann"),
+        (named_line(ann), "ok name ann"),
         (opened_line(game.number()), "ok open 7"),
-        (act_line(&game, &drop), "ok drop 7"),
+        (act_line(game, &drop), "ok drop 7"),
         (
-            show_line(&game, 9_000),
+            show_line(game, 9_000),
             "ok show 7 ann - 0 w 300000 300000 - * -",
         ),
         (
-            fen_line(&game),
+            fen_line(game),
             "ok fen 7 rnbqkbnr/pppppppp/8/8/8/8/PPPPPPPP/RNBQKBNR w KQkq - 0 1",
         ),
-        (reply.line, "ok pgn 7 12"),
         (list_line(256), "ok list 256"),
     ] {
-        assert_eq!(rt; line.as_str(), wanted);
+        assert!(rt; line.as_str() == wanted);
     }
-    assert_eq!(rt; rows.as_str(), "7 ann - 0 *\n");
-    Ok(())
+}
+
+#[test]
+fn a_game_that_waits(rt: HostRuntime) {
+    let ann = Name::try_new("ann").expect(&rt, "a name");
+    let game = waiting(&rt, rt.alloc(), ann);
+    check_lines(&rt, &game, &ann);
+    let reply = pgn_reply(rt.alloc(), &game).expect(&rt, "memory");
+    assert!(rt; reply.line.as_str() == "ok pgn 7 12");
+    let mut rows = String::new(rt.alloc());
+    assert!(rt; write_row(&mut rows, &game).is_ok());
+    assert!(rt; rows.as_str() == "7 ann - 0 *\n");
 }
 
 #[test]
@@ -103,6 +102,6 @@ fn each_refusal(rt: HostRuntime) {
         (Refusal::BadMoment, "no 23 BadMoment"),
         (Refusal::Finished, "no 24 Finished"),
     ] {
-        assert_eq!(rt; refusal_line(refusal).as_str(), line);
+        assert!(rt; refusal_line(refusal).as_str() == line);
     }
 }

@@ -1,14 +1,14 @@
-//! Games by the calls of this crate. Squares are told by their numbers (a1 is 0, h1 is 7, h8 is 63).
+//! Games by the calls of `chess_game`. Squares are told by their numbers (a1 is 0, h1 is 7, h8 is 63).
 ghost use Rattle.std.specs.Prelude.{◌≡◌, IsTrue, IfSome};
 ghost use Rattle.chess_entry.specs.Bounds.{IsStart};
 ghost use Rattle.chess_game.specs.Turn.{IsRunningAt, IsInTime, IsPlayable, IsJudgeable};
 
-use crate::{Game, is_finished};
 use chess_bits::Colour::{Black, White};
 use chess_bits::{Colour, Kind, Square};
 use chess_board::{Board, CastlingRights, Move, Parts};
 use chess_clock::is_time_control;
 use chess_end::{Article, Ending, GameResult};
+use chess_game::{Game, is_finished};
 use chess_moves::legal;
 use rec_codec::{Claim, GameNumber, Name, Opening, StoredMove};
 use std::alloc::Global;

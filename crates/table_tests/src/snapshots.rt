@@ -1,8 +1,8 @@
 //! Games that a snapshot names, by heads and moves that were made by hand.
-use crate::Game;
-use crate::tests::{board_of, move_of};
+use crate::game::{board_of, move_of};
 use chess_bits::Colour::{Black, White};
 use chess_board::{Board, Move};
+use chess_game::Game;
 use rec_codec::{Ending, GameNumber, Head, Name, Seat};
 use std::alloc::Global;
 use std::process::Abort;

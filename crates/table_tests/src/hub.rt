@@ -1,6 +1,6 @@
 //! A hub as players use it: lines cut anywhere and answered in turn, and what a failing device leaves.
-use crate::{Hub, HubFault, Sid};
 use chess_entry::Limits;
+use chess_hub::{Hub, HubFault, Sid};
 use chess_store::{Store, StoreFault};
 use chess_table::Table;
 use sector_dev::{CrashDevice, MemoryDevice};
