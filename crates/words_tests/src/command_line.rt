@@ -1,23 +1,35 @@
 //! The words of the command line.
-use crate::version::VERSION;
-use crate::words::{Copying, Formatting, Serving, Word, read_words};
 use clap::error::ErrorKind;
-use std::alloc::{AllocError, Global};
-use std::test::Fail;
+use server_words::{Copying, Formatting, Serving, VERSION, Word, read_words};
+use std::alloc::Global;
+use std::process::Abort;
 
 // The words of a command line as the program gets them, its own name first.
-fn words_of(alloc: Global, line: &str) -> Result<Vec<String>, AllocError> {
+fn words_of(rt: &impl Abort, alloc: Global, line: &str) -> Vec<String> {
     let mut words = Vec::new(alloc);
-    words.push(String::from_str(alloc, "chess_server")?)?;
+    push_word(rt, alloc, &mut words, "chess_server");
     for word in line.split(' ') {
-        words.push(String::from_str(alloc, word)?)?;
+        push_word(rt, alloc, &mut words, word);
     }
-    Ok(words)
+    words
+}
+
+fn push_word(rt: &impl Abort, alloc: Global, words: &mut Vec<String>, word: &str) {
+    let word = String::from_str(alloc, word).expect(rt, "memory");
+    assert!(rt; words.push(word).is_ok());
+}
+
+// Why a command line is refused, if it is.
+fn refusal(rt: &impl Abort, alloc: Global, line: &str) -> Option<ErrorKind> {
+    let words = words_of(rt, alloc, line);
+    match read_words(alloc, words.as_slice()) {
+        Ok(_) => None,
+        Err(error) => Some(error.kind()),
+    }
 }
 
 #[test]
-fn reads_no_other_words(rt: HostRuntime) -> Result<(), Fail> {
-    let alloc = rt.alloc();
+fn reads_no_other_words(rt: HostRuntime) {
     for (line, kind) in [
         ("lead", ErrorKind::InvalidSubcommand),
         ("--journal", ErrorKind::UnknownArgument),
@@ -45,37 +57,38 @@ fn reads_no_other_words(rt: HostRuntime) -> Result<(), Fail> {
         ("copy --journal j", ErrorKind::MissingRequiredArgument),
         ("show --to j", ErrorKind::UnknownArgument),
     ] {
-        match read_words(alloc, words_of(alloc, line)?.as_slice()) {
-            Ok(_) => assert!(rt; false, "{line}"),
-            Err(error) => assert_eq!(rt; error.kind(), kind, "{line}"),
-        }
+        assert!(rt; refusal(&rt, rt.alloc(), line) == Some(kind));
     }
-    assert!(rt; VERSION.contains("rattle-kit-"), "{VERSION}");
-    Ok(())
+    assert!(rt; VERSION.contains("rattle-kit-"));
+}
+
+// Which of the words without flags a command line asks for, by its place, and the journal and the copy that it names.
+fn told<'a>(word: &Word<'a>) -> Option<(u8, &'a str, &'a str)> {
+    match word {
+        Word::Board => Some((0, "", "")),
+        Word::Drill => Some((1, "", "")),
+        Word::Run(journal) => Some((2, *journal, "")),
+        Word::Show(journal) => Some((3, *journal, "")),
+        Word::Copy(Copying { journal, copy }) => Some((4, *journal, *copy)),
+        _ => None,
+    }
 }
 
 #[test]
-fn reads_words_without_flags(rt: HostRuntime) -> Result<(), Fail> {
-    let alloc = rt.alloc();
-    let words = words_of(alloc, "board")?;
-    assert!(rt; matches!(read_words(alloc, words.as_slice()), Ok(Word::Board)));
-    let words = words_of(alloc, "drill")?;
-    assert!(rt; matches!(read_words(alloc, words.as_slice()), Ok(Word::Drill)));
-    let words = words_of(alloc, "run --journal j")?;
-    assert!(rt; matches!(read_words(alloc, words.as_slice()), Ok(Word::Run("j"))));
-    let words = words_of(alloc, "show --journal j")?;
-    assert!(rt; matches!(read_words(alloc, words.as_slice()), Ok(Word::Show("j"))));
-    let words = words_of(alloc, "copy --journal j --to k")?;
-    assert!(rt;
-        matches!(
-            read_words(alloc, words.as_slice()),
-            Ok(Word::Copy(Copying {
-                journal: "j",
-                copy: "k"
-            }))
-        )
-    );
-    Ok(())
+fn reads_words_without_flags(rt: HostRuntime) {
+    for (line, wanted) in [
+        ("board", (0, "", "")),
+        ("drill", (1, "", "")),
+        ("run --journal j", (2, "j", "")),
+        ("show --journal j", (3, "j", "")),
+        ("copy --journal j --to k", (4, "j", "k")),
+    ] {
+        let words = words_of(&rt, rt.alloc(), line);
+        match read_words(rt.alloc(), words.as_slice()) {
+            Ok(word) => assert!(rt; told(&word) == Some(wanted)),
+            Err(_) => assert!(rt; false),
+        }
+    }
 }
 
 // Whether a `format` of four games of 60 moves in j is asked for, and whether it is forced.
@@ -106,17 +119,21 @@ fn is_serving(word: &Word<'_>, wanted: (Option<u32>, Option<u64>, bool)) -> bool
 }
 
 #[test]
-fn reads_flags(rt: HostRuntime) -> Result<(), Fail> {
-    let alloc = rt.alloc();
+fn reads_flags_of_format(rt: HostRuntime) {
     for (line, forced) in [
         ("format --journal j --games 4 --plies 60", false),
         ("format --force --journal j --games 4 --plies 60", true),
     ] {
-        match read_words(alloc, words_of(alloc, line)?.as_slice()) {
-            Ok(word) => assert!(rt; is_formatting(&word, forced), "{line}"),
-            Err(_) => assert!(rt; false, "{line}"),
+        let words = words_of(&rt, rt.alloc(), line);
+        match read_words(rt.alloc(), words.as_slice()) {
+            Ok(word) => assert!(rt; is_formatting(&word, forced)),
+            Err(_) => assert!(rt; false),
         }
     }
+}
+
+#[test]
+fn reads_flags_of_serve(rt: HostRuntime) {
     for (line, wanted) in [
         ("serve --journal j --port 7", (None, None, false)),
         (
@@ -128,10 +145,10 @@ fn reads_flags(rt: HostRuntime) -> Result<(), Fail> {
             (None, Some(2_000), true),
         ),
     ] {
-        match read_words(alloc, words_of(alloc, line)?.as_slice()) {
-            Ok(word) => assert!(rt; is_serving(&word, wanted), "{line}"),
-            Err(_) => assert!(rt; false, "{line}"),
+        let words = words_of(&rt, rt.alloc(), line);
+        match read_words(rt.alloc(), words.as_slice()) {
+            Ok(word) => assert!(rt; is_serving(&word, wanted)),
+            Err(_) => assert!(rt; false),
         }
     }
-    Ok(())
 }

@@ -1,11 +1,9 @@
 //! The loop over readers and writers that give and take little, or fail.
-use crate::board_loop::{BoardFault, board};
-use line_loop::ReaderSource;
+use board_session::{BoardFault, ReaderSource, board};
 use std::alloc::Global;
 use std::io;
 use std::io::{ErrorKind, Read, Write};
 use std::process::Abort;
-use std::test::Fail;
 
 const AFTER_E4: &str = "rnbqkbnr/pppppppp/8/8/4P3/8/PPPP1PPP/RNBQKBNR b KQkq e3 0 1\n";
 
@@ -81,19 +79,14 @@ fn write_bytewise(alloc: Global) -> Narrow {
     }
 }
 
-/// The input is answered so, whether it comes and goes whole or byte by byte.
+// The input is answered so, whether it comes and goes whole or byte by byte.
 fn expect_text(rt: &impl Abort, alloc: Global, input: &[u8], text: &str) {
     let mut written = Vec::new(alloc);
-    assert_eq!(rt; board(&mut ReaderSource::new(input), &mut written), Ok(()));
-    assert_eq!(rt; written.as_slice(), text.as_bytes(), "of {input:?}");
+    let ended = board(&mut ReaderSource::new(input), &mut written);
+    assert!(rt; ended == Ok(()) && written.as_slice() == text.as_bytes());
     let mut writer = write_bytewise(alloc);
-    let mut trickle = ReaderSource::new(read_bytewise(input));
-    assert_eq!(rt; board(&mut trickle, &mut writer), Ok(()));
-    assert_eq!(rt;
-        writer.taken.as_slice(),
-        text.as_bytes(),
-        "byte by byte of {input:?}"
-    );
+    let ended = board(&mut ReaderSource::new(read_bytewise(input)), &mut writer);
+    assert!(rt; ended == Ok(()) && writer.taken.as_slice() == text.as_bytes());
 }
 
 #[test]
@@ -134,7 +127,7 @@ fn answers_lines(rt: HostRuntime) {
 }
 
 #[test]
-fn ends_at_a_long_line(rt: HostRuntime) -> Result<(), Fail> {
+fn ends_at_a_long_line(rt: HostRuntime) {
     let alloc = rt.alloc();
     for (length, end, text) in [
         (255, "", ""),
@@ -145,11 +138,10 @@ fn ends_at_a_long_line(rt: HostRuntime) -> Result<(), Fail> {
         (256, "\nmove e2e4\n", "bye LineTooLong\n"),
         (5000, "\n", "bye LineTooLong\n"),
     ] {
-        let mut input = vec![in alloc; b'x'; length]?;
-        input.extend_from_slice(end.as_bytes())?;
+        let mut input = repeated(&rt, alloc, b"x", length);
+        assert!(rt; input.extend_from_slice(end.as_bytes()).is_ok());
         expect_text(&rt, alloc, input.as_slice(), text);
     }
-    Ok(())
 }
 
 /// Counts its writes.
@@ -172,7 +164,7 @@ impl Write for Counted {
 }
 
 #[test]
-fn writes_once_what_is_at_hand(rt: HostRuntime) -> Result<(), Fail> {
+fn writes_once_what_is_at_hand(rt: HostRuntime) {
     let alloc = rt.alloc();
     // 4,096 lines are one read, and their answers 53,248 bytes.
     for (lines, length, writes) in [
@@ -182,17 +174,16 @@ fn writes_once_what_is_at_hand(rt: HostRuntime) -> Result<(), Fail> {
         (4097, 53_261, 2),
         (8192, 106_496, 2),
     ] {
-        let input = vec![in alloc; b'\n'; lines]?;
+        let input = repeated(&rt, alloc, b"\n", lines);
         let mut rest = ReaderSource::new(input.as_slice());
         let mut writer = Counted {
             taken: Vec::new(alloc),
             writes: 0,
         };
-        assert_eq!(rt; board(&mut rest, &mut writer), Ok(()));
-        assert_eq!(rt; writer.taken.len(), length);
-        assert_eq!(rt; writer.writes, writes, "of {lines} lines");
+        assert!(rt; board(&mut rest, &mut writer) == Ok(()));
+        assert!(rt; writer.taken.len() == length);
+        assert!(rt; writer.writes == writes);
     }
-    Ok(())
 }
 
 /// So many copies of a text.
@@ -213,7 +204,7 @@ fn answers_after_many_reads(rt: HostRuntime) {
     let mut written = Vec::new(alloc);
     let mut source = ReaderSource::new(read_bytewise(input.as_slice()));
     let ended = board(&mut source, &mut written);
-    assert_eq!(rt; ended, Ok(()));
+    assert!(rt; ended == Ok(()));
     assert!(rt; written.as_slice() == text.as_slice());
 }
 
@@ -234,9 +225,9 @@ fn breaks_off_where_a_read_fails(rt: HostRuntime) {
         let mut written = Vec::new(alloc);
         let mut source = ReaderSource::new(reader);
         let ended = board(&mut source, &mut written);
-        assert_eq!(rt; ended, result);
-        assert_eq!(rt; source.has_failed(), result.is_err());
-        assert_eq!(rt; written.as_slice(), text.as_bytes(), "at {kind:?}");
+        assert!(rt; ended == result);
+        assert!(rt; source.has_failed() == result.is_err());
+        assert!(rt; written.as_slice() == text.as_bytes());
     }
 }
 
@@ -261,7 +252,7 @@ fn breaks_off_where_a_write_fails(rt: HostRuntime) {
         writer.kind = kind;
         let mut input = ReaderSource::new(b"hello\nmove x\n\n".as_slice());
         let ended = board(&mut input, &mut writer);
-        assert_eq!(rt; ended, result);
-        assert_eq!(rt; writer.taken.as_slice(), text.as_bytes(), "at {kind:?}");
+        assert!(rt; ended == result);
+        assert!(rt; writer.taken.as_slice() == text.as_bytes());
     }
 }
