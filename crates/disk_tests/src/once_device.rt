@@ -1,4 +1,5 @@
-use crate::{CrashDevice, Device, DeviceFault, Got, MemoryDevice, OnceDevice};
+//! One call that fails.
+use sector_dev::{CrashDevice, Device, DeviceFault, Got, MemoryDevice, OnceDevice};
 use std::process::Abort;
 
 fn fill<D: Device>(device: &mut D, at: u32, byte: u8) -> Result<(), DeviceFault> {

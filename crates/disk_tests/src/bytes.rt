@@ -1,10 +1,10 @@
 //! Bytes that are given from outside.
 
-use crate::{
-    has_signature, read_header, read_record, read_sector, write_header, write_record, write_sector,
-};
 use chess_bits::Square;
 use chess_board::Move;
+use rec_bytes::{
+    has_signature, read_header, read_record, read_sector, write_header, write_record, write_sector,
+};
 use rec_codec::{
     Entry, Event, GameNumber, Half, Header, Limits, Made, Record, StoredMove, Version, need,
 };
@@ -48,17 +48,14 @@ fn first_move() -> Record {
 fn a_header_is_read_in_its_slot(rt: HostRuntime) {
     let header = first_header();
     let bytes = write_header(&header);
-    assert_eq!(rt;
-        &bytes[..16],
-        [
+    assert!(rt; &bytes[..16] == [
             0x46, 0x49, 0x44, 0x45, 0x4a, 0x52, 0x4e, 0x31, 2, 0, 0, 0, 0xd4, 0, 0, 0
         ]
-        .as_slice()
-    );
+        .as_slice());
     assert!(rt; has_signature(&bytes));
-    assert_eq!(rt; read_header(&bytes, 1), Some(header));
-    assert_eq!(rt; read_header(&bytes, 0), None);
-    assert_eq!(rt; read_header(&[0; 512], 1), None);
+    assert!(rt; read_header(&bytes, 1) == Some(header));
+    assert!(rt; read_header(&bytes, 0) == None);
+    assert!(rt; read_header(&[0; 512], 1) == None);
 }
 
 // A header sector that starts with these bytes, and then has zeros.
@@ -79,8 +76,8 @@ fn a_header_of_version_one_is_read(rt: HostRuntime) {
         version: Version::One,
         ..first_header()
     };
-    assert_eq!(rt; read_header(&first, 1), Some(header));
-    assert_eq!(rt; read_header(&first, 0), None);
+    assert!(rt; read_header(&first, 1) == Some(header));
+    assert!(rt; read_header(&first, 0) == None);
     let full = Header {
         seq: 2,
         half: Half::One,
@@ -92,29 +89,26 @@ fn a_header_of_version_one_is_read(rt: HostRuntime) {
         0x46, 0x49, 0x44, 0x45, 0x4a, 0x52, 0x4e, 0x31, 1, 0, 0, 0, 0xd4, 0, 0, 0, 2, 0, 0, 0, 0,
         0, 0, 0, 1, 0, 0, 0, 9, 0, 0, 0, 0x98, 1, 0, 0, 4, 0, 0, 0, 60, 0, 0, 0,
     ]);
-    assert_eq!(rt; read_header(&bytes, 0), Some(full));
-    assert_eq!(rt; read_header(&bytes, 1), None);
+    assert!(rt; read_header(&bytes, 0) == Some(full));
+    assert!(rt; read_header(&bytes, 1) == None);
     // One record more; then the same counts in version 2, where they are sectors.
     bytes[32] = 0x99;
-    assert_eq!(rt; read_header(&bytes, 0), None);
+    assert!(rt; read_header(&bytes, 0) == None);
     bytes[32] = 0x98;
     bytes[8] = 2;
-    assert_eq!(rt; read_header(&bytes, 0), None);
+    assert!(rt; read_header(&bytes, 0) == None);
 }
 
 #[test]
 fn a_record_is_read_again(rt: HostRuntime) {
     let mut bytes = write_record(&first_move());
-    assert_eq!(rt;
-        &bytes[..20],
-        [
+    assert!(rt; &bytes[..20] == [
             3, 0, 0x0c, 7, 1, 0, 0, 0, 0xe8, 3, 0, 0, 0, 0, 0, 0, 0, 0, 0, 0
         ]
-        .as_slice()
-    );
+        .as_slice());
     match read_record(&bytes) {
-        Some(record) => assert_eq!(rt; write_record(&record).as_slice(), bytes.as_slice()),
-        None => assert!(rt; false, "a record"),
+        Some(record) => assert!(rt; write_record(&record).as_slice() == bytes.as_slice()),
+        None => assert!(rt; false),
     }
     bytes[127] = 1;
     assert!(rt; read_record(&bytes).is_none());
@@ -127,8 +121,8 @@ fn a_record_is_read_again(rt: HostRuntime) {
 fn a_sector_has_one_to_four_records(rt: HostRuntime) {
     let mut bytes = write_sector(&[first_move(), Record::default(), first_move()]);
     match read_sector(&bytes) {
-        Some(records) => assert_eq!(rt; records.len(), 3),
-        None => assert!(rt; false, "a sector"),
+        Some(records) => assert!(rt; records.len() == 3),
+        None => assert!(rt; false),
     }
     bytes[511] = 1;
     assert!(rt; read_sector(&bytes).is_none());

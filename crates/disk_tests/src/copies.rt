@@ -1,14 +1,10 @@
 //! What copies are made, and when none is.
-use crate::copying::{Copied, copy};
-use crate::fault::CopyFault;
-use crate::source::{Slots, Source};
-use crate::still::Still;
+use journal_copy::{Copied, CopyFault, Slots, Source, Still, copy};
 use rec_bytes::write_header;
 use rec_codec::{Half, Header, Limits, Version};
-use sector_dev::{Device, DeviceFault, Got, MemoryDevice};
-use std::alloc::{AllocError, Global};
+use sector_dev::{CrashDevice, Device, DeviceFault, Got, MemoryDevice};
+use std::alloc::Global;
 use std::process::Abort;
-use std::test::Fail;
 
 /// A source whose headers go through a list, of which the last stays, and whose sectors have their number in each byte.
 #[derive(Drop)]
@@ -79,26 +75,31 @@ fn slots_of(header: &Header) -> Slots {
 }
 
 // The source of these headers, one after the other; before the first reading stands the first.
-fn source_of(alloc: Global, headers: &[Header]) -> Result<Scripted, AllocError> {
+fn source_of(rt: &impl Abort, alloc: Global, headers: &[Header]) -> Scripted {
     let mut slots = Vec::new(alloc);
     for header in headers {
         if slots.is_empty() {
-            slots.push(slots_of(header))?;
+            assert!(rt; slots.push(slots_of(header)).is_ok());
         }
-        slots.push(slots_of(header))?;
+        assert!(rt; slots.push(slots_of(header)).is_ok());
     }
-    Ok(Scripted {
+    Scripted {
         slots,
         next: 0,
         sectors: 212,
-    })
+    }
+}
+
+// A device of zeros.
+fn blank(rt: &impl Abort, alloc: Global, sectors: u32) -> MemoryDevice {
+    MemoryDevice::new(alloc, sectors).expect(rt, "memory")
 }
 
 // A sector of a device.
 fn sector_of(rt: &impl Abort, device: &mut MemoryDevice, at: u32) -> [u8; 512] {
     let mut bytes = [9; 512];
     assert!(rt; at < device.sectors());
-    assert_eq!(rt; device.read(at, &mut bytes), Ok(Got::Whole));
+    assert!(rt; device.read(at, &mut bytes) == Ok(Got::Whole));
     bytes
 }
 
@@ -124,21 +125,20 @@ fn is_copy(
 }
 
 #[test]
-fn copies_what_stands_still(rt: HostRuntime) -> Result<(), Fail> {
+fn copies_what_stands_still(rt: HostRuntime) {
     let alloc = rt.alloc();
     let first = header_of(8, Half::Zero, 100);
     // The same header, and the next commit in the same half.
     for second in [first, header_of(9, Half::Zero, 101)] {
-        let mut source = source_of(alloc, &[first, second])?;
-        let mut target = MemoryDevice::new(alloc, 212)?;
-        assert_eq!(rt; copy(&mut source, &mut target, 1), Ok(Copied::Whole));
+        let mut source = source_of(&rt, alloc, &[first, second]);
+        let mut target = blank(&rt, alloc, 212);
+        assert!(rt; copy(&mut source, &mut target, 1) == Ok(Copied::Whole));
         assert!(rt; is_copy(&rt, &mut target, &first, 2, 105));
     }
-    Ok(())
 }
 
 #[test]
-fn begins_anew_where_it_moved(rt: HostRuntime) -> Result<(), Fail> {
+fn begins_anew_where_it_moved(rt: HostRuntime) {
     let alloc = rt.alloc();
     let first = header_of(8, Half::Zero, 100);
     let other = header_of(9, Half::One, 7);
@@ -149,62 +149,64 @@ fn begins_anew_where_it_moved(rt: HostRuntime) -> Result<(), Fail> {
         header_of(7, Half::Zero, 101),
         header_of(9, Half::Zero, 99),
     ] {
-        let mut source = source_of(alloc, &[first, moved])?;
-        let mut target = MemoryDevice::new(alloc, 212)?;
-        assert_eq!(rt; copy(&mut source, &mut target, 1), Ok(Copied::Changed));
-        assert_eq!(rt; sector_of(&rt, &mut target, 0), [0; 512]);
-        assert_eq!(rt; sector_of(&rt, &mut target, 1), [0; 512]);
+        let mut source = source_of(&rt, alloc, &[first, moved]);
+        let mut target = blank(&rt, alloc, 212);
+        assert!(rt; copy(&mut source, &mut target, 1) == Ok(Copied::Changed));
+        assert!(rt; sector_of(&rt, &mut target, 0) == [0; 512]);
+        assert!(rt; sector_of(&rt, &mut target, 1) == [0; 512]);
     }
     // It moved once, and then stood still.
-    let mut source = source_of(alloc, &[first, other])?;
-    let mut target = MemoryDevice::new(alloc, 212)?;
-    assert_eq!(rt; copy(&mut source, &mut target, 2), Ok(Copied::Whole));
-    assert_eq!(rt; sector_of(&rt, &mut target, 1), write_header(&other));
-    assert_eq!(rt; sector_of(&rt, &mut target, 107), [107; 512]);
-    Ok(())
+    let mut source = source_of(&rt, alloc, &[first, other]);
+    let mut target = blank(&rt, alloc, 212);
+    assert!(rt; copy(&mut source, &mut target, 2) == Ok(Copied::Whole));
+    assert!(rt; sector_of(&rt, &mut target, 1) == write_header(&other));
+    assert!(rt; sector_of(&rt, &mut target, 107) == [107; 512]);
+}
+
+// Why there is no copy of a source on a device of so many sectors.
+fn fault_of<S: Source>(
+    rt: &impl Abort,
+    alloc: Global,
+    source: &mut S,
+    sectors: u32,
+) -> Option<CopyFault> {
+    copy(source, &mut blank(rt, alloc, sectors), 1).err()
 }
 
 #[test]
-fn tells_why_there_is_no_copy(rt: HostRuntime) -> Result<(), Fail> {
+fn tells_why_there_is_no_copy(rt: HostRuntime) {
     let alloc = rt.alloc();
-    let mut target = MemoryDevice::new(alloc, 212)?;
-    let mut nothing = Still::new(MemoryDevice::new(alloc, 212)?);
-    assert_eq!(rt; copy(&mut nothing, &mut target, 1), Err(CopyFault::NotOurs));
-    let mut short = Still::new(MemoryDevice::new(alloc, 1)?);
-    assert_eq!(rt; copy(&mut short, &mut target, 1), Err(CopyFault::NotOurs));
+    for sectors in [212, 1] {
+        let mut nothing = Still::new(blank(&rt, alloc, sectors));
+        assert!(rt; fault_of(&rt, alloc, &mut nothing, 212) == Some(CopyFault::NotOurs));
+    }
     let first = header_of(8, Half::Zero, 100);
-    let mut cut = source_of(alloc, &[first])?;
-    cut.sectors = 211;
-    assert_eq!(rt; copy(&mut cut, &mut target, 1), Err(CopyFault::TooSmall));
-    let mut small = MemoryDevice::new(alloc, 211)?;
-    let mut source = source_of(alloc, &[first])?;
-    assert_eq!(rt; copy(&mut source, &mut small, 1), Err(CopyFault::TooSmall));
+    let mut source = source_of(&rt, alloc, &[first]);
+    assert!(rt; fault_of(&rt, alloc, &mut source, 211) == Some(CopyFault::TooSmall));
+    source.sectors = 211;
+    assert!(rt; fault_of(&rt, alloc, &mut source, 212) == Some(CopyFault::TooSmall));
+    source.sectors = 212;
     // The eight bytes alone.
-    let mut worthless = source_of(alloc, &[first])?;
-    for slots in worthless.slots.iter_mut() {
+    for slots in source.slots.iter_mut() {
         slots.zero[12] = 0;
     }
-    assert_eq!(rt;
-        copy(&mut worthless, &mut target, 1),
-        Err(CopyFault::Damaged)
-    );
-    Ok(())
+    assert!(rt; fault_of(&rt, alloc, &mut source, 212) == Some(CopyFault::Damaged));
 }
 
+// Five sectors, the sync, the header and the sync.
 #[test]
-fn tells_of_a_failing_device(rt: HostRuntime) -> Result<(), Fail> {
-    let alloc = rt.alloc();
+fn tells_of_a_failing_device(rt: HostRuntime) {
     let first = header_of(8, Half::Zero, 2);
-    // Five sectors, the sync, the header and the sync.
-    for calls in 0..8 {
-        let mut source = source_of(alloc, &[first])?;
-        let mut target = MemoryDevice::new(alloc, 212)?;
-        sector_dev::CrashDevice::arm(&mut target, calls);
-        assert_eq!(rt; copy(&mut source, &mut target, 1), Err(CopyFault::Device));
+    for calls in 0..9 {
+        let mut source = source_of(&rt, rt.alloc(), &[first]);
+        let mut target = blank(&rt, rt.alloc(), 212);
+        target.arm(calls);
+        let copied = copy(&mut source, &mut target, 1);
+        let wanted = if calls < 8 {
+            Err(CopyFault::Device)
+        } else {
+            Ok(Copied::Whole)
+        };
+        assert!(rt; copied == wanted);
     }
-    let mut source = source_of(alloc, &[first])?;
-    let mut target = MemoryDevice::new(alloc, 212)?;
-    sector_dev::CrashDevice::arm(&mut target, 8);
-    assert_eq!(rt; copy(&mut source, &mut target, 1), Ok(Copied::Whole));
-    Ok(())
 }

@@ -1,6 +1,6 @@
 //! Crashes, limited calls and want of memory, as a caller of the traits sees them.
 
-use crate::{CrashDevice, Device, DeviceFault, Fate, Got, MemoryDevice};
+use sector_dev::{CrashDevice, Device, DeviceFault, Fate, Got, MemoryDevice};
 use std::alloc::{AllocError, Global};
 use std::process::Abort;
 
@@ -121,31 +121,23 @@ fn left_as(writes: &[Filling], fates: &[Fate]) -> Bytes {
     [0, 1, 2].map(|at| left_at(writes, fates, at))
 }
 
-// What a crash may leave in a sector: the stable byte, that of each write to it, and nothing where there is one.
-fn choices(alloc: Global, writes: &[Filling], at: u32, stable: u8) -> Result<Vec<u8>, AllocError> {
-    let mut choices = vec![in alloc; stable]?;
-    for (sector, byte) in writes {
-        if *sector == at {
-            choices.push(*byte)?;
+// Whether a crash may leave this in a sector: the stable byte, that of a write to it, or nothing where there is one.
+fn may_leave(writes: &[Filling], at: u32, byte: u8) -> bool {
+    for (sector, written) in writes {
+        if *sector == at && (byte == *written || byte == NOTHING) {
+            return true;
         }
     }
-    if choices.len() > 1 {
-        choices.push(NOTHING)?;
-    }
-    Ok(choices)
+    STABLE.get(at as usize) == Some(&byte)
 }
 
-// Each choice for a sector with each for the others.
-fn images(alloc: Global, writes: &[Filling]) -> Result<Vec<Bytes>, AllocError> {
-    let mut images = Vec::new(alloc);
-    for first in choices(alloc, writes, 0, STABLE[0])? {
-        for second in choices(alloc, writes, 1, STABLE[1])? {
-            for third in choices(alloc, writes, 2, STABLE[2])? {
-                images.push([first, second, third])?;
-            }
-        }
-    }
-    Ok(images)
+fn is_image(writes: &[Filling], left: Bytes) -> bool {
+    may_leave(writes, 0, left[0]) && may_leave(writes, 1, left[1]) && may_leave(writes, 2, left[2])
+}
+
+// What may stand in a sector, by a number: the stable byte, that of each write, or nothing.
+fn choice(stable: u8, number: usize) -> u8 {
+    [stable, 1, 2, 3, 4, NOTHING][number % 6]
 }
 
 // How a crash is played.
@@ -214,25 +206,30 @@ fn outcomes<D: CrashDevice>(
     device: &mut D,
     writes: &[Filling],
     lists: u8,
-) -> Result<Vec<Bytes>, AllocError> {
+) -> Vec<Bytes> {
     let mut outcomes = Vec::new(alloc);
     for number in 0..lists {
         let fates = fates_with(number);
         let fates = fates.get(..writes.len()).expect(rt, "at most four writes");
         let outcome = crashed(rt, device, writes, Crash::As(fates));
-        assert_eq!(rt; outcome, left_as(writes, fates));
-        outcomes.push(outcome)?;
+        assert!(rt; outcome == left_as(writes, fates));
+        assert!(rt; outcomes.push(outcome).is_ok());
     }
-    Ok(outcomes)
+    outcomes
 }
 
 // Each outcome is an image, and each image an outcome.
-fn check_images(rt: &impl Abort, outcomes: &[Bytes], images: &[Bytes]) {
+fn check_images(rt: &impl Abort, outcomes: &[Bytes], writes: &[Filling]) {
     for outcome in outcomes {
-        assert!(rt; images.contains(outcome));
+        assert!(rt; is_image(writes, *outcome));
     }
-    for image in images {
-        assert!(rt; outcomes.contains(image));
+    for number in 0..216usize {
+        let image = [
+            choice(STABLE[0], number),
+            choice(STABLE[1], number / 6),
+            choice(STABLE[2], number / 36),
+        ];
+        assert!(rt; !is_image(writes, image) || outcomes.contains(&image));
     }
 }
 
@@ -242,23 +239,16 @@ fn check_subsets<D: CrashDevice>(rt: &impl Abort, device: &mut D, writes: &[Fill
         let places = [1u8, 2, 4, 8].map(|bit| number & bit != 0);
         let keep = places.get(..writes.len()).expect(rt, "at most four writes");
         let outcome = crashed(rt, device, writes, Crash::Keep(keep));
-        assert_eq!(rt; outcome, left(writes, keep));
+        assert!(rt; outcome == left(writes, keep));
     }
 }
 
 // Plays a crash after these writes for each list of fates, and for each subset that is kept.
-fn check_crashes(
-    rt: &impl Abort,
-    alloc: Global,
-    writes: &[Filling],
-    lists: u8,
-    subsets: u8,
-) -> Result<(), AllocError> {
-    let mut device = MemoryDevice::new(alloc, 3)?;
-    let outcomes = outcomes(rt, alloc, &mut device, writes, lists)?;
-    check_images(rt, &outcomes, &images(alloc, writes)?);
+fn check_crashes(rt: &impl Abort, alloc: Global, writes: &[Filling], lists: u8, subsets: u8) {
+    let mut device = MemoryDevice::new(alloc, 3).expect(rt, "memory");
+    let outcomes = outcomes(rt, alloc, &mut device, writes, lists);
+    check_images(rt, &outcomes, writes);
     check_subsets(rt, &mut device, writes, subsets);
-    Ok(())
 }
 
 // Each list of so many writes, of which there are as many as lists of fates for them.
@@ -273,8 +263,7 @@ fn crashes_leave_the_images(rt: HostRuntime) {
                 (number / 27 % 3, 4),
             ];
             let writes = writes.get(..length).expect(&rt, "at most four writes");
-            let checked = check_crashes(&rt, rt.alloc(), writes, lists, subsets);
-            assert!(rt; checked.is_ok());
+            check_crashes(&rt, rt.alloc(), writes, lists, subsets);
         }
     }
 }
@@ -288,7 +277,7 @@ fn play_row<D: CrashDevice>(rt: &impl Abort, device: &mut D, row: Row<'_>) {
     if let Some(fate) = fate {
         device.crash_as(&[fate]);
     }
-    assert_eq!(rt; bytes(rt, device), wanted);
+    assert!(rt; bytes(rt, device) == wanted);
 }
 
 // The first sector becomes unreadable; then it is written and lost, written and kept.
@@ -329,7 +318,7 @@ fn places_are_missing_or_too_many(rt: HostRuntime) {
             let places = [1u8, 2, 4, 8, 16, 32].map(|bit| number & bit != 0);
             let keep = places.get(..length).expect(&rt, "at most six places");
             let outcome = crashed(&rt, &mut device, &writes, Crash::Keep(keep));
-            assert_eq!(rt; outcome, left(&writes, keep));
+            assert!(rt; outcome == left(&writes, keep));
         }
     }
 }
@@ -354,7 +343,7 @@ fn make_script<D: CrashDevice>(rt: &impl Abort, device: &mut D, calls: u64) {
     device.arm(calls);
     for (place, step) in SCRIPT.iter().enumerate() {
         let served = (place as u64) < calls;
-        assert_eq!(rt; make(rt, device, *step).is_ok(), served);
+        assert!(rt; make(rt, device, *step).is_ok() == served);
     }
 }
 
@@ -390,9 +379,9 @@ fn armed_calls(rt: HostRuntime) {
         (8, [3, 4, 103], [3, 4, 5]),
     ] {
         let without = crashed_script(&rt, &mut device, calls, &[]);
-        assert_eq!(rt; without, [seen, stable]);
+        assert!(rt; without == [seen, stable]);
         let with = crashed_script(&rt, &mut device, calls, &[true; 8]);
-        assert_eq!(rt; with, [seen, seen]);
+        assert!(rt; with == [seen, seen]);
     }
 }
 
@@ -470,12 +459,12 @@ fn make_one<D: CrashDevice>(
     } else {
         expected
     };
-    assert_eq!(rt; bytes(rt, device), next.seen);
+    assert!(rt; bytes(rt, device) == next.seen);
     if served || !at_once {
         return next;
     }
     device.crash(keep);
-    assert_eq!(rt; bytes(rt, device), next.left);
+    assert!(rt; bytes(rt, device) == next.left);
     Expected::settled(next.left)
 }
 
@@ -493,7 +482,7 @@ fn make_or_refuse<D: CrashDevice>(
         expected = make_one(rt, device, expected, step_with(number), keep, at_once);
     }
     device.crash(keep);
-    assert_eq!(rt; bytes(rt, device), expected.left);
+    assert!(rt; bytes(rt, device) == expected.left);
 }
 
 // Passes whichever allocation is refused. `bench/refused-memory` refuses them in turn; else none is.
@@ -530,7 +519,7 @@ fn reserved_calls(rt: HostRuntime) {
     device.arm(4);
     make_four(&rt, &mut device);
     device.crash(&[]);
-    assert_eq!(rt; bytes(&rt, &mut device), [1, 0, 0]);
+    assert!(rt; bytes(&rt, &mut device) == [1, 0, 0]);
 }
 
 // Writes and syncs 20,000 times, and then loses a write to each sector.
@@ -552,7 +541,7 @@ fn run_long<D: CrashDevice>(rt: &impl Abort, device: &mut D) {
 fn check_last<D: Device>(rt: &impl Abort, device: &mut D) {
     for number in 19_788..20_000u32 {
         let byte = byte_at(rt, device, number % 212);
-        assert_eq!(rt; byte, Ok((number % 251) as u8));
+        assert!(rt; byte == Ok((number % 251) as u8));
     }
 }
 
