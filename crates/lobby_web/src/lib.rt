@@ -7,8 +7,6 @@ mod browser;
 mod laws;
 mod site;
 mod socket;
-#[cfg(test)]
-mod tests;
 
 pub use crate::browser::{Browser, MOST_AT_ONCE};
 pub use crate::laws::{law_of_messages, law_of_sayings};

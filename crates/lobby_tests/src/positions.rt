@@ -1,18 +1,18 @@
 //! Answers of games that were played elsewhere.
-use crate::line_answer;
-use std::alloc::{AllocError, Global};
-use std::test::Fail;
+use lobby_positions::line_answer;
+use std::alloc::Global;
+use std::process::Abort;
 
 // The answer, or a dash where there is none.
-fn answer(alloc: Global, pgn: &str) -> Result<String, AllocError> {
-    match line_answer(alloc, 7, pgn)? {
-        Some(text) => Ok(text),
-        None => String::from_str(alloc, "-"),
+fn answer(rt: &impl Abort, alloc: Global, pgn: &str) -> String {
+    match line_answer(alloc, 7, pgn).expect(rt, "memory") {
+        Some(text) => text,
+        None => String::from_str(alloc, "-").expect(rt, "memory"),
     }
 }
 
 #[test]
-fn tells_each_position(rt: HostRuntime) -> Result<(), Fail> {
+fn tells_each_position(rt: HostRuntime) {
     let cases = [
         (
             "[Event \"?\"]\n[Result \"*\"]\n\n1. e4 *\n\n",
@@ -27,7 +27,6 @@ fn tells_each_position(rt: HostRuntime) -> Result<(), Fail> {
         ("no 3 NoGame\n", "-"),
     ];
     for (pgn, wanted) in cases {
-        assert_eq!(rt; answer(rt.alloc(), pgn)?.as_str(), wanted);
+        assert!(rt; answer(&rt, rt.alloc(), pgn).as_str() == wanted);
     }
-    Ok(())
 }

@@ -1,8 +1,6 @@
 //! Browsers that speak HTTP and frames, well and badly: the same bytes at once, and one by one.
-use crate::browser::{Browser, MOST_AT_ONCE};
-use crate::site::{File, Kind, Site};
-use crate::socket::{Heard, Unsaid};
 use bytes::Bytes;
+use lobby_web::{Browser, File, Heard, Kind, MOST_AT_ONCE, Site, Unsaid};
 use std::alloc::Global;
 use std::hash::RandomState;
 use std::process::Abort;

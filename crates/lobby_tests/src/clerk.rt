@@ -1,7 +1,7 @@
 //! Runs of a clerk, step by step.
-use crate::Clerk;
-use std::alloc::{AllocError, Global};
-use std::test::Fail;
+use lobby_archive::Clerk;
+use std::alloc::Global;
+use std::process::Abort;
 
 // What happens, and what is decided then.
 #[derive(Clone, Copy)]
@@ -17,10 +17,10 @@ enum Row {
 }
 
 // Whether the clerk decides so.
-fn is_so(clerk: &mut Clerk, row: &Row) -> Result<bool, AllocError> {
-    Ok(match row {
-        Row::Over(game, asks) => clerk.over(*game)? == *asks,
-        Row::Came(game, puts) => clerk.came(*game)? == *puts,
+fn is_so(rt: &impl Abort, clerk: &mut Clerk, row: &Row) -> bool {
+    match row {
+        Row::Over(game, asks) => clerk.over(*game).expect(rt, "memory") == *asks,
+        Row::Came(game, puts) => clerk.came(*game).expect(rt, "memory") == *puts,
         Row::Refused(game) => {
             clerk.refused(*game);
             true
@@ -30,26 +30,21 @@ fn is_so(clerk: &mut Clerk, row: &Row) -> Result<bool, AllocError> {
             clerk.synced();
             true
         }
-        Row::Left(game, drops) => clerk.left(*game)? == *drops,
+        Row::Left(game, drops) => clerk.left(*game).expect(rt, "memory") == *drops,
         Row::Safe(safe) => clerk.is_safe() == *safe,
         Row::Gone => {
             clerk.gone();
             true
         }
-    })
+    }
 }
 
-// How many rows are so, from the first on.
-fn rows_so(alloc: Global, archive: &[u32], rows: &[Row]) -> Result<usize, AllocError> {
-    let mut clerk = Clerk::new(alloc, archive)?;
-    let mut count: usize = 0;
+// Of a clerk of this archive each row is so.
+fn check_rows(rt: &impl Abort, alloc: Global, archive: &[u32], rows: &[Row]) {
+    let mut clerk = Clerk::new(alloc, archive).expect(rt, "memory");
     for row in rows {
-        if !is_so(&mut clerk, row)? {
-            return Ok(count);
-        }
-        count = count.saturating_add(1);
+        assert!(rt; is_so(rt, &mut clerk, row));
     }
-    Ok(count)
 }
 
 // A game ends, is archived, synced, and dropped when nobody looks at it; and each once.
@@ -96,12 +91,10 @@ const REFUSED: [Row; 7] = [
 ];
 
 #[test]
-fn a_clerk_decides_so(rt: HostRuntime) -> Result<(), Fail> {
-    let alloc = rt.alloc();
-    assert_eq!(rt; rows_so(alloc, &[], &EVENING)?, EVENING.len());
-    assert_eq!(rt; rows_so(alloc, &[1, 3], &AFTER_A_KILL)?, AFTER_A_KILL.len());
-    assert_eq!(rt; rows_so(alloc, &[], &REFUSED)?, REFUSED.len());
-    Ok(())
+fn a_clerk_decides_so(rt: HostRuntime) {
+    check_rows(&rt, rt.alloc(), &[], &EVENING);
+    check_rows(&rt, rt.alloc(), &[1, 3], &AFTER_A_KILL);
+    check_rows(&rt, rt.alloc(), &[], &REFUSED);
 }
 
 // What happens to games 1, 2 and 3, which are over.
@@ -140,29 +133,29 @@ struct World {
 }
 
 impl World {
-    fn new(alloc: Global) -> Result<World, AllocError> {
-        Ok(World {
-            table: Vec::from_slice(alloc, &[1, 2, 3])?,
+    fn new(rt: &impl Abort, alloc: Global) -> World {
+        World {
+            table: Vec::from_slice(alloc, &[1, 2, 3]).expect(rt, "memory"),
             archive: Vec::new(alloc),
             safe: 0,
             is_right: true,
-        })
+        }
     }
 
     fn is_safe(&self, game: u32) -> bool {
         self.archive.iter().take(self.safe).any(|one| *one == game)
     }
 
-    fn take(&mut self, clerk: &mut Clerk, step: &Step) -> Result<(), AllocError> {
+    fn take(&mut self, rt: &impl Abort, clerk: &mut Clerk, step: &Step) {
         match step {
             Step::Over(game) => {
                 if self.table.contains(game) {
-                    clerk.over(*game)?;
+                    assert!(rt; clerk.over(*game).is_ok());
                 }
             }
             Step::Came(game) => {
-                if clerk.came(*game)? {
-                    self.archive.push(*game)?;
+                if clerk.came(*game).expect(rt, "memory") {
+                    assert!(rt; self.archive.push(*game).is_ok());
                 }
             }
             Step::Synced => {
@@ -170,41 +163,38 @@ impl World {
                 clerk.synced();
             }
             Step::Left(game) => {
-                if clerk.left(*game)? {
+                if clerk.left(*game).expect(rt, "memory") {
                     self.is_right &= self.is_safe(*game);
                     self.table.retain(|one| one != game);
                 }
             }
         }
-        Ok(())
     }
 
     // A lobby lives through the first steps, and is killed then.
-    fn live(&mut self, alloc: Global, steps: usize) -> Result<(), AllocError> {
-        let mut clerk = Clerk::new(alloc, self.archive.as_slice())?;
+    fn live(&mut self, rt: &impl Abort, alloc: Global, steps: usize) {
+        let mut clerk = Clerk::new(alloc, self.archive.as_slice()).expect(rt, "memory");
         for step in NIGHT.iter().take(steps) {
-            self.take(&mut clerk, step)?;
+            self.take(rt, &mut clerk, step);
         }
-        Ok(())
     }
 }
 
 // A lobby is killed after so many steps, what was not synced stays or does not, and another one lives to the end.
-fn comes_out_right(alloc: Global, steps: usize, is_kept: bool) -> Result<bool, AllocError> {
-    let mut world = World::new(alloc)?;
-    world.live(alloc, steps)?;
+fn comes_out_right(rt: &impl Abort, alloc: Global, steps: usize, is_kept: bool) -> bool {
+    let mut world = World::new(rt, alloc);
+    world.live(rt, alloc, steps);
     if !is_kept {
         world.archive.truncate(world.safe);
     }
-    world.live(alloc, NIGHT.len())?;
-    Ok(world.is_right && world.table.is_empty() && world.archive.as_slice() == [1, 2, 3].as_slice())
+    world.live(rt, alloc, NIGHT.len());
+    world.is_right && world.table.is_empty() && world.archive.as_slice() == [1, 2, 3].as_slice()
 }
 
 #[test]
-fn a_kill_at_any_step_loses_nothing(rt: HostRuntime) -> Result<(), Fail> {
+fn a_kill_at_any_step_loses_nothing(rt: HostRuntime) {
     for steps in 0..15 {
-        assert!(rt; comes_out_right(rt.alloc(), steps, false)?);
-        assert!(rt; comes_out_right(rt.alloc(), steps, true)?);
+        assert!(rt; comes_out_right(&rt, rt.alloc(), steps, false));
+        assert!(rt; comes_out_right(&rt, rt.alloc(), steps, true));
     }
-    Ok(())
 }

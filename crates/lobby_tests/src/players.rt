@@ -1,7 +1,6 @@
 //! Files, lines and links as texts.
-use crate::{AddFault, Addition, LineFault, PlayersFault, added, link_text, read, token_text};
+use lobby_players::{AddFault, Addition, LineFault, PlayersFault, added, link_text, read, token_text};
 use std::alloc::{AllocError, Global};
-use std::test::Fail;
 
 const ANN: &str =
     "ann player ba7816bf8f01cfea414140de5dae2223b00361a396177a9cb410ff61f20015ad Ann Lee\n";
@@ -55,29 +54,24 @@ fn or_none(made: Result<String, AddFault>, alloc: Global) -> String {
 }
 
 #[test]
-fn adds_a_player_and_gives_a_new_token(rt: HostRuntime) -> Result<(), Fail> {
+fn adds_a_player_and_gives_a_new_token(rt: HostRuntime) {
     let alloc = rt.alloc();
     let wanted =
         "# club\nann arbiter d65df89f702eec58ca3c7bf2001c9ffc7cd80553ae01d42a799ba26756142d96 Ann M. Lee\n";
-    let mut before = String::from_str(alloc, "# club\n")?;
-    before.push_str(ANN)?;
+    let mut before = String::from_str(alloc, "# club\n").expect(&rt, "memory");
+    assert!(rt; before.push_str(ANN).is_ok());
     let new = or_none(more(alloc, before.as_str(), "ann", "Ann M. Lee"), alloc);
-    assert_eq!(rt; new.as_str(), wanted);
+    assert!(rt; new.as_str() == wanted);
     assert!(rt; more(alloc, ANN, "a b", "A").err() == Some(AddFault::BadName));
     assert!(rt; more(alloc, ANN, "bob", " B").err() == Some(AddFault::BadFullName));
     assert!(rt; more(alloc, new.as_str(), "bob", "B").err() == Some(AddFault::TokenTaken));
-    Ok(())
 }
 
 #[test]
-fn a_link_has_its_token_behind_the_fragment(rt: HostRuntime) -> Result<(), Fail> {
+fn a_link_has_its_token_behind_the_fragment(rt: HostRuntime) {
     let token = [255; 16];
-    let text = token_text(rt.alloc(), &token)?;
-    assert_eq!(rt; text.as_str(), "ffffffffffffffffffffffffffffffff");
-    let link = link_text(rt.alloc(), "http://club/", &token)?;
-    assert_eq!(rt;
-        link.as_str(),
-        "http://club/#ffffffffffffffffffffffffffffffff"
-    );
-    Ok(())
+    let text = token_text(rt.alloc(), &token).expect(&rt, "memory");
+    assert!(rt; text.as_str() == "ffffffffffffffffffffffffffffffff");
+    let link = link_text(rt.alloc(), "http://club/", &token).expect(&rt, "memory");
+    assert!(rt; link.as_str() == "http://club/#ffffffffffffffffffffffffffffffff");
 }
