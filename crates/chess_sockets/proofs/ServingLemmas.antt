@@ -92,9 +92,9 @@ module _ (table : TableState) where
 
   pub are_read : {S : Type 0} (remaining : S → Option (List ℕ)) (silence : Option ℕ) (at : ℕ) (clients read : List (Client S)) (a b : Sessions) →
       rounds.AreRead remaining silence at clients read a b → AreRead remaining silence at clients read (over a) (over b)
-  are_read remaining silence at clients read a b (left, each) = record {
-    each = (left, each);
-    calls = each_led IsOfReading (λ i. over i.sessions) Holds (IsRead remaining silence at)
+  are_read remaining silence at clients read a b (left, longest, is, each) = record {
+    each = (left, longest, is, each);
+    calls = each_led IsOfReading (λ i. over i.sessions) Holds (IsRead remaining silence at longest)
         (λ i j h. stays_over i.sessions j.sessions h.0)
         (λ client after i j done. sent_led client.sid done.fed i.sessions j.sessions done.sent)
         clients read (intake a 1) (intake b left) each;
