@@ -11,3 +11,5 @@ pub mod ServeLemmas
 pub mod ReadLemmas
 pub mod LifeLemmas
 pub mod SayingLemmas
+pub mod RoomLemmas
+pub mod HoldingLemmas
