@@ -4,4 +4,5 @@ pub mod Talking
 pub mod Guests
 pub mod Lines
 pub mod Turning
+pub mod Doing
 pub mod Living

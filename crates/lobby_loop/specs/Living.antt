@@ -2,7 +2,7 @@
 use Rattle.std.specs.Prelude.{ℕ, ◌≡◌, ◌≢◌, ◌<◌, Bool, true, false, List, [], ◌∷◌, ◌++◌, map, Option, None, Some}
 use Rattle.std.specs.List.{AllZip}
 use Rattle.lobby_desk.specs.declared.players.Player.{Player}
-use Rattle.lobby_desk.specs.Events.{Event, Gone, Here}
+use Rattle.lobby_desk.specs.Events.{Event, Gone, Here, Telling, tellings}
 use Rattle.lobby_desk.specs.Lines.{bytes_of}
 use Rattle.lobby_desk.specs.Who.{view}
 use Rattle.lobby_desk.specs.History.{Step, IsRun, AllRight, AllTold}
@@ -10,7 +10,10 @@ use Rattle.lobby_web.specs.declared.site.Site.{Site}
 use Rattle.lobby_loop.specs.declared.guest.Guest.{Guest}
 use Rattle.lobby_loop.specs.declared.hall.Hall.{Hall}
 use Rattle.lobby_loop.specs.Guests.{IsAsBefore}
-use Rattle.lobby_loop.specs.Turning.{BeginsHall, Admits, IsServerAsBefore, ServerComes, HasTurned}
+use Rattle.lobby_loop.specs.declared.link.Link.{Link}
+use Rattle.lobby_loop.specs.Lines.{HoldsNoLine}
+use Rattle.lobby_loop.specs.Turning.{BeginsHall, Admits, IsServerAsBefore, ServerComes, HasTurned, IsLobbyTurn}
+use Rattle.lobby_loop.specs.Doing.{all_tells, AreServed}
 
 -- What happens to a hall: a browser comes, sockets may be ready, the server is there, a turn. In a turn the connection to the
 -- server may be lost, and behind that bytes are written to it.
@@ -87,13 +90,47 @@ AreOwn next (n ∷ ns) = IsOwn next n ns × AreOwn next ns
 abbrev pub numbers : {S : Type 0} → List (Guest S) → List (Option ℕ)
 numbers guests = map (λ guest. guest.number) guests
 
+-- the streams by which browsers came
+abbrev pub streams_in : {S : Type 0} → List (Happening S) → List S
+streams_in [] = []
+streams_in (Came stream ∷ past) = stream ∷ streams_in past
+streams_in (Woke ∷ past) = streams_in past
+streams_in (ServerCame stream ∷ past) = streams_in past
+streams_in (Turned at is_gone front ∷ past) = streams_in past
+
+-- no whole line of the server is held back, where it is there
+abbrev pub NoLineWaits : {S : Type 0} → Option (Link S) → Type 0
+NoLineWaits None = Unit {0}
+NoLineWaits (Some link) = HoldsNoLine link
+
 -- What is promised of whatever happened: the desk has taken a run of steps, in which every line to the server and every message
 -- to a connection is right; what was written to the server since its connection began is a front of the bytes of these lines,
--- and the rest of them is to go; and no two browsers have one connection's number.
-pub record IsRightLife {S : Type 0} (players : List Player) (past : List (Happening S)) (now : Hall S) : Type 0 where
+-- and the rest of them is to go; no whole line of the server waits; no two browsers have one connection's number; what the desk
+-- told connections went out of its hands, and the rest of it is to go; and of each browser the desk has, under its number, all
+-- that it said, and of what went out it was told all that is for its number.
+pub record IsRightLife {S : Type 0} (remaining contents : S → Option (List ℕ)) (players : List Player) (past : List (Happening S))
+    (now : Hall S) : Type 0 where
   pub steps : List Step
   pub run : IsRun players steps (view now.talk.desk)
   pub lines : AllRight players steps
   pub tells : AllTold players steps
   pub sent : sent_in steps ≡ written_in past ++ now.talk.wire.items
+  pub whole : NoLineWaits now.server
   pub own : AreOwn now.talk.next (numbers now.guests.items)
+  pub out : List Telling
+  pub told : all_tells steps ≡ out ++ tellings now.talk.told.items
+  pub served : AreServed remaining contents now.site (streams_in past) steps out now.guests.items
+
+-- Turns of a lobby, at these moments, and rests between them, in which sockets may become ready.
+pub data Passing : Type 0 where
+  TurnAt : (at : ℕ) → Passing
+  Rested : Passing
+
+-- a lobby that begins, and what passed, the newest first
+abbrev pub IsLobbyLife : {S : Type 0} → (S → Option (List ℕ)) → (S → Option (List ℕ)) → List Player → List Passing → Hall S
+    → Type 0
+IsLobbyLife remaining contents players [] now = (site : Site) × BeginsHall site players now
+IsLobbyLife {S} remaining contents players (TurnAt at ∷ past) now =
+    (before : Hall S) × IsLobbyLife remaining contents players past before × IsLobbyTurn remaining contents at before now
+IsLobbyLife {S} remaining contents players (Rested ∷ past) now =
+    (before : Hall S) × IsLobbyLife remaining contents players past before × IsWoken before now

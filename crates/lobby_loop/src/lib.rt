@@ -14,5 +14,5 @@ mod talk;
 mod tests;
 
 pub use door::Entrance;
-pub use law::law_of_halls;
+pub use law::{law_of_halls, law_of_lobbies};
 pub use lobby::{Fault, Lobby, Turned};
