@@ -22,7 +22,7 @@ use Rattle.lobby_loop.specs.declared.made.Made.{Made}
 use Rattle.lobby_loop.specs.Making.{IsMadeOf}
 use Rattle.lobby_loop.specs.Guests.{IsNewGuest, IsAsBefore, IsRead, IsSaidIf, is_for, IsTold, AreTold, IsWritten, IsLookedAfter}
 use Rattle.lobby_loop.specs.Living.{numbers}
-use Rattle.lobby_loop.specs.Doing.{Doing, Took, Tried, Gave, WasTold, Wrote, Spot, spot, DoesAt, has_opened, opens, texts_more, texts_given, texts_told, message_of, messages_of, IsSaidAs, IsSaidBy, all_tells, told_for, is_opening, before_opening, IsToldAs, IsToldOf, IsToldBy, IsAmong, IsServed, AreServed}
+use Rattle.lobby_loop.specs.Doing.{Doing, Took, Tried, Gave, WasTold, Wrote, Spot, spot, DoesAt, has_opened, opens, texts_more, texts_given, texts_told, message_of, messages_of, IsSaidAs, IsSaidBy, all_tells, told_for, is_opening, before_opening, IsToldAs, IsToldOf, IsToldBy, IsAmong, IsServed, IsClosedBehind, WasClosed, WasServed, WereServed, AreServed}
 
 -- ---- events of other connections
 
@@ -167,6 +167,34 @@ for_it c t text is made = subst (λ (b : Bool). AllZip IsToldAs (if b then t ∷
 
 not_for_it : (c : ℕ) (t : Telling) → at_table t.to c ≡ false → AllZip IsToldAs (told_for c (t ∷ [])) []
 not_for_it c t is = subst (λ (b : Bool). AllZip IsToldAs (if b then t ∷ [] else []) []) (sym is) tt
+
+-- ---- a connection that is gone
+
+closed_on : (s : Step) (steps : List Step) (until : List Telling) (n : Option ℕ) → WasClosed steps until n →
+    WasClosed (s ∷ steps) until n
+closed_on s steps until None was = tt
+closed_on s steps until (Some c) was = record {
+  later = s ∷ was.later;
+  closing = was.closing;
+  earlier = was.earlier;
+  steps_are = ap (λ (l : List Step). s ∷ l) was.steps_are;
+  closes = was.closes;
+  all = was.all;
+}
+
+-- Of those who are lost the desk was told that they are gone.
+abbrev pub ClosedIf : Bool → List Step → List Telling → Option ℕ → Type 0
+ClosedIf false steps until n = Unit {0}
+ClosedIf true steps until n = WasClosed steps until n
+
+abbrev pub AllClosed : {S : Type 0} → List (Guest S) → List Telling → List Step → Type 0
+AllClosed [] until steps = Unit {0}
+AllClosed (x ∷ xs) until steps = ClosedIf x.is_lost steps until x.number × AllClosed xs until steps
+
+pub closed_if_on : (lost : Bool) (s : Step) (steps : List Step) (until : List Telling) (n : Option ℕ) → ClosedIf lost steps until n →
+    ClosedIf lost (s ∷ steps) until n
+closed_if_on false s steps until n was = tt
+closed_if_on true s steps until n was = closed_on s steps until n was
 
 -- ---- a browser that is connected
 
@@ -450,21 +478,23 @@ module _ {S : Type 0} (remaining contents : S → Option (List ℕ)) (site : Sit
       (served_on remaining contents site came s steps out x.number (spot x) one was, all_served_on s steps out xs all were)
 
   -- one more stream by which a browser came
+  served_came : (stream : S) (steps : List Step) (out : List Telling) (n : Option ℕ) (now : Spot S) →
+      IsServed remaining contents site came steps out n now → IsServed remaining contents site (stream ∷ came) steps out n now
+  served_came stream steps out n now was = record {
+    first = was.first;
+    new = was.new;
+    among = inr was.among;
+    past = was.past;
+    done = was.done;
+    said = was.said;
+    told = was.told;
+  }
+
   pub all_came : (stream : S) (steps : List Step) (out : List Telling) (guests : List (Guest S)) →
       AreServed remaining contents site came steps out guests → AreServed remaining contents site (stream ∷ came) steps out guests
   all_came stream steps out [] were = tt
-  all_came stream steps out (x ∷ xs) (was, were) = (
-    record {
-      first = was.first;
-      new = was.new;
-      among = inr was.among;
-      past = was.past;
-      done = was.done;
-      said = was.said;
-      told = was.told;
-    },
-    all_came stream steps out xs were,
-  )
+  all_came stream steps out (x ∷ xs) (was, were) =
+      (served_came stream steps out x.number (spot x) was, all_came stream steps out xs were)
 
   pub served_new : (stream : S) (steps : List Step) (out : List Telling) (guest : Guest S) → IsNewGuest stream guest →
       IsServed remaining contents site (stream ∷ came) steps out guest.number (spot guest)
@@ -478,3 +508,76 @@ module _ {S : Type 0} (remaining contents : S → Option (List ℕ)) (site : Sit
         said = refl;
         told = refl;
       })
+
+  -- ---- browsers that were let go
+
+  pub all_were_on : (s : Step) (steps : List Step) (out : List Telling) (guests : List (Guest S)) →
+      AreApart (numbers guests) s.event → WereServed remaining contents site came steps out guests →
+      WereServed remaining contents site came (s ∷ steps) out guests
+  all_were_on s steps out [] apart were = tt
+  all_were_on s steps out (x ∷ xs) (one, all) (was, were) = (
+    record {
+      until = was.until;
+      after = was.after;
+      split = was.split;
+      served = served_on remaining contents site came s steps was.until x.number (spot x) one was.served;
+      closed = closed_on s steps was.until x.number was.closed;
+    },
+    all_were_on s steps out xs all were,
+  )
+
+  -- more went out
+  pub all_were_out : (steps : List Step) (out more : List Telling) (guests : List (Guest S)) →
+      WereServed remaining contents site came steps out guests → WereServed remaining contents site came steps (out ++ more) guests
+  all_were_out steps out more [] were = tt
+  all_were_out steps out more (x ∷ xs) (was, were) = (
+    record {
+      until = was.until;
+      after = was.after ++ more;
+      split = ap (λ (l : List Telling). l ++ more) was.split ∙ append_assoc was.until was.after more;
+      served = was.served;
+      closed = was.closed;
+    },
+    all_were_out steps out more xs were,
+  )
+
+  pub all_were_came : (stream : S) (steps : List Step) (out : List Telling) (guests : List (Guest S)) →
+      WereServed remaining contents site came steps out guests →
+      WereServed remaining contents site (stream ∷ came) steps out guests
+  all_were_came stream steps out [] were = tt
+  all_were_came stream steps out (x ∷ xs) (was, were) = (
+    record {
+      until = was.until;
+      after = was.after;
+      split = was.split;
+      served = served_came stream steps was.until x.number (spot x) was.served;
+      closed = was.closed;
+    },
+    all_were_came stream steps out xs were,
+  )
+
+  -- who is let go, in front of those who were
+  pub all_let_go : (steps : List Step) (out : List Telling) (guests former : List (Guest S)) →
+      AreServed remaining contents site came steps out guests → AllClosed guests out steps →
+      WereServed remaining contents site came steps out former →
+      WereServed remaining contents site came steps out (filter (λ (guest : Guest S). guest.is_lost) guests ++ former)
+  all_let_go steps out [] former served closed were = were
+  all_let_go steps out (x ∷ xs) former (one, all) (closed, more) were =
+      let rest = all_let_go steps out xs former all more were in
+      elim (cases_Bool x.is_lost) [
+        | inl goes ↦ subst (λ (b : Bool). WereServed remaining contents site came steps out
+            (cond b (x ∷ filter (λ (guest : Guest S). guest.is_lost) xs) (filter (λ (guest : Guest S). guest.is_lost) xs) ++ former))
+            (sym goes) (
+              record {
+                until = out;
+                after = [];
+                split = sym (append-nil out);
+                served = one;
+                closed = subst (λ (b : Bool). ClosedIf b steps out x.number) goes closed;
+              },
+              rest,
+            )
+        | inr stays ↦ subst (λ (b : Bool). WereServed remaining contents site came steps out
+            (cond b (x ∷ filter (λ (guest : Guest S). guest.is_lost) xs) (filter (λ (guest : Guest S). guest.is_lost) xs) ++ former))
+            (sym stays) rest
+      ]

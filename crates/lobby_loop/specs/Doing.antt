@@ -3,7 +3,7 @@ use Rattle.std.specs.Prelude.{ℕ, ◌≡◌, ◌≤◌, ◌⊎◌, ◌==◌, Bo
 use Rattle.std.specs.List.{AllZip}
 use Rattle.std.specs.Io.KnownBytes.{Consumes, Appends}
 use Rattle.websocket.specs.Content.{Content}
-use Rattle.lobby_desk.specs.Events.{Event, Opened, Said, Hurried, Telling}
+use Rattle.lobby_desk.specs.Events.{Event, Opened, Closed, Said, Hurried, Telling}
 use Rattle.lobby_desk.specs.Who.{at_table}
 use Rattle.lobby_desk.specs.History.{Step}
 use Rattle.lobby_web.specs.declared.browser.Stage.{Stage}
@@ -175,3 +175,35 @@ AreServed remaining contents site came steps out [] = Unit {0}
 AreServed remaining contents site came steps out (guest ∷ guests) =
     IsServed remaining contents site came steps out guest.number (spot guest)
     × AreServed remaining contents site came steps out guests
+
+-- ---- a browser that was let go
+
+-- The desk was told that this connection is gone when these messages, all that it had told so far, had gone out of its hands.
+pub record IsClosedBehind (steps : List Step) (until : List Telling) (c : ℕ) : Type 0 where
+  pub later : List Step
+  pub closing : Step
+  pub earlier : List Step
+  pub steps_are : steps ≡ later ++ closing ∷ earlier
+  pub closes : closing.event ≡ Closed c
+  pub all : all_tells earlier ≡ until
+
+abbrev pub WasClosed : List Step → List Telling → Option ℕ → Type 0
+WasClosed steps until None = Unit {0}
+WasClosed steps until (Some c) = IsClosedBehind steps until c
+
+-- A browser that had this number and stood at this place when it was let go. Until then it was served: it was told what had gone
+-- out for it; and all that the desk has of its number it has said.
+pub record WasServed {S : Type 0} (remaining contents : S → Option (List ℕ)) (site : Site) (came : List S) (steps : List Step)
+    (out : List Telling) (number : Option ℕ) (last : Spot S) : Type 0 where
+  pub until : List Telling
+  pub after : List Telling
+  pub split : out ≡ until ++ after
+  pub served : IsServed remaining contents site came steps until number last
+  pub closed : WasClosed steps until number
+
+abbrev pub WereServed : {S : Type 0} → (S → Option (List ℕ)) → (S → Option (List ℕ)) → Site → List S → List Step → List Telling
+    → List (Guest S) → Type 0
+WereServed remaining contents site came steps out [] = Unit {0}
+WereServed remaining contents site came steps out (guest ∷ guests) =
+    WasServed remaining contents site came steps out guest.number (spot guest)
+    × WereServed remaining contents site came steps out guests

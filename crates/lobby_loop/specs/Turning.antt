@@ -27,6 +27,12 @@ HearsServer remaining None server old new = (server ≡ None) × (new ≡ old)
 HearsServer {S} remaining (Some link) server old new =
     (after : Link S) × (server ≡ Some after) × TakesIn remaining link after old new
 
+-- the bytes that came of it then
+abbrev pub bytes_heard : {S : Type 0} → (remaining : S → Option (List ℕ)) → (server after : Option (Link S)) → (old new : Talk) →
+    HearsServer remaining server after old new → List ℕ
+bytes_heard remaining None after old new (is, same) = []
+bytes_heard remaining (Some link) after old new (next, is, takes) = takes.taken
+
 -- whether its connection is lost
 abbrev pub link_lost : {S : Type 0} → Option (Link S) → Bool
 link_lost None = false
