@@ -500,7 +500,7 @@ said_behind : (d : ℕ) (b : Bool) (text : List ℕ) (ns : List (Option ℕ)) �
 said_behind d b text [] none = tt
 said_behind d b text (n ∷ ns) (one, all) = (said_behind_one d b text n one, said_behind d b text ns all)
 
-is_number : Option ℕ → Bool
+abbrev is_number : Option ℕ → Bool
 is_number None = false
 is_number (Some c) = true
 
