@@ -5,3 +5,4 @@ pub mod Taking
 pub mod Serving
 pub mod Living
 pub mod Waking
+pub mod Speaking

@@ -22,7 +22,7 @@ use Rattle.lobby_loop.specs.declared.made.Made.{Made}
 use Rattle.lobby_loop.specs.Making.{IsMadeOf}
 use Rattle.lobby_loop.specs.Guests.{IsNewGuest, IsAsBefore, IsRead, IsSaidIf, is_for, IsTold, AreTold, IsWritten, IsLookedAfter}
 use Rattle.lobby_loop.specs.Living.{numbers}
-use Rattle.lobby_loop.specs.Doing.{Doing, Took, Tried, Gave, WasTold, Wrote, Spot, spot, DoesAt, has_opened, opens, texts_more, texts_given, texts_told, message_of, messages_of, IsSaidAs, IsSaidBy, all_tells, told_for, is_opening, before_opening, IsToldAs, IsToldOf, IsToldBy, IsAmong, IsServed, IsClosedBehind, WasClosed, WasServed, WereServed, AreServed}
+use Rattle.lobby_loop.specs.Doing.{Doing, Took, Tried, Gave, WasTold, Wrote, Spot, spot, DoesAt, has_opened, opens, texts_more, texts_given, texts_told, AreLate, message_of, messages_of, IsSaidAs, IsSaidBy, all_tells, told_for, is_opening, before_opening, IsToldAs, IsToldOf, IsToldBy, IsAmong, IsServed, IsClosedBehind, WasClosed, WasServed, WereServed, AreServed}
 
 -- ---- events of other connections
 
@@ -112,6 +112,7 @@ record IsQuiet (d : Doing) (past : List Doing) : Type 0 where
   opened : has_opened (d ∷ past) ≡ has_opened past
   given : texts_given (d ∷ past) ≡ texts_given past
   told : texts_told (d ∷ past) ≡ texts_told past
+  late : AreLate past → AreLate (d ∷ past)
 
 -- nothing came before its socket was open
 no_texts : (past : List Doing) → has_opened past ≡ false → texts_given past ≡ []
@@ -210,6 +211,7 @@ module _ {S : Type 0} (remaining contents : S → Option (List ℕ)) (site : Sit
     among = was.among;
     past = d ∷ was.past;
     done = (a, was.done, does);
+    late = (quiet was.past).late was.late;
     said = said_same n steps was.past (d ∷ was.past) (quiet was.past).opened (quiet was.past).given was.said;
     told = told_same n steps out was.past (d ∷ was.past) (quiet was.past).told was.told;
   }
@@ -232,13 +234,13 @@ module _ {S : Type 0} (remaining contents : S → Option (List ℕ)) (site : Sit
   served_read steps out old new reads was =
       subst (λ (n : Option ℕ). Served steps out n (spot new)) (sym reads.number) (elim reads.takes [
         | inl none ↦ done_more steps out old.number Tried (spot old) (spot new)
-            (λ past. record { opened = refl; given = refl; told = refl }) (
+            (λ past. record { opened = refl; given = refl; told = refl; late = λ so_far. so_far }) (
               ap (λ (b : Browser). b.stage) none.0,
               inl (subst (λ (l : List ℕ). Consumes (remaining old.stream) (remaining new.stream) l)
                   none.1 reads.consumed),
             ) was
         | inr takes ↦ done_more steps out old.number (Took reads.taken) (spot old) (spot new)
-            (λ past. record { opened = refl; given = refl; told = refl }) (reads.consumed, takes) was
+            (λ past. record { opened = refl; given = refl; told = refl; late = λ so_far. so_far }) (reads.consumed, takes.0, takes.1) was
       ])
 
   pub served_looked : (steps : List Step) (out : List Telling) (old new : Guest S) → IsLookedAfter old new →
@@ -247,7 +249,7 @@ module _ {S : Type 0} (remaining contents : S → Option (List ℕ)) (site : Sit
       subst (λ (n : Option ℕ). Served steps out n (spot new)) (sym looks.number) (elim looks.said [
         | inl same ↦ stays_at steps out old.number old new same looks.stream was
         | inr pings ↦ done_more steps out old.number (WasTold (Ping []) pings.0) (spot old) (spot new)
-            (λ past. record { opened = refl; given = refl; told = append-nil (texts_told past) }) (looks.stream, pings.1) was
+            (λ past. record { opened = refl; given = refl; told = append-nil (texts_told past); late = λ so_far. (inl refl, so_far) }) (looks.stream, refl, pings.1) was
       ])
 
   pub served_written : (steps : List Step) (out : List Telling) (old new : Guest S) → IsWritten contents site old new →
@@ -255,12 +257,12 @@ module _ {S : Type 0} (remaining contents : S → Option (List ℕ)) (site : Sit
   served_written steps out old new written was =
       subst (λ (n : Option ℕ). Served steps out n (spot new)) (sym written.number) (elim written.goes [
         | inl none ↦ done_more steps out old.number Tried (spot old) (spot new)
-            (λ past. record { opened = refl; given = refl; told = refl }) (
+            (λ past. record { opened = refl; given = refl; told = refl; late = λ so_far. so_far }) (
               ap (λ (b : Browser). b.stage) none.0,
               inr (subst (λ (k : ℕ). Appends (contents old.stream) (contents new.stream) (take k (pending old.browser.stage))) none.1 written.written),
             ) was
         | inr writes ↦ done_more steps out old.number (Wrote (take written.count (pending old.browser.stage))) (spot old) (spot new)
-            (λ past. record { opened = refl; given = refl; told = refl })
+            (λ past. record { opened = refl; given = refl; told = refl; late = λ so_far. so_far })
             (written.count, written.within, refl, written.written, writes) was
       ])
 
@@ -268,7 +270,7 @@ module _ {S : Type 0} (remaining contents : S → Option (List ℕ)) (site : Sit
   pub gave_nothing : (steps : List Step) (out : List Telling) (n : Option ℕ) (a b : Spot S) →
       DoesAt remaining contents site (Gave None) a b → Served steps out n a → Served steps out n b
   gave_nothing steps out n a b does was =
-      done_more steps out n (Gave None) a b (λ past. record { opened = refl; given = refl; told = refl }) does was
+      done_more steps out n (Gave None) a b (λ past. record { opened = refl; given = refl; told = refl; late = λ so_far. so_far }) does was
 
   pub gave_again : (steps : List Step) (out : List Telling) (c : ℕ) (a b : Spot S) →
       DoesAt remaining contents site (Gave (Some heards.Opened)) a b → Served steps out (Some c) a → Served steps out (Some c) b
@@ -278,6 +280,7 @@ module _ {S : Type 0} (remaining contents : S → Option (List ℕ)) (site : Sit
     among = was.among;
     past = Gave (Some heards.Opened) ∷ was.past;
     done = (a, was.done, does);
+    late = was.late;
     said = (refl, was.said.1);
     told = told_same (Some c) steps out was.past (Gave (Some heards.Opened) ∷ was.past) refl was.told;
   }
@@ -290,6 +293,7 @@ module _ {S : Type 0} (remaining contents : S → Option (List ℕ)) (site : Sit
     among = was.among;
     past = Gave (Some (heards.Text text)) ∷ was.past;
     done = (a, was.done, does);
+    late = was.late;
     said = was.said;
     told = was.told;
   }
@@ -309,6 +313,7 @@ module _ {S : Type 0} (remaining contents : S → Option (List ℕ)) (site : Sit
         among = was.among;
         past = Gave (Some heards.Opened) ∷ was.past;
         done = (a, was.done, does);
+        late = was.late;
         said = (
           refl,
           subst (λ (l : List (List ℕ)). AllZip IsSaidAs l (messages_of c (s ∷ steps))) (sym (no_texts was.past was.said))
@@ -349,6 +354,7 @@ module _ {S : Type 0} (remaining contents : S → Option (List ℕ)) (site : Sit
         among = was.among;
         past = Gave (Some (heards.Text text)) ∷ was.past;
         done = (a, was.done, does);
+        late = was.late;
         said = (
           opened,
           subst (λ (u : Bool). AllZip IsSaidAs (texts_more (Some (heards.Text text)) u (texts_given was.past))
@@ -379,6 +385,7 @@ module _ {S : Type 0} (remaining contents : S → Option (List ℕ)) (site : Sit
         among = so.among;
         past = so.past;
         done = so.done;
+        late = so.late;
         said = so.said;
         told = so.told;
       }
@@ -392,7 +399,8 @@ module _ {S : Type 0} (remaining contents : S → Option (List ℕ)) (site : Sit
               new = was.new;
               among = was.among;
               past = WasTold (Text (string_bytes made.text)) answer ∷ was.past;
-              done = (spot old, was.done, (stream, says));
+              done = (spot old, was.done, (stream, refl, says));
+              late = (inr was.said.0, was.late);
               said = was.said;
               told = told_further steps out c (telling told) (string_bytes made.text ∷ []) was.past
                   (WasTold (Text (string_bytes made.text)) answer ∷ was.past) refl
@@ -407,6 +415,7 @@ module _ {S : Type 0} (remaining contents : S → Option (List ℕ)) (site : Sit
               among = so.among;
               past = so.past;
               done = so.done;
+              late = so.late;
               said = so.said;
               told = told_further steps out c (telling told) [] so.past so.past (sym (append-nil (texts_told so.past)))
                   (not_for_it c (telling told) (sym to ∙ not_for_c)) so.told;
@@ -441,6 +450,7 @@ module _ {S : Type 0} (remaining contents : S → Option (List ℕ)) (site : Sit
     among = was.among;
     past = was.past;
     done = was.done;
+    late = was.late;
     said = said_on n s steps was.past apart was.said;
     told = told_on n s steps out was.past apart was.told;
   }
@@ -486,6 +496,7 @@ module _ {S : Type 0} (remaining contents : S → Option (List ℕ)) (site : Sit
     among = inr was.among;
     past = was.past;
     done = was.done;
+    late = was.late;
     said = was.said;
     told = was.told;
   }
@@ -505,6 +516,7 @@ module _ {S : Type 0} (remaining contents : S → Option (List ℕ)) (site : Sit
         among = inl is.stream_is;
         past = [];
         done = refl;
+        late = tt;
         said = refl;
         told = refl;
       })

@@ -11,8 +11,8 @@ use Rattle.lobby_web.specs.declared.site.Site.{Site}
 use Rattle.lobby_web.specs.declared.socket.Heard.{Heard}
 use Rattle.lobby_web.specs.declared.socket.Heard.TheVariants as heards
 use Rattle.lobby_web.specs.declared.socket.Unsaid.{Unsaid}
-use Rattle.lobby_web.specs.Browsing.{IsNew, pending, Takes, HearsNext, SaysTo, Writes}
-use Rattle.lobby_web.specs.Happening.{text_of}
+use Rattle.lobby_web.specs.Browsing.{IsNew, pending, WantsBytes, Takes, HearsNext, SaysTo, Writes}
+use Rattle.lobby_web.specs.Happening.{text_of, is_close}
 use Rattle.lobby_loop.specs.declared.guest.Guest.{Guest}
 use Rattle.lobby_loop.specs.Making.{IsFinished}
 
@@ -33,16 +33,17 @@ pub record Spot (S : Type 0) : Type 0 where
 abbrev pub spot : {S : Type 0} → Guest S → Spot S
 spot guest = record { stage = guest.browser.stage; stream = guest.stream }
 
--- The bytes that its socket gave are taken by its connection, and what is written stood in front of what waits there.
+-- The bytes that its socket gave, where they are wanted, are taken by its connection, and what is written stood in front of what
+-- waits there. The lobby does not begin to close it.
 abbrev pub DoesAt : {S : Type 0} → (S → Option (List ℕ)) → (S → Option (List ℕ)) → Site → Doing → Spot S → Spot S → Type 0
 DoesAt remaining contents site (Took bytes) old new =
-    Consumes (remaining old.stream) (remaining new.stream) bytes × Takes site bytes old.stage new.stage
+    Consumes (remaining old.stream) (remaining new.stream) bytes × WantsBytes old.stage × Takes site bytes old.stage new.stage
 DoesAt remaining contents site Tried old new =
     (new.stage ≡ old.stage)
     × (Consumes (remaining old.stream) (remaining new.stream) [] ⊎ Appends (contents old.stream) (contents new.stream) [])
 DoesAt remaining contents site (Gave heard) old new = (new.stream ≡ old.stream) × HearsNext old.stage new.stage heard
 DoesAt remaining contents site (WasTold content answer) old new =
-    (new.stream ≡ old.stream) × SaysTo content old.stage new.stage answer
+    (new.stream ≡ old.stream) × (is_close content ≡ false) × SaysTo content old.stage new.stage answer
 DoesAt remaining contents site (Wrote bytes) old new =
     (count : ℕ) × (count ≤ length (pending old.stage)) × (bytes ≡ take count (pending old.stage))
     × Appends (contents old.stream) (contents new.stream) bytes × Writes site count old.stage new.stage
@@ -89,6 +90,18 @@ texts_told (Tried ∷ past) = texts_told past
 texts_told (Gave heard ∷ past) = texts_told past
 texts_told (WasTold content answer ∷ past) = texts_told past ++ text_of content
 texts_told (Wrote bytes ∷ past) = texts_told past
+
+-- It was to be told texts only behind that its socket was open.
+abbrev pub IsLate : Content → Bool → Type 0
+IsLate content opened = (text_of content ≡ []) ⊎ (opened ≡ true)
+
+abbrev pub AreLate : List Doing → Type 0
+AreLate [] = Unit {0}
+AreLate (Took bytes ∷ past) = AreLate past
+AreLate (Tried ∷ past) = AreLate past
+AreLate (Gave heard ∷ past) = AreLate past
+AreLate (WasTold content answer ∷ past) = IsLate content (has_opened past) × AreLate past
+AreLate (Wrote bytes ∷ past) = AreLate past
 
 -- ---- what the desk has of it
 
@@ -166,6 +179,7 @@ pub record IsServed {S : Type 0} (remaining contents : S → Option (List ℕ)) 
   pub among : IsAmong first.stream came
   pub past : List Doing
   pub done : HasDone remaining contents site first past now
+  pub late : AreLate past
   pub said : IsSaidBy steps number past
   pub told : IsToldBy steps out number past
 

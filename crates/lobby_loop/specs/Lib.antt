@@ -5,4 +5,5 @@ pub mod Guests
 pub mod Lines
 pub mod Turning
 pub mod Doing
+pub mod Speaking
 pub mod Living

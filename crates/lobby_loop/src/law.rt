@@ -1,8 +1,13 @@
 //! What is promised of whatever happens.
 ghost use Rattle.std.specs.Prelude.{ℕ, List, Option};
 ghost use Rattle.lobby_desk.specs.declared.players.Player.{Player};
+ghost use Rattle.lobby_desk.specs.Events.{Telling};
+ghost use Rattle.lobby_desk.specs.History.{Step};
+ghost use Rattle.lobby_web.specs.declared.site.Site.{Site};
 ghost use Rattle.lobby_loop.specs.declared.hall.Hall.{Hall};
+ghost use Rattle.lobby_loop.specs.Doing.{Spot, IsServed};
 ghost use Rattle.lobby_loop.specs.Living.{Happening, IsLife, IsRightLife, Passing, IsLobbyLife};
+ghost use Rattle.lobby_loop.specs.Speaking.{Speaks};
 
 /// Whatever browsers and a server come, say and leave, by streams that give and take what they like: the desk has taken a run of
 /// steps, of which `lobby_desk::law_of_lines` and `lobby_desk::law_of_tellings` hold. The bytes that were written to the server
@@ -21,4 +26,14 @@ pub fn law_of_lobbies<S>()
     ensures { (remaining contents : S → Option (List ℕ)) (players : List Player) (passed : List Passing) (now : Hall S) →
         IsLobbyLife remaining contents players passed now →
         (past : List (Happening S)) × IsLife remaining contents players past now × IsRightLife remaining contents players past now }
+{}
+
+/// Of each browser of which such a life says what was done at its connection: the texts that the desk was told under its number
+/// are those of the whole frames among the bytes that came of it behind the upgrade, each once and in their order; and the texts
+/// that it was told are those of the frames among the bytes that were written to it and wait, in their order, all of them while
+/// its socket is open. Before that HTTP answers what came, and nothing is said.
+pub fn law_of_browsers<S>()
+    ensures { (remaining contents : S → Option (List ℕ)) (site : Site) (came : List S) (steps : List Step) (out : List Telling)
+        (number : Option ℕ) (now : Spot S) → (served : IsServed remaining contents site came steps out number now) →
+        Speaks site served.past now.stage }
 {}

@@ -13,3 +13,4 @@ pub mod LifeLemmas
 pub mod SayingLemmas
 pub mod RoomLemmas
 pub mod HoldingLemmas
+pub mod ShutLemmas

@@ -161,12 +161,12 @@ consumed-is n (Ok effect) p is =
     let same : p ≡ (n, effect) = cc is in rw same (refl, refl)
 
 -- what a frame did, how many bytes it took and how many of them are its payload
-record Taken (conn : Connection) (bs : List ℕ) (n : ℕ) (effect : Effect) : Type 0 where
-  inside : n ≤ length bs
-  header : FrameHeader
-  payload : List ℕ
-  long : 2 + length payload ≤ n
-  does : on_frame conn header payload ≡ Ok effect
+pub record Taken (conn : Connection) (bs : List ℕ) (n : ℕ) (effect : Effect) : Type 0 where
+  pub inside : n ≤ length bs
+  pub header : FrameHeader
+  pub payload : List ℕ
+  pub long : 2 + length payload ≤ n
+  pub does : on_frame conn header payload ≡ Ok effect
 
 decoded-taken : (conn : Connection) (bs : List ℕ) (r : Result (FrameStatus RawFrame) Error) (p : ℕ × Effect) → decode_frame conn.config.max_frame_size bs ≡ r
     → read_decoded conn bs r ≡ Ok (Complete p) → Taken conn bs p.0 p.1
@@ -187,7 +187,7 @@ decoded-taken conn bs (Ok (Complete frame)) p is read =
       does = consumed.1;
     }
 
-taken : (conn : Connection) (bs : List ℕ) (p : ℕ × Effect) → read_step conn bs ≡ Ok (Complete p) → Taken conn bs p.0 p.1
+pub taken : (conn : Connection) (bs : List ℕ) (p : ℕ × Effect) → read_step conn bs ≡ Ok (Complete p) → Taken conn bs p.0 p.1
 unfolding read_step
 taken conn bs p read = decoded-taken conn bs _ p refl (after_check_passed (check_open conn.role conn.state) _ _ read)
 
