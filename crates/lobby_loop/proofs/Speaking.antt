@@ -70,7 +70,7 @@ texts_said_more (x ∷ xs) e =
 record Misses (past : List Doing) (socket : Socket) : Type 0 where
   missed : List (List ℕ)
   told : texts_told past ≡ texts_said past ++ missed
-  open : (missed ≡ []) ⊎ (may_say socket ≡ false)
+  while_open : (missed ≡ []) ⊎ (may_say socket ≡ false)
 
 -- a socket behind HTTP's history, and what happened to it since
 record OnSocket (site : Site) (past : List Doing) (socket : Socket) : Type 0 where
@@ -143,19 +143,19 @@ misses_on : (past : List Doing) (d : Doing) (e : Event) (old new : Socket) → D
 misses_on past d e old new does told said was = record {
   missed = was.missed;
   told = told ∙ (was.told ∙ ap (λ (l : List (List ℕ)). l ++ was.missed) (sym said));
-  open = elim was.open [ inl none ↦ inl none | inr shut ↦ inr (stays-shut e old new does shut) ];
+  while_open = elim was.while_open [ inl none ↦ inl none | inr shut ↦ inr (stays-shut e old new does shut) ];
 }
 
 -- this was to be told, and was or was not
 misses_said : (past : List Doing) (content : Content) (old new : Socket) (x : Unit {0}) → Does (said content (Ok x)) old new →
     Misses past old → Misses (WasTold content (Ok x) ∷ past) new
 misses_said past content old new x does was =
-    let none : was.missed ≡ [] = elim was.open [ inl none ↦ none | inr shut ↦ absurd (false≢true (sym shut ∙ does.0)) ] in
+    let none : was.missed ≡ [] = elim was.while_open [ inl none ↦ none | inr shut ↦ absurd (false≢true (sym shut ∙ does.0)) ] in
     let all : texts_told past ≡ texts_said past = was.told ∙ (ap (λ (l : List (List ℕ)). texts_said past ++ l) none ∙ append-nil (texts_said past)) in
     record {
       missed = [];
       told = ap (λ (l : List (List ℕ)). l ++ text_of content) all ∙ sym (append-nil (texts_said past ++ text_of content));
-      open = inl refl;
+      while_open = inl refl;
     }
 
 misses_unsaid : (past : List Doing) (content : Content) (old new : Socket) (why : Unsaid) → Does (said content (Err why)) old new →
@@ -165,7 +165,7 @@ misses_unsaid past content old new why does was = record {
   told = ap (λ (l : List (List ℕ)). l ++ text_of content) was.told
       ∙ (append_assoc (texts_said past) was.missed (text_of content)
       ∙ ap (λ (l : List (List ℕ)). l ++ (was.missed ++ text_of content)) (sym (append-nil (texts_said past))));
-  open = inr (unsaid-shut content old new why does);
+  while_open = inr (unsaid-shut content old new why does);
 }
 
 -- ---- a socket that begins
@@ -214,7 +214,7 @@ module _ (site : Site) where
     given = ap in_order (sym silent.given);
     said = sym silent.said;
     untold = λ closed. hands.fresh.untold;
-    misses = record { missed = []; told = silent.told ∙ ap (λ (l : List (List ℕ)). l ++ []) (sym silent.said); open = inl refl };
+    misses = record { missed = []; told = silent.told ∙ ap (λ (l : List (List ℕ)). l ++ []) (sym silent.said); while_open = inl refl };
   }
   answers_on q c old At.Over is answered received sent silent any = silent
 
@@ -376,7 +376,7 @@ module _ (site : Site) where
     given = was.given;
     said = was.said;
     untold = was.untold;
-    misses = record { missed = was.misses.missed; told = was.misses.told; open = was.misses.open };
+    misses = record { missed = was.misses.missed; told = was.misses.told; while_open = was.misses.while_open };
   }
   tried_on past At.Over silent = record { closed = silent.closed; given = silent.given; told = silent.told; said = silent.said }
 
@@ -434,7 +434,7 @@ module _ (site : Site) where
         texts = utters.texts ∙ was.said;
         missed = was.misses.missed;
         told = was.misses.told;
-        open = was.misses.open;
+        while_open = was.misses.while_open;
       }
   speaks_at past At.Over stands = stands
 

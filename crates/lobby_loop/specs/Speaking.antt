@@ -91,7 +91,7 @@ pub record IsBySocket (site : Site) (past : List Doing) (socket : Socket) : Type
   pub texts : texts_sent outs ≡ texts_said past
   pub missed : List (List ℕ)
   pub told : texts_told past ≡ texts_said past ++ missed
-  pub open : (missed ≡ []) ⊎ (may_say socket ≡ false)
+  pub while_open : (missed ≡ []) ⊎ (may_say socket ≡ false)
 
 -- What the bytes of a browser say, by where its connection stands. Over is one that memory was refused.
 abbrev pub Speaks : Site → List Doing → Stage → Type 0

@@ -72,7 +72,6 @@ impl<S> Guest<S> {
     }
 
     /// Its stream.
-    #[cfg(test)]
     pub fn stream(&self) -> &S {
         &self.stream
     }

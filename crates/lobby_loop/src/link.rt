@@ -84,7 +84,6 @@ impl<S> Link<S> {
     }
 
     /// Its stream.
-    #[cfg(test)]
     pub fn stream(&self) -> &S {
         &self.stream
     }

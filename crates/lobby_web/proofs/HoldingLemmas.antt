@@ -127,7 +127,7 @@ quiet-load (said content (Ok x)) old new does quiet =
       said-room content old.context,
       ap (λ l. length l) does.2,
       ap (λ l. length l) does.5,
-      length-append old.output.items (frame_bytes (content_opcode content) (content_payload content))
+      length-append old.output.items (frame_bytes (content_opcode content) (content_payload content)),
     )
 quiet-load (said content (Err NotOpen)) old new does quiet = omega (arith, load-same old new does.1)
 quiet-load (said content (Err NotText)) old new does quiet = absurd does
@@ -154,7 +154,7 @@ came-load bytes old new wanted does =
             room-most (can_write new.context.state),
             wanted.0.1,
             wanted.0.2,
-            wanted.1
+            wanted.1,
           )
     ]
 

@@ -152,7 +152,7 @@ piece-length bs start end sorted inside =
       length-drop start bs,
       length-drop end bs,
       sorted,
-      inside
+      inside,
     )
 
 consumed-is : (n : ℕ) (r : Result Effect Error) (p : ℕ × Effect) → consumed_with n r ≡ Ok (Complete p) → (p.0 ≡ n) × (r ≡ Ok p.1)
@@ -207,5 +207,5 @@ run-fits conn after input rest (frame ∷ frames) runs =
       arith,
       one-fits conn input frame runs.0,
       run-fits frame.1.next after (drop frame.0 input) rest frames runs.1,
-      length-append (reply_bytes frame.1.reply) (replies frames)
+      length-append (reply_bytes frame.1.reply) (replies frames),
     )

@@ -1,6 +1,5 @@
 //! Browsers and a server over streams that give and take little, or fail.
-use crate::door::{Found, Listens, Welcomed, welcome};
-use crate::hall::Hall;
+use lobby_loop::{Found, Hall, Listens, Welcomed, welcome};
 use lobby_web::Site;
 use std::alloc::Global;
 use std::hash::RandomState;
