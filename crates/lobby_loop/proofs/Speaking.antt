@@ -76,9 +76,9 @@ record Misses (past : List Doing) (socket : Socket) : Type 0 where
 record OnSocket (site : Site) (past : List Doing) (socket : Socket) : Type 0 where
   last : History
   first : Socket
-  came : List ℕ
-  written : List ℕ
-  http : IsByHttp site came written last
+  front : List ℕ
+  front_written : List ℕ
+  http : IsByHttp site front front_written last
   switched : IsSwitched site last
   fresh : IsFresh first
   input : first.input.items ≡ last.unread
@@ -86,10 +86,10 @@ record OnSocket (site : Site) (past : List Doing) (socket : Socket) : Type 0 whe
   events : List Event
   keeps : AllKeepOpen events
   happen : Happen events first socket
-  came_is : bytes_came past ≡ came ++ life.all_bytes events
-  written_is : bytes_written past ≡ written ++ life.all_written events
-  given : life.all_texts events ≡ in_order (texts_given past)
-  said : life.all_said events ≡ texts_said past
+  came_is : bytes_came past ≡ front ++ life.all_bytes events
+  written_is : bytes_written past ≡ front_written ++ life.all_written events
+  given_is : life.all_texts events ≡ in_order (texts_given past)
+  said_is : life.all_said events ≡ texts_said past
   untold : has_opened past ≡ false → socket.is_told ≡ false
   misses : Misses past socket
 
@@ -101,10 +101,10 @@ Stands site past At.Over = IsSilent past
 
 -- how what was done and what happened agree
 record Agrees (past : List Doing) (d : Doing) (e : Event) : Type 0 where
-  came : bytes_came (d ∷ past) ≡ bytes_came past ++ life.bytes_in e
-  written : bytes_written (d ∷ past) ≡ bytes_written past ++ life.bytes_out e
-  given : in_order (texts_given (d ∷ past)) ≡ in_order (texts_given past) ++ life.texts_given e
-  said : texts_said (d ∷ past) ≡ texts_said past ++ life.texts_said e
+  comes : bytes_came (d ∷ past) ≡ bytes_came past ++ life.bytes_in e
+  writes : bytes_written (d ∷ past) ≡ bytes_written past ++ life.bytes_out e
+  gives : in_order (texts_given (d ∷ past)) ≡ in_order (texts_given past) ++ life.texts_given e
+  says : texts_said (d ∷ past) ≡ texts_said past ++ life.texts_said e
 
 more_behind : {A : Type 0} (all front before one new : List A) → all ≡ front ++ before → new ≡ before ++ one →
     all ++ one ≡ front ++ new
@@ -117,8 +117,8 @@ on_more : (site : Site) (past : List Doing) (d : Doing) (e : Event) (old new : S
 on_more site past d e old new keeps does agrees untold misses was = record {
   last = was.last;
   first = was.first;
-  came = was.came;
-  written = was.written;
+  front = was.front;
+  front_written = was.front_written;
   http = was.http;
   switched = was.switched;
   fresh = was.fresh;
@@ -127,12 +127,12 @@ on_more site past d e old new keeps does agrees untold misses was = record {
   events = was.events ++ e ∷ [];
   keeps = keeps_more was.events e was.keeps keeps;
   happen = happen_more was.events e was.first old new was.happen does;
-  came_is = agrees.came ∙ more_behind (bytes_came past) was.came (life.all_bytes was.events) (life.bytes_in e)
+  came_is = agrees.comes ∙ more_behind (bytes_came past) was.front (life.all_bytes was.events) (life.bytes_in e)
       (life.all_bytes (was.events ++ e ∷ [])) was.came_is (bytes_more was.events e);
-  written_is = agrees.written ∙ more_behind (bytes_written past) was.written (life.all_written was.events) (life.bytes_out e)
+  written_is = agrees.writes ∙ more_behind (bytes_written past) was.front_written (life.all_written was.events) (life.bytes_out e)
       (life.all_written (was.events ++ e ∷ [])) was.written_is (written_more was.events e);
-  given = texts_given_more was.events e ∙ (ap (λ (l : List (List ℕ)). l ++ life.texts_given e) was.given ∙ sym agrees.given);
-  said = texts_said_more was.events e ∙ (ap (λ (l : List (List ℕ)). l ++ life.texts_said e) was.said ∙ sym agrees.said);
+  given_is = texts_given_more was.events e ∙ (ap (λ (l : List (List ℕ)). l ++ life.texts_given e) was.given_is ∙ sym agrees.gives);
+  said_is = texts_said_more was.events e ∙ (ap (λ (l : List (List ℕ)). l ++ life.texts_said e) was.said_is ∙ sym agrees.says);
   untold = untold;
   misses = misses;
 }
@@ -193,8 +193,8 @@ module _ (site : Site) where
   answers_on q c old (At.Socket socket) is answered received sent silent hands = record {
     last = hands.last;
     first = socket;
-    came = bytes_came q;
-    written = bytes_written q;
+    front = bytes_came q;
+    front_written = bytes_written q;
     http = http_on (config_of c) old hands.last (bytes_came q) (bytes_written q) is answered received sent hands.serves;
     switched = record {
       before = hands.granted.0;
@@ -211,8 +211,8 @@ module _ (site : Site) where
     happen = refl;
     came_is = sym (append-nil (bytes_came q));
     written_is = sym (append-nil (bytes_written q));
-    given = ap in_order (sym silent.given);
-    said = sym silent.said;
+    given_is = ap in_order (sym silent.given);
+    said_is = sym silent.said;
     untold = λ closed. hands.fresh.untold;
     misses = record { missed = []; told = silent.told ∙ ap (λ (l : List (List ℕ)). l ++ []) (sym silent.said); while_open = inl refl };
   }
@@ -229,10 +229,10 @@ module _ (site : Site) where
   took_on bytes past (At.Socket old) b (new, is, takes) was =
       subst (λ (s : Stage). Stands site (Took bytes ∷ past) s) (sym is)
       (on_more site past (Took bytes) (came bytes) old new tt takes (record {
-        came = refl;
-        written = sym (append-nil (bytes_written past));
-        given = sym (append-nil (in_order (texts_given past)));
-        said = sym (append-nil (texts_said past));
+        comes = refl;
+        writes = sym (append-nil (bytes_written past));
+        gives = sym (append-nil (in_order (texts_given past)));
+        says = sym (append-nil (texts_said past));
       }) (λ closed. takes.2 ∙ was.untold closed) (misses_on past (Took bytes) (came bytes) old new takes refl refl was.misses) was)
   took_on bytes past At.Over b takes was = absurd takes
 
@@ -248,10 +248,10 @@ module _ (site : Site) where
       (sym (take-append-drop count old.output.items) ∙ ap (λ (l : List ℕ). bytes ++ l) (sym output), keeps) in
       subst (λ (s : Stage). Stands site (Wrote bytes ∷ past) s) (sym is)
       (on_more site past (Wrote bytes) (wrote bytes) old new tt does (record {
-        came = sym (append-nil (bytes_came past));
-        written = refl;
-        given = sym (append-nil (in_order (texts_given past)));
-        said = sym (append-nil (texts_said past));
+        comes = sym (append-nil (bytes_came past));
+        writes = refl;
+        gives = sym (append-nil (in_order (texts_given past)));
+        says = sym (append-nil (texts_said past));
       }) (λ closed. keeps.3 ∙ was.untold closed) (misses_on past (Wrote bytes) (wrote bytes) old new does refl refl was.misses) was)
   wrote_on count past At.Over b writes was =
       subst (λ (s : Stage). Stands site (Wrote (take count []) ∷ past) s) (sym writes)
@@ -274,26 +274,26 @@ module _ (site : Site) where
   heard_on None past old new hears was =
       let opened = was_opened past old.is_told hears.0 was.untold in
       on_more site past (Gave None) (asked None) old new tt hears (record {
-        came = sym (append-nil (bytes_came past));
-        written = sym (append-nil (bytes_written past));
-        given = sym (append-nil (in_order (texts_given past)));
-        said = sym (append-nil (texts_said past));
+        comes = sym (append-nil (bytes_came past));
+        writes = sym (append-nil (bytes_written past));
+        gives = sym (append-nil (in_order (texts_given past)));
+        says = sym (append-nil (texts_said past));
       }) (λ closed. absurd (false≢true (sym closed ∙ opened))) (misses_on past (Gave None) (asked None) old new hears refl refl was.misses) was
   heard_on (Some heards.Opened) past old new hears was =
       on_more site past (Gave (Some heards.Opened)) (asked (Some heards.Opened)) old new tt hears (record {
-        came = sym (append-nil (bytes_came past));
-        written = sym (append-nil (bytes_written past));
-        given = sym (append-nil (in_order (texts_given past)));
-        said = sym (append-nil (texts_said past));
+        comes = sym (append-nil (bytes_came past));
+        writes = sym (append-nil (bytes_written past));
+        gives = sym (append-nil (in_order (texts_given past)));
+        says = sym (append-nil (texts_said past));
       }) (λ closed. absurd (false≢true (sym closed)))
       (misses_on past (Gave (Some heards.Opened)) (asked (Some heards.Opened)) old new hears refl refl was.misses) was
   heard_on (Some (heards.Text text)) past old new hears was =
       let opened = was_opened past old.is_told hears.0 was.untold in
       on_more site past (Gave (Some (heards.Text text))) (asked (Some (heards.Text text))) old new tt hears (record {
-        came = sym (append-nil (bytes_came past));
-        written = sym (append-nil (bytes_written past));
-        given = text_given past text (has_opened past) opened;
-        said = sym (append-nil (texts_said past));
+        comes = sym (append-nil (bytes_came past));
+        writes = sym (append-nil (bytes_written past));
+        gives = text_given past text (has_opened past) opened;
+        says = sym (append-nil (texts_said past));
       }) (λ closed. absurd (false≢true (sym closed ∙ opened)))
       (misses_on past (Gave (Some (heards.Text text))) (asked (Some (heards.Text text))) old new hears refl refl was.misses) was
 
@@ -344,10 +344,10 @@ module _ (site : Site) where
   told_on content answer past (At.Socket old) b keeps late (new, is, says) was =
       subst (λ (s : Stage). Stands site (WasTold content answer ∷ past) s) (sym is)
       (on_more site past (WasTold content answer) (said content answer) old new keeps says (record {
-        came = sym (append-nil (bytes_came past));
-        written = sym (append-nil (bytes_written past));
-        given = sym (append-nil (in_order (texts_given past)));
-        said = refl;
+        comes = sym (append-nil (bytes_came past));
+        writes = sym (append-nil (bytes_written past));
+        gives = sym (append-nil (in_order (texts_given past)));
+        says = refl;
       }) (λ closed. still_told content answer old new says ∙ was.untold closed) (told_misses content answer past old new says was.misses) was)
   told_on content answer past At.Over b keeps late (not_open, same) silent =
       subst (λ (s : Stage). Stands site (WasTold content answer ∷ past) s) (sym same)
@@ -361,8 +361,8 @@ module _ (site : Site) where
   tried_on past (At.Socket socket) was = record {
     last = was.last;
     first = was.first;
-    came = was.came;
-    written = was.written;
+    front = was.front;
+    front_written = was.front_written;
     http = was.http;
     switched = was.switched;
     fresh = was.fresh;
@@ -373,8 +373,8 @@ module _ (site : Site) where
     happen = was.happen;
     came_is = was.came_is;
     written_is = was.written_is;
-    given = was.given;
-    said = was.said;
+    given_is = was.given_is;
+    said_is = was.said_is;
     untold = was.untold;
     misses = record { missed = was.misses.missed; told = was.misses.told; while_open = was.misses.while_open };
   }
@@ -417,21 +417,21 @@ module _ (site : Site) where
       record {
         last = was.last;
         first = was.first;
-        came = was.came;
+        came = was.front;
         later = life.all_bytes was.events;
         came_is = was.came_is;
-        written = was.written;
+        written = was.front_written;
         wrote = life.all_written was.events;
         written_is = was.written_is;
         http = was.http;
         switched = was.switched;
         fresh = was.fresh;
-        heeds = subst (λ (l : List (List ℕ)). Heeds was.first.context (was.last.unread ++ life.all_bytes was.events) l socket) was.given
+        heeds = subst (λ (l : List (List ℕ)). Heeds was.first.context (was.last.unread ++ life.all_bytes was.events) l socket) was.given_is
             (subst (λ (l : List ℕ). Heeds was.first.context (l ++ life.all_bytes was.events) (life.all_texts was.events) socket)
             was.input heeds);
         outs = utters.frames;
         goes = utters.bytes ∙ ap (λ (l : List ℕ). l ++ frames_bytes utters.frames) was.output;
-        texts = utters.texts ∙ was.said;
+        texts = utters.texts ∙ was.said_is;
         missed = was.misses.missed;
         told = was.misses.told;
         while_open = was.misses.while_open;

@@ -84,7 +84,9 @@ impl<S> Link<S> {
     }
 
     /// Its stream.
-    pub fn stream(&self) -> &S {
+    pub fn stream(&self) -> &S
+        ensures { result.now ≡ self.now.stream }
+    {
         &self.stream
     }
 

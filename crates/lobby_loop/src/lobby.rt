@@ -1,5 +1,5 @@
 //! The sockets of a lobby, and what wakes it.
-ghost use Rattle.std.specs.Prelude.{◌≡◌, List, None, IfOk, OnOk};
+ghost use Rattle.std.specs.Prelude.{◌≡◌, List, None, IfOk, OnOk, is_some};
 ghost use Rattle.mio.specs.declared.net.stream.TcpStream.{TcpStream};
 ghost use Rattle.lobby_loop.specs.Turning.{BeginsHall, AreAdmitted, IsReached, IsLobbyTurn, unknown};
 ghost use Rattle.lobby_loop.specs.Living.{IsWoken};
@@ -157,7 +157,9 @@ impl Lobby {
     }
 
     /// Whether the server is there.
-    pub fn has_server(&self) -> bool {
+    pub fn has_server(&self) -> bool
+        ensures { result ≡ is_some self.now.hall.server }
+    {
         self.hall.has_server()
     }
 
