@@ -30,6 +30,7 @@ const SHOWS = {
   claim: (now, act, game) => (now.ply > act.ply ? game.wasMade(act)
     : now.article === '9.2' || now.article === '9.3' || now.left[OTHER[act.side]] >= act.left + PENALTY),
 };
+const TAKEN_OFF = 'This game was taken off the table.';
 const PENALTY = 120000;              // milliseconds that a wrong claim gives to the opponent
 
 export class GameView {
@@ -94,7 +95,7 @@ export class GameView {
     if (number !== this.number) {
       this.close();
       Object.assign(this, { number, standing: null, line: [], tags: {}, gone: false });
-      Object.assign(this, { back: null, turned: null, unsure: null, pending: null });
+      Object.assign(this, { back: null, turned: null, unsure: null, pending: null, wasTaken: false });
       this.note('');
       this.suggest(null);
       byId('move-text').value = '';
@@ -162,7 +163,8 @@ export class GameView {
   notice(by, sent, answer, standing) {
     this.stand(standing);
     if (!standing) {
-      this.note('The game was taken off the table.');
+      this.wasTaken = true;
+      say(TAKEN_OFF);
       this.render();
       return;
     }
@@ -490,6 +492,7 @@ export class GameView {
     const standing = this.standing, focused = this.root.contains(document.activeElement) && document.activeElement;
     this.root.classList.toggle('empty', !standing || this.gone);
     byId('no-game').hidden = !this.gone;
+    setText(byId('no-game-words'), this.wasTaken ? TAKEN_OFF : refusalWords({ number: NO_GAME }));
     if (!standing || this.gone) return;
     drawPlayers(this);
     this.renderBoard();

@@ -11,7 +11,7 @@ from selenium.webdriver.common.action_chains import ActionChains
 from selenium.webdriver.common.by import By
 from selenium.webdriver.common.keys import Keys
 
-PATIENCE = 12
+PATIENCE = 20
 # What the page sends is written down before the socket takes it, and what stands behind # when the body begins.
 SPY = '''new MutationObserver((_, watch) => {
   if (document.body) { window.hashAtBody = location.hash; watch.disconnect(); } }).observe(document, {childList: true,
