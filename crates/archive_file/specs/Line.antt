@@ -1,5 +1,5 @@
 -- A game's line in the archive, which is an object of JSON.
-use Rattle.std.specs.Prelude.{ℕ, ◌||◌, ◌==◌, List, [], ◌∷◌, ◌++◌, codes, decimal, Option, None, flat_map, if◌then◌else◌}
+use Rattle.std.specs.Prelude.{ℕ, Bool, true, false, ◌||◌, ◌==◌, List, [], ◌∷◌, ◌++◌, codes, decimal, Option, None, flat_map, drop, if◌then◌else◌}
 use Rattle.std.specs.List.{before_first, after_first}
 use Rattle.std.specs.Str.{bytes_eq}
 use Rattle.lobby_words.specs.Words.{number_in}
@@ -33,12 +33,23 @@ game_in line =
     then number_in (before_comma (after_first (λ b. b == 58) line))
     else None
 
--- A text whose escapes are taken back, up to the first quote that has none; `after` is whether a backslash is just before.
 abbrev pub plain_byte : ℕ → ℕ
 plain_byte b = if b == 110 then 10 else b
 
-abbrev pub unescaped : List ℕ → List ℕ
-unescaped [] = []
-unescaped (b ∷ []) = if b == 34 || b == 92 then [] else b ∷ []
-unescaped (b ∷ c ∷ rest) =
-    if b == 34 then [] else (if b == 92 then plain_byte c ∷ unescaped rest else b ∷ unescaped (c ∷ rest))
+-- A text whose escapes are taken back, up to the first quote that has none; behind a backslash or not.
+abbrev pub unescaped_from : Bool → List ℕ → List ℕ
+unescaped_from is_behind [] = []
+unescaped_from true (b ∷ rest) = plain_byte b ∷ unescaped_from false rest
+unescaped_from false (b ∷ rest) =
+    if b == 34 then [] else (if b == 92 then unescaped_from true rest else b ∷ unescaped_from false rest)
+
+abbrev pub behind_comma : List ℕ → List ℕ
+behind_comma line = after_first (λ b. b == 44) line
+
+-- all but `"pgn":"`
+abbrev pub behind_name : List ℕ → List ℕ
+behind_name text = drop 7 text
+
+-- the PGN in a line
+abbrev pub pgn_in : List ℕ → List ℕ
+pgn_in line = unescaped_from false (behind_name (behind_comma line))
