@@ -16,8 +16,8 @@ const WHAT = {
   flag: 'call', drop: 'order', claim: 'claim',
 };
 
-/** Whether a game that stands as `now` shows an act whose answer was lost (docs/PROTOCOL.md, "After a broken connection");
- * `act` has what was sent, and the opponent's time and the position as they were then. */
+/** Whether a game that stands as `now` shows an act whose answer was lost (docs/PROTOCOL.md, "After a broken
+ * connection"); `act` has what was sent, and the ply and the opponent's time as they were then. */
 const SHOWS = {
   move: (now, act, game) => game.wasMade(act),
   join: (now, act, game) => game.seat() !== '',
@@ -371,7 +371,8 @@ export class GameView {
 
   claim() {
     const form = byId('claim-form').elements, move = form.move.value;
-    this.send(`claim ${this.number} ${this.claimAt} ${form.kind.value}${move ? ' ' + move : ''}`, { word: 'claim', move });
+    const line = `claim ${this.number} ${this.claimAt} ${form.kind.value}`;
+    this.send(move ? `${line} ${move}` : line, { word: 'claim', move });
   }
 
   /** The flag of a side fell on this page's clock: who plays calls it, and the server decides. */

@@ -70,7 +70,8 @@ class Page {
     byId('sounds').addEventListener('change', (event) => setSound(event.target.checked));
     byId('sounds').checked = wantsSound();
     // (else who scrolls over a number changes it)
-    addEventListener('wheel', (event) => event.target.matches('[type=number]:focus') && event.target.blur(), { passive: true });
+    const leave = (event) => event.target.matches('[type=number]:focus') && event.target.blur();
+    addEventListener('wheel', leave, { passive: true });
     this.renderTheme();
     document.addEventListener('pointerdown', (event) => this.closeWho(event.target));
     byId('who').addEventListener('keydown', (event) => event.key === 'Escape' && this.closeWho(null));
