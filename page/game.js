@@ -435,7 +435,7 @@ export class GameView {
     setText(byId('where'), `Move ${place} of ${this.last()}${san ? ': ' + sanWords(san) : ', the start'}`);
   }
 
-  /** The keys at the list of moves: ← and → a move, ↑ and ↓ a move of each side, Home and End the first and the last. */
+  /** The keys at the list of moves: ← and → a move, ↑ and ↓ a move of each side, Home and End the first and last. */
   walkMoves(event) {
     if (event.altKey || event.ctrlKey || event.metaKey) return;
     const step = { ArrowLeft: -1, ArrowRight: 1, ArrowUp: -2, ArrowDown: 2, Home: -Infinity, End: Infinity }[event.key];

@@ -188,6 +188,19 @@ class Person:
             chain = chain.send_keys(key)
         chain.perform()
 
+    def tab_to(self, css, most=90):
+        """Tab until this has the keys."""
+        for _ in range(most):
+            if self.run('return document.activeElement.matches(arguments[0])', css):
+                return self.checked('Tab comes to ' + css)
+            self.keys(Keys.TAB)
+        raise Wrong('%s: Tab does not come to %s' % (self.name, css))
+
+    def heard(self):
+        """What a screen reader finds: roles with their names, in order."""
+        nodes = self.cdp('Accessibility.getFullAXTree')['nodes']
+        return [(node['role']['value'], node.get('name', {}).get('value', '')) for node in nodes if not node['ignored']]
+
     def walk(self, start, end):
         """Arrow keys over the board, which White sees from below."""
         right, up = ord(end[0]) - ord(start[0]), int(end[1]) - int(start[1])
