@@ -127,6 +127,7 @@ export class Board extends Picture {
     this.drag = null;
     this.at = 60;                      // the square that the keys are on
     this.byPointer = false;            // whether a pointer brought the keys here: then arrows go through the moves
+    this.usesPointer = false;          // whether the last that was done was done by one
     this.pressedAt = -Infinity;
     this.root.className = 'board';
     this.root.setAttribute('role', 'grid');
@@ -159,6 +160,8 @@ export class Board extends Picture {
     on('click', (event) => this.click(event));
     on('keydown', (event) => this.key(event));
     on('focusin', (event) => this.focused(event));
+    addEventListener('pointerdown', () => { this.usesPointer = true; }, true);
+    addEventListener('keydown', () => { this.usesPointer = false; }, true);
   }
 
   /** As of a picture, and `moves`: the legal moves, none where nobody moves here. */
@@ -370,7 +373,7 @@ export class Board extends Picture {
 
   /** The keys go to the board: to the square where they were last. */
   focus() {
-    this.walkTo(this.at);
+    this.walkTo(this.at, this.usesPointer);
   }
 
   // ---- what a pawn becomes

@@ -502,8 +502,14 @@ export class GameView {
     drawOutcome(this);
     drawFacts(this);
     if (document.activeElement === byId('main')) this.app.toHeading();
-    if (focused && !focused.getClientRects().length) this.board.focus();
+    if (focused && !focused.getClientRects().length) this.keepFocus();
     this.app.titled(this.title());
+  }
+
+  /** What had the keys is not there any more. */
+  keepFocus() {
+    if (document.body.classList.contains('hall')) byId('main').focus();
+    else this.board.focus();
   }
 
   title() {
