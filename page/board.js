@@ -8,7 +8,7 @@ import { kindWord, manWords } from './words.js';
 const FILES = 'abcdefgh';
 const KINDS = { p: 'pawn', n: 'knight', b: 'bishop', r: 'rook', q: 'queen', k: 'king' };
 const PROMOTIONS = 'qnrb';
-const WITH_A_PRESS = 500;            // milliseconds: a click so soon after a press belongs to it
+const WITH_A_PRESS = 500;            // milliseconds: a click so soon behind a press that has ended is of it
 const STEPS = { ArrowLeft: [0, -1], ArrowRight: [0, 1], ArrowUp: [-1, 0], ArrowDown: [1, 0] };
 
 export function pictureOf(letter) {
@@ -128,7 +128,8 @@ export class Board extends Picture {
     this.at = 60;                      // the square that the keys are on
     this.byPointer = false;            // whether a pointer brought the keys here: then arrows go through the moves
     this.usesPointer = false;          // whether the last that was done was done by one
-    this.pressedAt = -Infinity;
+    this.isPressed = false;
+    this.releasedAt = -Infinity;
     this.root.className = 'board';
     this.root.setAttribute('role', 'grid');
     this.root.setAttribute('aria-label', 'Board');
@@ -157,6 +158,7 @@ export class Board extends Picture {
     on('pointermove', (event) => this.carry(event));
     on('pointerup', (event) => this.drop(event));
     on('pointercancel', () => this.endDrag());
+    this.root.addEventListener('click', (event) => this.endPress(event), true);
     on('click', (event) => this.click(event));
     on('keydown', (event) => this.key(event));
     on('focusin', (event) => this.focused(event));
@@ -236,13 +238,14 @@ export class Board extends Picture {
   }
 
   press(event) {
+    this.releasedAt = -Infinity;
     if (event.button !== 0 || event.target.closest('.promotion')) return;
     const wasPromoting = !this.promotion.hidden;
     this.closePromotion();
     const name = this.nameUnder(event);
     if (!name) return;
     event.preventDefault();
-    this.pressedAt = event.timeStamp;
+    this.isPressed = true;
     this.walkTo(this.squares.indexOf(this.squareOf(name)), true);
     if (this.held && !wasPromoting && this.targets(this.held).includes(name)) {
       this.putDown(name);
@@ -255,10 +258,16 @@ export class Board extends Picture {
     }
   }
 
+  /** The click of a press is for nobody: a finger's would fall on what a pawn becomes, which the press has brought. */
+  endPress(event) {
+    if (event.timeStamp - this.releasedAt < WITH_A_PRESS) event.stopPropagation();
+    this.releasedAt = -Infinity;
+  }
+
   /** A click that no pointer made, as assistive software does it: as Enter on that square. */
   click(event) {
     const index = this.squares.indexOf(event.target.closest('.square'));
-    if (index < 0 || event.detail > 0 || event.timeStamp - this.pressedAt < WITH_A_PRESS) return;
+    if (index < 0) return;
     if (!this.promotion.hidden) this.letGo();
     this.walkTo(index);
     this.enter(this.nameAt(index >> 3, index & 7));
@@ -283,6 +292,8 @@ export class Board extends Picture {
 
   drop(event) {
     const drag = this.drag;
+    if (this.isPressed) this.releasedAt = event.timeStamp;
+    this.isPressed = false;
     if (!drag) return;
     const name = this.nameUnder(event);
     this.drag = null;

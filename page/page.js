@@ -49,7 +49,7 @@ class Page {
     byId('keep-it').addEventListener('click', () => this.keep(true));
     byId('keep-not').addEventListener('click', () => this.keep(false));
     byId('sign-out').addEventListener('click', () => this.signOut());
-    this.tabs = new BroadcastChannel('signed-out');
+    this.tabs = window.BroadcastChannel ? new BroadcastChannel('signed-out') : { postMessage: () => {} };
     this.tabs.onmessage = (event) => event.data === this.token && this.signOut();
     byId('projector').addEventListener('click', () => this.go(`/hall/${this.game.number}`));
     byId('big-screen').addEventListener('click', () => wholeScreen());

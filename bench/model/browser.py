@@ -182,6 +182,17 @@ class Person:
         start, end = self.square(move[:2]), self.square(move[2:4])
         self.actions().move_to_element(start).click_and_hold().move_to_element(end).release().perform()
 
+    def touch(self, *squares):
+        """A finger goes down on the first square, over the others, and up at the last."""
+        points = []
+        for name in squares:
+            box = self.run('return arguments[0].getBoundingClientRect().toJSON()', self.square(name))
+            points.append({'x': box['x'] + box['width'] / 2, 'y': box['y'] + box['height'] / 2})
+        self.cdp('Input.dispatchTouchEvent', type='touchStart', touchPoints=points[:1])
+        for point in points[1:]:
+            self.cdp('Input.dispatchTouchEvent', type='touchMove', touchPoints=[point])
+        self.cdp('Input.dispatchTouchEvent', type='touchEnd', touchPoints=[])
+
     def keys(self, *keys):
         chain = self.actions()
         for key in keys:
