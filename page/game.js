@@ -17,7 +17,7 @@ const WHAT = {
 };
 
 /** Whether a game that stands as `now` shows an act whose answer was lost (docs/PROTOCOL.md, "After a broken
- * connection"); `act` has what was sent, and the ply and the opponent's time as they were then. */
+ * connection"), null where that cannot be told; `act` has what was sent, and the ply and the opponent's time of then. */
 const SHOWS = {
   move: (now, act, game) => game.wasMade(act),
   join: (now, act, game) => game.seat() !== '',
@@ -27,8 +27,10 @@ const SHOWS = {
   resign: (now, act) => now.article === '5.1.2' && now.result === (act.side === 'w' ? '0-1' : '1-0'),
   flag: (now) => now.article === '6.9',
   drop: () => false,                 // (the game would not be there)
-  claim: (now, act, game) => (now.ply > act.ply ? game.wasMade(act)
-    : now.article === '9.2' || now.article === '9.3' || now.left[OTHER[act.side]] >= act.left + PENALTY),
+  claim: (now, act, game) => {
+    if (now.ply > act.ply) return act.move ? game.wasMade(act) : null;
+    return now.article === '9.2' || now.article === '9.3' || now.left[OTHER[act.side]] >= act.left + PENALTY;
+  },
 };
 const TAKEN_OFF = 'This game was taken off the table.';
 const PENALTY = 120000;              // milliseconds that a wrong claim gives to the opponent
@@ -329,6 +331,8 @@ export class GameView {
       this.note(refusalWords({ number: NO_GAME }));
     } else if (now.article || unsure.word === 'flag') {
       this.note('');
+    } else if (taken === null) {
+      this.note(`The connection broke before the answer to your ${what} came, and the game has gone on.`);
     } else if (unsure.word === 'offer') {
       this.note('The connection broke, and no offer of yours stands: it was not taken so far, or it was answered.');
     } else {
