@@ -6,7 +6,7 @@ import { linesOf } from './lines.js';
 const PAUSES = [400, 1000, 2000, 4000, 8000, 15000];
 const MOST_A_SECOND = 15;            // the lobby takes 20
 const MOST_QUIETLY = 6;              // of these for what nobody waits for
-const MOST_WAITING = 24;             // the lobby holds 64
+const MOST_WAITING = 24;             // the lobby takes the next once it has answered one
 const ANSWER_WITHIN = 12000;
 const SILENCE = 25000;
 const STOOD = 5000;                  // a connection that stood so long begins the pauses anew
