@@ -21,9 +21,18 @@ slash_back b text rest e f g below =
     let is = (Decides-eqb b 92).0 g in
     rw e (rw f (rw g (ap (λ xs. plain_byte b ∷ xs) below ∙ (ap (λ x. plain_byte x ∷ text) is ∙ ap (λ x. x ∷ text) (sym is)))))
 
+other_byte : (b : ℕ) → (b == 10) ≡ false → (b == 34) ≡ false → (b == 92) ≡ false → escaped_byte b ≡ b ∷ []
+other_byte b e f g = rw e (rw f (rw g refl))
+
+other_step : (b : ℕ) (rest : List ℕ) → (b == 34) ≡ false → (b == 92) ≡ false →
+    unescaped_from false (b ∷ rest) ≡ b ∷ unescaped_from false rest
+other_step b rest f g = rw f (rw g refl)
+
 other_back : (b : ℕ) (text rest : List ℕ) → (b == 10) ≡ false → (b == 34) ≡ false → (b == 92) ≡ false → Back text rest →
     Back (b ∷ text) rest
-other_back b text rest e f g below = rw e (rw f (rw g (ap (λ xs. b ∷ xs) below)))
+other_back b text rest e f g below =
+    ap (λ xs. unescaped_from false ((xs ++ escaped text) ++ (34 ∷ rest))) (other_byte b e f g)
+    ∙ (other_step b (escaped text ++ (34 ∷ rest)) f g ∙ ap (λ xs. b ∷ xs) below)
 
 one_back : (b : ℕ) (text rest : List ℕ) (n q s : Bool) → (b == 10) ≡ n → (b == 34) ≡ q → (b == 92) ≡ s → Back text rest →
     Back (b ∷ text) rest
