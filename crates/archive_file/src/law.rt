@@ -1,8 +1,9 @@
-//! What is promised of texts.
-ghost use Rattle.std.specs.Prelude.{◌≡◌, ◌++◌, ◌∷◌, ℕ, List, false};
-ghost use Rattle.archive_file.specs.Line.{escaped, unescaped_from};
+//! What is promised of lines.
+ghost use Rattle.std.specs.Prelude.{◌≡◌, ◌<◌, ◌^◌, ℕ, List, Some};
+ghost use Rattle.archive_file.specs.Line.{line_of, game_in, pgn_in};
 
-/// A text that is escaped and stands before a quote comes back as it was, whatever is behind the quote.
-pub fn law_of_texts()
-    ensures { (text rest : List ℕ) → unescaped_from false (escaped text ++ (34 ∷ rest)) ≡ text }
+/// The line of a game names it, and has its PGN as it was.
+pub fn law_of_lines()
+    ensures game { (game : ℕ) (pgn : List ℕ) → game < 2 ^ 32 → game_in (line_of game pgn) ≡ Some game }
+    ensures pgn { (game : ℕ) (pgn : List ℕ) → game < 2 ^ 32 → pgn_in (line_of game pgn) ≡ pgn }
 {}

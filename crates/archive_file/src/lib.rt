@@ -11,6 +11,6 @@ mod unescaping;
 
 pub use archive::{Archive, Step};
 pub use faults::Fault;
-pub use law::law_of_texts;
+pub use law::law_of_lines;
 pub use line::game_of;
 pub use unescaping::pgn_of;
