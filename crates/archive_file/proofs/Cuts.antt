@@ -1,5 +1,5 @@
 -- A line that was made is read as it was meant.
-use Rattle.std.proofs.Common.{ℕ, zero, suc, ◌≡◌, ◌≢◌, ◌<◌, ◌+◌, ◌^◌, ◌==◌, ◌||◌, Bool, true, false, List, [], ◌∷◌, ◌++◌, length, take, drop, get_or, Some, decimal, refl, sym, ap, subst, ◌∙◌, arith}
+use Rattle.std.proofs.Common.{ℕ, zero, suc, ◌≡◌, ◌≢◌, ◌<◌, ◌+◌, ◌^◌, ◌==◌, ◌||◌, Bool, true, false, List, [], ◌∷◌, ◌++◌, length, take, drop, get_or, Some, decimal, refl, sym, ap, ◌∙◌, arith}
 use Rattle.std.specs.Prelude.{if◌then◌else◌}
 use Rattle.std.specs.List.{list_any, before_first, after_first, position_or_len}
 use Rattle.std.proofs.lemmas.Bool.{false≢true}
@@ -37,7 +37,7 @@ decimal_lacks n small = lacks_each 44 (decimal n) (λ i below e.
     let digit = digit_at (decimal n) i (digits_decimal own n (omega arith)) below in omega (arith, digit))
 
 -- where a byte stands first
-spot : ℕ → List ℕ → ℕ
+abbrev spot : ℕ → List ℕ → ℕ
 spot c [] = 0
 spot c (x ∷ xs) = if x == c then 0 else 1 + spot c xs
 
