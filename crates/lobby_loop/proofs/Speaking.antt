@@ -140,9 +140,9 @@ on_more site past d e old new keeps does agrees untold misses was = record {
 -- nothing was to be told, and nothing was
 misses_on : (past : List Doing) (d : Doing) (e : Event) (old new : Socket) → Does e old new → texts_told (d ∷ past) ≡ texts_told past →
     texts_said (d ∷ past) ≡ texts_said past → Misses past old → Misses (d ∷ past) new
-misses_on past d e old new does told said was = record {
+misses_on past d e old new does no_told no_said was = record {
   missed = was.missed;
-  told = told ∙ (was.told ∙ ap (λ (l : List (List ℕ)). l ++ was.missed) (sym said));
+  told = no_told ∙ (was.told ∙ ap (λ (l : List (List ℕ)). l ++ was.missed) (sym no_said));
   while_open = elim was.while_open [ inl none ↦ inl none | inr shut ↦ inr (stays-shut e old new does shut) ];
 }
 
@@ -176,9 +176,9 @@ answered_more site (x ∷ a) b (one, all) more = (one, answered_more site a b al
 
 module _ (site : Site) where
   -- what HTTP answered of these bytes
-  http_on : (config : Config) (old new : History) (came written : List ℕ) → config ≡ web_config → AreAnswered site old.calls →
-      old.received ≡ came → old.sent ≡ written → Serves config site old new → IsByHttp site came written new
-  http_on config old new came written is answered received sent serves = record {
+  http_on : (config : Config) (old new : History) (front gone : List ℕ) → config ≡ web_config → AreAnswered site old.calls →
+      old.received ≡ front → old.sent ≡ gone → Serves config site old new → IsByHttp site front gone new
+  http_on config old new front gone is answered received sent serves = record {
     served = inr (subst (λ (c : Config). ∥ IsServed c new ∥₁) is serves.served);
     answered = subst (λ (l : List Call). AreAnswered site l) (sym serves.called)
         (answered_more site old.calls serves.calls answered serves.answered);
@@ -396,15 +396,15 @@ module _ (site : Site) where
     stands_at : (past : List Doing) (now : Spot S) → HasDone remaining contents site first past now → AreLate past →
         Stands site past now.stage
     stands_at [] now same late = subst (λ (s : Spot S). Stands site [] s.stage) (sym same) (begins_at first.stage new)
-    stands_at (Took bytes ∷ past) now (before, done, consumed, wants, takes) late =
+    stands_at (Took bytes ∷ past) now (before, done, (consumed, wants, takes)) late =
         took_on bytes past before.stage now.stage (takes.wanted wants) (stands_at past before done late)
-    stands_at (Tried ∷ past) now (before, done, same, nothing) late =
+    stands_at (Tried ∷ past) now (before, done, (same, nothing)) late =
         subst (λ (s : Stage). Stands site (Tried ∷ past) s) (sym same) (tried_on past before.stage (stands_at past before done late))
-    stands_at (Gave heard ∷ past) now (before, done, same, hears) late =
+    stands_at (Gave heard ∷ past) now (before, done, (same, hears)) late =
         gave_on heard past before.stage now.stage hears (stands_at past before done late)
-    stands_at (WasTold content answer ∷ past) now (before, done, same, keeps, says) (one, late) =
+    stands_at (WasTold content answer ∷ past) now (before, done, (same, keeps, says)) (one, late) =
         told_on content answer past before.stage now.stage keeps one says (stands_at past before done late)
-    stands_at (Wrote bytes ∷ past) now (before, done, count, within, is, appended, writes) late =
+    stands_at (Wrote bytes ∷ past) now (before, done, (count, within, is, appended, writes)) late =
         subst (λ (l : List ℕ). Stands site (Wrote l ∷ past) now.stage) (sym is)
         (wrote_on count past before.stage now.stage writes (stands_at past before done late))
 
@@ -439,8 +439,8 @@ module _ (site : Site) where
   speaks_at past At.Over stands = stands
 
 module _ {S : Type 0} (remaining contents : S → Option (List ℕ)) (site : Site) where
-  pub served_speaks : (came : List S) (steps : List Step) (out : List Telling) (number : Option ℕ) (now : Spot S)
-      (served : IsGuestServed remaining contents site came steps out number now) → Speaks site served.past now.stage
-  served_speaks came steps out number now served =
+  pub served_speaks : (streams : List S) (steps : List Step) (out : List Telling) (number : Option ℕ) (now : Spot S)
+      (served : IsGuestServed remaining contents site streams steps out number now) → Speaks site served.past now.stage
+  served_speaks streams steps out number now served =
       speaks_at site served.past now.stage
       (stands_at site remaining contents served.first served.new served.past now served.done served.late)

@@ -89,7 +89,6 @@ fn is_made(call: &TcpStream) -> Option<bool> {
 }
 
 // The socket of this name may be ready. It tells whether that is the entrance.
-#[tactic(auto, using(crate::proofs::Waking::woken_none))]
 fn wake_socket(hall: &mut Hall<TcpStream>, key: usize) -> bool
     ensures { IsWoken hall.old hall.new }
 {
