@@ -1,5 +1,5 @@
 -- What waits for a browser of which bytes are taken only where they are wanted.
-use Rattle.std.proofs.Common.{ℕ, ◌≡◌, ◌≤◌, ◌+◌, ◌⊎◌, inl, inr, List, [], ◌∷◌, ◌++◌, Bool, true, false, cond, not, ◌&&◌, length, Option, None, Some, Result, Ok, Err, refl, sym, ap, ◌∙◌, subst, arith, length-append}
+use Rattle.std.proofs.Common.{ℕ, ◌≡◌, ◌≤◌, ◌+◌, ◌⊎◌, inl, inr, List, [], ◌∷◌, ◌++◌, Bool, true, false, cond, not, ◌&&◌, length, Option, None, Some, Ok, Err, refl, sym, ap, ◌∙◌, subst, arith, length-append}
 use Rattle.websocket.specs.declared.protocol.frame.coding.CloseCode.{CloseCode}
 use Rattle.websocket.specs.declared.protocol.frame.coding.OpCode.TheVariants as Op
 use Rattle.websocket.specs.declared.protocol.frame.coding.Control.TheVariants as Control
@@ -8,7 +8,7 @@ use Rattle.websocket.specs.Connection.{Connection, can_write}
 use Rattle.lobby_web.specs.declared.socket.Socket.{Socket}
 use Rattle.lobby_web.specs.declared.socket.Heard.TheVariants.{Opened, Text as Words}
 use Rattle.lobby_web.specs.declared.socket.Unsaid.TheVariants.{NotOpen, NotText, Slow, Memory}
-use Rattle.lobby_web.specs.Frames.{Run, Runs, replies, frame_bytes}
+use Rattle.lobby_web.specs.Frames.{replies, frame_bytes}
 use Rattle.lobby_web.specs.Talking.{IsSame, Gives, ClosesBy, close_frame, may_say, said_state}
 use Rattle.lobby_web.specs.Happening.{Event, came, asked, said, wrote, Does}
 use Rattle.lobby_web.specs.Holding.{IsWanted, HappenAsWanted, size_said, all_said}

@@ -1,5 +1,5 @@
 -- What a frame brings is no longer than the frame, but for the answer to a close that may not be sent back.
-use Rattle.std.proofs.Common.{ℕ, ◌≡◌, ◌≤◌, ◌+◌, List, [], ◌∷◌, ◌++◌, drop, length, Option, None, Some, Ok, Err, Result, Bool, true, false, cond, not, nat_lt, codes, refl, ap, ◌∙◌, subst, arith, tests, length-append, length-drop, inl, inr}
+use Rattle.std.proofs.Common.{ℕ, ◌≡◌, ◌≤◌, ◌+◌, List, [], ◌∷◌, ◌++◌, drop, length, Option, None, Some, Ok, Err, Result, Bool, true, false, cond, not, nat_lt, codes, refl, ap, ◌∙◌, subst, arith, length-append, length-drop, inl, inr}
 use Rattle.std.specs.List.{slice_range}
 use Rattle.std.proofs.lemmas.Bool.Decides.{leb_tells, nat_tests}
 use Rattle.std.proofs.lemmas.List.Folds.{drop_split}

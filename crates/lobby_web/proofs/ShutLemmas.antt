@@ -24,7 +24,7 @@ use Rattle.lobby_web.specs.declared.socket.Heard.TheVariants.{Opened, Text as Wo
 use Rattle.lobby_web.specs.declared.socket.Unsaid.{Unsaid}
 use Rattle.lobby_web.specs.declared.socket.Unsaid.TheVariants.{NotOpen, NotText, Slow, Memory}
 use Rattle.lobby_web.specs.Frames.{Run, Runs}
-use Rattle.lobby_web.specs.Talking.{Gives, IsSame, may_say}
+use Rattle.lobby_web.specs.Talking.{Gives, may_say}
 use Rattle.lobby_web.specs.Happening.{Event, came, asked, said, wrote, Does}
 use Rattle.lobby_web.proofs.RoomLemmas.{taken}
 
