@@ -23,10 +23,10 @@ use Rattle.lobby_loop.specs.declared.hall.Hall.{Hall}
 use Rattle.lobby_loop.specs.declared.link.Link.{Link}
 use Rattle.lobby_loop.specs.declared.made.Made.{Made}
 use Rattle.lobby_loop.specs.declared.talk.Talk.{Talk}
-use Rattle.lobby_loop.specs.Talking.{Moves, MovesAnew}
+use Rattle.lobby_loop.specs.Talking.{Moves}
 use Rattle.lobby_loop.specs.Guests.{IsNewGuest, IsHeardAs, IsAsBefore, IsAttended, AreAttended, IsLookedAfter, AreTold, IsWritten}
 use Rattle.lobby_loop.specs.Lines.{bytes_of as bytes_before, AreHeard, HoldsNoLine, IsKept}
-use Rattle.lobby_loop.specs.Turning.{BeginsHall, Admits, ServerComes, IsServerAsBefore, AreDelivered, HearsServer, bytes_heard, PartsFromServer, TellsServer, IsClosedIf, AreClosed, AreParted, HasTurned, AreAdmitted, IsReached, IsLobbyTurn}
+use Rattle.lobby_loop.specs.Turning.{BeginsHall, Admits, ServerComes, IsServerAsBefore, AreDelivered, HearsServer, bytes_heard, PartsFromServer, TellsServer, IsClosedIf, AreClosed, HasTurned, AreAdmitted, IsReached, IsLobbyTurn}
 use Rattle.lobby_loop.specs.Doing.{Gave, Spot, spot, DoesAt, all_tells, IsServed, AreServed, WereServed}
 use Rattle.lobby_loop.specs.Living.{Happening, Came, Woke, ServerCame, Turned, IsWoken, IsLife, written_in, taken_in, lost_if, presences_in, kept, sent_in, line_more, lines_heard, presence_more, presences_told, IsHeld, IsOther, HasNone, IsOneOf, AreKnown, IsOwn, AreOwn, numbers, streams_in, NoLineWaits, IsRightLife, Passing, TurnAt, Rested, IsLobbyLife}
 use Rattle.lobby_loop.proofs.Serving.{IsApart, ApartFrom, AreApart, served_before, served_read, served_looked, served_written, served_told, gave_nothing, gave_again, gave_early, gave_opened, gave_text, all_served_on, all_served_zip, all_served_filter, all_served_more, all_came, served_new, ClosedIf, AllClosed, closed_if_on, all_were_on, all_were_out, all_were_came, all_let_go}

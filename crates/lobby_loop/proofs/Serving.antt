@@ -1,5 +1,5 @@
 -- What is done at a browser's connection is told on.
-use Rattle.std.proofs.Common.{◌≡◌, ◌≢◌, ◌≤◌, ◌<◌, ℕ, Bool, true, false, inl, inr, ◌⊎◌, List, [], ◌∷◌, ◌++◌, Option, None, Some, Result, filter, cond, not, length, take, refl, ap, sym, ◌∙◌, subst, append_assoc, append-nil, length-append, arith, Vec, Global}
+use Rattle.std.proofs.Common.{◌≡◌, ◌≢◌, ◌≤◌, ℕ, Bool, true, false, inl, inr, List, [], ◌∷◌, ◌++◌, Option, None, Some, filter, cond, length, take, refl, ap, sym, ◌∙◌, subst, append_assoc, append-nil, length-append, arith, Vec, Global}
 use Rattle.std.specs.Prelude.{◌==◌, IsUtf8, if◌then◌else◌}
 use Rattle.std.specs.List.{AllZip}
 use Rattle.std.specs.String.{string_bytes}
@@ -13,16 +13,14 @@ use Rattle.lobby_desk.specs.Who.{at_table, said_event}
 use Rattle.lobby_desk.specs.History.{Step}
 use Rattle.lobby_web.specs.declared.browser.Browser.{Browser}
 use Rattle.lobby_web.specs.declared.site.Site.{Site}
-use Rattle.lobby_web.specs.declared.socket.Heard.{Heard as HeardOf}
 use Rattle.lobby_web.specs.declared.socket.Heard.TheVariants as heards
-use Rattle.lobby_web.specs.declared.socket.Unsaid.{Unsaid}
 use Rattle.lobby_web.specs.Browsing.{pending}
 use Rattle.lobby_loop.specs.declared.guest.Guest.{Guest}
 use Rattle.lobby_loop.specs.declared.made.Made.{Made}
 use Rattle.lobby_loop.specs.Making.{IsMadeOf}
-use Rattle.lobby_loop.specs.Guests.{IsNewGuest, IsAsBefore, IsRead, IsSaidIf, is_for, IsTold, AreTold, IsWritten, IsLookedAfter}
+use Rattle.lobby_loop.specs.Guests.{IsNewGuest, IsAsBefore, IsRead, IsSaidIf, is_for, AreTold, IsWritten, IsLookedAfter}
 use Rattle.lobby_loop.specs.Living.{numbers}
-use Rattle.lobby_loop.specs.Doing.{Doing, Took, Tried, Gave, WasTold, Wrote, Spot, spot, DoesAt, has_opened, opens, texts_more, texts_given, texts_told, AreLate, message_of, messages_of, IsSaidAs, IsSaidBy, all_tells, told_for, is_opening, before_opening, IsToldAs, IsToldOf, IsToldBy, IsAmong, IsServed, IsClosedBehind, WasClosed, WasServed, WereServed, AreServed}
+use Rattle.lobby_loop.specs.Doing.{Doing, Took, Tried, Gave, WasTold, Wrote, Spot, spot, DoesAt, has_opened, texts_more, texts_given, texts_told, AreLate, message_of, messages_of, IsSaidAs, IsSaidBy, all_tells, told_for, is_opening, before_opening, IsToldAs, IsToldOf, IsToldBy, IsServed, WasClosed, WereServed, AreServed}
 
 -- ---- events of other connections
 

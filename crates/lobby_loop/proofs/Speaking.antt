@@ -1,5 +1,5 @@
 -- What a browser's bytes say, by what was done at its connection.
-use Rattle.std.proofs.Common.{◌≡◌, ◌≤◌, ℕ, Bool, true, false, inl, inr, ◌⊎◌, List, [], ◌∷◌, ◌++◌, Option, None, Some, Result, Ok, Err, length, take, drop, refl, ap, sym, ◌∙◌, subst, append_assoc, append-nil, Vec, Global}
+use Rattle.std.proofs.Common.{◌≡◌, ℕ, Bool, true, false, inl, inr, ◌⊎◌, List, [], ◌∷◌, ◌++◌, Option, None, Some, Result, Ok, Err, take, refl, ap, sym, ◌∙◌, subst, append_assoc, append-nil, Vec, Global}
 use Rattle.std.proofs.lemmas.Bool.{cases_Bool, false≢true}
 use Rattle.std.proofs.lemmas.List.{take-append-drop}
 use Rattle.websocket.specs.Content.{Content}
@@ -7,7 +7,7 @@ use Rattle.http_server.specs.declared.state.Config.{Config}
 use Rattle.http_server.specs.declared.connection.Connection.{Connection}
 use Rattle.http_server.specs.Connection.{config_of, history}
 use Rattle.http_server.specs.Exchange.{Call}
-use Rattle.http_server.specs.History.{History, IsServed, after_read, after_sent, new_history}
+use Rattle.http_server.specs.History.{History, IsServed, after_read, after_sent}
 use Rattle.lobby_web.specs.declared.browser.Stage.{Stage}
 use Rattle.lobby_web.specs.declared.browser.Stage.TheVariants as At
 use Rattle.lobby_web.specs.declared.site.Site.{Site}
@@ -16,9 +16,8 @@ use Rattle.lobby_web.specs.declared.socket.Heard.{Heard}
 use Rattle.lobby_web.specs.declared.socket.Heard.TheVariants as heards
 use Rattle.lobby_web.specs.declared.socket.Unsaid.{Unsaid}
 use Rattle.lobby_web.specs.declared.socket.Unsaid.TheVariants.{NotOpen, NotText, Slow, Memory}
-use Rattle.lobby_web.specs.Answering.{IsGranted}
-use Rattle.lobby_web.specs.Browsing.{web_config, pending, AreAnswered, Serves, Answers, HandsOver, IsNew, WantsBytes, Takes, TakesBytes, HearsNext, SaysTo, Writes}
-use Rattle.lobby_web.specs.Frames.{frames_bytes, texts_sent}
+use Rattle.lobby_web.specs.Browsing.{web_config, pending, AreAnswered, Serves, Answers, IsNew, TakesBytes, HearsNext, SaysTo, Writes}
+use Rattle.lobby_web.specs.Frames.{frames_bytes}
 use Rattle.lobby_web.specs.Happening.{Event, came, asked, said, wrote, Does, Happen, KeepsOpen, AllKeepOpen, Heeds, Utters, text_of, text_if, is_close}
 use Rattle.lobby_web.specs.Happening as life
 use Rattle.lobby_web.specs.Talking.{IsFresh, Hears, Says, may_say}
@@ -27,8 +26,8 @@ use Rattle.lobby_web.proofs.SayingLemmas.{uttered}
 use Rattle.lobby_web.proofs.ShutLemmas.{stays-shut, unsaid-shut}
 use Rattle.lobby_desk.specs.Events.{Telling}
 use Rattle.lobby_desk.specs.History.{Step}
-use Rattle.lobby_loop.specs.Doing.{Doing, Took, Tried, Gave, WasTold, Wrote, Spot, DoesAt, HasDone, has_opened, opens, texts_more, texts_given, texts_told, IsLate, AreLate, IsServed as IsGuestServed}
-use Rattle.lobby_loop.specs.Speaking.{bytes_came, bytes_written, texts_said, in_order, IsSilent, IsByHttp, IsSwitched, IsBySocket, Speaks}
+use Rattle.lobby_loop.specs.Doing.{Doing, Took, Tried, Gave, WasTold, Wrote, Spot, HasDone, has_opened, texts_more, texts_given, texts_told, IsLate, AreLate, IsServed as IsGuestServed}
+use Rattle.lobby_loop.specs.Speaking.{bytes_came, bytes_written, texts_said, in_order, IsSilent, IsByHttp, IsSwitched, Speaks}
 
 -- ---- one event more at a socket's end
 

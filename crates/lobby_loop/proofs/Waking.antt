@@ -1,5 +1,5 @@
 -- Browsers that come, and sockets that may be ready, one after the other.
-use Rattle.std.proofs.Common.{◌≡◌, ◌++◌, inl, inr, List, [], ◌∷◌, Option, None, Some, refl, ap, ◌∙◌, subst}
+use Rattle.std.proofs.Common.{◌++◌, inl, inr, List, [], ◌∷◌, Option, None, Some, refl, ap, ◌∙◌, subst}
 use Rattle.std.specs.List.{AllZip}
 use Rattle.lobby_loop.specs.declared.guest.Guest.{Guest}
 use Rattle.lobby_loop.specs.declared.hall.Hall.{Hall}
