@@ -83,7 +83,7 @@ spent_by m n same spent = elim spent [
 up_at : {unsent keeps : List ℕ} (s : SessionState) (m n r : Option SessionState) → m ≡ Some s → n ≡ r →
     IsHeldUp unsent keeps s r → IfSome m (λ t. IsHeldUp unsent keeps t n)
 up_at {unsent = unsent} {keeps = keeps} s m n r e f up =
-    some_at (Some s) m e (subst (λ (o : Option SessionState). IsHeldUp unsent keeps s o) (sym f) up)
+    some_at (λ t. IsHeldUp unsent keeps t n) (Some s) m e (subst (λ (o : Option SessionState). IsHeldUp unsent keeps s o) (sym f) up)
 
 pub sends : {waited waits : ℕ} (room left longest : ℕ) (before after : Option (List ℕ)) (unsent holds keeps : List ℕ)
     (sid : ℕ) (old new : Sessions) (m n : Option SessionState) → session_at old sid ≡ m → session_at new sid ≡ n →
@@ -353,7 +353,8 @@ module _ {S : Type 0} (remaining : S → Option (List ℕ)) (silence : Option �
       (takes-in client.waited after.waited room room longest m n (remaining client.wire.stream)
       (remaining after.wire.stream) unsent (held client.incoming) (held after.incoming) (held after.incoming)
       (takes-kept (remaining client.wire.stream) (remaining after.wire.stream) (held client.incoming) (held after.incoming) kept same)
-      (gives-none-up room longest m n unsent (held after.incoming) (stays client.sid) (up_unfinished m none) still))
+      (gives-none-up room longest m n unsent (held after.incoming) (stays client.sid)
+      (up_unfinished unsent (held after.incoming) m n none) still))
       (λ other differs. stays other))
 
   pub read_after : (client after : Client S) (a b c : Intake) → Holds a b →
@@ -376,7 +377,8 @@ module _ {S : Type 0} (remaining : S → Option (List ℕ)) (silence : Option �
     wait = subst (λ (r : ℕ). HasWaitedOn (IsHeldUpBetween client after a.sessions c.sessions) r longest read.fed
         (held after.incoming) client.waited after.waited) h.1
         (waits-for b.room longest read.fed (held after.incoming) client.waited after.waited
-        (some_at (session_at b.sessions client.sid) (session_at a.sessions client.sid) (sym (h.0 client.sid))) read.wait);
+        (some_at (λ s. IsHeldUp (waiting client.outgoing) (held after.incoming) s (session_at c.sessions client.sid))
+        (session_at b.sessions client.sid) (session_at a.sessions client.sid) (sym (h.0 client.sid))) read.wait);
     unread = λ waits.
         let same = read.unread waits in
         (same.0, same.1, unchanged-trans a.sessions b.sessions c.sessions h.0 same.2);

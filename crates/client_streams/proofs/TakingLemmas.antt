@@ -33,41 +33,38 @@ takes-kept before after holds keeps kept same = record {
 
 -- ---- why it is held up
 
-pub some_all : {A : Type 0} {P : A → Type 0} (m : Option A) → ((x : A) → P x) → IfSome m P
-some_all None all = tt
-some_all (Some x) all = all x
+pub some_all : {A : Type 0} (P : A → Type 0) (m : Option A) → ((x : A) → P x) → IfSome m P
+some_all P None all = tt
+some_all P (Some x) all = all x
 
 -- it is not open
-pub some_closed : {A : Type 0} {P : A → Type 0} (m : Option A) → (IsSome m → ⊥) → IfSome m P
-some_closed None closed = tt
-some_closed (Some x) closed = absurd (closed refl)
+pub some_closed : {A : Type 0} (P : A → Type 0) (m : Option A) → (IsSome m → ⊥) → IfSome m P
+some_closed P None closed = tt
+some_closed P (Some x) closed = absurd (closed refl)
 
-pub some_at : {A : Type 0} {P : A → Type 0} (m n : Option A) → n ≡ m → IfSome m P → IfSome n P
-some_at {A = A} {P = P} m n same holds = subst (λ (o : Option A). IfSome o P) (sym same) holds
+pub some_at : {A : Type 0} (P : A → Type 0) (m n : Option A) → n ≡ m → IfSome m P → IfSome n P
+some_at {A = A} P m n same holds = subst (λ (o : Option A). IfSome o P) (sym same) holds
 
--- no line is held back
-pub up_unfinished : {unsent keeps : List ℕ} {n : Option SessionState} (m : Option SessionState) → IsUnfinished keeps →
-    IfSome m (λ s. IsHeldUp unsent keeps s n)
-up_unfinished m unfinished = some_all m (λ s. inr (inr (inr unfinished)))
+module _ (unsent keeps : List ℕ) (m n : Option SessionState) where
+  abbrev pub IsUp : SessionState → Type 0
+  IsUp s = IsHeldUp unsent keeps s n
 
--- answers wait
-pub up_unsent : {unsent keeps : List ℕ} {n : Option SessionState} (m : Option SessionState) → unsent ≢ [] →
-    IfSome m (λ s. IsHeldUp unsent keeps s n)
-up_unsent m some = some_all m (λ s. inl some)
+  -- no line is held back
+  pub up_unfinished : IsUnfinished keeps → IfSome m IsUp
+  up_unfinished unfinished = some_all IsUp m (λ s. inr (inr (inr unfinished)))
 
--- its session is closed
-pub up_closed : {unsent keeps : List ℕ} {n : Option SessionState} (m : Option SessionState) → n ≡ None →
-    IfSome m (λ s. IsHeldUp unsent keeps s n)
-up_closed m closed = some_all m (λ s. inr (inr (inl closed)))
+  -- answers wait
+  pub up_unsent : unsent ≢ [] → IfSome m IsUp
+  up_unsent some = some_all IsUp m (λ s. inl some)
 
 some_bytes : (bytes : List ℕ) (count : ℕ) → count ≡ length bytes → 0 < count → bytes ≢ []
 some_bytes bytes count is some = λ none. absurd (omega (arith, is, some, ap (λ (l : List ℕ). length l) none))
 
 -- lines of its session wait
-pub up_lines : {unsent keeps : List ℕ} {n : Option SessionState} (m : Option SessionState) (count : ℕ) →
+pub up_lines : (unsent keeps : List ℕ) (m n : Option SessionState) (count : ℕ) →
     IfSome m (λ s. count ≡ length s.heard.bytes) → 0 < count → IfSome m (λ s. IsHeldUp unsent keeps s n)
-up_lines None count is some = tt
-up_lines (Some s) count is some = inr (inl (some_bytes s.heard.bytes count is some))
+up_lines unsent keeps None n count is some = tt
+up_lines unsent keeps (Some s) n count is some = inr (inl (some_bytes s.heard.bytes count is some))
 
 -- ---- for how many turns it waits
 
@@ -122,12 +119,12 @@ waits-for room longest fed keeps waited waits to wait = record {
 -- ---- what the session is given
 
 -- the session is given nothing
-pub gives-nothing : {waited waits : ℕ} (room left longest : ℕ) (m n : Option SessionState) (unsent holds : List ℕ) →
+pub gives-nothing : (waited waits room left longest : ℕ) (m n : Option SessionState) (unsent holds : List ℕ) →
     left ≡ room → n ≡ m →
     IfSome m (λ s. HasWaitedOn (IsHeldUp unsent holds s n) room longest [] holds waited waits) →
     IfSome m (λ s. GivesOn room left longest unsent holds holds waited waits s n)
-gives-nothing room left longest None n unsent holds still same wait = tt
-gives-nothing room left longest (Some s) n unsent holds still same wait = record {
+gives-nothing waited waits room left longest None n unsent holds still same wait = tt
+gives-nothing waited waits room left longest (Some s) n unsent holds still same wait = record {
   fed = [];
   order = refl;
   heard = subst (λ (o : Option SessionState). IfSome o (HasHeard s [])) (sym same) (inr (inl (refl, refl)));
@@ -145,7 +142,7 @@ pub gives-none-up : {waited waits : ℕ} (room longest : ℕ) (m n : Option Sess
     IfSome m (λ s. GivesOn room room longest unsent holds holds waited waits s n)
 gives-none-up room longest None n unsent holds same up still = tt
 gives-none-up {waited = waited} {waits = waits} room longest (Some s) n unsent holds same up still =
-    gives-nothing room room longest (Some s) n unsent holds refl same
+    gives-nothing waited waits room room longest (Some s) n unsent holds refl same
     (waits-still (IsHeldUp unsent holds s n) room longest holds waited waits up still)
 
 -- but waits for one more
@@ -156,7 +153,7 @@ pub gives-none-yet : {waited waits : ℕ} (room left longest : ℕ) (m : Option 
 gives-none-yet room left longest None unsent holds portion rest still order dear is behind = tt
 gives-none-yet {waited = waited} {waits = waits} room left longest (Some s) unsent holds portion rest still order dear is
     behind =
-    gives-nothing room left longest (Some s) (Some s) unsent holds still refl
+    gives-nothing waited waits room left longest (Some s) (Some s) unsent holds still refl
     (waits-longer (IsHeldUp unsent holds s (Some s)) room longest holds portion rest waited waits order dear is behind)
 
 -- it is closed
@@ -177,16 +174,16 @@ gives-closed {waited = waited} {waits = waits} room left longest (Some s) n unse
 }
 
 -- it is given this
-pub gives-fed : {waited waits : ℕ} (room left longest : ℕ) (m n : Option SessionState)
+pub gives-fed : (waited waits room left longest : ℕ) (m n : Option SessionState)
     (unsent holds fed keeps : List ℕ) → holds ≡ fed ++ keeps → AreMost fed keeps → left ≤ room →
     (IsDearLine fed → left + 1 ≤ room) → (left ≡ room) ⊎ (is_dear fed ≡ true) →
     IfSome m (λ s. IsSomeAnd n (HasHeard s fed)) → keeps ≡ drop (length fed) holds → (fed ≡ [] → IsUnfinished holds) →
     waits ≡ 0 → IfSome m (λ s. GivesOn room left longest unsent holds keeps waited waits s n)
-gives-fed room left longest None n unsent holds fed keeps order most le dear spent heard behind some is = tt
-gives-fed room left longest (Some s) None unsent holds fed keeps order most le dear spent heard behind some is =
+gives-fed waited waits room left longest None n unsent holds fed keeps order most le dear spent heard behind some is = tt
+gives-fed waited waits room left longest (Some s) None unsent holds fed keeps order most le dear spent heard behind some is =
     absurd heard
-gives-fed {waited = waited} {waits = waits} room left longest (Some s) (Some r) unsent holds fed keeps order most le dear
-    spent heard behind some is = record {
+gives-fed waited waits room left longest (Some s) (Some r) unsent holds fed keeps order most le dear spent
+    heard behind some is = record {
   fed = fed;
   order = order;
   heard = heard;

@@ -6,7 +6,7 @@ use Rattle.std.specs.Prelude.{IsSome, IsSomeAnd}
 use Rattle.std.specs.Io.KnownBytes.{Keeps}
 use Rattle.std.specs.Bool.{OnTrue}
 use Rattle.chess_sessions.specs.Session.{session_at, Changes}
-use Rattle.client_streams.specs.Clients.{IsSilent}
+use Rattle.client_streams.specs.Clients.{IsSilent, IsHeldUp}
 use Rattle.client_streams.specs.Closings.{HasFailed, WasRefused, IsReason}
 use Rattle.client_streams.specs.Incoming.{held}
 use Rattle.client_streams.specs.Sending.{waiting}
@@ -20,18 +20,20 @@ pub returns-then-not-is_open-clause-read : goal.returns-then-not-is_open-clause-
 returns-then-not-is_open-clause-read g c =
     let client = c.args.client.now in
     let room = c.args.room.now in
+    let m = session_at c.args.sessions.now client.sid in
     passed_over g.S.Read.remaining c.args.reading.silence c.args.reading.at room.longest client
     (intake c.args.sessions.now room.lines)
-    (some_closed (session_at c.args.sessions.now client.sid) (λ is. false≢true (sym c.if-not-is_open.true
+    (some_closed (λ s. IsHeldUp (waiting client.outgoing) (held client.incoming) s m) m (λ is. false≢true (sym c.if-not-is_open.true
     ∙ c.is_open.ensures.1 (subst (λ sid. IsSome (session_at c.args.sessions.now sid)) (sym c.sid.ensures) is))))
 
 pub returns-then-is_passed_over-clause-read : goal.returns-then-is_passed_over-clause-read
 returns-then-is_passed_over-clause-read g c =
     let client = c.args.client.now in
     let room = c.args.room.now in
+    let m = session_at c.args.sessions.now client.sid in
     passed_over g.S.Read.remaining c.args.reading.silence c.args.reading.at room.longest client
     (intake c.args.sessions.now room.lines)
-    (up_unfinished (session_at c.args.sessions.now client.sid) (c.is_passed_over.ensures c.if-is_passed_over.true))
+    (up_unfinished (waiting client.outgoing) (held client.incoming) m m (c.is_passed_over.ensures c.if-is_passed_over.true))
 
 -- Nothing came: the session may be closed.
 pub returns-then-is_quiet-clause-read : goal.returns-then-is_quiet-clause-read

@@ -14,7 +14,7 @@ returns-then-waiting-gt0-clause-gives g c =
     let room = c.args.room.now in
     let m = session_at c.args.sessions.now client.sid in
     gives-none-up room.lines room.longest m m (waiting client.outgoing) (held client.incoming) refl
-    (up_lines m c.waiting.result c.waiting.ensures (omega (arith, c.if-waiting-gt0.true))) refl
+    (up_lines (waiting client.outgoing) (held client.incoming) m m c.waiting.result c.waiting.ensures (omega (arith, c.if-waiting-gt0.true))) refl
 
 pub returns-then-not-admit-clause-gives : goal.returns-then-not-admit-clause-gives
 returns-then-not-admit-clause-gives g c =
@@ -35,7 +35,7 @@ returns-then-feed-clause-gives g c =
     let portion = c.portion-portion.result.now in
     let cut = c.portion-portion.ensures.portion in
     let keeps = held c.give_up.new.self in
-    gives-fed room.lines c.admit.new.self.lines room.longest (session_at c.args.sessions.now sid)
+    gives-fed client.waited 0 room.lines c.admit.new.self.lines room.longest (session_at c.args.sessions.now sid)
     (session_at c.feed.new.sessions sid) (waiting client.outgoing) holds portion keeps
     (cut-off holds portion cut.rest keeps cut.order c.give_up.ensures)
     (most-left holds portion cut.rest keeps cut.order c.give_up.ensures cut.most) c.admit.ensures.fewer

@@ -23,7 +23,7 @@ returns-then-not-is_empty-clause-taken g c =
     takes-in client.waited client.waited room.lines room.lines room.longest m m bytes bytes unsent holds holds holds
     (takes-nothing bytes holds)
     (gives-none-up room.lines room.longest m m unsent holds refl
-    (up_unsent m (λ none. false≢true (sym c.if-not-is_empty.true ∙ c.is_empty.ensures.1 none))) refl)
+    (up_unsent unsent holds m m (λ none. false≢true (sym c.if-not-is_empty.true ∙ c.is_empty.ensures.1 none))) refl)
 
 pub returns-then-not-is_unfinished-clause-taken : goal.returns-then-not-is_unfinished-clause-taken
 returns-then-not-is_unfinished-clause-taken g c =
@@ -52,7 +52,7 @@ returns-in-Nothing-clause-taken g c =
     (g.S.Read.remaining after.wire.stream) (waiting client.outgoing) (held client.incoming) (held after.incoming)
     (held after.incoming) c.read_more.ensures.takes
     (gives-none-up room.lines room.longest m m (waiting client.outgoing) (held after.incoming) refl
-    (up_unfinished m (c.read_more.ensures.nothing c.in-Nothing.is)) c.read_more.ensures.peer.2)
+    (up_unfinished (waiting client.outgoing) (held after.incoming) m m (c.read_more.ensures.nothing c.in-Nothing.is)) c.read_more.ensures.peer.2)
 
 pub returns-in-End-clause-taken : goal.returns-in-End-clause-taken
 returns-in-End-clause-taken g c =
@@ -64,7 +64,7 @@ returns-in-End-clause-taken g c =
     (g.S.Read.remaining after.wire.stream) (waiting client.outgoing) (held client.incoming) (held after.incoming)
     (held after.incoming) c.read_more.ensures.takes
     (gives-none-up room.lines room.longest m m (waiting client.outgoing) (held after.incoming) refl
-    (up_unfinished m (c.read_more.ensures.end c.in-End.is)) c.read_more.ensures.peer.2)
+    (up_unfinished (waiting client.outgoing) (held after.incoming) m m (c.read_more.ensures.end c.in-End.is)) c.read_more.ensures.peer.2)
 
 pub returns-in-Fault-clause-taken : goal.returns-in-Fault-clause-taken
 returns-in-Fault-clause-taken g c =
