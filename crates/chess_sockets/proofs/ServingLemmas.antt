@@ -12,7 +12,8 @@ use Rattle.client_streams.specs.declared.client.Client.{Client}
 use Rattle.client_streams.specs.declared.door.Door.{Door}
 use Rattle.client_streams.specs.Rounds as rounds
 use Rattle.client_streams.specs.Rounds.{AreEach, IsSent, AreGivenTo, IsGivenOut, IsRead, IsWritten, intake, Holds}
-use Rattle.chess_sockets.specs.Serving.{state_of, LeadsOn, IsLedBy, IsOfReading, IsOfWriting, AreRead, AreWritten, Welcomes, AreCounted, IsWelcomed}
+use Rattle.chess_sockets.specs.Serving.{state_of, LeadsOn, IsLedBy, IsOfReading, IsOfWriting, AreRead, AreWritten, Welcomes, AreCounted, IsWelcomed, IsAskedFor}
+use Rattle.chess_sockets.specs.declared.server.Rested.{Rested}
 
 -- ---- calls
 
@@ -196,3 +197,13 @@ module _ {C S : Type 0} (IsMade : C → S → Type 0) (at : ℕ) where
   welcomed_on given door next n counted after clients asked s t same is w =
       subst (λ (d : Door). IsWelcomed IsMade at given d.given n after clients asked s t) (sym same)
       (subst (λ (x : ℕ). IsWelcomed IsMade at given door.given n x clients asked s t) (sym is) w)
+
+-- ---- who is asked for
+
+-- said of the rest and the listener from before, and of the listener as it is left
+pub asked_there : (rested was : Rested) (old first new last : Door) → rested ≡ was → old ≡ first → last ≡ new →
+    IsAskedFor rested old new → IsAskedFor was first last
+asked_there rested was old first new last same is left asks =
+    subst (λ (r : Rested). IsAskedFor r first last) same
+    (subst (λ (d : Door). IsAskedFor rested d last) is
+    (subst (λ (d : Door). IsAskedFor rested old d) (sym left) asks))
