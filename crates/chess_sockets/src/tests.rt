@@ -1,6 +1,8 @@
 //! Clients over connections that give and take little, or fail.
 mod memory;
 
+ghost use Rattle.std.specs.Io.{ReadsAtMost};
+
 use crate::server::serve_clients;
 use chess_hub::Hub;
 use chess_store::Store;
@@ -54,22 +56,34 @@ struct Peer {
     written: Vec<u8>,
 }
 
+// Sixteen lines of 255 `x`.
+fn sixteen() -> [u8; MOST] {
+    let mut lines = [b'x'; MOST];
+    for line in 0..16 {
+        lines[line * 256 + 255] = b'\n';
+    }
+    lines
+}
+
+// Reads a text, where there is room for it.
+fn give(text: &[u8], buf: &mut [u8]) -> io::Result<usize>
+    ensures { ReadsAtMost result buf.new }
+{
+    if text.len() > buf.len() {
+        return Ok(0);
+    }
+    buf[..text.len()].copy_from_slice(text);
+    Ok(text.len())
+}
+
 impl Read for Peer {
     fn read(&mut self, buf: &mut [u8]) -> io::Result<usize> {
         let last = self.gives.len().saturating_sub(1);
         let place = if self.reads < last { self.reads } else { last };
         self.reads = self.reads.saturating_add(1);
         match self.gives.get(place) {
-            Some(Gives::Text(text)) if text.len() <= buf.len() => {
-                buf[..text.len()].copy_from_slice(text.as_bytes());
-                Ok(text.len())
-            }
-            Some(Gives::Most) if MOST <= buf.len() => {
-                for place in 0..MOST {
-                    buf[place] = if place % 256 == 255 { b'\n' } else { b'x' };
-                }
-                Ok(MOST)
-            }
+            Some(Gives::Text(text)) => give(text.as_bytes(), buf),
+            Some(Gives::Most) => give(&sixteen(), buf),
             Some(Gives::Nothing) => Err(Error::from(ErrorKind::WouldBlock)),
             Some(Gives::Reset) => Err(Error::from(ErrorKind::ConnectionReset)),
             _ => Ok(0),
