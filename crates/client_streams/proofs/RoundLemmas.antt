@@ -93,50 +93,50 @@ sends room left longest before after unsent holds keeps sid old new None n e f i
     absurd (let bad : false ≡ true = is_open in false≢true bad)
 sends {waited = waited} {waits = waits} room left longest before after unsent holds keeps sid old new (Some s) None e f
     is_open takes others = record {
-  taken = takes.taken;
-  consumed = takes.consumed;
-  unfinished = takes.unfinished;
-  fed = takes.gives.fed;
-  order = takes.gives.order;
-  many = takes.gives.many;
-  fewer = takes.gives.fewer;
-  dear = takes.gives.dear;
-  spent = spent_by None (session_at new sid) f takes.gives.spent;
-  wait = waits-for room longest takes.gives.fed keeps waited waits
-      (up_at s (session_at old sid) (session_at new sid) None e f) takes.gives.wait;
-  sent = inr (inr (inl (takes.gives.gone refl, record { changed = f; others = others })));
-}
+      taken = takes.taken;
+      consumed = takes.consumed;
+      unfinished = takes.unfinished;
+      fed = takes.gives.fed;
+      order = takes.gives.order;
+      many = takes.gives.many;
+      fewer = takes.gives.fewer;
+      dear = takes.gives.dear;
+      spent = spent_by None (session_at new sid) f takes.gives.spent;
+      wait = waits-for room longest takes.gives.fed keeps waited waits
+          (up_at s (session_at old sid) (session_at new sid) None e f) takes.gives.wait;
+      sent = inr (inr (inl (takes.gives.gone refl, record { changed = f; others = others })));
+    }
 sends {waited = waited} {waits = waits} room left longest before after unsent holds keeps sid old new (Some s) (Some r) e f
     is_open takes others = record {
-  taken = takes.taken;
-  consumed = takes.consumed;
-  unfinished = takes.unfinished;
-  fed = takes.gives.fed;
-  order = takes.gives.order;
-  many = takes.gives.many;
-  fewer = takes.gives.fewer;
-  dear = takes.gives.dear;
-  spent = spent_by (Some r) (session_at new sid) f takes.gives.spent;
-  wait = waits-for room longest takes.gives.fed keeps waited waits
-      (up_at s (session_at old sid) (session_at new sid) (Some r) e f) takes.gives.wait;
-  sent = elim takes.gives.heard [
-    | inl (short_so_far, portion, alone, is) ↦ inl (
-      portion,
-      subst (λ (o : Option SessionState). IsSomeAnd o (λ s. s.heard.bytes ≡ [])) (sym e) alone,
-      record {
-        state = s;
-        was = e;
-        short = short_so_far;
-        heard = record { changed = f ∙ ap Some is; others = others };
-      },
-    )
-    | inr (inl (is, none)) ↦ inr (inl (none, unchanged old new sid (f ∙ ap Some is ∙ sym e) others))
-    | inr (inr (is, long)) ↦ inr (inr (inr (
-      subst (λ (o : Option SessionState). IsSomeAnd o (λ s. s.heard.is_long ≡ true)) (sym e) long,
-      unchanged old new sid (f ∙ ap Some is ∙ sym e) others,
-    )))
-  ];
-}
+      taken = takes.taken;
+      consumed = takes.consumed;
+      unfinished = takes.unfinished;
+      fed = takes.gives.fed;
+      order = takes.gives.order;
+      many = takes.gives.many;
+      fewer = takes.gives.fewer;
+      dear = takes.gives.dear;
+      spent = spent_by (Some r) (session_at new sid) f takes.gives.spent;
+      wait = waits-for room longest takes.gives.fed keeps waited waits
+          (up_at s (session_at old sid) (session_at new sid) (Some r) e f) takes.gives.wait;
+      sent = elim takes.gives.heard [
+        | inl (short_so_far, portion, alone, is) ↦ inl (
+          portion,
+          subst (λ (o : Option SessionState). IsSomeAnd o (λ s. s.heard.bytes ≡ [])) (sym e) alone,
+          record {
+            state = s;
+            was = e;
+            short = short_so_far;
+            heard = record { changed = f ∙ ap Some is; others = others };
+          },
+        )
+        | inr (inl (is, none)) ↦ inr (inl (none, unchanged old new sid (f ∙ ap Some is ∙ sym e) others))
+        | inr (inr (is, long)) ↦ inr (inr (inr (
+          subst (λ (o : Option SessionState). IsSomeAnd o (λ s. s.heard.is_long ≡ true)) (sym e) long,
+          unchanged old new sid (f ∙ ap Some is ∙ sym e) others,
+        )))
+      ];
+    }
 
 pub sent_after : (a b c : Sessions) (sid : ℕ) (fed : List ℕ) → IsUnchanged a b → IsSent sid fed b c → IsSent sid fed a c
 sent_after a b c sid fed h sent = elim sent [

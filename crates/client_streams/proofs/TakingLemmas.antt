@@ -184,19 +184,19 @@ gives-fed waited waits room left longest (Some s) None unsent holds fed keeps or
     absurd heard
 gives-fed waited waits room left longest (Some s) (Some r) unsent holds fed keeps order most le dear spent
     heard behind some is = record {
-  fed = fed;
-  order = order;
-  heard = heard;
-  gone = λ none. absurd (let bad : Some r ≡ None = none in cc);
-  many = λ given. most;
-  fewer = le;
-  dear = dear;
-  spent = elim spent [
-    | inl still ↦ inl still
-    | inr much ↦ inr (inl much)
-  ];
-  wait = waits-no-more (IsHeldUp unsent keeps s (Some r)) room longest holds fed keeps waited waits behind some is;
-}
+      fed = fed;
+      order = order;
+      heard = heard;
+      gone = λ none. absurd (let bad : Some r ≡ None = none in cc);
+      many = λ given. most;
+      fewer = le;
+      dear = dear;
+      spent = elim spent [
+        | inl still ↦ inl still
+        | inr much ↦ inr (inl much)
+      ];
+      wait = waits-no-more (IsHeldUp unsent keeps s (Some r)) room longest holds fed keeps waited waits behind some is;
+    }
 
 -- what is left once the front was given up
 pub is-rest : (holds fed rest keeps : List ℕ) → holds ≡ fed ++ rest → keeps ≡ drop (length fed) holds → keeps ≡ rest

@@ -1,5 +1,5 @@
 -- The session is given the portion, or nothing.
-use Rattle.std.proofs.Common.{◌<◌, inl, refl, rules, arith}
+use Rattle.std.proofs.Common.{inl, refl, rules, arith}
 use Rattle.chess_sessions.specs.Session.{session_at}
 use Rattle.std.proofs.lemmas.Bool.{false≢true}
 use Rattle.client_streams.specs.Incoming.{held}
