@@ -48,10 +48,13 @@ fn first_move() -> Record {
 fn a_header_is_read_in_its_slot(rt: HostRuntime) {
     let header = first_header();
     let bytes = write_header(&header);
-    assert!(rt; &bytes[..16] == [
-            0x46, 0x49, 0x44, 0x45, 0x4a, 0x52, 0x4e, 0x31, 2, 0, 0, 0, 0xd4, 0, 0, 0
-        ]
-        .as_slice());
+    assert!(rt;
+        &bytes[..16]
+            == [
+                0x46, 0x49, 0x44, 0x45, 0x4a, 0x52, 0x4e, 0x31, 2, 0, 0, 0, 0xd4, 0, 0, 0
+            ]
+            .as_slice()
+    );
     assert!(rt; has_signature(&bytes));
     assert!(rt; read_header(&bytes, 1) == Some(header));
     assert!(rt; read_header(&bytes, 0) == None);
@@ -102,10 +105,13 @@ fn a_header_of_version_one_is_read(rt: HostRuntime) {
 #[test]
 fn a_record_is_read_again(rt: HostRuntime) {
     let mut bytes = write_record(&first_move());
-    assert!(rt; &bytes[..20] == [
-            3, 0, 0x0c, 7, 1, 0, 0, 0, 0xe8, 3, 0, 0, 0, 0, 0, 0, 0, 0, 0, 0
-        ]
-        .as_slice());
+    assert!(rt;
+        &bytes[..20]
+            == [
+                3, 0, 0x0c, 7, 1, 0, 0, 0, 0xe8, 3, 0, 0, 0, 0, 0, 0, 0, 0, 0, 0
+            ]
+            .as_slice()
+    );
     match read_record(&bytes) {
         Some(record) => assert!(rt; write_record(&record).as_slice() == bytes.as_slice()),
         None => assert!(rt; false),

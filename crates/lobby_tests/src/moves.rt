@@ -33,5 +33,7 @@ fn tells_of_mate_and_of_no_position(rt: HostRuntime) {
     let mate = "rnb1kbnr/pppp1ppp/8/4p3/6Pq/5P2/PPPPP2P/RNBQKBNR w KQkq - 1 3";
     let line = line_of(&rt, rt.alloc(), mate);
     assert!(rt; line.as_str() == "moves +");
-    assert!(rt; moves_line(rt.alloc(), "8/8/8/8/8/8/8/8 w - - 0 1").is_ok_and(|line| line.is_none()));
+    assert!(rt;
+        moves_line(rt.alloc(), "8/8/8/8/8/8/8/8 w - - 0 1").is_ok_and(|line| line.is_none())
+    );
 }

@@ -1,5 +1,7 @@
 //! Files, lines and links as texts.
-use lobby_players::{AddFault, Addition, LineFault, PlayersFault, added, link_text, read, token_text};
+use lobby_players::{
+    AddFault, Addition, LineFault, PlayersFault, added, link_text, read, token_text,
+};
 use std::alloc::{AllocError, Global};
 
 const ANN: &str =

@@ -1,12 +1,12 @@
 //! What no clause says: who may read the players' file.
-use crate::adding::put;
+use crate::put;
 use std::fs;
 use std::os::unix::fs::PermissionsExt;
 use std::test::Fail;
 
-const FOLDER: &str = "chess_lobby_test";
+const FOLDER: &str = "players_file_test";
 
-const FILE: &str = "chess_lobby_test/club.players";
+const FILE: &str = "players_file_test/club.players";
 
 // The permission bits of the file.
 fn bits(rt: &HostRuntime) -> Result<u32, Fail> {
@@ -18,7 +18,7 @@ fn a_file_keeps_its_mode_and_a_new_one_is_its_owners(rt: HostRuntime) -> Result<
     let _ = fs::remove_dir_all(&rt, FOLDER);
     fs::create_dir(&rt, FOLDER)?;
     // Left behind by a stop.
-    fs::write(&rt, "chess_lobby_test/club.players.new", "x")?;
+    fs::write(&rt, "players_file_test/club.players.new", "x")?;
     assert!(rt; put(&rt, rt.alloc(), FILE, "one\n").is_ok());
     assert_eq!(rt; bits(&rt)?, 0o600);
     for mode in [0o640, 0o664] {
@@ -27,7 +27,7 @@ fn a_file_keeps_its_mode_and_a_new_one_is_its_owners(rt: HostRuntime) -> Result<
         assert_eq!(rt; bits(&rt)?, mode);
     }
     assert_eq!(rt; fs::read_to_string(&rt, FILE)?.as_str(), "two\n");
-    assert!(rt; !fs::exists(&rt, "chess_lobby_test/club.players.new")?);
+    assert!(rt; !fs::exists(&rt, "players_file_test/club.players.new")?);
     fs::remove_dir_all(&rt, FOLDER)?;
     Ok(())
 }
