@@ -113,10 +113,17 @@ struct Script {
     takes: usize,
 }
 
+/// Where halls are tried.
+#[derive(Drop)]
+struct Lab {
+    alloc: Global,
+    keys: RandomState,
+}
+
 // What becomes of them in so many turns, so many milliseconds apart.
-fn played(rt: &HostRuntime, script: Script, turns: u64, apart: u64) -> Hall<Peer> {
-    let alloc = rt.alloc();
-    let keys = RandomState::new(rt).expect(rt, "keys");
+fn played(rt: &impl Abort, lab: &Lab, script: Script, turns: u64, apart: u64) -> Hall<Peer> {
+    let alloc = lab.alloc;
+    let keys = lab.keys;
     let browser = stream_of(alloc, script.browser, script.takes);
     let server = stream_of(alloc, script.server, 1_000);
     let mut hall = begun(rt, alloc, keys, browser, server);
@@ -167,6 +174,10 @@ const FLOOD: &[u8] =
 
 #[test]
 fn a_message_goes_to_the_server_or_is_refused(rt: HostRuntime) {
+    let lab = Lab {
+        alloc: rt.alloc(),
+        keys: RandomState::new(&rt).expect(&rt, "keys"),
+    };
     // half a frame, and an answer in two pieces
     let halves = Script {
         browser: &[
@@ -219,33 +230,45 @@ fn a_message_goes_to_the_server_or_is_refused(rt: HostRuntime) {
         ),
     ];
     for (script, asked, told) in cases {
-        let hall = played(&rt, script, 90, 1);
+        let hall = played(&rt, &lab, script, 90, 1);
         assert!(rt; is_asked(&hall, asked) && is_told(&hall, told));
     }
 }
 
 #[test]
 fn who_is_silent_is_asked_and_then_let_go(rt: HostRuntime) {
+    let lab = Lab {
+        alloc: rt.alloc(),
+        keys: RandomState::new(&rt).expect(&rt, "keys"),
+    };
     let open = alone(&[Gives::Bytes(UPGRADE), Gives::Nothing]);
     for turns in [40, 74] {
-        let asked = played(&rt, open, turns, 1_000);
+        let asked = played(&rt, &lab, open, turns, 1_000);
         assert!(rt; is_told(&asked, b"\x81\x0cserver here\n\x89\0"));
     }
-    assert!(rt; played(&rt, open, 82, 1_000).len() == 0);
+    assert!(rt; played(&rt, &lab, open, 82, 1_000).len() == 0);
 }
 
 #[test]
 fn half_a_head_and_then_nothing_is_let_go(rt: HostRuntime) {
+    let lab = Lab {
+        alloc: rt.alloc(),
+        keys: RandomState::new(&rt).expect(&rt, "keys"),
+    };
     let half = alone(&[
         Gives::Bytes(b"GET /ws HTTP/1.1\r\nHost: a:1\r\n"),
         Gives::Nothing,
     ]);
-    assert!(rt; played(&rt, half, 59, 1_000).len() == 1);
-    assert!(rt; played(&rt, half, 67, 1_000).len() == 0);
+    assert!(rt; played(&rt, &lab, half, 59, 1_000).len() == 1);
+    assert!(rt; played(&rt, &lab, half, 67, 1_000).len() == 0);
 }
 
 #[test]
 fn who_closes_is_let_go_and_who_is_reset(rt: HostRuntime) {
+    let lab = Lab {
+        alloc: rt.alloc(),
+        keys: RandomState::new(&rt).expect(&rt, "keys"),
+    };
     let closes = alone(&[
         Gives::Bytes(UPGRADE),
         Gives::Bytes(b"\x88\x82\0\0\0\0\x03\xe8"),
@@ -253,13 +276,17 @@ fn who_closes_is_let_go_and_who_is_reset(rt: HostRuntime) {
     ]);
     let is_reset = alone(&[Gives::Bytes(UPGRADE), Gives::Nothing, Gives::Reset]);
     for script in [closes, is_reset] {
-        let hall = played(&rt, script, 90, 1);
+        let hall = played(&rt, &lab, script, 90, 1);
         assert!(rt; hall.len() == 0 && hall.has_server());
     }
 }
 
 #[test]
 fn an_answer_that_breaks_off_is_lost(rt: HostRuntime) {
+    let lab = Lab {
+        alloc: rt.alloc(),
+        keys: RandomState::new(&rt).expect(&rt, "keys"),
+    };
     let script = Script {
         browser: &[
             Gives::Bytes(UPGRADE),
@@ -277,7 +304,7 @@ fn an_answer_that_breaks_off_is_lost(rt: HostRuntime) {
         ],
         takes: 1_000,
     };
-    let hall = played(&rt, script, 90, 1);
+    let hall = played(&rt, &lab, script, 90, 1);
     assert!(rt; !hall.has_server() && is_told(&hall, b"\x81\x05lost\n\x81\x0cserver gone\n"));
 }
 
@@ -308,7 +335,11 @@ impl Listens for Door {
 
 #[test]
 fn a_failed_accept_ends_the_turn_at_the_door(rt: HostRuntime) {
-    let mut hall = played(&rt, alone(&[Gives::End]), 90, 1);
+    let lab = Lab {
+        alloc: rt.alloc(),
+        keys: RandomState::new(&rt).expect(&rt, "keys"),
+    };
+    let mut hall = played(&rt, &lab, alone(&[Gives::End]), 90, 1);
     let mut door = Door {
         finds: &[ErrorKind::ConnectionAborted, ErrorKind::OutOfMemory],
         tries: 0,
