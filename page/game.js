@@ -205,7 +205,8 @@ export class GameView {
     else if (word === 'decline') this.news(own ? 'You have declined the draw.' : `${name} declines the draw.`);
     else if (/^ok claim \d+ wrong/.test(answer)) {
       this.news(own ? 'Your claim was wrong: your opponent has two minutes more, and your offer of a draw stands.'
-        : `${name} has claimed a draw wrongly: it stands as an offer, and the opponent has two minutes more.`);
+        : `${name} has claimed a draw wrongly: it stands as an offer, and ${this.seat() ? 'you have' : 'the opponent has'} `
+          + 'two minutes more.');
     } else if (moved && this.noteKind === 'news') this.note('');
   }
 
