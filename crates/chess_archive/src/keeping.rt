@@ -1,5 +1,6 @@
 //! The word that keeps games that are over.
 use crate::command_line::Keeping;
+use crate::compared::has_game;
 use crate::link::Link;
 use crate::names::{full_name, players_of};
 use crate::rows::{Row, row_of};
@@ -9,7 +10,7 @@ use archive_text::{Heading, archived};
 use lobby_desk::Player;
 use night_files::NamedFile;
 use std::alloc::Global;
-use std::fs::File;
+use std::fs::{self, File};
 use std::net::{Net, TcpStream};
 use std::rt::Files;
 use text_parts::parts;
@@ -27,20 +28,22 @@ struct Keeper<'a> {
     alloc: Global,
     link: Link,
     archive: Archive<NamedFile>,
+    // The archive's lines when it was opened.
+    lines: String,
     players: &'a [Player],
     keeping: Keeping<'a>,
     counts: Counts,
 }
 
 impl Keeper<'_> {
-    // Asks for the PGN of a game that is over, and keeps it. A game that has left the table since is passed over.
-    fn keep(&mut self, row: Row<'_>) -> Result<()> {
+    // Asks for the PGN of a game that is over, as the archive has it; none where the game has left the table since.
+    fn pgn_of(&mut self, row: Row<'_>) -> Result<Option<Vec<u8>>> {
         let game = row.game;
         let line = format!(in self.alloc; "pgn {game}")?;
         let front = format!(in self.alloc; "ok pgn {game} ")?;
         let answer = self.link.ask(line.as_str(), front.as_str())?;
         if answer.behind.is_empty() {
-            return Ok(());
+            return Ok(None);
         }
         let heading = Heading {
             white: full_name(self.players, row.white),
@@ -50,12 +53,33 @@ impl Keeper<'_> {
         let pgn = archived(self.alloc, &heading, answer.behind.as_str(), &[]).context(format_args!(
             "game {game}"
         ))?;
+        Ok(Some(pgn))
+    }
+
+    // Keeps a game that is over.
+    fn keep(&mut self, row: Row<'_>) -> Result<()> {
+        let game = row.game;
+        let Some(pgn) = self.pgn_of(row)? else {
+            return Ok(());
+        };
         let is_new = self
             .archive
             .keep(self.alloc, game, pgn.as_slice())
             .context(format_args!("game {game}"))?;
         if is_new {
             self.counts.kept = self.counts.kept.saturating_add(1);
+        }
+        Ok(())
+    }
+
+    // Stops where a game that was in the archive already is another than the one of the table.
+    fn compare(&mut self, row: Row<'_>) -> Result<()> {
+        let game = row.game;
+        let Some(pgn) = self.pgn_of(row)? else {
+            return Ok(());
+        };
+        if !has_game(self.alloc, self.lines.as_str(), game, pgn.as_slice())? {
+            anyhow::bail!("the archive has another game {game} than the table: nothing is dropped");
         }
         Ok(())
     }
@@ -75,10 +99,14 @@ impl Keeper<'_> {
     // Does what is to be done about a game.
     fn look_at(&mut self, row: Row<'_>) -> Result<()> {
         let drops = self.keeping.drops;
+        let was_there = self.archive.has(row.game);
         if self.archive.step_for(row.game, row.is_over, drops) == Step::Keep {
             self.keep(row)?;
         }
         if self.archive.step_for(row.game, row.is_over, drops) == Step::Drop {
+            if was_there {
+                self.compare(row)?;
+            }
             self.drop_game(row)?;
         }
         Ok(())
@@ -107,12 +135,14 @@ where
     let path = keeping.archive;
     let file = NamedFile::open(rt, path).context(format_args!("opening {path}"))?;
     let archive = Archive::open(rt.alloc(), file).context(format_args!("opening {path}"))?;
+    let lines = fs::read_to_string(rt, path).context(format_args!("reading {path}"))?;
     let server = keeping.server;
     let link = Link::open(rt, server).context(format_args!("the server at {server}"))?;
     let mut keeper = Keeper {
         alloc: rt.alloc(),
         link,
         archive,
+        lines,
         players: players.as_slice(),
         keeping: *keeping,
         counts: Counts {

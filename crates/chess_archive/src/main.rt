@@ -2,6 +2,7 @@
 #![tactic(auto)]
 
 mod command_line;
+mod compared;
 mod export;
 mod keeping;
 mod link;
