@@ -8,6 +8,7 @@ import { kindWord, manWords } from './words.js';
 const FILES = 'abcdefgh';
 const KINDS = { p: 'pawn', n: 'knight', b: 'bishop', r: 'rook', q: 'queen', k: 'king' };
 const PROMOTIONS = 'qnrb';
+const WITH_A_PRESS = 500;            // milliseconds: a click so soon behind a press that has ended is of it
 const STEPS = { ArrowLeft: [0, -1], ArrowRight: [0, 1], ArrowUp: [-1, 0], ArrowDown: [1, 0] };
 
 export function pictureOf(letter) {
@@ -125,6 +126,10 @@ export class Board extends Picture {
     this.held = '';
     this.drag = null;
     this.at = 60;                      // the square that the keys are on
+    this.byPointer = false;            // whether a pointer brought the keys here: then arrows go through the moves
+    this.usesPointer = false;          // whether the last that was done was done by one
+    this.isPressed = false;
+    this.releasedAt = -Infinity;
     this.root.className = 'board';
     this.root.setAttribute('role', 'grid');
     this.root.setAttribute('aria-label', 'Board');
@@ -153,13 +158,20 @@ export class Board extends Picture {
     on('pointermove', (event) => this.carry(event));
     on('pointerup', (event) => this.drop(event));
     on('pointercancel', () => this.endDrag());
+    this.root.addEventListener('click', (event) => this.endPress(event), true);
+    on('click', (event) => this.click(event));
     on('keydown', (event) => this.key(event));
-    on('focusin', (event) => this.focused(event.target));
+    on('focusin', (event) => this.focused(event));
+    addEventListener('pointerdown', () => { this.usesPointer = true; }, true);
+    addEventListener('keydown', () => { this.usesPointer = false; }, true);
   }
 
   /** As of a picture, and `moves`: the legal moves, none where nobody moves here. */
   show(view) {
-    if (this.turned !== Boolean(view.turned)) this.endDrag();
+    if (this.turned !== Boolean(view.turned)) {
+      this.endDrag();
+      this.letGo();
+    }
     super.show(view);
     this.moves = new Map();
     for (const move of view.moves || []) {
@@ -226,12 +238,14 @@ export class Board extends Picture {
   }
 
   press(event) {
+    this.releasedAt = -Infinity;
     if (event.button !== 0 || event.target.closest('.promotion')) return;
     const wasPromoting = !this.promotion.hidden;
     this.closePromotion();
     const name = this.nameUnder(event);
     if (!name) return;
     event.preventDefault();
+    this.isPressed = true;
     this.walkTo(this.squares.indexOf(this.squareOf(name)), true);
     if (this.held && !wasPromoting && this.targets(this.held).includes(name)) {
       this.putDown(name);
@@ -242,6 +256,21 @@ export class Board extends Picture {
     } else {
       this.letGo();
     }
+  }
+
+  /** The click of a press is for nobody: a finger's would fall on what a pawn becomes, which the press has brought. */
+  endPress(event) {
+    if (event.timeStamp - this.releasedAt < WITH_A_PRESS) event.stopPropagation();
+    this.releasedAt = -Infinity;
+  }
+
+  /** A click that no pointer made, as assistive software does it: as Enter on that square. */
+  click(event) {
+    const index = this.squares.indexOf(event.target.closest('.square'));
+    if (index < 0) return;
+    if (!this.promotion.hidden) this.letGo();
+    this.walkTo(index);
+    this.enter(this.nameAt(index >> 3, index & 7));
   }
 
   carry(event) {
@@ -263,6 +292,8 @@ export class Board extends Picture {
 
   drop(event) {
     const drag = this.drag;
+    if (this.isPressed) this.releasedAt = event.timeStamp;
+    this.isPressed = false;
     if (!drag) return;
     const name = this.nameUnder(event);
     this.drag = null;
@@ -296,11 +327,14 @@ export class Board extends Picture {
       return;
     }
     const row = this.at >> 3, column = this.at & 7;
-    if (event.key in STEPS && !event.altKey && !event.ctrlKey && !event.metaKey) {
+    if (event.altKey || event.metaKey) return;
+    if (this.byPointer && (event.key in STEPS || event.key === 'Home' || event.key === 'End')) return;
+    if (event.key in STEPS && !event.ctrlKey) {
       const [down, right] = STEPS[event.key];
       this.walkTo(8 * Math.min(7, Math.max(0, row + down)) + Math.min(7, Math.max(0, column + right)));
     } else if (event.key === 'Home' || event.key === 'End') {
-      this.walkTo(8 * row + (event.key === 'Home' ? 0 : 7));
+      const start = event.key === 'Home', left = event.ctrlKey ? (start ? 0 : 56) : 8 * row;
+      this.walkTo(left + (start ? 0 : 7));
     } else if (event.key === 'Enter' || event.key === ' ') {
       this.enter(this.nameAt(row, column));
     } else if (event.key === 'Escape' && this.held) {
@@ -330,22 +364,27 @@ export class Board extends Picture {
     }
   }
 
+  /** The keys are on this square from now on; softly where a pointer brings them. */
   walkTo(index, softly = false) {
     this.at = index;
+    this.walking = true;
+    this.byPointer = softly;
     this.squares.forEach((square, place) => { square.tabIndex = place === index ? 0 : -1; });
     this.squares[index].focus({ preventScroll: softly, focusVisible: !softly });
+    this.walking = false;
   }
 
-  focused(target) {
-    const index = this.squares.indexOf(target);
-    if (index < 0 || index === this.at) return;
+  focused(event) {
+    const index = this.squares.indexOf(event.target);
+    if (index < 0 || this.walking) return;
+    if (event.relatedTarget) this.byPointer = false;         // (else the window has the keys again)
     this.at = index;
     this.squares.forEach((square, place) => { square.tabIndex = place === index ? 0 : -1; });
   }
 
   /** The keys go to the board: to the square where they were last. */
   focus() {
-    this.squares[this.at].focus();
+    this.walkTo(this.at, this.usesPointer);
   }
 
   // ---- what a pawn becomes
@@ -379,7 +418,7 @@ export class Board extends Picture {
 
   promotionKey(event) {
     const buttons = [...this.promotion.children], place = buttons.indexOf(document.activeElement);
-    const step = { ArrowDown: 1, ArrowRight: 1, ArrowUp: -1, ArrowLeft: -1 }[event.key];
+    const step = { ArrowDown: 1, ArrowRight: 1, ArrowUp: -1, ArrowLeft: -1, Tab: event.shiftKey ? -1 : 1 }[event.key];
     if (event.key === 'Escape') this.letGo();
     else if (step) buttons[(place + step + buttons.length) % buttons.length].focus();
     else return;
@@ -401,6 +440,8 @@ export class Board extends Picture {
       if (square.classList.contains('last')) words.push('last move');
       square.dataset.square = name;
       square.setAttribute('aria-label', words.join(', '));
+      if (name === this.held) square.setAttribute('aria-selected', 'true');
+      else square.removeAttribute('aria-selected');
       square.classList.toggle('held', name === this.held);
       square.classList.toggle('target', target && !man);
       square.classList.toggle('taking', target && Boolean(man));

@@ -6,10 +6,11 @@ import { clockText, clockWords } from './words.js';
 const LOW = 20000;
 
 export class Clock {
-  /** `fallen()` is called, once for each time that is set, when the time is over. */
-  constructor(root, fallen = () => {}) {
+  /** Of each time that is set: `fallen()` is called once, when it is over, and `lowered()` when it comes to be low. */
+  constructor(root, fallen = () => {}, lowered = () => {}) {
     this.root = root;
     this.fallen = fallen;
+    this.lowered = lowered;
     this.label = '';
     this.set({ left: 0, at: 0, running: false });
   }
@@ -18,6 +19,7 @@ export class Clock {
   set(told) {
     clearTimeout(this.timer);
     Object.assign(this, told, { called: false });
+    this.isAbove = this.now() >= LOW;
     this.tick();
   }
 
@@ -34,6 +36,10 @@ export class Clock {
     const words = `${this.label}: ${clockWords(left)}`;
     if (!this.running || left % 5000 < 1000) this.root.setAttribute('aria-label', words);
     if (!this.running) return;
+    if (this.isAbove && left < LOW) {
+      this.isAbove = false;
+      this.lowered();
+    }
     if (left <= 0) {
       if (!this.called) {
         this.called = true;

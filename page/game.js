@@ -16,18 +16,24 @@ const WHAT = {
   flag: 'call', drop: 'order', claim: 'claim',
 };
 
-/** Whether a game that stands as `now` shows an act whose answer was lost. */
+/** Whether a game that stands as `now` shows an act whose answer was lost (docs/PROTOCOL.md, "After a broken
+ * connection"), null where that cannot be told; `act` has what was sent, and the ply and the opponent's time of then. */
 const SHOWS = {
-  move: (now, act) => now.ply > act.ply,
+  move: (now, act, game) => game.wasMade(act),
   join: (now, act, game) => game.seat() !== '',
   offer: (now, act) => now.offer.includes(act.side),
   accept: (now) => now.article === '5.2.3',
   decline: (now, act) => !now.offer.includes(OTHER[act.side]),
-  resign: (now) => now.article === '5.1.2',
+  resign: (now, act) => now.article === '5.1.2' && now.result === (act.side === 'w' ? '0-1' : '1-0'),
   flag: (now) => now.article === '6.9',
-  drop: (now, act, game) => game.gone,
-  claim: (now, act) => ['9.2', '9.3'].includes(now.article) || now.offer.includes(act.side) || now.ply > act.ply,
+  drop: () => false,                 // (the game would not be there)
+  claim: (now, act, game) => {
+    if (now.ply > act.ply) return act.move ? game.wasMade(act) : null;
+    return now.article === '9.2' || now.article === '9.3' || now.left[OTHER[act.side]] >= act.left + PENALTY;
+  },
 };
+const TAKEN_OFF = 'This game was taken off the table.';
+const PENALTY = 120000;              // milliseconds that a wrong claim gives to the opponent
 
 export class GameView {
   /** app: {wire, me(), nameWords(name), go(route)}. */
@@ -41,7 +47,8 @@ export class GameView {
     this.players = { far: byId('far'), near: byId('near') };
     this.clocks = {};
     for (const place of ['far', 'near']) {
-      this.clocks[place] = new Clock(this.players[place].querySelector('.clock'), () => this.flagFell(place));
+      this.clocks[place] = new Clock(this.players[place].querySelector('.clock'), () => this.flagFell(place),
+        () => this.seat() === this.sideAt(place) && say('20 seconds left.'));
     }
     this.listen();
   }
@@ -59,7 +66,7 @@ export class GameView {
     on('resign', () => this.askResign());
     on('claim', () => this.askClaim());
     on('join', () => this.act('join'));
-    on('drop', () => this.act('drop'));
+    on('drop', () => this.askDrop());
     on('again', () => this.again());
     on('copy-invitation', () => this.invitationCopied());
     on('copy-fen', () => this.share('FEN', async () => this.fenShown()));
@@ -74,12 +81,14 @@ export class GameView {
       event.preventDefault();
       this.typed();
     });
+    byId('moves').addEventListener('keydown', (event) => this.walkMoves(event));
     addEventListener('resize', () => this.render());
     const agreed = (id, act) => byId(id).addEventListener('close', (event) => {
       if (event.target.returnValue === 'yes') act();
     });
     agreed('resign-dialog', () => this.act('resign'));
     agreed('claim-dialog', () => this.claim());
+    agreed('drop-dialog', () => this.act('drop'));
   }
 
   // ---- coming and going
@@ -88,7 +97,7 @@ export class GameView {
     if (number !== this.number) {
       this.close();
       Object.assign(this, { number, standing: null, line: [], tags: {}, gone: false });
-      Object.assign(this, { back: null, turned: null, unsure: null, pending: null });
+      Object.assign(this, { back: null, turned: null, unsure: null, pending: null, wasTaken: false });
       this.note('');
       this.suggest(null);
       byId('move-text').value = '';
@@ -102,6 +111,7 @@ export class GameView {
     this.number = 0;
     this.root.hidden = true;
     Object.values(this.clocks).forEach((clock) => clock.stop());
+    for (const what of ['claim', 'resign', 'drop']) byId(`${what}-dialog`).close();
   }
 
   /** The games that this view has to be told of. */
@@ -121,6 +131,7 @@ export class GameView {
     if (refusal) {
       this.gone = refusal.number === NO_GAME;
       this.note(refusalWords(refusal));
+      if (this.gone) this.settleUnsure(null);
       this.render();
       return;
     }
@@ -129,7 +140,7 @@ export class GameView {
     if (line) this.line = readLine(line.slice(1));
     const pgn = ours(await asked[2]);
     if (pgn) this.tags = readPgn(pgn.slice(1)).tags;
-    if (ours(watched)) this.settleUnsure();
+    if (ours(watched) && line) this.settleUnsure(this.standing);
     this.render();
   }
 
@@ -146,13 +157,16 @@ export class GameView {
     this.standing = standing && { ...standing, at: performance.now() };
     this.gone = !standing;
     if (standing && before && before.article !== standing.article) this.over();
+    if (!standing || standing.article || standing.ply !== this.claimAt) byId('claim-dialog').close();
+    if (!standing || standing.article) byId('resign-dialog').close();
   }
 
   /** A notice of this game: an act was accepted. */
   notice(by, sent, answer, standing) {
     this.stand(standing);
     if (!standing) {
-      this.note('The game was taken off the table.');
+      this.wasTaken = true;
+      say(TAKEN_OFF);
       this.render();
       return;
     }
@@ -167,7 +181,7 @@ export class GameView {
     const { from, to } = squaresOf(sent.split(' ').pop());
     const { ply, fen } = this.standing;
     if (found && Number(found[1]) === ply && this.line.length === ply && from) {
-      this.line.push({ san: found[2], from, to, fen });
+      this.line.push({ san: found[2], text: sent.split(' ').pop(), from, to, fen });
     } else if (this.line.length !== ply + 1) {
       this.askLine();
     }
@@ -191,7 +205,8 @@ export class GameView {
     else if (word === 'decline') this.news(own ? 'You have declined the draw.' : `${name} declines the draw.`);
     else if (/^ok claim \d+ wrong/.test(answer)) {
       this.news(own ? 'Your claim was wrong: your opponent has two minutes more, and your offer of a draw stands.'
-        : `${name} has claimed a draw wrongly: it stands as an offer, and the opponent has two minutes more.`);
+        : `${name} has claimed a draw wrongly: it stands as an offer, and ${this.seat() ? 'you have' : 'the opponent has'} `
+          + 'two minutes more.');
     } else if (moved && this.noteKind === 'news') this.note('');
   }
 
@@ -242,7 +257,7 @@ export class GameView {
   }
 
   move(move) {
-    this.send(`move ${this.number} ${this.standing.ply} ${move}`, { word: 'move', ply: this.standing.ply });
+    this.send(`move ${this.number} ${this.standing.ply} ${move}`, { word: 'move', move });
   }
 
   typed() {
@@ -269,7 +284,8 @@ export class GameView {
   /** Sends an act, one at a time. What is refused is told in words; what was lost is asked for. */
   async send(line, asked) {
     if (this.busy) return;
-    const number = this.number;
+    const number = this.number, side = this.seat(), { ply, left } = this.standing;
+    const act = { ...asked, side, ply, left: side && left[OTHER[side]] };
     this.note('');
     this.busy = true;
     this.render();
@@ -283,7 +299,7 @@ export class GameView {
       else this.note(refusalWords(refusal));
       if (refusal.number === WRONG_PLY || asked.word === 'flag') this.refresh();
     } else if (answer[0] === 'lost') {
-      this.unsure = { ...asked, side: this.seat() };
+      this.unsure = act;
       this.note('The connection broke before the answer came. Asking how the game stands …');
       this.refresh();
     } else if (answer[0] === 'unsent') {
@@ -304,17 +320,31 @@ export class GameView {
     }, 2000);
   }
 
-  /** After an answer that was lost: what the game shows of that act. */
-  settleUnsure() {
-    const unsure = this.unsure, now = this.standing;
-    if (!unsure || !now) return;
+  /** After an answer that was lost: what the game, as it stands now, shows of that act. */
+  settleUnsure(now) {
+    const unsure = this.unsure;
+    if (!unsure) return;
     this.unsure = null;
-    const what = WHAT[unsure.word];
-    if (SHOWS[unsure.word](now, unsure, this)) {
+    const what = WHAT[unsure.word], taken = now ? SHOWS[unsure.word](now, unsure, this) : unsure.word === 'drop';
+    if (taken) {
       this.news(`The connection broke, but your ${what} was taken.`);
-    } else if (!now.article) {
+    } else if (!now) {
+      this.note(refusalWords({ number: NO_GAME }));
+    } else if (now.article || unsure.word === 'flag') {
+      this.note('');
+    } else if (taken === null) {
+      this.note(`The connection broke before the answer to your ${what} came, and the game has gone on.`);
+    } else if (unsure.word === 'offer') {
+      this.note('The connection broke, and no offer of yours stands: it was not taken so far, or it was answered.');
+    } else {
       this.note(`The connection broke, and your ${what} has not been taken so far. Look, and do it again.`);
     }
+  }
+
+  /** Whether the move of an act is the one that was made at its ply. */
+  wasMade(act) {
+    const made = this.line[act.ply + 1], bare = (san) => san.replace(/[+#]$/, '');
+    return Boolean(made && act.move) && (made.text === act.move || bare(made.san) === bare(act.move));
   }
 
   askResign() {
@@ -322,8 +352,14 @@ export class GameView {
     byId('resign-dialog').showModal();
   }
 
+  askDrop() {
+    byId('drop-dialog').returnValue = '';
+    byId('drop-dialog').showModal();
+  }
+
   askClaim() {
     const dialog = byId('claim-dialog'), men = placementOf(this.standing.fen);
+    this.claimAt = this.standing.ply;
     const groups = new Map();
     for (const move of [...this.standing.moves].sort()) {
       const from = move.slice(0, 2), man = `${kindWord(men.get(from) || 'p')} ${from}`;
@@ -340,8 +376,8 @@ export class GameView {
 
   claim() {
     const form = byId('claim-form').elements, move = form.move.value;
-    const { ply } = this.standing;
-    this.send(`claim ${this.number} ${ply} ${form.kind.value}${move ? ' ' + move : ''}`, { word: 'claim', ply });
+    const line = `claim ${this.number} ${this.claimAt} ${form.kind.value}`;
+    this.send(move ? `${line} ${move}` : line, { word: 'claim', move });
   }
 
   /** The flag of a side fell on this page's clock: who plays calls it, and the server decides. */
@@ -404,6 +440,18 @@ export class GameView {
     setText(byId('where'), `Move ${place} of ${this.last()}${san ? ': ' + sanWords(san) : ', the start'}`);
   }
 
+  /** The keys at the list of moves: ← and → a move, ↑ and ↓ a move of each side, Home and End the first and last. */
+  walkMoves(event) {
+    if (event.altKey || event.ctrlKey || event.metaKey) return;
+    const step = { ArrowLeft: -1, ArrowRight: 1, ArrowUp: -2, ArrowDown: 2, Home: -Infinity, End: Infinity }[event.key];
+    if (!step) return;
+    event.preventDefault();
+    event.stopPropagation();
+    this.goTo(Math.max(1, Math.min(this.shown() + step, this.last())));
+    const current = byId('moves').querySelector('[aria-current]');
+    if (current) current.focus({ preventScroll: true });
+  }
+
   turn() {
     this.turned = !this.isTurned();
     this.render();
@@ -450,6 +498,7 @@ export class GameView {
     const standing = this.standing, focused = this.root.contains(document.activeElement) && document.activeElement;
     this.root.classList.toggle('empty', !standing || this.gone);
     byId('no-game').hidden = !this.gone;
+    setText(byId('no-game-words'), this.wasTaken ? TAKEN_OFF : refusalWords({ number: NO_GAME }));
     if (!standing || this.gone) return;
     drawPlayers(this);
     this.renderBoard();
@@ -457,8 +506,15 @@ export class GameView {
     drawActions(this);
     drawOutcome(this);
     drawFacts(this);
-    if (focused && !focused.getClientRects().length) this.board.focus();
+    if (document.activeElement === byId('main')) this.app.toHeading();
+    if (focused && !focused.getClientRects().length) this.keepFocus();
     this.app.titled(this.title());
+  }
+
+  /** What had the keys is not there any more. */
+  keepFocus() {
+    if (document.body.classList.contains('hall')) byId('main').focus();
+    else this.board.focus();
   }
 
   title() {

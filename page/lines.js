@@ -38,11 +38,11 @@ export function readRows(lines) {
     .map((f) => ({ number: Number(f[0]), white: seat(f[1]), black: seat(f[2]), ply: Number(f[3]), result: f[4] }));
 }
 
-/** The lines behind `ok line G K`: [{san, from, to, fen}], the start first. */
+/** The lines behind `ok line G K`: [{san, text, from, to, fen}], the start first; `text` is the move as squares. */
 export function readLine(lines) {
   return lines.map((line) => {
     const found = /^\d+ (\S+) (\S+) (.+)$/.exec(line);
-    return found && { san: found[1] === '-' ? '' : found[1], ...squaresOf(found[2]), fen: found[3] };
+    return found && { san: found[1] === '-' ? '' : found[1], text: found[2], ...squaresOf(found[2]), fen: found[3] };
   }).filter(Boolean);
 }
 

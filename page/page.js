@@ -20,6 +20,7 @@ class Page {
     this.watched = new Set();          // games that the lobby was asked, or is to be asked, to tell of
     this.held = new Set();             // of these, those of which it has said that it does
     this.token = read(session, 'token') || read(local, 'token') || '';
+    write(session, 'token', this.token || null);
     this.fromLink = false;
     this.takeLink(window.personalLink);
     delete window.personalLink;
@@ -48,6 +49,8 @@ class Page {
     byId('keep-it').addEventListener('click', () => this.keep(true));
     byId('keep-not').addEventListener('click', () => this.keep(false));
     byId('sign-out').addEventListener('click', () => this.signOut());
+    this.tabs = window.BroadcastChannel ? new BroadcastChannel('signed-out') : { postMessage: () => {} };
+    this.tabs.onmessage = (event) => event.data === this.token && this.signOut();
     byId('projector').addEventListener('click', () => this.go(`/hall/${this.game.number}`));
     byId('big-screen').addEventListener('click', () => wholeScreen());
     byId('link-form').addEventListener('submit', (event) => {
@@ -66,6 +69,9 @@ class Page {
     byId('letters').checked = read(local, 'letters') !== 'off';
     byId('sounds').addEventListener('change', (event) => setSound(event.target.checked));
     byId('sounds').checked = wantsSound();
+    // (else who scrolls over a number changes it)
+    const leave = (event) => event.target.matches('[type=number]:focus') && event.target.blur();
+    addEventListener('wheel', leave, { passive: true });
     this.renderTheme();
     document.addEventListener('pointerdown', (event) => this.closeWho(event.target));
     byId('who').addEventListener('keydown', (event) => event.key === 'Escape' && this.closeWho(null));
@@ -162,8 +168,10 @@ class Page {
     for (const other of [this.table, this.game, this.hall]) {
       if (other !== view && !other.root.hidden) other.close();
     }
+    const isOther = this.view && (this.view !== view || number && number !== this.game.number);
     this.view = view;
     view.open(number);
+    if (isOther) this.toHeading();
     this.leaveLater();
     this.atTable();
     byId('invited').hidden = true;
@@ -224,8 +232,8 @@ class Page {
     if (token !== this.token) return;
     if (found) {
       this.player = { name: found[1], role: found[2], full: found[3] || found[1] };
-      if (read(local, 'token') !== token) write(local, 'token', null);
-      byId('linked').hidden = !this.fromLink || Boolean(read(local, 'token'));
+      if (this.fromLink && read(local, 'token') !== token) write(local, 'token', null);
+      byId('linked').hidden = !this.fromLink || read(local, 'token') === token;
       this.fromLink = false;
       this.tell('');
     } else if (refusal && refusal.number === BAD_TOKEN) {
@@ -243,7 +251,7 @@ class Page {
     this.forget();
     if (kept && kept !== token) {
       this.token = kept;
-      write(local, 'token', kept);
+      write(session, 'token', kept);
       this.login();
     }
     this.renderWho();
@@ -314,22 +322,24 @@ class Page {
     return true;
   }
 
+  /** Whether this browser keeps the token, too; this tab has it as long as it is open. */
   keep(lasting) {
     byId('linked').hidden = true;
-    write(lasting ? local : session, 'token', this.token);
-    write(lasting ? session : local, 'token', null);
+    write(local, 'token', lasting ? this.token : null);
     this.renderWho();
   }
 
   forget() {
+    write(session, 'token', null);
+    if (read(local, 'token') === this.token) write(local, 'token', null);
     this.token = '';
     this.player = null;
-    write(session, 'token', null);
-    write(local, 'token', null);
     byId('linked').hidden = true;
   }
 
+  /** Here, and in every tab that acts for the same player. */
   signOut() {
+    if (this.token) this.tabs.postMessage(this.token);
     this.forget();
     byId('who').open = false;
     this.wire.renew();
@@ -341,7 +351,7 @@ class Page {
     setText(byId('who-name'), player ? player.full : 'Watching');
     byId('signed-in').hidden = !player;
     byId('signed-out').hidden = Boolean(player);
-    byId('keep').checked = Boolean(read(local, 'token'));
+    byId('keep').checked = Boolean(this.token) && read(local, 'token') === this.token;
     if (player) setText(byId('who-words'), `${player.full} (${player.name}), ${player.role}`);
   }
 
@@ -367,6 +377,13 @@ class Page {
     if (!act || event.key.length === 1 && !byId('letters').checked) return;
     event.preventDefault();
     act();
+  }
+
+  /** Who comes to another view by keys or listening begins at its heading. */
+  toHeading() {
+    const at = document.activeElement, heading = this.view.root.querySelector('h1');
+    if (at && at !== document.body && at !== byId('main') && at.getClientRects().length) return;
+    (heading.getClientRects().length ? heading : byId('main')).focus({ preventScroll: true });
   }
 
   toContent() {

@@ -26,26 +26,12 @@ export function drawPlayers(game) {
 
 export function drawMoves(game) {
   const list = byId('moves'), shown = game.shown();
-  const start = game.line[0] ? game.line[0].fen : '', first = Number(start.split(' ')[5] || 1);
-  const shift = game.startSide() === 'b' ? 1 : 0;
-  const key = `${game.number} ${game.line.length} ${game.last() ? game.line[game.last()].fen : ''} ${start}`;
-  if (list.dataset.key !== key) {
-    list.dataset.key = key;
-    const rows = [];
-    for (let ply = 1; ply <= game.last(); ply += 1) {
-      const place = ply - 1 + shift;
-      if (place % 2 === 0 || ply === 1) {
-        const number = first + Math.floor(place / 2);
-        rows.push(make('li', {}, make('span', { class: 'number', 'aria-hidden': 'true' }, String(number)),
-          place % 2 === 1 ? make('span', { class: 'ply none' }, '…') : ''));
-      }
-      rows[rows.length - 1].append(moveButton(game, ply, first + Math.floor(place / 2), place % 2));
-    }
-    list.replaceChildren(...rows);
-  }
+  addMoves(list, game);
   list.querySelectorAll('button').forEach((button) => {
-    if (Number(button.dataset.ply) === shown) button.setAttribute('aria-current', 'true');
+    const ply = Number(button.dataset.ply);
+    if (ply === shown) button.setAttribute('aria-current', 'true');
     else button.removeAttribute('aria-current');
+    button.tabIndex = ply === Math.max(1, shown) ? 0 : -1;
   });
   const current = list.querySelector('[aria-current]');
   if (current) keepInSight(list, current);
@@ -54,6 +40,28 @@ export function drawMoves(game) {
   byId('last-move').disabled = byId('next-move').disabled = game.back === null;
   byId('last-move').classList.toggle('news', game.back !== null);
   setText(byId('last-san'), game.last() ? lastWords(game) : '');
+}
+
+/** Puts the moves behind those that are there already, which stay: who is at one of them stays there. */
+function addMoves(list, game) {
+  const start = game.line[0] ? game.line[0].fen : '', key = `${game.number} ${start}`;
+  const shift = game.startSide() === 'b' ? 1 : 0, first = Number(start.split(' ')[5] || 1);
+  const shown = list.querySelectorAll('button');
+  let next = 1;
+  while (next <= shown.length && next <= game.last() && shown[next - 1].textContent === game.line[next].san) next += 1;
+  if (list.dataset.key !== key || next <= shown.length) {
+    list.dataset.key = key;
+    list.replaceChildren();
+    next = 1;
+  }
+  for (let ply = next; ply <= game.last(); ply += 1) {
+    const place = ply - 1 + shift, number = first + Math.floor(place / 2);
+    if (place % 2 === 0 || ply === 1) {
+      list.append(make('li', {}, make('span', { class: 'number', 'aria-hidden': 'true' }, String(number)),
+        place % 2 === 1 ? make('span', { class: 'ply none' }, '…') : ''));
+    }
+    list.lastElementChild.append(moveButton(game, ply, number, place % 2));
+  }
 }
 
 function lastWords(game) {

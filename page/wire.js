@@ -6,9 +6,10 @@ import { linesOf } from './lines.js';
 const PAUSES = [400, 1000, 2000, 4000, 8000, 15000];
 const MOST_A_SECOND = 15;            // the lobby takes 20
 const MOST_QUIETLY = 6;              // of these for what nobody waits for
-const MOST_WAITING = 24;             // the lobby holds 64
+const MOST_WAITING = 24;             // the lobby takes the next once it has answered one
 const ANSWER_WITHIN = 12000;
 const SILENCE = 25000;
+const PROBE = 'leave 0';             // answered by the lobby alone: shows that the line still stands
 const STOOD = 5000;                  // a connection that stood so long begins the pauses anew
 
 /** What `say` answers where no answer came: `lost` where the line had gone out, `unsent` where it had not. */
@@ -29,6 +30,7 @@ export class Wire {
     this.pump = this.pump.bind(this);
     setInterval(() => this.watchdog(), 2000);
     addEventListener('online', () => this.retry());
+    addEventListener('offline', () => this.say(PROBE, true));
     document.addEventListener('visibilitychange', () => document.hidden || this.retry());
     this.connect();
   }
@@ -143,7 +145,7 @@ export class Wire {
     if (late || unopened) {
       this.ended();
     } else if (this.state.open && !document.hidden && this.waiting.length === 0 && now - this.heardAt > SILENCE) {
-      this.say('leave 0', true);       // answered by the lobby alone; shows that the line still stands
+      this.say(PROBE, true);
     }
   }
 

@@ -30,7 +30,7 @@ const REFUSALS = {
   32: 'This personal link is not known here. Ask your arbiter for a new one.',
   33: 'Only an arbiter takes a game off the table.',
   34: 'That was too much within a second. Nothing was sent; try again.',
-  35: 'Eight of your games wait for an opponent already. Wait until one of them is joined.',
+  35: 'Sixteen of your games wait for an opponent already. Wait until one is joined, or ask an arbiter to take one off.',
   36: 'The lobby has no connection to the game server at the moment. Nothing was done; try again soon.',
   37: 'This page watches sixteen games already.',
 };

@@ -11,7 +11,7 @@ from selenium.webdriver.common.action_chains import ActionChains
 from selenium.webdriver.common.by import By
 from selenium.webdriver.common.keys import Keys
 
-PATIENCE = 12
+PATIENCE = 20
 # What the page sends is written down before the socket takes it, and what stands behind # when the body begins.
 SPY = '''new MutationObserver((_, watch) => {
   if (document.body) { window.hashAtBody = location.hash; watch.disconnect(); } }).observe(document, {childList: true,
@@ -182,11 +182,35 @@ class Person:
         start, end = self.square(move[:2]), self.square(move[2:4])
         self.actions().move_to_element(start).click_and_hold().move_to_element(end).release().perform()
 
+    def touch(self, *squares):
+        """A finger goes down on the first square, over the others, and up at the last."""
+        points = []
+        for name in squares:
+            box = self.run('return arguments[0].getBoundingClientRect().toJSON()', self.square(name))
+            points.append({'x': box['x'] + box['width'] / 2, 'y': box['y'] + box['height'] / 2})
+        self.cdp('Input.dispatchTouchEvent', type='touchStart', touchPoints=points[:1])
+        for point in points[1:]:
+            self.cdp('Input.dispatchTouchEvent', type='touchMove', touchPoints=[point])
+        self.cdp('Input.dispatchTouchEvent', type='touchEnd', touchPoints=[])
+
     def keys(self, *keys):
         chain = self.actions()
         for key in keys:
             chain = chain.send_keys(key)
         chain.perform()
+
+    def tab_to(self, css, most=90):
+        """Tab until this has the keys."""
+        for _ in range(most):
+            if self.run('return document.activeElement.matches(arguments[0])', css):
+                return self.checked('Tab comes to ' + css)
+            self.keys(Keys.TAB)
+        raise Wrong('%s: Tab does not come to %s' % (self.name, css))
+
+    def heard(self):
+        """What a screen reader finds: roles with their names, in order."""
+        nodes = self.cdp('Accessibility.getFullAXTree')['nodes']
+        return [(node['role']['value'], node.get('name', {}).get('value', '')) for node in nodes if not node['ignored']]
 
     def walk(self, start, end):
         """Arrow keys over the board, which White sees from below."""

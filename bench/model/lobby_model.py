@@ -6,7 +6,7 @@ files of page/ with the policy header. The game server behind it is the model of
 
 FILE of the players has lines `NAME ROLE TOKEN FULL NAME`. The journal keeps `MOMENT WHO LINE` of each entry, so that a
 lobby that was killed comes back with its games. It prints its address once it listens. With --control it reads words
-from its standard input, so that a test can bring about what goes wrong:
+from its standard input, and answers each by `ok` once it holds, so that a test can bring about what goes wrong:
 
     gone     the connection to the server breaks: browsers are told, lines are refused by 36
     here     it stands again
@@ -319,6 +319,7 @@ async def listen(given):
             await asyncio.get_running_loop().connect_read_pipe(lambda: asyncio.StreamReaderProtocol(words), sys.stdin)
             while line := await words.readline():
                 lobby.control(line.decode().strip())
+                print('ok', flush=True)
         else:
             await asyncio.Future()
 

@@ -178,7 +178,8 @@ class Programs:
         elif word == 'here':
             if self.server.process.poll() is not None:
                 self.server.start()
-            self.relay.listen(self.relay.port)
+            if self.relay.door.fileno() < 0:
+                self.relay.listen(self.relay.port)
         elif word in ('lose', 'drop'):
             self.relay.fault = word
         elif word == 'silent':

@@ -7,8 +7,6 @@ mod lines;
 mod moves;
 mod rounds;
 mod tags;
-#[cfg(test)]
-mod tests;
 mod whole;
 
 pub use heading::Heading;

@@ -4,8 +4,6 @@
 mod answer;
 mod board_loop;
 mod line;
-#[cfg(test)]
-mod tests;
 
 pub use board_loop::{BoardFault, board};
 pub use line_loop::{LineSource, ReaderSource};

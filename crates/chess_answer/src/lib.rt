@@ -12,6 +12,3 @@ pub use fields::AnswerLine;
 pub use laws::law_of_coming;
 pub use reads::{Reply, fen_line, list_line, pgn_reply, show_line, write_row};
 pub use refusals::refusal_line;
-
-#[cfg(test)]
-mod tests;

@@ -9,6 +9,3 @@ mod tables;
 pub use rays::ray;
 pub use slides::{bishop, queen, rook};
 pub use steps::{king, knight, pawn};
-
-#[cfg(test)]
-mod tests;

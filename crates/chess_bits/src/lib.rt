@@ -10,6 +10,3 @@ pub use bit_set::{Bits, SquaresOf};
 pub use coordinates::Square;
 pub use men::{Colour, Kind};
 pub use steps::Step;
-
-#[cfg(test)]
-mod tests;

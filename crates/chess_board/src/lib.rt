@@ -17,6 +17,3 @@ pub use castling::{
 pub use men::Men;
 pub use moves::Move;
 pub use parts::{BadBoard, INITIAL, Parts};
-
-#[cfg(test)]
-mod tests;

@@ -10,6 +10,3 @@ pub use after::{after_move, claim_fifty, claim_three};
 pub use ending::{Article, Ending, GameResult};
 pub use flag::flag_result;
 pub use material::is_listed_dead;
-
-#[cfg(test)]
-mod tests;

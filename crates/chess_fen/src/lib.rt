@@ -7,8 +7,6 @@ mod letters;
 mod reading;
 mod shown;
 mod squares;
-#[cfg(test)]
-mod tests;
 
 pub use fen::{Text, fen_write, push};
 pub use fields::FenError;

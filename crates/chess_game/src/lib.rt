@@ -10,8 +10,3 @@ mod stored;
 
 pub use games::{Game, Times};
 pub use lines::is_finished;
-
-#[cfg(test)]
-mod snapshot_tests;
-#[cfg(test)]
-mod tests;

@@ -10,6 +10,3 @@ pub use chess_sessions::Sid;
 pub use fault::HubFault;
 pub use hub::Hub;
 pub use laws::law_of_sessions;
-
-#[cfg(test)]
-mod tests;

@@ -6,6 +6,3 @@ mod fields;
 mod lines;
 
 pub use lines::{Line, parse};
-
-#[cfg(test)]
-mod tests;

@@ -1,62 +1,9 @@
 //! The word that puts a player into a players' file.
-use crate::command_line::Adding;
 use anyhow::{Context, Result};
+use lobby_commands::Adding;
 use lobby_players::{Addition, added, link_text, new_token};
-use std::alloc::Global;
-use std::fs::{OpenOptions, Permissions};
-use std::io::Write;
-use std::os::unix::fs::{OpenOptionsExt, PermissionsExt};
 use std::random::RandomSource;
 use std::rt::Files;
-use std::{fs, io};
-
-// Who may read and write a new players' file: its owner.
-const OWNERS_MODE: u32 = 0o600;
-
-// The bytes of a players' file; none where there is no file.
-fn text_of<R: Files + AllocGlobal>(rt: &R, file: &str) -> io::Result<Vec<u8>> {
-    match fs::read(rt, file) {
-        Ok(text) => Ok(text),
-        Err(error) if error.kind() == io::ErrorKind::NotFound => Ok(Vec::new(rt.alloc())),
-        Err(error) => Err(error),
-    }
-}
-
-// Who may read and write a file; where there is none, who may a new one.
-fn permissions_of<R: Files>(rt: &R, file: &str) -> io::Result<Permissions> {
-    match fs::metadata(rt, file) {
-        Ok(found) => Ok(found.permissions()),
-        Err(error) if error.kind() == io::ErrorKind::NotFound => {
-            Ok(Permissions::from_mode(OWNERS_MODE))
-        }
-        Err(error) => Err(error),
-    }
-}
-
-// Writes a file that its owner alone may read until it is whole, and then those of `permissions`.
-fn write_new<R: Files>(rt: &R, file: &str, permissions: Permissions, text: &str) -> io::Result<()> {
-    let mut options = OpenOptions::new();
-    options
-        .write(true)
-        .create(true)
-        .truncate(true)
-        .mode(OWNERS_MODE);
-    let mut new = options.open(rt, file)?;
-    // One that a stop has left behind has another's bits.
-    fs::set_permissions(rt, file, Permissions::from_mode(OWNERS_MODE))?;
-    new.write_all(text.as_bytes())?;
-    fs::set_permissions(rt, file, permissions)
-}
-
-// Puts a text in the place of a file's, at once, for those who may read and write it as before: a stop in the middle leaves
-// the file as it was.
-pub(crate) fn put<R: Files>(rt: &R, alloc: Global, file: &str, text: &str) -> Result<()> {
-    let permissions = permissions_of(rt, file)?;
-    let new = format!(in alloc; "{file}.new")?;
-    write_new(rt, new.as_str(), permissions, text)?;
-    fs::rename(rt, new.as_str(), file)?;
-    Ok(())
-}
 
 /// Puts a player into a players' file, and prints the personal link.
 pub fn add_player<R>(rt: &R, adding: &Adding<'_>) -> Result<()>
@@ -64,7 +11,7 @@ where
     R: Files + AllocGlobal + Print + RandomSource,
 {
     let file = adding.players;
-    let text = text_of(rt, file).context(format_args!("reading {file}"))?;
+    let text = players_file::read(rt, file).context(format_args!("reading {file}"))?;
     let token = new_token(rt)?;
     let who = Addition {
         name: adding.name,
@@ -73,7 +20,7 @@ where
     };
     let new = added(rt.alloc(), text.as_slice(), &who, &token)?;
     let link = link_text(rt.alloc(), adding.page, &token)?;
-    put(rt, rt.alloc(), file, new.as_str()).context(format_args!("writing {file}"))?;
+    players_file::put(rt, rt.alloc(), file, new.as_str()).context(format_args!("writing {file}"))?;
     println!(rt; "{link}")?;
     Ok(())
 }

@@ -3,16 +3,13 @@
 
 mod adding;
 mod clock;
-mod command_line;
 mod page;
 mod serving;
-#[cfg(test)]
-mod tests;
 
 use adding::add_player;
 use anyhow::Result;
 use clap::Error;
-use command_line::{Word, read_words, words_given};
+use lobby_commands::{Word, read_words, words_given};
 use serving::serve;
 use std::process::ExitCode;
 

@@ -1,8 +1,8 @@
 //! The word that serves browsers.
 use crate::clock::Moments;
-use crate::command_line::Serving;
 use crate::page::{is_loopback, site_of};
 use anyhow::{Context, Result};
+use lobby_commands::Serving;
 use lobby_desk::Player;
 use lobby_loop::{Entrance, Lobby};
 use std::fs;

@@ -18,6 +18,3 @@ pub use counting::count_moves;
 pub use legality::{after_legal, legal};
 pub use listing::{has_legal, legal_moves, relist_legal_moves};
 pub use promotions::Moves;
-
-#[cfg(test)]
-mod tests;

@@ -7,6 +7,3 @@ mod telling;
 
 pub use coordinates::{coordinate, square_named};
 pub use telling::{Line, Origin, Threat};
-
-#[cfg(test)]
-mod tests;

@@ -6,6 +6,7 @@ ghost use Rattle.chess_repeat.specs.QuietRun.{quiet_run};
 ghost use Rattle.chess_repeat.specs.History.{count_in, IsHistoryOf};
 
 use crate::keys::{key, key_from};
+use crate::whole_keys::WholeKey;
 use chess_board::Board;
 use indexmap::IndexMap;
 use std::alloc::{AllocError, Global};
@@ -16,7 +17,7 @@ use std::marker::Model;
 #[derive(Drop)]
 pub struct History {
     clocks: Vec<u16>,
-    counts: IndexMap<[u8; 34], u32>,
+    counts: IndexMap<WholeKey, u32>,
     last: Board,
     key: [u8; 34],
 }
@@ -43,7 +44,7 @@ impl History {
         clocks.push(board.halfmove())?;
         let mut counts = IndexMap::new(alloc);
         let key = key(board);
-        counts.insert(key, 1)?;
+        counts.insert(WholeKey::new(key), 1)?;
         Ok(History {
             clocks,
             counts,
@@ -73,9 +74,10 @@ impl History {
     {
         let _valid = board.rights();
         let key = key_from(&self.last, &self.key, board);
-        let count = self.count(&key);
+        let whole = WholeKey::new(key);
+        let count = self.count(&whole);
         self.clocks.reserve(1)?;
-        self.counts.insert(key, count + 1)?;
+        self.counts.insert(whole, count + 1)?;
         self.clocks.push(board.halfmove()).unwrap();
         self.last = *board;
         self.key = key;
@@ -89,7 +91,7 @@ impl History {
         ensures times { (list : List Position) → IsHistoryOf self.now list → IsTimes board.now list result }
     {
         let _valid = board.rights();
-        self.count(&key_from(&self.last, &self.key, board))
+        self.count(&WholeKey::new(key_from(&self.last, &self.key, board)))
     }
 
     /// The quiet run: the halfmove clock of the last position, 0 to 65,535 (FIDE articles 9.3 and 9.6.2).
@@ -101,7 +103,7 @@ impl History {
     }
 
     // How often a key stood.
-    fn count(&self, key: &[u8; 34]) -> u32
+    fn count(&self, key: &WholeKey) -> u32
         ensures { result ≡ count_in self.now.counts key.now }
     {
         self.counts.get(key).copied().unwrap_or(0)

@@ -3,9 +3,7 @@
 
 mod histories;
 mod keys;
+mod whole_keys;
 
 pub use histories::History;
 pub use keys::{is_same, key};
-
-#[cfg(test)]
-mod tests;

@@ -10,6 +10,3 @@ mod writing;
 pub use reading::read;
 pub use threat::rewound;
 pub use writing::{write, write_made};
-
-#[cfg(test)]
-mod tests;

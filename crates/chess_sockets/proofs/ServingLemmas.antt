@@ -12,7 +12,8 @@ use Rattle.client_streams.specs.declared.client.Client.{Client}
 use Rattle.client_streams.specs.declared.door.Door.{Door}
 use Rattle.client_streams.specs.Rounds as rounds
 use Rattle.client_streams.specs.Rounds.{AreEach, IsSent, AreGivenTo, IsGivenOut, IsRead, IsWritten, intake, Holds}
-use Rattle.chess_sockets.specs.Serving.{state_of, LeadsOn, IsLedBy, IsOfReading, IsOfWriting, AreRead, AreWritten, Welcomes, AreCounted, IsWelcomed}
+use Rattle.chess_sockets.specs.Serving.{state_of, LeadsOn, IsLedBy, IsOfReading, IsOfWriting, AreRead, AreWritten, Welcomes, AreCounted, IsWelcomed, IsAskedFor}
+use Rattle.chess_sockets.specs.declared.server.Rested.{Rested}
 
 -- ---- calls
 
@@ -92,9 +93,9 @@ module _ (table : TableState) where
 
   pub are_read : {S : Type 0} (remaining : S → Option (List ℕ)) (silence : Option ℕ) (at : ℕ) (clients read : List (Client S)) (a b : Sessions) →
       rounds.AreRead remaining silence at clients read a b → AreRead remaining silence at clients read (over a) (over b)
-  are_read remaining silence at clients read a b (left, each) = record {
-    each = (left, each);
-    calls = each_led IsOfReading (λ i. over i.sessions) Holds (IsRead remaining silence at)
+  are_read remaining silence at clients read a b (left, longest, is, each) = record {
+    each = (left, longest, is, each);
+    calls = each_led IsOfReading (λ i. over i.sessions) Holds (IsRead remaining silence at longest)
         (λ i j h. stays_over i.sessions j.sessions h.0)
         (λ client after i j done. sent_led client.sid done.fed i.sessions j.sessions done.sent)
         clients read (intake a 1) (intake b left) each;
@@ -196,3 +197,13 @@ module _ {C S : Type 0} (IsMade : C → S → Type 0) (at : ℕ) where
   welcomed_on given door next n counted after clients asked s t same is w =
       subst (λ (d : Door). IsWelcomed IsMade at given d.given n after clients asked s t) (sym same)
       (subst (λ (x : ℕ). IsWelcomed IsMade at given door.given n x clients asked s t) (sym is) w)
+
+-- ---- who is asked for
+
+-- said of the rest and the listener from before, and of the listener as it is left
+pub asked_there : (rested was : Rested) (old first new last : Door) → rested ≡ was → old ≡ first → last ≡ new →
+    IsAskedFor rested old new → IsAskedFor was first last
+asked_there rested was old first new last same is left asks =
+    subst (λ (r : Rested). IsAskedFor r first last) same
+    (subst (λ (d : Door). IsAskedFor rested d last) is
+    (subst (λ (d : Door). IsAskedFor rested old d) (sym left) asks))

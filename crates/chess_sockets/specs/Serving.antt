@@ -9,7 +9,12 @@ use Rattle.chess_sessions.specs.Session.{session_at}
 use Rattle.chess_hub.specs.Calls.{Call, Connected, Closed, Fed, Turned, Given}
 use Rattle.chess_hub.specs.Law.{HubState, Steps, Stays}
 use Rattle.chess_hub.specs.Turning.{AsksFor}
+use Rattle.chess_sockets.specs.declared.server.Rested.{Rested}
+use Rattle.chess_sockets.specs.declared.server.Rested.TheVariants.{Calm}
 use Rattle.client_streams.specs.declared.client.Client.{Client}
+use Rattle.client_streams.specs.declared.door.Door.{Door}
+use Rattle.client_streams.specs.declared.door.Found.TheVariants.{Nobody}
+use Rattle.client_streams.specs.Doors.{IsAsked}
 use Rattle.client_streams.specs.Closings.{IsSound}
 use Rattle.client_streams.specs.Incoming.{held}
 use Rattle.client_streams.specs.Rounds as rounds
@@ -108,6 +113,12 @@ pub record IsWelcomed {C S : Type 0} (IsMade : C → S → Type 0) (at given giv
     (clients after : List (Client S)) (old new : HubState) : Type 0 where
   pub welcomes : Welcomes IsMade at clients after old new
   pub counts : AreCounted welcomes.came given gives count counted
+
+-- After rests of this kind, or none, the listener is asked for a connection; but not where they were calm and its last try
+-- had found that nobody waits, for then it is left alone.
+pub record IsAskedFor (rested : Rested) (old new : Door) : Type 0 where
+  pub asked : ((rested ≡ Calm) × (old.found ≡ Nobody) → ⊥) → IsAsked old.tries new.tries
+  pub alone : (rested ≡ Calm) × (old.found ≡ Nobody) → new ≡ old
 
 -- Each client is read for, and then the hub answers at most 64 lines of what the sessions had sent by then, as one batch
 -- at this moment, which the store may be asked for.

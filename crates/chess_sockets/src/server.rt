@@ -4,7 +4,7 @@ ghost use Rattle.std.specs.Bool.{OnTrue, OnFalse};
 ghost use Rattle.table_commits.specs.Means.{IsKept};
 ghost use Rattle.chess_hub.specs.Faults.{CountsFault, refusals_after};
 ghost use Rattle.chess_hub.specs.Turning.{MayBeAsked, Lasts, IsTried};
-ghost use Rattle.chess_sockets.specs.Serving.{state_of, Welcomes, IsWelcomed, HasServed, HasGoneRound, open_in};
+ghost use Rattle.chess_sockets.specs.Serving.{state_of, Welcomes, IsWelcomed, IsAskedFor, HasServed, HasGoneRound, open_in};
 ghost use Rattle.chess_sockets.specs.Turns.{EndsServing, IsRefusal, IsTurnRefusal};
 
 use chess_hub::{Hub, HubFault};
@@ -197,6 +197,7 @@ impl<D: Device, S: Read + Write + From<TcpStream> + Drop> Server<D, S> {
         ensures port { self.new.port ≡ self.old.port }
         ensures silence { self.new.silence ≡ self.old.silence }
         ensures waits { self.new.watch.calm_waits ≡ self.old.watch.calm_waits }
+        ensures door { self.new.door ≡ self.old.door }
     {
         if !self.admit(stream, at) {
             self.turned_away = self.turned_away.saturating_add(1);
@@ -206,6 +207,9 @@ impl<D: Device, S: Read + Write + From<TcpStream> + Drop> Server<D, S> {
     // Accepts at most one connection, and tells whether one came; after calm rests none, unless one may wait. One that came
     // and is no client is counted. What fails at it ends nothing, and is no turn's work, so that a rest comes before the next.
     fn welcome(&mut self, at: u64) -> bool
+        ensures asked { IsAskedFor self.old.rested self.old.door self.new.door }
+        ensures came { OnTrue result (self.new.door.given ≡ self.old.door.given + 1) }
+        ensures nobody { OnFalse result (self.new.door.given ≡ self.old.door.given) }
         ensures welcomes { IsWelcomed S.from_gives at self.old.door.given self.new.door.given self.old.turned_away
             self.new.turned_away self.old.clients.items self.new.clients.items
             (state_of self.old.hub.sessions self.old.hub.store.table)
@@ -268,6 +272,9 @@ impl<D: Device, S: Read + Write + From<TcpStream> + Drop> Server<D, S> {
             self.old.hub.store.failed self.new.hub.store.failed) }
         ensures cause_err { IfErr result (λ fault. CountsFault fault
             (D.failures self.old.hub.store.journal.device) (D.failures self.new.hub.store.journal.device)) }
+        // Whoever may wait is asked for, in each turn, and what comes is work.
+        ensures asked { IsAskedFor self.old.rested self.old.door self.new.door }
+        ensures came { IfOk result (λ turned. turned ≡ Turned.Idle → self.new.door.given ≡ self.old.door.given) }
         // The next turn reads for every client, unless a rest comes first.
         ensures again { OnOk result (self.new.rested ≡ Rested.Not) }
         // Each session hears what its client's stream gave, and what it is given goes to that stream, whatever the streams

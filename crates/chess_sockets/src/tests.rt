@@ -1,6 +1,8 @@
 //! Clients over connections that give and take little, or fail.
 mod memory;
 
+ghost use Rattle.std.specs.Io.{ReadsAtMost};
+
 use crate::server::serve_clients;
 use chess_hub::Hub;
 use chess_store::Store;
@@ -18,6 +20,8 @@ use std::process::Abort;
 #[derive(Clone, Copy)]
 enum Gives {
     Text(&'static str),
+    /// As many bytes as a read takes: sixteen lines of 255 `x`.
+    Most,
     Nothing,
     End,
     Reset,
@@ -36,6 +40,9 @@ enum Takes {
     Fails(usize),
 }
 
+/// So many bytes a read takes.
+const MOST: usize = 4_096;
+
 /// What a slow connection takes at a write.
 const SLOW: usize = 7;
 
@@ -49,16 +56,34 @@ struct Peer {
     written: Vec<u8>,
 }
 
+// Sixteen lines of 255 `x`.
+fn sixteen() -> [u8; MOST] {
+    let mut lines = [b'x'; MOST];
+    for line in 0..16 {
+        lines[line * 256 + 255] = b'\n';
+    }
+    lines
+}
+
+// Reads a text, where there is room for it.
+fn give(text: &[u8], buf: &mut [u8]) -> io::Result<usize>
+    ensures { ReadsAtMost result buf.new }
+{
+    if text.len() > buf.len() {
+        return Ok(0);
+    }
+    buf[..text.len()].copy_from_slice(text);
+    Ok(text.len())
+}
+
 impl Read for Peer {
     fn read(&mut self, buf: &mut [u8]) -> io::Result<usize> {
         let last = self.gives.len().saturating_sub(1);
         let place = if self.reads < last { self.reads } else { last };
         self.reads = self.reads.saturating_add(1);
         match self.gives.get(place) {
-            Some(Gives::Text(text)) if text.len() <= buf.len() => {
-                buf[..text.len()].copy_from_slice(text.as_bytes());
-                Ok(text.len())
-            }
+            Some(Gives::Text(text)) => give(text.as_bytes(), buf),
+            Some(Gives::Most) => give(&sixteen(), buf),
             Some(Gives::Nothing) => Err(Error::from(ErrorKind::WouldBlock)),
             Some(Gives::Reset) => Err(Error::from(ErrorKind::ConnectionReset)),
             _ => Ok(0),
@@ -266,6 +291,8 @@ xxxxxxxxxxxxxxxxxxxxxxxxxxxxxxxxxxxxxxxxxxxxxxxxxxxxxxxxxxxxxxxxxxxxxxxxxxxxxxxx
 
 const BYE: &str = "bye LineTooLong\n";
 
+const BAD_LINE: &str = "no 1 BadLine\n";
+
 #[test]
 fn answers_go_in_pieces(rt: HostRuntime) {
     let alloc = rt.alloc();
@@ -289,8 +316,18 @@ fn broken_connections_are_closed(rt: HostRuntime) {
     );
     let failed = made(alloc, ONE, Takes::Fails(4));
     assert_eq!(rt;
-        play(alloc, failed, NAMED, 1, None),
-        left(false, None, 1, 1)
+        play(alloc, failed, NAMED, 5, None),
+        left(false, None, 1, 5)
+    );
+}
+
+#[test]
+fn the_longest_lines_are_answered(rt: HostRuntime) {
+    let alloc = rt.alloc();
+    let sends = &[Gives::Most, Gives::Nothing];
+    assert_eq!(rt;
+        play(alloc, made(alloc, sends, Takes::All), BAD_LINE, 3, None),
+        left(true, Some(16), 3, 3)
     );
 }
 
@@ -469,11 +506,11 @@ fn lists_are_answered_one_a_turn(rt: HostRuntime) {
     );
 }
 
-// The fewest and the most answers of nine clients who ask for the list again and again.
+// The fewest and the most answers of 64 clients who ask for the list again and again.
 fn flood(alloc: Global, count: u64) -> Option<(usize, usize)> {
     let mut hub = hub(alloc)?;
     let mut clients = Vec::new(alloc);
-    for _ in 0..9 {
+    for _ in 0..64 {
         let asks = made(alloc, &[Gives::Text(LISTS)], Takes::All);
         if !connect(&mut clients, &mut hub, alloc, asks) {
             return None;
@@ -494,9 +531,9 @@ fn flood(alloc: Global, count: u64) -> Option<(usize, usize)> {
 #[test]
 fn who_asks_for_much_is_answered_in_turn(rt: HostRuntime) {
     let alloc = rt.alloc();
-    assert_eq!(rt; flood(alloc, 8), Some((0, 1)));
-    assert_eq!(rt; flood(alloc, 9), Some((1, 1)));
-    assert_eq!(rt; flood(alloc, 100), Some((11, 12)));
+    assert_eq!(rt; flood(alloc, 63), Some((0, 1)));
+    assert_eq!(rt; flood(alloc, 64), Some((1, 1)));
+    assert_eq!(rt; flood(alloc, 640), Some((10, 10)));
 }
 
 // How many answers a client has a turn after it came and asked for the list, where two others were given 40 lists each and

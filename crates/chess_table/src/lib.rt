@@ -16,6 +16,3 @@ pub use judging::judge;
 pub use records::{entry_record, record_entry};
 pub use restoring::TableFault;
 pub use table::Table;
-
-#[cfg(test)]
-mod tests;

@@ -5,8 +5,6 @@ mod export;
 mod game;
 mod movetext;
 mod tags;
-#[cfg(test)]
-mod tests;
 
 pub use export::{GameText, pgn};
 pub use game::is_playable;

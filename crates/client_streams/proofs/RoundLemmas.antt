@@ -1,5 +1,5 @@
 -- What a session is sent and given, and clients one after the other.
-use Rattle.std.proofs.Common.{◌≡◌, ◌≢◌, ◌≤◌, ◌<◌, ◌+◌, ℕ, Bool, true, false, List, [], ◌∷◌, ◌++◌, Option, Some, None, IfSome, length, get_or, set, take, refl, ap, sym, ◌∙◌, subst, inl, inr, arith, append-nil}
+use Rattle.std.proofs.Common.{◌≡◌, ◌≢◌, ◌≤◌, ◌<◌, ◌+◌, ◌⊎◌, ℕ, Bool, true, false, List, [], ◌∷◌, ◌++◌, Option, Some, None, IfSome, length, get_or, set, take, refl, ap, sym, ◌∙◌, subst, inl, inr, arith, append-nil}
 use Rattle.std.specs.Prelude.{IsSome, IsSomeAnd, ◌==◌, ◌&&◌, ◌||◌, not, if◌then◌else◌, option_map}
 use Rattle.std.specs.Io.KnownBytes.{Consumes, Keeps}
 use Rattle.std.specs.Bool.{OnTrue, OnFalse}
@@ -13,16 +13,16 @@ use Rattle.chess_answer.specs.declared.reads.Reply.{Reply}
 use Rattle.chess_sessions.specs.declared.sessions.Sessions.{Sessions}
 use Rattle.chess_sessions.specs.Session.{Said, said, SessionState, session_at, Changes, IsUnchanged, due, first_due, given_one, farewell, is_done}
 use Rattle.client_streams.specs.declared.client.Client.{Client}
-use Rattle.client_streams.specs.Clients.{OthersStay, IsSilent, IsHeardAt, IsEndSeen, HasWaitedOn, TakesIn, HandsOut, bytes_of_all, to_go}
+use Rattle.client_streams.specs.Clients.{OthersStay, IsSilent, IsHeardAt, IsEndSeen, IsHeldUp, HasWaitedOn, TakesIn, HandsOut, bytes_of_all, to_go}
 use Rattle.client_streams.specs.declared.closing.Closing.{Closing}
 use Rattle.client_streams.specs.declared.closing.Closing.TheVariants.{Fault, NoMemory, Silence, End, Farewell}
 use Rattle.client_streams.specs.Closings.{HasFailed, WasRefused, Tells, IsReason, IsOver}
 use Rattle.client_streams.specs.Incoming.{held}
 use Rattle.client_streams.specs.Sending.{waiting, HandsOn}
-use Rattle.client_streams.specs.Portions.{IsDearLine}
+use Rattle.client_streams.specs.Portions.{is_dear, IsDearLine, AreMost}
 use Rattle.client_streams.proofs.PortionLemmas.{none-dear}
 use Rattle.client_streams.proofs.HeardLemmas.{heard_as_before, end_as_before}
-use Rattle.client_streams.proofs.TakingLemmas.{takes-kept, takes-in, gives-nothing, gives-closed, waits-still}
+use Rattle.client_streams.proofs.TakingLemmas.{takes-kept, takes-in, some_at, up_unfinished, waits-still, waits-for, gives-none-up, gives-closed}
 use Rattle.client_streams.specs.Rounds.{Intake, intake, Holds, AreEach, PassesClosed, IsSent, IsRead, AreGivenTo, AreGiven, IsGivenOut, IsHandedOut, IsWritten}
 
 -- ---- sessions that are as they were
@@ -56,62 +56,87 @@ changes_after a b c sid now h k = record {
 -- ---- what a session is sent
 
 -- what was read and sent
-pub record Sends (room left : ℕ) (before after : Option (List ℕ)) (holds keeps : List ℕ) (waited waits sid : ℕ)
-    (old new : Sessions) : Type 0 where
+pub record Sends (room left longest : ℕ) (before after : Option (List ℕ)) (unsent holds keeps : List ℕ)
+    (waited waits sid : ℕ) (old new : Sessions) : Type 0 where
   pub taken : List ℕ
   pub consumed : Consumes before after taken
   pub unfinished : taken ≢ [] → IsUnfinished holds
   pub fed : List ℕ
   pub order : holds ++ taken ≡ fed ++ keeps
+  pub many : fed ≢ [] → AreMost fed keeps
   pub fewer : left ≤ room
   pub dear : IsDearLine fed → left + 1 ≤ room
-  pub wait : HasWaitedOn fed keeps waited waits
+  pub spent : (left ≡ room) ⊎ (is_dear fed ≡ true) ⊎ (session_at new sid ≡ None)
+  pub wait : HasWaitedOn (IfSome (session_at old sid) (λ s. IsHeldUp unsent keeps s (session_at new sid))) room longest fed
+      keeps waited waits
   pub sent : IsSent sid fed old new
 
-pub sends : {waited waits : ℕ} (room left : ℕ) (before after : Option (List ℕ)) (holds keeps : List ℕ) (sid : ℕ)
-    (old new : Sessions) (m n : Option SessionState) → session_at old sid ≡ m → session_at new sid ≡ n → IsSome m →
-    IfSome m (λ s. TakesIn room left before after holds keeps waited waits s n) → OthersStay old new sid →
-    Sends room left before after holds keeps waited waits sid old new
-sends room left before after holds keeps sid old new None n e f is_open takes others =
+spent_by : {A : Type 0} {left room : ℕ} {much : Type 0} (m n : Option A) → n ≡ m →
+    (left ≡ room) ⊎ much ⊎ (m ≡ None) → (left ≡ room) ⊎ much ⊎ (n ≡ None)
+spent_by m n same spent = elim spent [
+  | inl still ↦ inl still
+  | inr (inl dear) ↦ inr (inl dear)
+  | inr (inr none) ↦ inr (inr (same ∙ none))
+]
+
+-- it is held up, told by the sessions
+up_at : {unsent keeps : List ℕ} (s : SessionState) (m n r : Option SessionState) → m ≡ Some s → n ≡ r →
+    IsHeldUp unsent keeps s r → IfSome m (λ t. IsHeldUp unsent keeps t n)
+up_at {unsent = unsent} {keeps = keeps} s m n r e f up =
+    some_at (λ t. IsHeldUp unsent keeps t n) (Some s) m e (subst (λ (o : Option SessionState). IsHeldUp unsent keeps s o) (sym f) up)
+
+pub sends : {waited waits : ℕ} (room left longest : ℕ) (before after : Option (List ℕ)) (unsent holds keeps : List ℕ)
+    (sid : ℕ) (old new : Sessions) (m n : Option SessionState) → session_at old sid ≡ m → session_at new sid ≡ n →
+    IsSome m → IfSome m (λ s. TakesIn room left longest before after unsent holds keeps waited waits s n) →
+    OthersStay old new sid → Sends room left longest before after unsent holds keeps waited waits sid old new
+sends room left longest before after unsent holds keeps sid old new None n e f is_open takes others =
     absurd (let bad : false ≡ true = is_open in false≢true bad)
-sends room left before after holds keeps sid old new (Some s) None e f is_open takes others = record {
-  taken = takes.taken;
-  consumed = takes.consumed;
-  unfinished = takes.unfinished;
-  fed = takes.gives.fed;
-  order = takes.gives.order;
-  fewer = takes.gives.fewer;
-  dear = takes.gives.dear;
-  wait = takes.gives.wait;
-  sent = inr (inr (inl (takes.gives.gone refl, record { changed = f; others = others })));
-}
-sends room left before after holds keeps sid old new (Some s) (Some r) e f is_open takes others = record {
-  taken = takes.taken;
-  consumed = takes.consumed;
-  unfinished = takes.unfinished;
-  fed = takes.gives.fed;
-  order = takes.gives.order;
-  fewer = takes.gives.fewer;
-  dear = takes.gives.dear;
-  wait = takes.gives.wait;
-  sent = elim takes.gives.heard [
-    | inl (short_so_far, portion, alone, is) ↦ inl (
-      portion,
-      subst (λ (o : Option SessionState). IsSomeAnd o (λ s. s.heard.bytes ≡ [])) (sym e) alone,
-      record {
-        state = s;
-        was = e;
-        short = short_so_far;
-        heard = record { changed = f ∙ ap Some is; others = others };
-      },
-    )
-    | inr (inl (is, none)) ↦ inr (inl (none, unchanged old new sid (f ∙ ap Some is ∙ sym e) others))
-    | inr (inr (is, long)) ↦ inr (inr (inr (
-      subst (λ (o : Option SessionState). IsSomeAnd o (λ s. s.heard.is_long ≡ true)) (sym e) long,
-      unchanged old new sid (f ∙ ap Some is ∙ sym e) others,
-    )))
-  ];
-}
+sends {waited = waited} {waits = waits} room left longest before after unsent holds keeps sid old new (Some s) None e f
+    is_open takes others = record {
+      taken = takes.taken;
+      consumed = takes.consumed;
+      unfinished = takes.unfinished;
+      fed = takes.gives.fed;
+      order = takes.gives.order;
+      many = takes.gives.many;
+      fewer = takes.gives.fewer;
+      dear = takes.gives.dear;
+      spent = spent_by None (session_at new sid) f takes.gives.spent;
+      wait = waits-for room longest takes.gives.fed keeps waited waits
+          (up_at s (session_at old sid) (session_at new sid) None e f) takes.gives.wait;
+      sent = inr (inr (inl (takes.gives.gone refl, record { changed = f; others = others })));
+    }
+sends {waited = waited} {waits = waits} room left longest before after unsent holds keeps sid old new (Some s) (Some r) e f
+    is_open takes others = record {
+      taken = takes.taken;
+      consumed = takes.consumed;
+      unfinished = takes.unfinished;
+      fed = takes.gives.fed;
+      order = takes.gives.order;
+      many = takes.gives.many;
+      fewer = takes.gives.fewer;
+      dear = takes.gives.dear;
+      spent = spent_by (Some r) (session_at new sid) f takes.gives.spent;
+      wait = waits-for room longest takes.gives.fed keeps waited waits
+          (up_at s (session_at old sid) (session_at new sid) (Some r) e f) takes.gives.wait;
+      sent = elim takes.gives.heard [
+        | inl (short_so_far, portion, alone, is) ↦ inl (
+          portion,
+          subst (λ (o : Option SessionState). IsSomeAnd o (λ s. s.heard.bytes ≡ [])) (sym e) alone,
+          record {
+            state = s;
+            was = e;
+            short = short_so_far;
+            heard = record { changed = f ∙ ap Some is; others = others };
+          },
+        )
+        | inr (inl (is, none)) ↦ inr (inl (none, unchanged old new sid (f ∙ ap Some is ∙ sym e) others))
+        | inr (inr (is, long)) ↦ inr (inr (inr (
+          subst (λ (o : Option SessionState). IsSomeAnd o (λ s. s.heard.is_long ≡ true)) (sym e) long,
+          unchanged old new sid (f ∙ ap Some is ∙ sym e) others,
+        )))
+      ];
+    }
 
 pub sent_after : (a b c : Sessions) (sid : ℕ) (fed : List ℕ) → IsUnchanged a b → IsSent sid fed b c → IsSent sid fed a c
 sent_after a b c sid fed h sent = elim sent [
@@ -223,15 +248,21 @@ not_now {P = P} m n same is_open none = not_closed m P is_open (sym same ∙ non
 pub holds-refl : (s : Intake) → Holds s s
 holds-refl s = (unchanged-refl s.sessions, refl)
 
-module _ {S : Type 0} (remaining : S → Option (List ℕ)) (silence : Option ℕ) (at : ℕ) where
+module _ {S : Type 0} (remaining : S → Option (List ℕ)) (silence : Option ℕ) (at longest : ℕ) where
+  -- no line of this client can go on
+  abbrev pub IsHeldUpBetween : Client S → Client S → Sessions → Sessions → Type 0
+  IsHeldUpBetween client after old new = IfSome (session_at old client.sid)
+      (λ s. IsHeldUp (waiting client.outgoing) (held after.incoming) s (session_at new client.sid))
+
   -- the reason where this client's session is closed
   abbrev pub HasReason : Client S → Client S → Sessions → Sessions → Type 0
   HasReason client after old new =
       IsSome (session_at old client.sid) → session_at new client.sid ≡ None
       → IsReason after (IsSomeAnd silence (IsSilent after old at)) ⊥ ⊥
 
-  pub passed_over : (client : Client S) (s : Intake) → IsRead remaining silence at client client s s
-  passed_over client s = record {
+  pub passed_over : (client : Client S) (s : Intake) → IsHeldUpBetween client client s.sessions s.sessions →
+      IsRead remaining silence at longest client client s s
+  passed_over client s up = record {
     sid = refl;
     outgoing = refl;
     taken = [];
@@ -241,9 +272,12 @@ module _ {S : Type 0} (remaining : S → Option (List ℕ)) (silence : Option �
     order = append-nil (held client.incoming);
     short = client.incoming.few;
     sent = inr (inl (refl, unchanged-refl s.sessions));
+    many = λ some. absurd (some refl);
     fewer = omega arith;
     dear = none-dear;
-    wait = waits-still (held client.incoming) client.waited client.waited refl;
+    spent = inl refl;
+    wait = waits-still (IsHeldUpBetween client client s.sessions s.sessions) s.room longest (held client.incoming)
+        client.waited client.waited up refl;
     unread = λ waits. (refl, refl, unchanged-refl s.sessions);
     heard = heard_as_before (remaining client.wire.stream) at client.heard_at;
     ended = end_as_before (remaining client.wire.stream) client.has_ended;
@@ -258,9 +292,9 @@ module _ {S : Type 0} (remaining : S → Option (List ℕ)) (silence : Option �
       IsHeardAt (remaining client.wire.stream) (remaining after.wire.stream) at client.heard_at after.heard_at →
       IsEndSeen (remaining after.wire.stream) client.has_ended after.has_ended →
       PassesClosed client after old.sessions new.sessions → HasReason client after old.sessions new.sessions →
-      Sends old.room new.room (remaining client.wire.stream) (remaining after.wire.stream) (held client.incoming)
-      (held after.incoming) client.waited after.waited client.sid old.sessions new.sessions →
-      IsRead remaining silence at client after old new
+      Sends old.room new.room longest (remaining client.wire.stream) (remaining after.wire.stream)
+      (waiting client.outgoing) (held client.incoming) (held after.incoming) client.waited after.waited client.sid
+      old.sessions new.sessions → IsRead remaining silence at longest client after old new
   is_read client after old new sid outgoing unread heard ended closed reason sends = record {
     sid = sid;
     outgoing = outgoing;
@@ -271,8 +305,10 @@ module _ {S : Type 0} (remaining : S → Option (List ℕ)) (silence : Option �
     order = sends.order;
     short = after.incoming.few;
     sent = sends.sent;
+    many = sends.many;
     fewer = sends.fewer;
     dear = sends.dear;
+    spent = sends.spent;
     wait = sends.wait;
     unread = unread;
     heard = heard;
@@ -281,41 +317,48 @@ module _ {S : Type 0} (remaining : S → Option (List ℕ)) (silence : Option �
     reason = reason;
   }
 
-  -- Nothing came of a client. Its session is closed, or all stays.
+  -- Nothing came of a client, and no line of it is held back. Its session is closed, or all stays.
   pub read_nothing : (client after : Client S) (room : ℕ) (old new : Sessions) (done : Bool) →
       after.sid ≡ client.sid → waiting after.outgoing ≡ waiting client.outgoing →
       IsHeardAt (remaining client.wire.stream) (remaining after.wire.stream) at client.heard_at after.heard_at →
       IsEndSeen (remaining after.wire.stream) client.has_ended after.has_ended →
       Keeps (remaining client.wire.stream) (remaining after.wire.stream) → held after.incoming ≡ held client.incoming →
-      after.waited ≡ client.waited → IsSome (session_at old client.sid) → OnTrue done (waiting client.outgoing ≡ []) →
+      IsUnfinished (held after.incoming) → after.waited ≡ client.waited → IsSome (session_at old client.sid) →
+      OnTrue done (waiting client.outgoing ≡ []) →
       (waiting client.outgoing ≢ [] → after.wire.stream ≡ client.wire.stream) → OnTrue done (Changes old new client.sid None) →
       OnTrue done (IsReason after (IsSomeAnd silence (IsSilent after old at)) ⊥ ⊥) →
       OnFalse done (IsUnchanged old new) →
-      IsRead remaining silence at client after (intake old room) (intake new room)
-  read_nothing client after room old new true sid outgoing heard ended kept same still is_open silent stream closed reason stays =
+      IsRead remaining silence at longest client after (intake old room) (intake new room)
+  read_nothing client after room old new true sid outgoing heard ended kept same none still is_open silent stream closed reason stays =
+      let m = session_at old client.sid in
+      let n = session_at new client.sid in
+      let unsent = waiting client.outgoing in
       is_read client after (intake old room) (intake new room) sid outgoing
       (λ waits. absurd (waits silent)) heard ended (not_closed (session_at old client.sid) _ is_open) (λ was none. reason)
-      (sends room room (remaining client.wire.stream) (remaining after.wire.stream) (held client.incoming) (held after.incoming)
-      client.sid old new (session_at old client.sid) (session_at new client.sid) refl refl is_open
-      (takes-in client.waited after.waited room room (session_at old client.sid) (session_at new client.sid) (remaining client.wire.stream)
-      (remaining after.wire.stream) (held client.incoming) (held after.incoming) (held after.incoming)
+      (sends room room longest (remaining client.wire.stream) (remaining after.wire.stream) unsent (held client.incoming)
+      (held after.incoming) client.sid old new m n refl refl is_open
+      (takes-in client.waited after.waited room room longest m n (remaining client.wire.stream)
+      (remaining after.wire.stream) unsent (held client.incoming) (held after.incoming) (held after.incoming)
       (takes-kept (remaining client.wire.stream) (remaining after.wire.stream) (held client.incoming) (held after.incoming) kept same)
-      (gives-closed room room (session_at old client.sid) (session_at new client.sid) (held after.incoming) (omega arith)
-      closed.changed (waits-still (held after.incoming) client.waited after.waited still))) closed.others)
-  read_nothing client after room old new false sid outgoing heard ended kept same still is_open silent stream closed reason stays =
+      (gives-closed room room longest m n unsent (held after.incoming) (omega arith) closed.changed still)) closed.others)
+  read_nothing client after room old new false sid outgoing heard ended kept same none still is_open silent stream closed reason stays =
+      let m = session_at old client.sid in
+      let n = session_at new client.sid in
+      let unsent = waiting client.outgoing in
       is_read client after (intake old room) (intake new room) sid outgoing
       (λ waits. (stream waits, same, stays)) heard ended (not_closed (session_at old client.sid) _ is_open)
       (not_now (session_at old client.sid) (session_at new client.sid) (stays client.sid))
-      (sends room room (remaining client.wire.stream) (remaining after.wire.stream) (held client.incoming) (held after.incoming)
-      client.sid old new (session_at old client.sid) (session_at new client.sid) refl refl is_open
-      (takes-in client.waited after.waited room room (session_at old client.sid) (session_at new client.sid) (remaining client.wire.stream)
-      (remaining after.wire.stream) (held client.incoming) (held after.incoming) (held after.incoming)
+      (sends room room longest (remaining client.wire.stream) (remaining after.wire.stream) unsent (held client.incoming)
+      (held after.incoming) client.sid old new m n refl refl is_open
+      (takes-in client.waited after.waited room room longest m n (remaining client.wire.stream)
+      (remaining after.wire.stream) unsent (held client.incoming) (held after.incoming) (held after.incoming)
       (takes-kept (remaining client.wire.stream) (remaining after.wire.stream) (held client.incoming) (held after.incoming) kept same)
-      (gives-nothing room room (session_at old client.sid) (session_at new client.sid) (held after.incoming) (omega arith)
-      (stays client.sid) (waits-still (held after.incoming) client.waited after.waited still))) (λ other differs. stays other))
+      (gives-none-up room longest m n unsent (held after.incoming) (stays client.sid)
+      (up_unfinished unsent (held after.incoming) m n none) still))
+      (λ other differs. stays other))
 
-  pub read_after : (client after : Client S) (a b c : Intake) → Holds a b → IsRead remaining silence at client after b c →
-      IsRead remaining silence at client after a c
+  pub read_after : (client after : Client S) (a b c : Intake) → Holds a b →
+      IsRead remaining silence at longest client after b c → IsRead remaining silence at longest client after a c
   read_after client after a b c h read = record {
     sid = read.sid;
     outgoing = read.outgoing;
@@ -326,9 +369,16 @@ module _ {S : Type 0} (remaining : S → Option (List ℕ)) (silence : Option �
     order = read.order;
     short = read.short;
     sent = sent_after a.sessions b.sessions c.sessions client.sid read.fed h.0 read.sent;
+    many = read.many;
     fewer = subst (λ r. c.room ≤ r) h.1 read.fewer;
     dear = λ dear. subst (λ r. c.room + 1 ≤ r) h.1 (read.dear dear);
-    wait = read.wait;
+    spent = subst (λ (r : ℕ). (c.room ≡ r) ⊎ (is_dear read.fed ≡ true) ⊎ (session_at c.sessions client.sid ≡ None)) h.1
+        read.spent;
+    wait = subst (λ (r : ℕ). HasWaitedOn (IsHeldUpBetween client after a.sessions c.sessions) r longest read.fed
+        (held after.incoming) client.waited after.waited) h.1
+        (waits-for b.room longest read.fed (held after.incoming) client.waited after.waited
+        (some_at (λ s. IsHeldUp (waiting client.outgoing) (held after.incoming) s (session_at c.sessions client.sid))
+        (session_at b.sessions client.sid) (session_at a.sessions client.sid) (sym (h.0 client.sid))) read.wait);
     unread = λ waits.
         let same = read.unread waits in
         (same.0, same.1, unchanged-trans a.sessions b.sessions c.sessions h.0 same.2);

@@ -1,5 +1,5 @@
 -- What comes from a peer is held back, and goes to its session.
-use Rattle.std.proofs.Common.{◌≡◌, ◌∙◌, ◌≤◌, ◌+◌, ℕ, true, false, List, [], ◌++◌, Option, None, Some, IfSome, length, drop, refl, sym, subst, ap, inl, inr, append-nil}
+use Rattle.std.proofs.Common.{◌≡◌, ◌≢◌, ◌∙◌, ◌≤◌, ◌<◌, ◌+◌, ◌⊎◌, ℕ, true, false, List, [], ◌++◌, Option, None, Some, IfSome, length, drop, refl, sym, subst, ap, inl, inr, append-nil, arith}
 use Rattle.std.specs.Prelude.{◌-◌, ◌^◌, min, IsSome, IsSomeAnd}
 use Rattle.std.proofs.lemmas.Bool.{cases_Bool, false≢true}
 use Rattle.std.specs.Io.KnownBytes.{Keeps}
@@ -7,8 +7,8 @@ use Rattle.std.proofs.KnownBytes.{Consumes-nil, Consumes-kept}
 use Rattle.std.proofs.Math.Seq.{drop-append_seam}
 use Rattle.chess_sessions.specs.Session.{SessionState}
 use Rattle.session_lines.specs.Lines.{IsUnfinished}
-use Rattle.client_streams.specs.Clients.{HasHeard, HasWaitedOn, GivesOn, TakesIn}
-use Rattle.client_streams.specs.Portions.{is_dear, IsDearLine}
+use Rattle.client_streams.specs.Clients.{HasHeard, IsHeldUp, HasWaitedOn, GivesOn, TakesIn}
+use Rattle.client_streams.specs.Portions.{is_dear, IsDearLine, AreMost}
 use Rattle.client_streams.specs.Pieces.{Takes}
 use Rattle.client_streams.proofs.PortionLemmas.{none-dear, dear-longer}
 
@@ -31,16 +31,56 @@ takes-kept before after holds keeps kept same = record {
   order = same ∙ sym (append-nil holds);
 }
 
+-- ---- why it is held up
+
+pub some_all : {A : Type 0} (P : A → Type 0) (m : Option A) → ((x : A) → P x) → IfSome m P
+some_all P None all = tt
+some_all P (Some x) all = all x
+
+-- it is not open
+pub some_closed : {A : Type 0} (P : A → Type 0) (m : Option A) → (IsSome m → ⊥) → IfSome m P
+some_closed P None closed = tt
+some_closed P (Some x) closed = absurd (closed refl)
+
+pub some_at : {A : Type 0} (P : A → Type 0) (m n : Option A) → n ≡ m → IfSome m P → IfSome n P
+some_at {A = A} P m n same holds = subst (λ (o : Option A). IfSome o P) (sym same) holds
+
+module _ (unsent keeps : List ℕ) (m n : Option SessionState) where
+  abbrev pub IsUp : SessionState → Type 0
+  IsUp s = IsHeldUp unsent keeps s n
+
+  -- no line is held back
+  pub up_unfinished : IsUnfinished keeps → IfSome m IsUp
+  up_unfinished unfinished = some_all IsUp m (λ s. inr (inr (inr unfinished)))
+
+  -- answers wait
+  pub up_unsent : unsent ≢ [] → IfSome m IsUp
+  up_unsent some = some_all IsUp m (λ s. inl some)
+
+some_bytes : (bytes : List ℕ) (count : ℕ) → count ≡ length bytes → 0 < count → bytes ≢ []
+some_bytes bytes count is some = λ none. absurd (omega (arith, is, some, ap (λ (l : List ℕ). length l) none))
+
+-- lines of its session wait
+pub up_lines : (unsent keeps : List ℕ) (m n : Option SessionState) (count : ℕ) →
+    IfSome m (λ s. count ≡ length s.heard.bytes) → 0 < count → IfSome m (λ s. IsHeldUp unsent keeps s n)
+up_lines unsent keeps None n count is some = tt
+up_lines unsent keeps (Some s) n count is some = inr (inl (some_bytes s.heard.bytes count is some))
+
 -- ---- for how many turns it waits
 
 -- for as many as before
-pub waits-still : (keeps : List ℕ) (waited waits : ℕ) → waits ≡ waited → HasWaitedOn [] keeps waited waits
-waits-still keeps waited waits same = record { given = λ some. absurd (some refl); kept = λ none. inl same }
+pub waits-still : (HeldUp : Type 0) (room longest : ℕ) (keeps : List ℕ) (waited waits : ℕ) → HeldUp → waits ≡ waited →
+    HasWaitedOn HeldUp room longest [] keeps waited waits
+waits-still HeldUp room longest keeps waited waits up same = record {
+  given = λ some. absurd (some refl);
+  kept = λ none. inl (up, same);
+}
 
 -- for one more, with a portion that asks for much
-pub waits-longer : (holds portion rest : List ℕ) (waited waits : ℕ) → holds ≡ portion ++ rest →
-    (is_dear portion ≡ false → ⊥) → waits ≡ min (waited + 1) (2 ^ 32 - 1) → HasWaitedOn [] holds waited waits
-waits-longer holds portion rest waited waits order dear is = record {
+pub waits-longer : (HeldUp : Type 0) (room longest : ℕ) (holds portion rest : List ℕ) (waited waits : ℕ) →
+    holds ≡ portion ++ rest → (is_dear portion ≡ false → ⊥) → waits ≡ min (waited + 1) (2 ^ 32 - 1) →
+    (room ≡ 0) ⊎ (waited < longest) → HasWaitedOn HeldUp room longest [] holds waited waits
+waits-longer HeldUp room longest holds portion rest waited waits order dear is behind = record {
   given = λ some. absurd (some refl);
   kept = λ none. inr (inr (
     is,
@@ -48,13 +88,15 @@ waits-longer holds portion rest waited waits order dear is = record {
       | inl much ↦ much
       | inr little ↦ absurd (dear little)
     ])),
+    behind,
   ));
 }
 
 -- for none, behind a portion
-pub waits-no-more : (holds portion keeps : List ℕ) (waited waits : ℕ) → keeps ≡ drop (length portion) holds →
-    (portion ≡ [] → IsUnfinished holds) → waits ≡ 0 → HasWaitedOn portion keeps waited waits
-waits-no-more holds portion keeps waited waits left some is = record {
+pub waits-no-more : (HeldUp : Type 0) (room longest : ℕ) (holds portion keeps : List ℕ) (waited waits : ℕ) →
+    keeps ≡ drop (length portion) holds → (portion ≡ [] → IsUnfinished holds) → waits ≡ 0 →
+    HasWaitedOn HeldUp room longest portion keeps waited waits
+waits-no-more HeldUp room longest holds portion keeps waited waits left some is = record {
   given = λ given. is;
   kept = λ none. inr (inl (
     is,
@@ -62,69 +104,123 @@ waits-no-more holds portion keeps waited waits left some is = record {
   ));
 }
 
+-- said of what else holds it up
+pub waits-for : {H K : Type 0} (room longest : ℕ) (fed keeps : List ℕ) (waited waits : ℕ) → (H → K) →
+    HasWaitedOn H room longest fed keeps waited waits → HasWaitedOn K room longest fed keeps waited waits
+waits-for room longest fed keeps waited waits to wait = record {
+  given = wait.given;
+  kept = λ none. elim (wait.kept none) [
+    | inl (up, same) ↦ inl (to up, same)
+    | inr (inl no_more) ↦ inr (inl no_more)
+    | inr (inr longer) ↦ inr (inr longer)
+  ];
+}
+
 -- ---- what the session is given
 
 -- the session is given nothing
-pub gives-nothing : {waited waits : ℕ} (room left : ℕ) (m n : Option SessionState) (holds : List ℕ) → left ≤ room →
-    n ≡ m → HasWaitedOn [] holds waited waits → IfSome m (λ s. GivesOn room left holds holds waited waits s n)
-gives-nothing room left None n holds le same wait = tt
-gives-nothing room left (Some s) n holds le same wait = record {
+pub gives-nothing : (waited waits room left longest : ℕ) (m n : Option SessionState) (unsent holds : List ℕ) →
+    left ≡ room → n ≡ m →
+    IfSome m (λ s. HasWaitedOn (IsHeldUp unsent holds s n) room longest [] holds waited waits) →
+    IfSome m (λ s. GivesOn room left longest unsent holds holds waited waits s n)
+gives-nothing waited waits room left longest None n unsent holds still same wait = tt
+gives-nothing waited waits room left longest (Some s) n unsent holds still same wait = record {
   fed = [];
   order = refl;
   heard = subst (λ (o : Option SessionState). IfSome o (HasHeard s [])) (sym same) (inr (inl (refl, refl)));
   gone = λ closed. refl;
-  fewer = le;
+  many = λ some. absurd (some refl);
+  fewer = omega (arith, still);
   dear = none-dear;
+  spent = inl still;
   wait = wait;
 }
 
+-- nor waits for more turns, since it is held up
+pub gives-none-up : {waited waits : ℕ} (room longest : ℕ) (m n : Option SessionState) (unsent holds : List ℕ) → n ≡ m →
+    IfSome m (λ s. IsHeldUp unsent holds s n) → waits ≡ waited →
+    IfSome m (λ s. GivesOn room room longest unsent holds holds waited waits s n)
+gives-none-up room longest None n unsent holds same up still = tt
+gives-none-up {waited = waited} {waits = waits} room longest (Some s) n unsent holds same up still =
+    gives-nothing waited waits room room longest (Some s) n unsent holds refl same
+    (waits-still (IsHeldUp unsent holds s n) room longest holds waited waits up still)
+
+-- but waits for one more
+pub gives-none-yet : {waited waits : ℕ} (room left longest : ℕ) (m : Option SessionState)
+    (unsent holds portion rest : List ℕ) → left ≡ room → holds ≡ portion ++ rest → (is_dear portion ≡ false → ⊥) →
+    waits ≡ min (waited + 1) (2 ^ 32 - 1) → (room ≡ 0) ⊎ (waited < longest) →
+    IfSome m (λ s. GivesOn room left longest unsent holds holds waited waits s m)
+gives-none-yet room left longest None unsent holds portion rest still order dear is behind = tt
+gives-none-yet {waited = waited} {waits = waits} room left longest (Some s) unsent holds portion rest still order dear is
+    behind =
+    gives-nothing waited waits room left longest (Some s) (Some s) unsent holds still refl
+    (waits-longer (IsHeldUp unsent holds s (Some s)) room longest holds portion rest waited waits order dear is behind)
+
 -- it is closed
-pub gives-closed : {waited waits : ℕ} (room left : ℕ) (m n : Option SessionState) (holds : List ℕ) → left ≤ room →
-    n ≡ None → HasWaitedOn [] holds waited waits → IfSome m (λ s. GivesOn room left holds holds waited waits s n)
-gives-closed room left None n holds le closed wait = tt
-gives-closed room left (Some s) n holds le closed wait = record {
+pub gives-closed : {waited waits : ℕ} (room left longest : ℕ) (m n : Option SessionState) (unsent holds : List ℕ) →
+    left ≤ room → n ≡ None → waits ≡ waited →
+    IfSome m (λ s. GivesOn room left longest unsent holds holds waited waits s n)
+gives-closed room left longest None n unsent holds le closed still = tt
+gives-closed {waited = waited} {waits = waits} room left longest (Some s) n unsent holds le closed still = record {
   fed = [];
   order = refl;
   heard = subst (λ (o : Option SessionState). IfSome o (HasHeard s [])) (sym closed) tt;
   gone = λ none. refl;
+  many = λ some. absurd (some refl);
   fewer = le;
   dear = none-dear;
-  wait = wait;
+  spent = inr (inr closed);
+  wait = waits-still (IsHeldUp unsent holds s n) room longest holds waited waits (inr (inr (inl closed))) still;
 }
 
 -- it is given this
-pub gives-fed : {waited waits : ℕ} (room left : ℕ) (m n : Option SessionState) (holds fed keeps : List ℕ) →
-    holds ≡ fed ++ keeps → left ≤ room → (IsDearLine fed → left + 1 ≤ room) →
-    IfSome m (λ s. IsSomeAnd n (HasHeard s fed)) → HasWaitedOn fed keeps waited waits →
-    IfSome m (λ s. GivesOn room left holds keeps waited waits s n)
-gives-fed room left None n holds fed keeps order le dear heard wait = tt
-gives-fed room left (Some s) None holds fed keeps order le dear heard wait = absurd heard
-gives-fed room left (Some s) (Some r) holds fed keeps order le dear heard wait = record {
-  fed = fed;
-  order = order;
-  heard = heard;
-  gone = λ none. absurd (let bad : Some r ≡ None = none in cc);
-  fewer = le;
-  dear = dear;
-  wait = wait;
-}
+pub gives-fed : (waited waits room left longest : ℕ) (m n : Option SessionState)
+    (unsent holds fed keeps : List ℕ) → holds ≡ fed ++ keeps → AreMost fed keeps → left ≤ room →
+    (IsDearLine fed → left + 1 ≤ room) → (left ≡ room) ⊎ (is_dear fed ≡ true) →
+    IfSome m (λ s. IsSomeAnd n (HasHeard s fed)) → keeps ≡ drop (length fed) holds → (fed ≡ [] → IsUnfinished holds) →
+    waits ≡ 0 → IfSome m (λ s. GivesOn room left longest unsent holds keeps waited waits s n)
+gives-fed waited waits room left longest None n unsent holds fed keeps order most le dear spent heard behind some is = tt
+gives-fed waited waits room left longest (Some s) None unsent holds fed keeps order most le dear spent heard behind some is =
+    absurd heard
+gives-fed waited waits room left longest (Some s) (Some r) unsent holds fed keeps order most le dear spent
+    heard behind some is = record {
+      fed = fed;
+      order = order;
+      heard = heard;
+      gone = λ none. absurd (let bad : Some r ≡ None = none in cc);
+      many = λ given. most;
+      fewer = le;
+      dear = dear;
+      spent = elim spent [
+        | inl still ↦ inl still
+        | inr much ↦ inr (inl much)
+      ];
+      wait = waits-no-more (IsHeldUp unsent keeps s (Some r)) room longest holds fed keeps waited waits behind some is;
+    }
 
 -- what is left once the front was given up
+pub is-rest : (holds fed rest keeps : List ℕ) → holds ≡ fed ++ rest → keeps ≡ drop (length fed) holds → keeps ≡ rest
+is-rest holds fed rest keeps cut left = left ∙ ap (λ l. drop (length fed) l) cut ∙ drop-append_seam fed rest
+
 pub cut-off : (holds fed rest keeps : List ℕ) → holds ≡ fed ++ rest → keeps ≡ drop (length fed) holds → holds ≡ fed ++ keeps
-cut-off holds fed rest keeps cut left =
-    cut ∙ ap (λ l. fed ++ l) (sym (left ∙ ap (λ l. drop (length fed) l) cut ∙ drop-append_seam fed rest))
+cut-off holds fed rest keeps cut left = cut ∙ ap (λ l. fed ++ l) (sym (is-rest holds fed rest keeps cut left))
+
+pub most-left : (holds fed rest keeps : List ℕ) → holds ≡ fed ++ rest → keeps ≡ drop (length fed) holds →
+    AreMost fed rest → AreMost fed keeps
+most-left holds fed rest keeps cut left most =
+    subst (λ (l : List ℕ). AreMost fed l) (sym (is-rest holds fed rest keeps cut left)) most
 
 -- what came is held back, and then the session is given what stands in front
-pub takes-in : (waited waits room left : ℕ) (m n : Option SessionState) (before after : Option (List ℕ))
-    (holds between keeps : List ℕ) → Takes before after holds between →
-    IfSome m (λ s. GivesOn room left between keeps waited waits s n) →
-    IfSome m (λ s. TakesIn room left before after holds keeps waited waits s n)
-takes-in waited waits room left None n before after holds between keeps takes gives = tt
-takes-in waited waits room left (Some s) n before after holds between keeps takes gives = record {
+pub takes-in : (waited waits room left longest : ℕ) (m n : Option SessionState) (before after : Option (List ℕ))
+    (unsent holds between keeps : List ℕ) → Takes before after holds between →
+    IfSome m (λ s. GivesOn room left longest unsent between keeps waited waits s n) →
+    IfSome m (λ s. TakesIn room left longest before after unsent holds keeps waited waits s n)
+takes-in waited waits room left longest None n before after unsent holds between keeps takes gives = tt
+takes-in waited waits room left longest (Some s) n before after unsent holds between keeps takes gives = record {
   taken = takes.taken;
   consumed = takes.consumed;
   unfinished = takes.unfinished;
-  gives = subst (λ l. GivesOn room left l keeps waited waits s n) takes.order gives;
+  gives = subst (λ l. GivesOn room left longest unsent l keeps waited waits s n) takes.order gives;
 }
 
 -- who has heard something is not closed

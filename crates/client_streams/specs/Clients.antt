@@ -1,5 +1,5 @@
 -- What a connection does for its session.
-use Rattle.std.specs.Prelude.{ℕ, ◌≡◌, ◌≢◌, ◌≤◌, ◌+◌, ◌-◌, ◌^◌, ◌⊎◌, min, Bool, true, false, List, [], ◌∷◌, ◌++◌, Option, None, IsSome, IfSome, option_map}
+use Rattle.std.specs.Prelude.{ℕ, ◌≡◌, ◌≢◌, ◌≤◌, ◌<◌, ◌+◌, ◌-◌, ◌^◌, ◌⊎◌, min, Bool, true, false, List, [], ◌∷◌, ◌++◌, Option, None, IsSome, IfSome, option_map}
 use Rattle.std.specs.Io.KnownBytes.{Consumes, IsAtEnd}
 use Rattle.std.specs.List.{All}
 use Rattle.session_lines.specs.Lines.{IsUnfinished}
@@ -7,7 +7,7 @@ use Rattle.session_lines.specs.Heard.{heard_more}
 use Rattle.chess_sessions.specs.declared.sessions.Sessions.{Sessions}
 use Rattle.chess_sessions.specs.Session.{Said, SessionState, session_at, due}
 use Rattle.client_streams.specs.declared.client.Client.{Client}
-use Rattle.client_streams.specs.Portions.{is_dear, IsDearLine, IsPortion}
+use Rattle.client_streams.specs.Portions.{is_dear, IsDearLine, IsPortion, AreMost}
 use Rattle.client_streams.specs.Incoming.{held}
 use Rattle.client_streams.specs.Sending.{waiting, HandsOn}
 
@@ -65,34 +65,43 @@ HasHeard old fed new = (old.heard.is_long ≡ false) × IsPortion fed × (old.he
     ⊎ (new ≡ old) × (fed ≡ [])
     ⊎ (new ≡ old) × (old.heard.is_long ≡ true)
 
+-- No line of a client can go on in this turn: answers wait to be taken by it, a line of its session waits, that is closed
+-- after it, or no line is held back.
+abbrev pub IsHeldUp : List ℕ → List ℕ → SessionState → Option SessionState → Type 0
+IsHeldUp unsent keeps old new = (unsent ≢ []) ⊎ (old.heard.bytes ≢ []) ⊎ (new ≡ None) ⊎ IsUnfinished keeps
+
 -- For how many turns on end a line has waited that asks for much, once its session was given this and that is still held
 -- back: for none once it was given anything, or where no line is held back; for one more where what is held back begins as
--- such a line; or for as many as before.
-pub record HasWaitedOn (fed keeps : List ℕ) (old new : ℕ) : Type 0 where
+-- such a line and the turn had no room for it, or somebody has waited longer; and for as many as before only where the
+-- client was held up. So who is not held up, and has a line, is given it or waits so.
+pub record HasWaitedOn (HeldUp : Type 0) (room longest : ℕ) (fed keeps : List ℕ) (old new : ℕ) : Type 0 where
   pub given : fed ≢ [] → new ≡ 0
-  pub kept : fed ≡ [] → (new ≡ old) ⊎ (new ≡ 0) × IsUnfinished keeps
-      ⊎ (new ≡ min (old + 1) (2 ^ 32 - 1)) × (is_dear keeps ≡ true)
+  pub kept : fed ≡ [] → HeldUp × (new ≡ old) ⊎ (new ≡ 0) × IsUnfinished keeps
+      ⊎ (new ≡ min (old + 1) (2 ^ 32 - 1)) × (is_dear keeps ≡ true) × ((room ≡ 0) ⊎ (old < longest))
 
--- The session is given what stands in front of what is held back for it; a line that asks for much takes of the room that the
--- turn has for such lines. It is closed only where it is given nothing.
-pub record GivesOn (room left : ℕ) (holds keeps : List ℕ) (waited waits : ℕ) (old : SessionState)
+-- The session is given what stands in front of what is held back for it, as much as may be at once; a line that asks for
+-- much takes of the room that the turn has for such lines, and nothing else does. It is closed only where it is given
+-- nothing.
+pub record GivesOn (room left longest : ℕ) (unsent holds keeps : List ℕ) (waited waits : ℕ) (old : SessionState)
     (new : Option SessionState) : Type 0 where
   pub fed : List ℕ
   pub order : holds ≡ fed ++ keeps
   pub heard : IfSome new (HasHeard old fed)
   pub gone : new ≡ None → fed ≡ []
+  pub many : fed ≢ [] → AreMost fed keeps
   pub fewer : left ≤ room
   pub dear : IsDearLine fed → left + 1 ≤ room
-  pub wait : HasWaitedOn fed keeps waited waits
+  pub spent : (left ≡ room) ⊎ (is_dear fed ≡ true) ⊎ (new ≡ None)
+  pub wait : HasWaitedOn (IsHeldUp unsent keeps old new) room longest fed keeps waited waits
 
 -- Bytes came from the peer, none where a line is held back, and the session is given what stands in front of all that is
 -- held back.
-pub record TakesIn (room left : ℕ) (before after : Option (List ℕ)) (holds keeps : List ℕ) (waited waits : ℕ)
-    (old : SessionState) (new : Option SessionState) : Type 0 where
+pub record TakesIn (room left longest : ℕ) (before after : Option (List ℕ)) (unsent holds keeps : List ℕ)
+    (waited waits : ℕ) (old : SessionState) (new : Option SessionState) : Type 0 where
   pub taken : List ℕ
   pub consumed : Consumes before after taken
   pub unfinished : taken ≢ [] → IsUnfinished holds
-  pub gives : GivesOn room left (holds ++ taken) keeps waited waits old new
+  pub gives : GivesOn room left longest unsent (holds ++ taken) keeps waited waits old new
 
 -- ---- what goes
 

@@ -1,3 +1,4 @@
+pub mod Doors
 pub mod Pieces
 pub mod Portions
 pub mod Incoming

@@ -1,15 +1,15 @@
 -- What is done for clients one after the other: where what their sessions hear comes from, and where what these are given
 -- goes.
-use Rattle.std.specs.Prelude.{ℕ, ◌≡◌, ◌≢◌, ◌≤◌, ◌+◌, ◌⊎◌, true, false, List, [], ◌∷◌, ◌++◌, Option, Some, None, IsSome, IsSomeAnd, length}
+use Rattle.std.specs.Prelude.{ℕ, ◌≡◌, ◌≢◌, ◌≤◌, ◌+◌, ◌⊎◌, true, false, List, [], ◌∷◌, ◌++◌, Option, Some, None, IsSome, IsSomeAnd, IfSome, length}
 use Rattle.std.specs.Io.KnownBytes.{Consumes}
 use Rattle.session_lines.specs.Lines.{IsUnfinished}
 use Rattle.session_lines.specs.Heard.{heard_more}
 use Rattle.chess_sessions.specs.declared.sessions.Sessions.{Sessions}
 use Rattle.chess_sessions.specs.Session.{Said, SessionState, session_at, Changes, IsUnchanged, due, first_due, given_one}
 use Rattle.client_streams.specs.declared.client.Client.{Client}
-use Rattle.client_streams.specs.Clients.{IsSilent, IsHeardAt, IsEndSeen, HasWaitedOn, HandsOut, to_go}
+use Rattle.client_streams.specs.Clients.{IsSilent, IsLongest, IsHeardAt, IsEndSeen, IsHeldUp, HasWaitedOn, HandsOut, to_go}
 use Rattle.client_streams.specs.Closings.{IsReason, IsOver}
-use Rattle.client_streams.specs.Portions.{IsDearLine, IsPortion}
+use Rattle.client_streams.specs.Portions.{is_dear, IsDearLine, IsPortion, AreMost}
 use Rattle.client_streams.specs.Incoming.{held}
 use Rattle.client_streams.specs.Sending.{waiting}
 
@@ -55,12 +55,14 @@ intake sessions room = record { sessions = sessions; room = room }
 abbrev pub Holds : Intake → Intake → Type 0
 Holds old new = IsUnchanged old.sessions new.sessions × (new.room ≡ old.room)
 
--- What comes on a client's connection is held back, and its session is given what stands in front of that, and nothing
--- else. None is read where a line is held back, and no more is held back than a piece. A line that asks for much is given
--- only where there is room, and the turns are counted that one waits for it. Of a client for which answers wait nothing is read, and nothing that it sent goes on. A session is
--- closed for a reason: the connection has failed, memory was refused, or it has been silent for as long as it may.
-pub record IsRead {S : Type 0} (remaining : S → Option (List ℕ)) (silence : Option ℕ) (at : ℕ) (client after : Client S)
-    (old new : Intake) : Type 0 where
+-- What comes on a client's connection is held back, and its session is given what stands in front of that, as much as may
+-- be at once, and nothing else. None is read where a line is held back, and no more is held back than a piece. A line that
+-- asks for much is given only where there is room, which nothing else takes, and to who has waited longest; the turns are
+-- counted that one waits for it. Of a client for which answers wait nothing is read, and nothing that it sent goes on. A
+-- session is closed for a reason: the connection has failed, memory was refused, or it has been silent for as long as it
+-- may.
+pub record IsRead {S : Type 0} (remaining : S → Option (List ℕ)) (silence : Option ℕ) (at longest : ℕ)
+    (client after : Client S) (old new : Intake) : Type 0 where
   pub sid : after.sid ≡ client.sid
   pub outgoing : waiting after.outgoing ≡ waiting client.outgoing
   pub taken : List ℕ
@@ -70,9 +72,13 @@ pub record IsRead {S : Type 0} (remaining : S → Option (List ℕ)) (silence : 
   pub order : held client.incoming ++ taken ≡ fed ++ held after.incoming
   pub short : length (held after.incoming) ≤ 4096
   pub sent : IsSent client.sid fed old.sessions new.sessions
+  pub many : fed ≢ [] → AreMost fed (held after.incoming)
   pub fewer : new.room ≤ old.room
   pub dear : IsDearLine fed → new.room + 1 ≤ old.room
-  pub wait : HasWaitedOn fed (held after.incoming) client.waited after.waited
+  pub spent : (new.room ≡ old.room) ⊎ (is_dear fed ≡ true) ⊎ (session_at new.sessions client.sid ≡ None)
+  pub wait : HasWaitedOn (IfSome (session_at old.sessions client.sid) (λ s. IsHeldUp (waiting client.outgoing)
+      (held after.incoming) s (session_at new.sessions client.sid))) old.room longest fed (held after.incoming)
+      client.waited after.waited
   pub unread : waiting client.outgoing ≢ [] → (after.wire.stream ≡ client.wire.stream)
       × (held after.incoming ≡ held client.incoming) × IsUnchanged old.sessions new.sessions
   pub heard : IsHeardAt (remaining client.wire.stream) (remaining after.wire.stream) at client.heard_at after.heard_at
@@ -81,11 +87,12 @@ pub record IsRead {S : Type 0} (remaining : S → Option (List ℕ)) (silence : 
   pub reason : IsSome (session_at old.sessions client.sid) → session_at new.sessions client.sid ≡ None
       → IsReason after (IsSomeAnd silence (IsSilent after old.sessions at)) ⊥ ⊥
 
--- Each client is read for. A turn has room for one line that asks for much.
+-- Each client is read for. A turn has room for one line that asks for much, which goes to who has waited longest.
 abbrev pub AreRead : {S : Type 0} → (S → Option (List ℕ)) → Option ℕ → ℕ → List (Client S) → List (Client S) → Sessions
     → Sessions → Type 0
 AreRead remaining silence at clients read old new =
-    (left : ℕ) × AreEach Holds (IsRead remaining silence at) clients read (intake old 1) (intake new left)
+    (left : ℕ) × (longest : ℕ) × IsLongest old clients longest
+    × AreEach Holds (IsRead remaining silence at longest) clients read (intake old 1) (intake new left)
 
 -- ---- what goes
 

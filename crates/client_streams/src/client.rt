@@ -97,6 +97,13 @@ impl<S> Client<S> {
         self.is_quiet
     }
 
+    /// Whether no line of it is held back.
+    pub(crate) fn is_unfinished(&self) -> bool
+        ensures { IsTrue result ↔ IsUnfinished (held self.now.incoming) }
+    {
+        self.incoming.is_unfinished()
+    }
+
     /// For how many turns on end a line that asks for much has waited.
     pub(crate) fn waited(&self) -> u32
         ensures { result ≡ self.now.waited }
@@ -214,6 +221,8 @@ impl<S: Read + Write> Client<S> {
             × (held self.new.incoming ≡ held self.old.incoming) }
         ensures peer { (self.new.sid ≡ self.old.sid) × (waiting self.new.outgoing ≡ waiting self.old.outgoing)
             × (self.new.waited ≡ self.old.waited) }
+        ensures nothing { result ≡ Came.Nothing → IsUnfinished (held self.new.incoming) }
+        ensures end { result ≡ Came.End → IsUnfinished (held self.new.incoming) }
         ensures failed { result ≡ Came.Fault → self.new.wire.has_failed ≡ true }
     {
         self.is_quiet = false;
@@ -235,8 +244,9 @@ impl<S: Read + Write> Client<S> {
     fn hand_on(&mut self, sessions: &mut Sessions, room: &mut Room)
         requires { IsOpen sessions.old self.old.sid }
         ensures gives { IfSome (session_at sessions.old self.old.sid) (λ s. GivesOn room.old.lines room.new.lines
-            (held self.old.incoming) (held self.new.incoming) self.old.waited self.new.waited s
-            (session_at sessions.new self.old.sid)) }
+            room.old.longest (waiting self.old.outgoing) (held self.old.incoming) (held self.new.incoming)
+            self.old.waited self.new.waited s (session_at sessions.new self.old.sid)) }
+        ensures longest { room.new.longest ≡ room.old.longest }
         ensures peer { (self.new.sid ≡ self.old.sid) × (waiting self.new.outgoing ≡ waiting self.old.outgoing) }
         ensures quiet { self.new.is_quiet ≡ self.old.is_quiet }
         ensures heard { self.new.heard_at ≡ self.old.heard_at }
@@ -276,8 +286,10 @@ impl<S: Read + Write> Client<S> {
     ) -> bool
         requires { IsOpen sessions.old self.old.sid }
         ensures taken { IfSome (session_at sessions.old self.old.sid) (λ s. TakesIn room.old.lines room.new.lines
-            (S.remaining self.old.wire.stream) (S.remaining self.new.wire.stream) (held self.old.incoming)
-            (held self.new.incoming) self.old.waited self.new.waited s (session_at sessions.new self.old.sid)) }
+            room.old.longest (S.remaining self.old.wire.stream) (S.remaining self.new.wire.stream)
+            (waiting self.old.outgoing) (held self.old.incoming) (held self.new.incoming) self.old.waited
+            self.new.waited s (session_at sessions.new self.old.sid)) }
+        ensures longest { room.new.longest ≡ room.old.longest }
         ensures peer { (self.new.sid ≡ self.old.sid) × (waiting self.new.outgoing ≡ waiting self.old.outgoing) }
         ensures heard { IsHeardAt (S.remaining self.old.wire.stream) (S.remaining self.new.wire.stream) at self.old.heard_at
             self.new.heard_at }
@@ -286,7 +298,8 @@ impl<S: Read + Write> Client<S> {
         ensures quiet { self.new.is_quiet ≡ true → (result ≡ false)
             × Keeps (S.remaining self.old.wire.stream) (S.remaining self.new.wire.stream)
             × (held self.new.incoming ≡ held self.old.incoming) × (sessions.new ≡ sessions.old)
-            × (room.new.lines ≡ room.old.lines) × (self.new.waited ≡ self.old.waited) }
+            × (room.new.lines ≡ room.old.lines) × (self.new.waited ≡ self.old.waited)
+            × IsUnfinished (held self.new.incoming) }
         // Of who doesn't take its answers nothing is read, and nothing that it sent goes on.
         ensures unread { waiting self.old.outgoing ≢ [] → (self.new.wire.stream ≡ self.old.wire.stream)
             × (held self.new.incoming ≡ held self.old.incoming) × (sessions.new ≡ sessions.old) }

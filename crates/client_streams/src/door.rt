@@ -1,5 +1,6 @@
 //! Where connections come from.
-ghost use Rattle.std.specs.Prelude.{◌≡◌, ◌+◌, ◌↔◌, ◌⊎◌, false, IsSome, IfSome, IfNone};
+ghost use Rattle.std.specs.Prelude.{◌≡◌, ◌<◌, ◌+◌, ◌-◌, ◌^◌, ◌↔◌, ◌⊎◌, false, Some, None, IsSome, IfSome, IfNone, IfOk, OnErr};
+ghost use Rattle.client_streams.specs.Doors.{IsAsked};
 
 use std::io;
 use std::io::ErrorKind;
@@ -49,6 +50,7 @@ pub fn may_wait(found: Found) -> bool
 pub trait Listens {
     ghost use Rattle.std.specs.Prelude.{ℕ, ◌≡◌, ◌+◌, ◌↔◌, IsSome, IfSome, IfNone};
     ghost use Rattle.client_streams.specs.declared.door.Found.{Found};
+    ghost use Rattle.client_streams.specs.Doors.{IsAsked};
 
     type Stream: Drop;
 
@@ -58,11 +60,15 @@ pub trait Listens {
     /// How many connections it has given.
     ghost given_so_far: { Self → ℕ };
 
+    /// How many tries it has made, up to 2^64 - 1.
+    ghost tried_so_far: { Self → ℕ };
+
     /// Accepts a connection, if one is there, without waiting.
     fn accept_one(&mut self) -> Option<Self::Stream>
         ensures found { IsSome result ↔ (last_found self.new ≡ Found.Connection) }
         ensures one { IfSome result (λ stream. given_so_far self.new ≡ given_so_far self.old + 1) }
-        ensures none { IfNone result (given_so_far self.new ≡ given_so_far self.old) };
+        ensures none { IfNone result (given_so_far self.new ≡ given_so_far self.old) }
+        ensures asked { IsAsked (tried_so_far self.old) (tried_so_far self.new) };
 
     /// What the last try found.
     fn found(&self) -> Found
@@ -79,6 +85,7 @@ pub fn next_connection<L: Listens>(door: &mut L) -> Option<L::Stream>
     // It is the only one that the listener has given.
     ensures one { IfSome result (λ stream. L.given_so_far door.new ≡ L.given_so_far door.old + 1) }
     ensures none { IfNone result (L.given_so_far door.new ≡ L.given_so_far door.old) }
+    ensures asked { IsAsked (L.tried_so_far door.old) (L.tried_so_far door.new) }
 {
     for _ in 1..TRIES {
         if let Some(stream) = door.accept_one() {
@@ -98,6 +105,8 @@ pub struct Door {
     found: Found,
     /// So many connections it has given.
     given: u64,
+    /// So many tries it has made, up to 2^64 - 1.
+    tries: u64,
 }
 
 impl Door {
@@ -112,6 +121,7 @@ impl Door {
             listener,
             found: Found::Lost,
             given: 0,
+            tries: 0,
         })
     }
 
@@ -124,6 +134,29 @@ impl Door {
     /// The listener's socket.
     pub fn socket(&self) -> RawFd {
         self.listener.as_raw_fd()
+    }
+
+    // What it comes to that a connection was accepted: it is given; or its socket takes no option, and it counts as lost,
+    // so that the next is tried.
+    fn settle(&mut self, prepared: io::Result<TcpStream>) -> Option<TcpStream>
+        requires { self.old.given < 2 ^ 64 - 1 }
+        ensures given { IfOk prepared (λ stream. (result ≡ Some stream) × (self.new.found ≡ Found.Connection)
+            × (self.new.given ≡ self.old.given + 1)) }
+        ensures lost { OnErr prepared ((result ≡ None) × (self.new.found ≡ Found.Lost)
+            × (self.new.given ≡ self.old.given)) }
+        ensures tries { self.new.tries ≡ self.old.tries }
+    {
+        match prepared {
+            Ok(stream) => {
+                self.found = Found::Connection;
+                self.given += 1;
+                Some(stream)
+            }
+            Err(_) => {
+                self.found = Found::Lost;
+                None
+            }
+        }
     }
 }
 
@@ -141,27 +174,19 @@ impl Listens for Door {
 
     ghost given_so_far = { λ door. door.given };
 
+    ghost tried_so_far = { λ door. door.tries };
+
     fn accept_one(&mut self) -> Option<TcpStream> {
+        self.tries = self.tries.saturating_add(1);
         // So many never come.
         if self.given == u64::MAX {
             self.found = Found::Refused;
             return None;
         }
-        let (stream, _) = match self.listener.accept() {
-            Ok(came) => came,
+        match self.listener.accept() {
+            Ok((stream, _)) => self.settle(prepared(stream)),
             Err(fault) => {
                 self.found = found_of(fault.kind());
-                return None;
-            }
-        };
-        match prepared(stream) {
-            Ok(stream) => {
-                self.found = Found::Connection;
-                self.given += 1;
-                Some(stream)
-            }
-            Err(_) => {
-                self.found = Found::Lost;
                 None
             }
         }

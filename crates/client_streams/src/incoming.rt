@@ -95,6 +95,7 @@ impl Incoming {
         ensures end { result ≡ Came.End → IsAtEnd (R.remaining reader.new.stream) }
         ensures nothing { result ≡ Came.Nothing → Keeps (R.remaining reader.old.stream) (R.remaining reader.new.stream)
             × (held self.new ≡ held self.old) }
+        ensures still { result ≡ Came.End → held self.new ≡ held self.old }
         ensures failed { result ≡ Came.Fault → reader.new.has_failed ≡ true }
     {
         let room = PIECE_ROOM - self.bytes.len();

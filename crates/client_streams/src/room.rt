@@ -1,5 +1,5 @@
 //! What a turn has room for.
-ghost use Rattle.std.specs.Prelude.{◌≡◌, ◌≤◌, ◌<◌, ◌+◌, ◌↔◌, ◌⊎◌, false, IsTrue};
+ghost use Rattle.std.specs.Prelude.{◌≡◌, ◌≤◌, ◌<◌, ◌+◌, ◌↔◌, ◌⊎◌, true, false, IsTrue};
 ghost use Rattle.std.specs.Bool.{OnTrue, OnFalse};
 ghost use Rattle.client_streams.specs.Portions.{is_dear, IsDearLine};
 
@@ -36,7 +36,10 @@ impl Room {
             ⊎ ((0 < self.old.lines) × (self.old.longest ≤ waited))) }
         ensures fewer { self.new.lines ≤ self.old.lines }
         ensures dear { OnTrue result (IsDearLine portion.now → self.new.lines + 1 ≤ self.old.lines) }
+        // Nothing else takes room.
+        ensures spent { (self.new.lines ≡ self.old.lines) ⊎ (is_dear portion.now ≡ true) }
         ensures refused { OnFalse result (self.new.lines ≡ self.old.lines) }
+        ensures waits { OnFalse result ((self.old.lines ≡ 0) ⊎ (waited < self.old.longest)) }
         ensures longest { self.new.longest ≡ self.old.longest }
     {
         if !is_dear(portion) {

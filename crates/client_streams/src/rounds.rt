@@ -2,6 +2,7 @@
 ghost use Rattle.std.specs.Prelude.{◌≡◌, ◌≤◌, ◌↔◌, ◌⊎◌, true, Some, None, IsTrue, IsSomeAnd};
 ghost use Rattle.std.specs.Bool.{OnTrue, OnFalse};
 ghost use Rattle.chess_sessions.specs.Session.{Changes, IsUnchanged};
+ghost use Rattle.session_lines.specs.Lines.{IsUnfinished};
 ghost use Rattle.client_streams.specs.Clients.{IsOpen, IsSilent, IsLongest};
 ghost use Rattle.client_streams.specs.Incoming.{held};
 ghost use Rattle.client_streams.specs.Sending.{waiting};
@@ -57,11 +58,16 @@ fn close_silent<S>(client: &mut Client<S>, sessions: &mut Sessions, reading: Rea
     true
 }
 
-// Whether a client is passed over: after calm rests one that was read to its end, unless it has been silent for too long.
+// Whether a client is passed over: after calm rests one that was read to its end and of which no line is held back, unless
+// it has been silent for too long.
 fn is_passed_over<S>(client: &Client<S>, sessions: &Sessions, reading: Reading) -> bool
     requires { IsOpen sessions.now client.now.sid }
+    ensures { result ≡ true → IsUnfinished (held client.now.incoming) }
 {
-    reading.is_calm && client.is_quiet() && !is_over_silent(client, sessions, reading)
+    reading.is_calm
+        && client.is_quiet()
+        && client.is_unfinished()
+        && !is_over_silent(client, sessions, reading)
 }
 
 // Reads for a session that is open, but after calm rests not for a quiet client; and where the read finds nothing, closes
@@ -73,8 +79,9 @@ fn read_for<S: Read + Write>(
     piece: &mut [u8; PIECE_ROOM],
     room: &mut Room,
 ) -> bool
-    ensures { IsRead S.remaining reading.silence reading.at client.old client.new (intake sessions.old room.old.lines)
-        (intake sessions.new room.new.lines) }
+    ensures read { IsRead S.remaining reading.silence reading.at room.old.longest client.old client.new
+        (intake sessions.old room.old.lines) (intake sessions.new room.new.lines) }
+    ensures longest { room.new.longest ≡ room.old.longest }
 {
     if !sessions.is_open(client.sid()) {
         return false;

@@ -111,6 +111,21 @@ fn writes_in_pieces(rt: HostRuntime) -> Result<(), Fail> {
     Ok(())
 }
 
+#[test]
+fn writes_much_whole(rt: HostRuntime) -> Result<(), Fail> {
+    let alloc = rt.alloc();
+    let mut writer = Wire::new(made(alloc, &[], 65_536));
+    let mut outgoing = Outgoing::new(alloc);
+    for _ in 0..300 {
+        outgoing.push(&[b'x'; 1_000])?;
+    }
+    for sent in [Sent::Part, Sent::Part, Sent::Part, Sent::Part, Sent::All] {
+        assert_eq!(rt; outgoing.write_to(&mut writer), sent);
+    }
+    assert_eq!(rt; writer.stream().written.len(), 300_000);
+    Ok(())
+}
+
 // How many bytes wait of a session, if it is open.
 fn waiting(sessions: &Sessions, sid: Sid) -> Option<usize> {
     if sessions.is_open(sid) {

@@ -14,6 +14,3 @@ pub use file::FileSource;
 pub use slots::header_in_force;
 pub use source::{Slots, Source};
 pub use still::Still;
-
-#[cfg(test)]
-mod tests;

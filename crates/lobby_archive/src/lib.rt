@@ -4,8 +4,6 @@
 
 mod clerk;
 mod law;
-#[cfg(test)]
-mod tests;
 
 pub use clerk::{Clerk, Stage};
 pub use law::{

@@ -16,7 +16,7 @@ use Rattle.lobby_words.specs.declared.planning.Identity.{Identity}
 use Rattle.lobby_desk.specs.declared.players.Player.{Player}
 use Rattle.lobby_words.specs.declared.listing.Waiting.{Waiting}
 use Rattle.lobby_desk.specs.declared.watching.Watch.{Watch}
-use Rattle.lobby_words.specs.Words.{word_of, rest_of, is_message, sort_of, is_act_sort, is_drop_sort, is_name_sort, is_login_sort, number_in}
+use Rattle.lobby_words.specs.Words.{word_of, rest_of, is_message, sort_of, is_act_sort, is_drop_sort, is_name_sort, is_login_sort, number_in, or_0}
 use Rattle.lobby_words.specs.Plans.{asked, act_plan, drop_plan, login_plan, numbered_plan, plan_of}
 use Rattle.lobby_desk.specs.Lines.{lines_of, act_lines, said_after, name_line, game_line, is_said, notice_lines, IsNamed}
 use Rattle.lobby_words.specs.Answers.{is_accepted, first_line, act_game, is_whole, answer}
@@ -24,8 +24,7 @@ use Rattle.lobby_desk.specs.Watching.{watch_if, sit_if}
 use Rattle.lobby_desk.specs.Events.{Event, Opened, Closed, Said, Hurried, Heard, Gone, Here, Telling, ForItself, ForPositions, ForTable, ForGame, ForAct, Owed, Nobody, Asker, Dropper, Followers, owed_last, sort_asker, asker, followers_of, follower}
 use Rattle.lobby_desk.specs.Tellings.{Known, open_now, watch_heard, watch_next, watches_now, table_heard, table_next, table_now, owed_answered, owed_now, known_now, presence, lost, AreToldAll, IsTold}
 use Rattle.lobby_desk.specs.Who.{View, BeginsView, IsSaid, IsHeard, IsDropped, IsSentFor, IsSentNext, IsSentHeard, IsDone, IsKnown, who_noted, name_of, speaker}
-use Rattle.lobby_desk.specs.History.{Step, comes, has_come, shown_by, player_said, player_after, player_in, is_drop, name_behind, name_through, name_before, name_in, ActsUnder, ActsRight, NoActs, NoDrops, AllRead, IsOf, open_in, known_in, IsArbiter, AsksNow, HasAsked, IsDropOf, IsRight, AreWhole, AllRight, AllTold, IsRun}
-use Rattle.lobby_desk.proofs.Found.{and_first, and_second, and_both}
+use Rattle.lobby_desk.specs.History.{Step, comes, has_come, shown_by, player_said, player_after, player_in, is_drop, name_behind, name_through, name_before, name_in, ActsUnder, ActsRight, NoActs, NoDrops, sort_asks, IsOf, open_in, known_in, IsArbiter, AsksNow, HasAsked, IsDropOf, IsNoticeOf, IsRight, AreWhole, AllRight, AllTold, IsRun}
 use Rattle.lobby_words.proofs.Numbers.{number_small}
 use Rattle.lobby_desk.proofs.Sent.{is_said_same}
 use Rattle.lobby_desk.proofs.Lines.{show_whole, fen_whole, pgn_whole, list_whole, name_whole, show_reads, fen_reads, pgn_reads, list_reads, name_names}
@@ -91,11 +90,15 @@ planned_who true sorts.Line s game before = line_who s game before
 planned_who true sorts.Name s game before = refl
 planned_who true sorts.Nothing s game before = refl
 
--- what lines for a message have to be
-record Good (text : List ℕ) (who : Option Identity) (said : Option (List ℕ)) (lines : List (List ℕ)) (then_said : Option (List ℕ)) : Type 0 where
+-- lines that change nothing
+abbrev pub AllRead : List (List ℕ) → Type 0
+AllRead lines = AllByRecursion (λ line. sort_of line ≡ sorts.Read) lines
+
+-- what lines for a message have to be, that asks this
+record Good (asks : List (List ℕ)) (who : Option Identity) (said : Option (List ℕ)) (lines : List (List ℕ)) (then_said : Option (List ℕ)) : Type 0 where
   acts : ActsRight who said lines
   drops : NoDrops lines
-  of_text : AllByRecursion (IsOf text) lines
+  of_text : IsOf asks lines
   whole : AreWhole lines
   name : then_said ≡ name_through said lines
 
@@ -124,27 +127,29 @@ reads_right : (who : Option Identity) (said : Option (List ℕ)) (lines : List (
 reads_right None said lines h = no_acts lines h
 reads_right (Some who) said lines h = acts_under said lines who.name h
 
-own_lines : (text : List ℕ) (lines : List (List ℕ)) → AllRead lines → AllByRecursion (IsOf text) lines
-own_lines text [] h = tt
-own_lines text (line ∷ lines) h = (inr (inr h.0), own_lines text lines h.1)
-
-reads_good : (text : List ℕ) (who : Option Identity) (said : Option (List ℕ)) (lines : List (List ℕ)) → AllRead lines → AreWhole lines →
-    Good text who said lines said
-reads_good text who said lines h whole = record {
+reads_good : (who : Option Identity) (said : Option (List ℕ)) (lines : List (List ℕ)) → AllRead lines → AreWhole lines →
+    Good lines who said lines said
+reads_good who said lines h whole = record {
   acts = reads_right who said lines h;
   drops = no_drops lines h;
-  of_text = own_lines text lines h;
+  of_text = inr (inl refl);
   whole = whole;
   name = sym (names_stay said lines h);
 }
 
-none_good : (text : List ℕ) (who : Option Identity) (said : Option (List ℕ)) → Good text who said [] said
-none_good text who said = reads_good text who said [] tt tt
+none_good : (asks : List (List ℕ)) (who : Option Identity) (said : Option (List ℕ)) → Good asks who said [] said
+none_good asks who said = record {
+  acts = reads_right who said [] tt;
+  drops = tt;
+  of_text = inl refl;
+  whole = tt;
+  name = refl;
+}
 
 -- lines of an act under a name
 record Under (text name : List ℕ) (said : Option (List ℕ)) (lines : List (List ℕ)) (then_said : Option (List ℕ)) : Type 0 where
   acts : ActsUnder said lines name
-  of_text : AllByRecursion (IsOf text) lines
+  of_text : IsOf (text ∷ []) lines
   whole : AreWhole lines
   later : then_said ≡ name_through said lines
 
@@ -156,7 +161,7 @@ said_or_not text name said sort message is no_name named true same =
     let stays : name_behind said text ≡ said = ap (λ (k : Sort). if is_name_sort k then Some (rest_of text) else said) is ∙ ap (λ b. if b then Some (rest_of text) else said) no_name in
     record {
       acts = (λ _. same refl, tt);
-      of_text = (inl refl, tt);
+      of_text = inr (inl refl);
       whole = (message, tt);
       later = sym (stays ∙ same refl);
     }
@@ -168,7 +173,7 @@ said_or_not text name said sort message is no_name named false same =
     ∙ ap (λ b. if b then Some (rest_of text) else name_behind said (name_line name)) no_name in
     record {
       acts = (λ act. absurd (false≢true (sym (ap is_act_sort names) ∙ act)), (λ _. first, tt));
-      of_text = (inr (inl names), (inl refl, tt));
+      of_text = inr (inr (name, refl));
       whole = (name_whole name named, (message, tt));
       later = sym (stays ∙ first);
     }
@@ -184,20 +189,20 @@ act_no_drop text name none true = (none, tt)
 act_no_drop text name none false = (ap is_drop_sort (name_names name), (none, tt))
 
 -- a plan by which nothing goes out where the server is not there
-asked_good : (text : List ℕ) (s : Standing) (who : Option Identity) (said : Option (List ℕ)) (plan : Plan) →
-    (IsNamed plan → Good text who said (lines_of plan said text) (said_after plan said)) → IsNamed (asked s plan) →
-    Good text who said (lines_of (asked s plan) said text) (said_after (asked s plan) said)
-asked_good text s who said plan h =
+asked_good : (asks : List (List ℕ)) (text : List ℕ) (s : Standing) (who : Option Identity) (said : Option (List ℕ)) (plan : Plan) →
+    (IsNamed plan → Good asks who said (lines_of plan said text) (said_after plan said)) → IsNamed (asked s plan) →
+    Good asks who said (lines_of (asked s plan) said text) (said_after (asked s plan) said)
+asked_good asks text s who said plan h =
     elim s.is_here as (λ b. IsNamed (if b then plan else plans.Refuse refusals.NoServer) →
-    Good text who said (lines_of (if b then plan else plans.Refuse refusals.NoServer) said text)
+    Good asks who said (lines_of (if b then plan else plans.Refuse refusals.NoServer) said text)
     (said_after (if b then plan else plans.Refuse refusals.NoServer) said)) [
       | true ↦ h
-      | false ↦ λ _. none_good text who said
+      | false ↦ λ _. none_good asks who said
     ]
 
 -- the plan for an act
 acts_good : (text : List ℕ) (who : Identity) (said : Option (List ℕ)) → is_message text ≡ true → sort_of text ≡ sorts.Act → IsName who.name →
-    Good text (Some who) said (act_lines said who.name text) (Some who.name)
+    Good (text ∷ []) (Some who) said (act_lines said who.name text) (Some who.name)
 acts_good text who said message is named =
     let under = act_under text who.name said sorts.Act message is refl named in
     record {
@@ -209,102 +214,103 @@ acts_good text who said message is named =
     }
 
 act_good : (text : List ℕ) (s : Standing) (said : Option (List ℕ)) (who : Option Identity) → is_message text ≡ true → sort_of text ≡ sorts.Act →
-    IsNamed (act_plan s who) → Good text who said (lines_of (act_plan s who) said text) (said_after (act_plan s who) said)
-act_good text s said None message is = λ named. none_good text None said
+    IsNamed (act_plan s who) → Good (text ∷ []) who said (lines_of (act_plan s who) said text) (said_after (act_plan s who) said)
+act_good text s said None message is = λ named. none_good (text ∷ []) None said
 act_good text s said (Some who) message is =
     elim s.is_crowded as (λ b. IsNamed (if b then asked s (plans.Refuse refusals.TooManyOpen) else asked s (plans.Act who)) →
-    Good text (Some who) said (lines_of (if b then asked s (plans.Refuse refusals.TooManyOpen) else asked s (plans.Act who)) said text)
+    Good (text ∷ []) (Some who) said (lines_of (if b then asked s (plans.Refuse refusals.TooManyOpen) else asked s (plans.Act who)) said text)
     (said_after (if b then asked s (plans.Refuse refusals.TooManyOpen) else asked s (plans.Act who)) said)) [
-      | true ↦ asked_good text s (Some who) said (plans.Refuse refusals.TooManyOpen) (λ _. none_good text (Some who) said)
-      | false ↦ asked_good text s (Some who) said (plans.Act who) (λ named. acts_good text who said message is named)
+      | true ↦ asked_good (text ∷ []) text s (Some who) said (plans.Refuse refusals.TooManyOpen) (λ _. none_good (text ∷ []) (Some who) said)
+      | false ↦ asked_good (text ∷ []) text s (Some who) said (plans.Act who) (λ named. acts_good text who said message is named)
     ]
 
 -- the plan for a drop asks who is seated
-show_good : (text : List ℕ) (who : Option Identity) (said : Option (List ℕ)) (game : ℕ) → game < 2 ^ 32 →
-    Good text who said (game_line (codes "show ") game ∷ []) said
-show_good text who said game small =
-    reads_good text who said (game_line (codes "show ") game ∷ []) (show_reads game, tt) (show_whole game small, tt)
+show_good : (who : Option Identity) (said : Option (List ℕ)) (game : ℕ) → game < 2 ^ 32 →
+    Good (game_line (codes "show ") game ∷ []) who said (game_line (codes "show ") game ∷ []) said
+show_good who said game small =
+    reads_good who said (game_line (codes "show ") game ∷ []) (show_reads game, tt) (show_whole game small, tt)
 
 drop_good : (text : List ℕ) (s : Standing) (said : Option (List ℕ)) (one : Option Identity) (who : Option Identity) (game : ℕ) → game < 2 ^ 32 →
-    IsNamed (drop_plan s who game) → Good text one said (lines_of (drop_plan s who game) said text) (said_after (drop_plan s who game) said)
-drop_good text s said one None game small = λ named. none_good text one said
+    IsNamed (drop_plan s who game) →
+    Good (game_line (codes "show ") game ∷ []) one said (lines_of (drop_plan s who game) said text) (said_after (drop_plan s who game) said)
+drop_good text s said one None game small = λ named. none_good (game_line (codes "show ") game ∷ []) one said
 drop_good text s said one (Some who) game small =
     elim who.is_arbiter as (λ b. IsNamed (if b then asked s (plans.Drop who game) else plans.Refuse refusals.NotArbiter) →
-    Good text one said (lines_of (if b then asked s (plans.Drop who game) else plans.Refuse refusals.NotArbiter) said text)
+    Good (game_line (codes "show ") game ∷ []) one said (lines_of (if b then asked s (plans.Drop who game) else plans.Refuse refusals.NotArbiter) said text)
     (said_after (if b then asked s (plans.Drop who game) else plans.Refuse refusals.NotArbiter) said)) [
-      | true ↦ asked_good text s one said (plans.Drop who game) (λ _. show_good text one said game small)
-      | false ↦ λ _. none_good text one said
+      | true ↦ asked_good (game_line (codes "show ") game ∷ []) text s one said (plans.Drop who game) (λ _. show_good one said game small)
+      | false ↦ λ _. none_good (game_line (codes "show ") game ∷ []) one said
     ]
 
 dropped_good : (text : List ℕ) (s : Standing) (said : Option (List ℕ)) (game : Option ℕ) → IfSome game (λ g. g < 2 ^ 32) →
     IsNamed (numbered_plan sorts.Drop s game) →
-    Good text s.who said (lines_of (numbered_plan sorts.Drop s game) said text) (said_after (numbered_plan sorts.Drop s game) said)
-dropped_good text s said None small = λ named. none_good text s.who said
+    Good (sort_asks sorts.Drop (or_0 game) text) s.who said (lines_of (numbered_plan sorts.Drop s game) said text) (said_after (numbered_plan sorts.Drop s game) said)
+dropped_good text s said None small = λ named. none_good (sort_asks sorts.Drop 0 text) s.who said
 dropped_good text s said (Some game) small = drop_good text s said s.who s.who game small
 
 login_good : (text : List ℕ) (who : Option Identity) (said : Option (List ℕ)) (holder : Option Identity) →
-    Good text who said (lines_of (login_plan holder) said text) (said_after (login_plan holder) said)
-login_good text who said None = none_good text who said
-login_good text who said (Some one) = none_good text who said
+    Good [] who said (lines_of (login_plan holder) said text) (said_after (login_plan holder) said)
+login_good text who said None = none_good [] who said
+login_good text who said (Some one) = none_good [] who said
 
 watch_good : (text : List ℕ) (s : Standing) (who : Option Identity) (said : Option (List ℕ)) (game : Option ℕ) → IfSome game (λ g. g < 2 ^ 32) →
     IsNamed (numbered_plan sorts.Watch s game) →
-    Good text who said (lines_of (numbered_plan sorts.Watch s game) said text) (said_after (numbered_plan sorts.Watch s game) said)
-watch_good text s who said None small = λ named. none_good text who said
+    Good (sort_asks sorts.Watch (or_0 game) text) who said (lines_of (numbered_plan sorts.Watch s game) said text) (said_after (numbered_plan sorts.Watch s game) said)
+watch_good text s who said None small = λ named. none_good (sort_asks sorts.Watch 0 text) who said
 watch_good text s who said (Some game) small =
     elim s.is_full as (λ b. IsNamed (if b then asked s (plans.Refuse refusals.TooManyWatched) else asked s (plans.Watch game)) →
-    Good text who said (lines_of (if b then asked s (plans.Refuse refusals.TooManyWatched) else asked s (plans.Watch game)) said text)
+    Good (sort_asks sorts.Watch game text) who said (lines_of (if b then asked s (plans.Refuse refusals.TooManyWatched) else asked s (plans.Watch game)) said text)
     (said_after (if b then asked s (plans.Refuse refusals.TooManyWatched) else asked s (plans.Watch game)) said)) [
-      | true ↦ asked_good text s who said (plans.Refuse refusals.TooManyWatched) (λ _. none_good text who said)
-      | false ↦ asked_good text s who said (plans.Watch game) (λ _.
-          reads_good text who said (game_line (codes "show ") game ∷ game_line (codes "fen ") game ∷ [])
+      | true ↦ asked_good (sort_asks sorts.Watch game text) text s who said (plans.Refuse refusals.TooManyWatched) (λ _. none_good (sort_asks sorts.Watch game text) who said)
+      | false ↦ asked_good (sort_asks sorts.Watch game text) text s who said (plans.Watch game) (λ _.
+          reads_good who said (game_line (codes "show ") game ∷ game_line (codes "fen ") game ∷ [])
           (show_reads game, (fen_reads game, tt)) (show_whole game small, (fen_whole game small, tt)))
     ]
 
 leave_good : (text : List ℕ) (s : Standing) (who : Option Identity) (said : Option (List ℕ)) (game : Option ℕ) →
-    Good text who said (lines_of (numbered_plan sorts.Leave s game) said text) (said_after (numbered_plan sorts.Leave s game) said)
-leave_good text s who said None = none_good text who said
-leave_good text s who said (Some game) = none_good text who said
+    Good [] who said (lines_of (numbered_plan sorts.Leave s game) said text) (said_after (numbered_plan sorts.Leave s game) said)
+leave_good text s who said None = none_good [] who said
+leave_good text s who said (Some game) = none_good [] who said
 
 line_good : (text : List ℕ) (s : Standing) (who : Option Identity) (said : Option (List ℕ)) (game : Option ℕ) → IfSome game (λ g. g < 2 ^ 32) →
     IsNamed (numbered_plan sorts.Line s game) →
-    Good text who said (lines_of (numbered_plan sorts.Line s game) said text) (said_after (numbered_plan sorts.Line s game) said)
-line_good text s who said None small named = none_good text who said
+    Good (sort_asks sorts.Line (or_0 game) text) who said (lines_of (numbered_plan sorts.Line s game) said text) (said_after (numbered_plan sorts.Line s game) said)
+line_good text s who said None small named = none_good (sort_asks sorts.Line 0 text) who said
 line_good text s who said (Some game) small named =
-    asked_good text s who said (plans.Line game)
-    (λ _. reads_good text who said (game_line (codes "pgn ") game ∷ []) (pgn_reads game, tt) (pgn_whole game small, tt)) named
+    asked_good (sort_asks sorts.Line game text) text s who said (plans.Line game)
+    (λ _. reads_good who said (game_line (codes "pgn ") game ∷ []) (pgn_reads game, tt) (pgn_whole game small, tt)) named
 
 -- each plan for a message
 plan_good : (text : List ℕ) (s : Standing) (said : Option (List ℕ)) (game : Option ℕ) (m : Bool) (sort : Sort) → is_message text ≡ m →
     sort_of text ≡ sort → IfSome game (λ g. g < 2 ^ 32) → IsNamed (plan_of m sort s game) →
-    Good text s.who said (lines_of (plan_of m sort s game) said text) (said_after (plan_of m sort s game) said)
-plan_good text s said game false sort message is small named = none_good text s.who said
+    Good (sort_asks sort (or_0 game) text) s.who said (lines_of (plan_of m sort s game) said text) (said_after (plan_of m sort s game) said)
+plan_good text s said game false sort message is small named = none_good (sort_asks sort (or_0 game) text) s.who said
 plan_good text s said game true sorts.Read message is small named =
-    asked_good text s s.who said plans.Read (λ _. reads_good text s.who said (text ∷ []) (is, tt) (message, tt)) named
+    asked_good (text ∷ []) text s s.who said plans.Read (λ _. reads_good s.who said (text ∷ []) (is, tt) (message, tt)) named
 plan_good text s said game true sorts.Act message is small named = act_good text s said s.who message is named
 plan_good text s said game true sorts.Drop message is small named = dropped_good text s said game small named
 plan_good text s said game true sorts.Login message is small named = login_good text s.who said s.holder
-plan_good text s said game true sorts.Players message is small named = none_good text s.who said
+plan_good text s said game true sorts.Players message is small named = none_good [] s.who said
 plan_good text s said game true sorts.Lobby message is small named =
-    asked_good text s s.who said plans.Lobby (λ _. reads_good text s.who said (codes "list" ∷ []) (list_reads, tt) (list_whole, tt)) named
-plan_good text s said game true sorts.LeaveLobby message is small named = none_good text s.who said
+    asked_good (codes "list" ∷ []) text s s.who said plans.Lobby (λ _. reads_good s.who said (codes "list" ∷ []) (list_reads, tt) (list_whole, tt)) named
+plan_good text s said game true sorts.LeaveLobby message is small named = none_good [] s.who said
 plan_good text s said game true sorts.Watch message is small named = watch_good text s s.who said game small named
 plan_good text s said game true sorts.Leave message is small named = leave_good text s s.who said game
 plan_good text s said game true sorts.Line message is small named = line_good text s s.who said game small named
-plan_good text s said game true sorts.Name message is small named = none_good text s.who said
-plan_good text s said game true sorts.Nothing message is small named = none_good text s.who said
+plan_good text s said game true sorts.Name message is small named = none_good [] s.who said
+plan_good text s said game true sorts.Nothing message is small named = none_good [] s.who said
 
 -- a message
 said_good : (players : List Player) (old : View) (c : ℕ) (text : List ℕ) (lines : List (List ℕ)) (tells : List Telling) (new : View) →
-    IsSaid players old c text lines tells new → Good text (old.who c) old.said lines new.said
+    IsSaid players old c text lines tells new → Good (sort_asks (sort_of text) (or_0 (number_in (rest_of text))) text) (old.who c) old.said lines new.said
 said_good players old c text lines tells new h =
     let game = number_in (rest_of text) in
     let named : IsNamed (plan_of (is_message text) (sort_of text) h.standing (number_in (rest_of text))) = subst IsNamed h.planned h.named in
     let planned = plan_good text h.standing old.said game (is_message text) (sort_of text) refl refl (number_small (rest_of text)) named in
-    let done = subst (λ (plan : Plan). Good text h.standing.who old.said (lines_of plan old.said text) (said_after plan old.said)) (sym h.planned) planned in
-    let by = subst (λ (who : Option Identity). Good text who old.said (lines_of h.plan old.said text) (said_after h.plan old.said)) h.who done in
-    let lined = subst (λ (ls : List (List ℕ)). Good text (old.who c) old.said ls (said_after h.plan old.said)) (sym h.lines_are) by in
-    subst (λ (n : Option (List ℕ)). Good text (old.who c) old.said lines n) (sym h.said_is) lined
+    let done = subst (λ (plan : Plan). Good (sort_asks (sort_of text) (or_0 (number_in (rest_of text))) text) h.standing.who old.said (lines_of plan old.said text) (said_after plan old.said)) (sym h.planned) planned in
+    let by = subst (λ (who : Option Identity). Good (sort_asks (sort_of text) (or_0 (number_in (rest_of text))) text) who old.said (lines_of h.plan old.said text) (said_after h.plan old.said)) h.who done in
+    let lined = subst (λ (ls : List (List ℕ)). Good (sort_asks (sort_of text) (or_0 (number_in (rest_of text))) text) (old.who c) old.said ls (said_after h.plan old.said)) (sym h.lines_are) by in
+    subst (λ (n : Option (List ℕ)). Good (sort_asks (sort_of text) (or_0 (number_in (rest_of text))) text) (old.who c) old.said lines n) (sym h.said_is) lined
 
 -- what is known is the same if each part of it is
 abbrev known_of : List Owed → ℕ → List ℕ → List ℕ → List Watch → List ℕ → List Waiting → Known
@@ -591,21 +597,21 @@ act_game_small now =
 -- what goes out for an answer
 record HeardGood (players : List Player) (past : List Step) (line : List ℕ) (lines : List (List ℕ)) (later : Option (List ℕ)) : Type 0 where
   said : later ≡ name_through (name_in past) lines
-  right : AllRead lines ⊎ IsDropOf players past line lines
+  right : (lines ≡ []) ⊎ IsNoticeOf players past line lines ⊎ IsDropOf players past line lines
   whole : AreWhole lines
 
 heard_reads : (players : List Player) (past : List Step) (line : List ℕ) (lines : List (List ℕ)) (later : Option (List ℕ)) →
-    later ≡ name_in past → AllRead lines → AreWhole lines → HeardGood players past line lines later
-heard_reads players past line lines later said read whole = record {
+    later ≡ name_in past → AllRead lines → AreWhole lines → (lines ≡ []) ⊎ IsNoticeOf players past line lines → HeardGood players past line lines later
+heard_reads players past line lines later said read whole right = record {
   said = said ∙ sym (names_stay (name_in past) lines read);
-  right = inl read;
+  right = elim right [ inl none ↦ inl none | inr asks ↦ inr (inl asks) ];
   whole = whole;
 }
 
 heard_none : (players : List Player) (past : List Step) (line : List ℕ) (lines : List (List ℕ)) (later : Option (List ℕ)) →
     later ≡ name_in past → lines ≡ [] → HeardGood players past line lines later
 heard_none players past line lines later said none =
-    heard_reads players past line lines later said (subst AllRead (sym none) tt) (subst AreWhole (sym none) tt)
+    heard_reads players past line lines later said (subst AllRead (sym none) tt) (subst AreWhole (sym none) tt) (inl none)
 
 -- a message that asks for a drop, as it was said
 record WasAsked (text : List ℕ) : Type 0 where
@@ -650,7 +656,7 @@ dropped_heard players past line c by text others waits asked lines later h =
     let under = act_under text h.name (name_in past) (sort_of text) was.message refl (drop_names_none (sort_of text) was.drop) h.named in
     record {
       said = h.said_is ∙ (under.later ∙ ap (name_through (name_in past)) (sym h.lines_are));
-      right = inr (record {
+      right = inr (inr (record {
         c = c;
         by = by;
         text = text;
@@ -661,8 +667,8 @@ dropped_heard players past line c by text others waits asked lines later h =
         seated = h.seated;
         first = h.first;
         acts = subst (λ (ls : List (List ℕ)). ActsUnder (name_in past) ls h.name) (sym h.lines_are) under.acts;
-        of_text = subst (λ (ls : List (List ℕ)). AllByRecursion (IsOf text) ls) (sym h.lines_are) under.of_text;
-      });
+        of_text = subst (λ (ls : List (List ℕ)). IsOf (text ∷ []) ls) (sym h.lines_are) under.of_text;
+      }));
       whole = subst AreWhole (sym h.lines_are) under.whole;
     }
 
@@ -678,6 +684,7 @@ sent_for players past line (Asker c (ForAct by text)) others waits asked lines l
     let now = answer (known_in players past).begun line in
     let asks = notice_read (act_game now) (act_game_small now) in
     heard_reads players past line lines later h.1 (subst AllRead (sym h.0) asks.0) (subst AreWhole (sym h.0) asks.1)
+    (inr (record { c = c; by = by; text = text; others = others; waits = waits; lines_are = h.0 }))
 sent_for players past line (Dropper c by text) others waits asked lines later h =
     elim h [
       | inl none ↦ heard_none players past line lines later none.said_is none.none

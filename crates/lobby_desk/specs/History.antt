@@ -1,13 +1,15 @@
 -- What is promised of whatever came in and went out.
-use Rattle.std.specs.Prelude.{ℕ, ◌≡◌, ◌⊎◌, Bool, true, false, ◌&&◌, ◌||◌, ◌==◌, List, [], ◌∷◌, Option, None, Some, if◌then◌else◌}
+use Rattle.std.specs.Prelude.{ℕ, ◌≡◌, ◌⊎◌, Bool, true, false, ◌&&◌, ◌||◌, ◌==◌, List, [], ◌∷◌, codes, Option, None, Some, if◌then◌else◌}
 use Rattle.std.specs.List.{AllByRecursion}
+use Rattle.lobby_words.specs.declared.words.Sort.{Sort}
 use Rattle.lobby_words.specs.declared.words.Sort.TheVariants as sorts
 use Rattle.lobby_words.specs.declared.planning.Identity.{Identity}
 use Rattle.lobby_desk.specs.declared.players.Player.{Player}
-use Rattle.lobby_words.specs.Words.{rest_of, is_message, sort_of, is_act_sort, is_drop_sort, is_name_sort, is_login_sort}
+use Rattle.lobby_words.specs.Words.{rest_of, is_message, sort_of, is_act_sort, is_drop_sort, is_name_sort, is_login_sort, number_or_0}
 use Rattle.lobby_desk.specs.Players.{holder_of}
-use Rattle.lobby_words.specs.Answers.{IsSeated, IsFirstSeated, answer}
-use Rattle.lobby_desk.specs.Events.{Event, Opened, Closed, Said, Heard, Gone, Here, Telling, Owed, Dropper}
+use Rattle.lobby_words.specs.Answers.{IsSeated, IsFirstSeated, act_game, answer}
+use Rattle.lobby_desk.specs.Lines.{name_line, game_line, notice_lines}
+use Rattle.lobby_desk.specs.Events.{Event, Opened, Closed, Said, Heard, Gone, Here, Telling, ForAct, Owed, Asker, Dropper}
 use Rattle.lobby_desk.specs.Tellings.{Known, known_now, open_now, IsTold}
 use Rattle.lobby_desk.specs.Who.{View, BeginsView, IsStep, speaker}
 
@@ -78,19 +80,29 @@ NoActs lines = AllByRecursion (λ line. is_act line ≡ false) lines
 abbrev pub NoDrops : List (List ℕ) → Type 0
 NoDrops lines = AllByRecursion (λ line. is_drop line ≡ false) lines
 
--- lines that change nothing
-abbrev pub AllRead : List (List ℕ) → Type 0
-AllRead lines = AllByRecursion (λ line. sort_of line ≡ sorts.Read) lines
-
 -- The lines for a message of a connection: where it has shown no token none is an act; else each act stands under the name
 -- of the player whose token it is. No `drop` is among them.
 abbrev pub ActsRight : Option Identity → Option (List ℕ) → List (List ℕ) → Type 0
 ActsRight None said lines = NoActs lines
 ActsRight (Some who) said lines = ActsUnder said lines who.name
 
--- a line is the message, or says a name, or changes nothing
-abbrev pub IsOf : List ℕ → List ℕ → Type 0
-IsOf text line = (line ≡ text) ⊎ (sort_of line ≡ sorts.Name) ⊎ (sort_of line ≡ sorts.Read)
+-- What a message has the desk say to the server, by its sort and by the number behind its word: itself; or for the game or the
+-- table that it names what the server is asked; for all else nothing.
+abbrev pub sort_asks : Sort → ℕ → List ℕ → List (List ℕ)
+sort_asks sorts.Read game text = text ∷ []
+sort_asks sorts.Act game text = text ∷ []
+sort_asks sorts.Drop game text = game_line (codes "show ") game ∷ []
+sort_asks sorts.Lobby game text = codes "list" ∷ []
+sort_asks sorts.Watch game text = game_line (codes "show ") game ∷ game_line (codes "fen ") game ∷ []
+sort_asks sorts.Line game text = game_line (codes "pgn ") game ∷ []
+sort_asks _ game text = []
+
+abbrev pub asks_of : List ℕ → List (List ℕ)
+asks_of text = sort_asks (sort_of text) (number_or_0 (rest_of text)) text
+
+-- Nothing goes out, or just this; before it a name may be said.
+abbrev pub IsOf : List (List ℕ) → List (List ℕ) → Type 0
+IsOf asks lines = (lines ≡ []) ⊎ (lines ≡ asks) ⊎ ((name : List ℕ) × (lines ≡ name_line name ∷ asks))
 
 -- whether a connection is open behind a past
 abbrev pub open_in : List Step → ℕ → Bool
@@ -131,7 +143,16 @@ pub record IsDropOf (players : List Player) (past : List Step) (line : List ℕ)
   pub seated : IsSeated (answer (known_in players past).begun line) (rest_of text) name
   pub first : IsFirstSeated (answer (known_in players past).begun line) name
   pub acts : ActsUnder (name_in past) lines name
-  pub of_text : AllByRecursion (IsOf text) lines
+  pub of_text : IsOf (text ∷ []) lines
+
+-- Behind the server's answer to an act it is asked how the game stands that this answer names, if it names one.
+pub record IsNoticeOf (players : List Player) (past : List Step) (line : List ℕ) (lines : List (List ℕ)) : Type 0 where
+  pub c : ℕ
+  pub by : List ℕ
+  pub text : List ℕ
+  pub others : List Owed
+  pub waits : (known_in players past).owed ≡ Asker c (ForAct by text) ∷ others
+  pub lines_are : lines ≡ notice_lines (act_game (answer (known_in players past).begun line))
 
 -- whether a connection of this number has come
 abbrev pub comes : Event → ℕ → Bool
@@ -145,8 +166,9 @@ has_come (s ∷ past) c = comes s.event c || has_come past c
 -- What goes out for an event. A connection that comes has a number that none had before.
 abbrev pub IsRight : List Player → List Step → Event → List (List ℕ) → Type 0
 IsRight players past (Said c text) lines =
-    ActsRight (player_in players past c) (name_in past) lines × NoDrops lines × AllByRecursion (IsOf text) lines
-IsRight players past (Heard line) lines = AllRead lines ⊎ IsDropOf players past line lines
+    ActsRight (player_in players past c) (name_in past) lines × NoDrops lines × IsOf (asks_of text) lines
+IsRight players past (Heard line) lines =
+    (lines ≡ []) ⊎ IsNoticeOf players past line lines ⊎ IsDropOf players past line lines
 IsRight players past (Opened c) lines = (lines ≡ []) × (has_come past c ≡ false)
 IsRight players past _ lines = lines ≡ []
 

@@ -11,8 +11,6 @@ mod players;
 mod rows;
 mod server_line;
 mod telling;
-#[cfg(test)]
-mod tests;
 mod waiting;
 mod watching;
 

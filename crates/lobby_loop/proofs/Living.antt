@@ -1,14 +1,19 @@
 -- Whatever happens to a hall, its desk has taken a run of steps, and no two browsers have one number.
-use Rattle.std.proofs.Common.{◌≡◌, ◌≢◌, ◌≤◌, ◌<◌, ◌+◌, ℕ, Bool, true, false, inl, inr, ◌⊎◌, List, [], ◌∷◌, ◌++◌, Option, None, Some, filter, cond, not, refl, ap, sym, ◌∙◌, subst, append_assoc, arith}
-use Rattle.std.specs.List.{AllZip}
-use Rattle.std.proofs.lemmas.Bool.{cases_Bool}
+use Rattle.std.proofs.Common.{◌≡◌, ◌≢◌, ◌≤◌, ◌<◌, ◌+◌, ℕ, Bool, true, false, inl, inr, ◌⊎◌, List, [], ◌∷◌, ◌++◌, Option, None, Some, filter, cond, not, refl, ap, sym, ◌∙◌, subst, append_assoc, append-nil, arith}
+use Rattle.std.specs.List.{AllZip, AllByRecursion}
+use Rattle.std.proofs.lemmas.Bool.{cases_Bool, false≢true}
+use Rattle.std.proofs.lemmas.Bool.Decides.{eqb_tells}
+use Rattle.std.specs.Prelude.{◌==◌, ◌||◌}
 use Rattle.lobby_desk.specs.declared.desk.Desk.{Desk}
 use Rattle.lobby_desk.specs.declared.players.Player.{Player}
-use Rattle.lobby_desk.specs.Events.{Event, Opened, Closed, Heard, Gone, Here, Telling}
-use Rattle.lobby_desk.specs.Lines.{bytes_of}
+use Rattle.std.proofs.lemmas.List.Elements.{All-nil}
+use Rattle.session_lines.specs.Lines.{HasNoFeed, is_feed}
+use Rattle.lobby_desk.specs.declared.telling.Told.{Told}
+use Rattle.lobby_desk.specs.Events.{Event, Opened, Closed, Heard, Gone, Here, Telling, tellings}
+use Rattle.lobby_desk.specs.Lines.{ended, bytes_of}
 use Rattle.lobby_desk.specs.Pace.{is_too_fast}
 use Rattle.lobby_desk.specs.Who.{IsStep, Steps, view, said_event, until_of}
-use Rattle.lobby_desk.specs.History.{Step, IsRun}
+use Rattle.lobby_desk.specs.History.{Step, comes, has_come, IsRun}
 use Rattle.lobby_desk.proofs.Runs.{run_good}
 use Rattle.lobby_web.specs.declared.site.Site.{Site}
 use Rattle.lobby_web.specs.declared.socket.Heard.{Heard as HeardOf}
@@ -18,28 +23,60 @@ use Rattle.lobby_loop.specs.declared.hall.Hall.{Hall}
 use Rattle.lobby_loop.specs.declared.link.Link.{Link}
 use Rattle.lobby_loop.specs.declared.made.Made.{Made}
 use Rattle.lobby_loop.specs.declared.talk.Talk.{Talk}
-use Rattle.lobby_loop.specs.Talking.{Moves, MovesAnew}
-use Rattle.lobby_loop.specs.Guests.{IsHeardAs, IsAsBefore, IsAttended, AreAttended, IsLookedAfter, AreTold, IsWritten}
-use Rattle.lobby_loop.specs.Lines.{AreHeard}
-use Rattle.lobby_loop.specs.Turning.{Admits, ServerComes, HearsServer, PartsFromServer, TellsServer, IsClosedIf, AreClosed, AreParted, HasTurned}
-use Rattle.lobby_loop.specs.Living.{Happening, Came, Woke, ServerCame, Turned, IsWoken, IsLife, written_in, kept, sent_in, IsOther, HasNone, IsOwn, AreOwn, numbers, IsRightLife}
+use Rattle.lobby_loop.specs.Talking.{Moves}
+use Rattle.lobby_loop.specs.Guests.{IsNewGuest, IsHeardAs, IsAsBefore, IsAttended, AreAttended, IsLookedAfter, AreTold, IsWritten}
+use Rattle.lobby_loop.specs.Lines.{bytes_of as bytes_before, AreHeard, HoldsNoLine, IsKept}
+use Rattle.lobby_loop.specs.Turning.{BeginsHall, Admits, ServerComes, IsServerAsBefore, AreDelivered, HearsServer, bytes_heard, PartsFromServer, TellsServer, IsClosedIf, AreClosed, HasTurned, AreAdmitted, IsReached, IsLobbyTurn}
+use Rattle.lobby_loop.specs.Doing.{Gave, Spot, spot, DoesAt, all_tells, IsServed, AreServed, WereServed}
+use Rattle.lobby_loop.specs.Living.{Happening, Came, Woke, ServerCame, Turned, IsWoken, IsLife, written_in, taken_in, lost_if, presences_in, kept, sent_in, line_more, lines_heard, presence_more, presences_told, IsHeld, IsOther, HasNone, IsOneOf, AreKnown, IsOwn, AreOwn, numbers, streams_in, NoLineWaits, IsRightLife, Passing, TurnAt, Rested, IsLobbyLife}
+use Rattle.lobby_loop.proofs.Serving.{IsApart, ApartFrom, AreApart, served_before, served_read, served_looked, served_written, served_told, gave_nothing, gave_again, gave_early, gave_opened, gave_text, all_served_on, all_served_zip, all_served_filter, all_served_more, all_came, served_new, ClosedIf, AllClosed, closed_if_on, all_were_on, all_were_out, all_were_came, all_let_go}
 
 -- ---- the desk's steps
 
--- what the desk has done so far, and what of it was written to the server and is to go there
-pub record IsAt (players : List Player) (written : List ℕ) (desk : Desk) (wire : List ℕ) : Type 0 where
+-- What was written to the server, the lines that were heard of it, the newest first, and that it is there or gone.
+pub record Traffic : Type 0 where
+  pub wrote : List ℕ
+  pub heard : List (List ℕ)
+  pub presences : List Bool
+
+-- the same behind an event
+abbrev behind : Event → Traffic → Traffic
+behind e traffic = record {
+  wrote = kept e traffic.wrote;
+  heard = line_more e traffic.heard;
+  presences = presence_more e traffic.presences;
+}
+
+-- What the desk has done so far; what of it was written to the server and is to go there; what of it went out to connections
+-- and is to go there; and what holds of it.
+pub record IsAt (players : List Player) (traffic : Traffic) (out : List Telling) (K : List Step → Type 0) (desk : Desk)
+    (wire : List ℕ) (told : List Telling) : Type 0 where
   pub steps : List Step
   pub run : IsRun players steps (view desk)
   pub players_are : desk.players.items ≡ players
-  pub sent : sent_in steps ≡ written ++ wire
+  pub sent : sent_in steps ≡ traffic.wrote ++ wire
+  pub heard : lines_heard steps ≡ traffic.heard
+  pub presences : presences_told steps ≡ traffic.presences
+  pub tells : all_tells steps ≡ out ++ told
+  pub holds : K steps
 
-abbrev IsTalkAt : List Player → List ℕ → Talk → Type 0
-IsTalkAt players written talk = IsAt players written talk.desk talk.wire.items
+abbrev IsTalkAt : List Player → Traffic → List Telling → (List Step → Type 0) → Talk → Type 0
+IsTalkAt players traffic out K talk = IsAt players traffic out K talk.desk talk.wire.items (tellings talk.told.items)
 
-at_more : (players : List Player) (written before after : List ℕ) (t u : List Telling) (old new : Desk) (e : Event) →
-    ((bytes : List ℕ) → kept e bytes ≡ bytes) → IsAt players written old before → Steps old e before after t u new →
-    IsAt players written new after
-at_more players written before after t u old new e keeps so_far s = record {
+-- what holds before an event holds of another behind it
+abbrev GoesOn : List Telling → Event → List Telling → (List Step → Type 0) → (List Step → Type 0) → Type 0
+GoesOn out e told K L =
+    (steps : List Step) (s : Step) → s.event ≡ e → all_tells steps ≡ out ++ told → K steps → L (s ∷ steps)
+
+told_more : (out t more u : List Telling) (steps : List Step) → all_tells steps ≡ out ++ t → u ≡ t ++ more →
+    all_tells steps ++ more ≡ out ++ u
+told_more out t more u steps so_far is =
+    ap (λ (l : List Telling). l ++ more) so_far ∙ (append_assoc out t more ∙ ap (λ (l : List Telling). out ++ l) (sym is))
+
+at_more : (players : List Player) (traffic : Traffic) (out : List Telling) (K L : List Step → Type 0) (before after : List ℕ)
+    (t u : List Telling) (old new : Desk) (e : Event) → ((bytes : List ℕ) → kept e bytes ≡ bytes) → GoesOn out e t K L →
+    IsAt players traffic out K old before t → Steps old e before after t u new → IsAt players (behind e traffic) out L new after u
+at_more players traffic out K L before after t u old new e keeps goes so_far s = record {
   steps = record { event = e; lines = s.lines; tells = s.tells } ∷ so_far.steps;
   run = (
     view old,
@@ -49,13 +86,19 @@ at_more players written before after t u old new e keeps so_far s = record {
   );
   players_are = s.players ∙ so_far.players_are;
   sent = ap (λ (bytes : List ℕ). bytes ++ bytes_of s.lines) (keeps (sent_in so_far.steps) ∙ so_far.sent)
-      ∙ (append_assoc written before (bytes_of s.lines) ∙ ap (λ (bytes : List ℕ). written ++ bytes) (sym s.sent));
+      ∙ (append_assoc traffic.wrote before (bytes_of s.lines) ∙ (ap (λ (bytes : List ℕ). traffic.wrote ++ bytes) (sym s.sent)
+      ∙ ap (λ (bytes : List ℕ). bytes ++ after) (sym (keeps traffic.wrote))));
+  heard = ap (λ (lines : List (List ℕ)). line_more e lines) so_far.heard;
+  presences = ap (λ (l : List Bool). presence_more e l) so_far.presences;
+  tells = told_more out t s.tells u so_far.steps so_far.tells s.told;
+  holds = goes so_far.steps (record { event = e; lines = s.lines; tells = s.tells }) refl so_far.tells so_far.holds;
 }
 
-at_anew : (players : List Player) (written before wire : List ℕ) (t u : List Telling) (old new : Desk) (e : Event) →
-    ((bytes : List ℕ) → kept e bytes ≡ []) → IsAt players written old before → Steps old e [] [] t u new → wire ≡ [] →
-    IsAt players [] new wire
-at_anew players written before wire t u old new e drops so_far s nothing = record {
+at_anew : (players : List Player) (traffic : Traffic) (out : List Telling) (K L : List Step → Type 0) (before wire : List ℕ)
+    (t u : List Telling) (old new : Desk) (e : Event) → ((bytes : List ℕ) → kept e bytes ≡ []) → GoesOn out e t K L →
+    IsAt players traffic out K old before t → Steps old e [] [] t u new → wire ≡ [] →
+    IsAt players (behind e traffic) out L new wire u
+at_anew players traffic out K L before wire t u old new e drops goes so_far s nothing = record {
   steps = record { event = e; lines = s.lines; tells = s.tells } ∷ so_far.steps;
   run = (
     view old,
@@ -64,67 +107,257 @@ at_anew players written before wire t u old new e drops so_far s nothing = recor
         so_far.players_are s.step,
   );
   players_are = s.players ∙ so_far.players_are;
-  sent = ap (λ (bytes : List ℕ). bytes ++ bytes_of s.lines) (drops (sent_in so_far.steps)) ∙ (sym s.sent ∙ sym nothing);
+  sent = ap (λ (bytes : List ℕ). bytes ++ bytes_of s.lines) (drops (sent_in so_far.steps))
+      ∙ (sym s.sent ∙ (sym nothing ∙ ap (λ (bytes : List ℕ). bytes ++ wire) (sym (drops traffic.wrote))));
+  heard = ap (λ (lines : List (List ℕ)). line_more e lines) so_far.heard;
+  presences = ap (λ (l : List Bool). presence_more e l) so_far.presences;
+  tells = told_more out t s.tells u so_far.steps so_far.tells s.told;
+  holds = goes so_far.steps (record { event = e; lines = s.lines; tells = s.tells }) refl so_far.tells so_far.holds;
+}
+
+-- more holds of the same
+at_with : (players : List Player) (traffic : Traffic) (out : List Telling) (K L : List Step → Type 0) (desk : Desk)
+    (wire : List ℕ) (told : List Telling) → ((steps : List Step) → K steps → L steps) → IsAt players traffic out K desk wire told →
+    IsAt players traffic out L desk wire told
+at_with players traffic out K L desk wire told more so_far = record {
+  steps = so_far.steps;
+  run = so_far.run;
+  players_are = so_far.players_are;
+  sent = so_far.sent;
+  heard = so_far.heard;
+  presences = so_far.presences;
+  tells = so_far.tells;
+  holds = more so_far.steps so_far.holds;
 }
 
 keeps_said : (b : Bool) (c : ℕ) (text bytes : List ℕ) → kept (said_event b c text) bytes ≡ bytes
 keeps_said true c text bytes = refl
 keeps_said false c text bytes = refl
 
+same_said : (b : Bool) (c : ℕ) (text : List ℕ) (traffic : Traffic) → behind (said_event b c text) traffic ≡ traffic
+same_said true c text traffic = refl
+same_said false c text traffic = refl
+
 -- the desk has got so far, and no number more was given
-abbrev IsFurther : List Player → List ℕ → Talk → Talk → Type 0
-IsFurther players written old new = IsTalkAt players written new × (new.next ≡ old.next)
+abbrev IsFurther : List Player → Traffic → List Telling → (List Step → Type 0) → Talk → Talk → Type 0
+IsFurther players traffic out K old new = IsTalkAt players traffic out K new × (new.next ≡ old.next)
 
-same_talk : (players : List Player) (written : List ℕ) (old new : Talk) → IsTalkAt players written old → new ≡ old →
-    IsFurther players written old new
-same_talk players written old new so_far same =
-    (subst (λ (t : Talk). IsTalkAt players written t) (sym same) so_far, ap (λ (t : Talk). t.next) same)
+same_talk : (players : List Player) (traffic : Traffic) (out : List Telling) (K : List Step → Type 0) (old new : Talk) →
+    IsTalkAt players traffic out K old → new ≡ old → IsFurther players traffic out K old new
+same_talk players traffic out K old new so_far same =
+    (subst (λ (t : Talk). IsTalkAt players traffic out K t) (sym same) so_far, ap (λ (t : Talk). t.next) same)
 
-moved : (players : List Player) (written : List ℕ) (old new : Talk) (e : Event) → ((bytes : List ℕ) → kept e bytes ≡ bytes) →
-    IsTalkAt players written old → Moves old e new → IsFurther players written old new
-moved players written old new e keeps so_far moves =
-    (at_more players written _ _ _ _ old.desk new.desk e keeps so_far moves.steps, moves.next)
+moved : (players : List Player) (traffic : Traffic) (out : List Telling) (K L : List Step → Type 0) (old new : Talk) (e : Event) →
+    ((bytes : List ℕ) → kept e bytes ≡ bytes) → GoesOn out e (tellings old.told.items) K L → IsTalkAt players traffic out K old →
+    Moves old e new → IsFurther players (behind e traffic) out L old new
+moved players traffic out K L old new e keeps goes so_far moves =
+    (at_more players traffic out K L _ _ _ _ old.desk new.desk e keeps goes so_far moves.steps, moves.next)
 
-heard_lines : (players : List Player) (written : List ℕ) (lines : List (List ℕ)) (old new : Talk) →
-    IsTalkAt players written old → AreHeard lines old new → IsFurther players written old new
-heard_lines players written [] old new so_far same = same_talk players written old new so_far same
-heard_lines players written (line ∷ before) old new so_far (between, are, none, moves) =
-    let so = heard_lines players written before old between so_far are in
-    let more = moved players written between new (Heard line) (λ bytes. refl) so.0 moves in
-    (more.0, more.1 ∙ so.1)
+-- what the server says, and who goes, changes nothing of who is connected
+abbrev IsOfNobody : Event → Type 0
+IsOfNobody e = (c : ℕ) → IsApart c e
 
-heard_server : {S : Type 0} (remaining : S → Option (List ℕ)) (players : List Player) (written : List ℕ)
-    (server after : Option (Link S)) (old new : Talk) → IsTalkAt players written old → HearsServer remaining server after old new →
-    IsFurther players written old new
-heard_server remaining players written None after old new so_far (is, same) = same_talk players written old new so_far same
-heard_server remaining players written (Some link) after old new so_far (next, is, takes) =
-    heard_lines players written takes.lines.lines old new so_far takes.lines.heard
+nobody_apart : (e : Event) → IsOfNobody e → (n : Option ℕ) → ApartFrom n e
+nobody_apart e nobody None = tt
+nobody_apart e nobody (Some c) = nobody c
+
+all_apart : (e : Event) → IsOfNobody e → (ns : List (Option ℕ)) → AreApart ns e
+all_apart e nobody [] = tt
+all_apart e nobody (n ∷ ns) = (nobody_apart e nobody n, all_apart e nobody ns)
 
 -- what was written to the server's connection, once it is lost or not
 abbrev left : Bool → List ℕ → List ℕ
-left true written = []
-left false written = written
+left true wrote = []
+left false wrote = wrote
 
-parted : {S : Type 0} (players : List Player) (written : List ℕ) (gone : Bool) (server after : Option (Link S)) (old new : Talk) →
-    IsTalkAt players written old → PartsFromServer gone server after old new → IsFurther players (left gone written) old new
-parted players written false server after old new so_far (is, same) = same_talk players written old new so_far same
-parted players written true server after old new so_far (is, anew) =
-    (at_anew players written _ _ _ _ old.desk new.desk Gone (λ bytes. refl) so_far anew.steps anew.nothing, anew.next)
+abbrev behind_loss : Bool → Traffic → Traffic
+behind_loss gone traffic =
+    record { wrote = left gone traffic.wrote; heard = traffic.heard; presences = lost_if gone traffic.presences }
 
-closed_if : (players : List Player) (written : List ℕ) (lost : Bool) (number : Option ℕ) (old new : Talk) →
-    IsTalkAt players written old → IsClosedIf lost number old new → IsFurther players written old new
-closed_if players written false number old new so_far same = same_talk players written old new so_far same
-closed_if players written true None old new so_far same = same_talk players written old new so_far same
-closed_if players written true (Some c) old new so_far moves =
-    moved players written old new (Closed c) (λ bytes. refl) so_far moves
+-- behind lines that were heard, and what more is written
+abbrev behind_lines : List (List ℕ) → Traffic → Traffic
+behind_lines lines traffic = record { wrote = traffic.wrote; heard = lines ++ traffic.heard; presences = traffic.presences }
 
-closed_all : {S : Type 0} (players : List Player) (written : List ℕ) (guests : List (Guest S)) (old new : Talk) →
-    IsTalkAt players written old → AreClosed guests old new → IsFurther players written old new
-closed_all players written [] old new so_far same = same_talk players written old new so_far same
-closed_all players written (guest ∷ guests) old new so_far (between, closed, are) =
-    let so = closed_if players written guest.is_lost guest.number old between so_far closed in
-    let more = closed_all players written guests between new so.0 are in
-    (more.0, more.1 ∙ so.1)
+abbrev behind_front : List ℕ → Traffic → Traffic
+behind_front front traffic = record { wrote = traffic.wrote ++ front; heard = traffic.heard; presences = traffic.presences }
+
+-- the lines that came of the server, the newest first
+abbrev lines_of_server : {S : Type 0} → (remaining : S → Option (List ℕ)) → (server after : Option (Link S)) → (old new : Talk) →
+    HearsServer remaining server after old new → List (List ℕ)
+lines_of_server remaining None after old new (is, same) = []
+lines_of_server remaining (Some link) after old new (next, is, takes) = takes.lines.lines
+
+-- ---- connections that the desk was told of
+
+abbrev IsNoOpening : Event → Type 0
+IsNoOpening e = (c : ℕ) → comes e c ≡ false
+
+said_opens_none : (b : Bool) (d : ℕ) (text : List ℕ) → IsNoOpening (said_event b d text)
+said_opens_none true d text = λ c. refl
+said_opens_none false d text = λ c. refl
+
+-- each that has come is one of these
+abbrev KnowsBy : (ℕ → Type 0) → List Step → Type 0
+KnowsBy P steps = (c : ℕ) → has_come steps c ≡ true → P c
+
+known_on : (P : ℕ → Type 0) (s : Step) (steps : List Step) → IsNoOpening s.event → KnowsBy P steps → KnowsBy P (s ∷ steps)
+known_on P s steps none known = λ c come. known c (subst (λ (b : Bool). (b || has_come steps c) ≡ true) (none c) come)
+
+known_opened : (P Q : ℕ → Type 0) (s : Step) (steps : List Step) (d : ℕ) → s.event ≡ Opened d → ((c : ℕ) → P c → Q c) → Q d →
+    KnowsBy P steps → KnowsBy Q (s ∷ steps)
+known_opened P Q s steps d is more new known = λ c come.
+    let here : ((d == c) || has_come steps c) ≡ true =
+    subst (λ (e : Event). (comes e c || has_come steps c) ≡ true) is come in
+    elim (eqb_tells d c) [
+      | inl both ↦ subst (λ (k : ℕ). Q k) both.1 new
+      | inr both ↦ more c (known c (subst (λ (b : Bool). (b || has_come steps c) ≡ true) both.0 here))
+    ]
+
+-- What is kept of browsers that are there and of those that were let go.
+pub record AreKept {S : Type 0} (remaining contents : S → Option (List ℕ)) (site : Site) (came : List S) (former : List (Guest S))
+    (out : List Telling) (guests : List (Guest S)) (steps : List Step) : Type 0 where
+  pub served : AreServed remaining contents site came steps out guests
+  pub were : WereServed remaining contents site came steps out former
+  pub known : AreKnown steps former guests
+
+module _ {S : Type 0} (remaining contents : S → Option (List ℕ)) (site : Site) (came : List S) (players : List Player)
+    (former : List (Guest S)) where
+  abbrev Keeps : List Telling → List (Guest S) → List Step → Type 0
+  Keeps out guests steps = AreKept remaining contents site came former out guests steps
+
+  goes_on : (out told : List Telling) (e : Event) (guests : List (Guest S)) → AreApart (numbers guests) e →
+      AreApart (numbers former) e → IsNoOpening e → GoesOn out e told (Keeps out guests) (Keeps out guests)
+  goes_on out told e guests apart from_former none steps s is tells kept = record {
+    served = all_served_on remaining contents site came s steps out guests
+        (subst (λ (f : Event). AreApart (numbers guests) f) (sym is) apart) kept.served;
+    were = all_were_on remaining contents site came s steps out former
+        (subst (λ (f : Event). AreApart (numbers former) f) (sym is) from_former) kept.were;
+    known = known_on (λ c. IsOneOf c (numbers former) ⊎ IsOneOf c (numbers guests)) s steps
+        (subst (λ (f : Event). IsNoOpening f) (sym is) none) kept.known;
+  }
+
+  -- what is of nobody
+  goes_by : (out told : List Telling) (e : Event) (guests : List (Guest S)) → IsOfNobody e → IsNoOpening e →
+      GoesOn out e told (Keeps out guests) (Keeps out guests)
+  goes_by out told e guests nobody none =
+      goes_on out told e guests (all_apart e nobody (numbers guests)) (all_apart e nobody (numbers former)) none
+
+  heard_lines : (traffic : Traffic) (out : List Telling) (guests : List (Guest S)) (lines : List (List ℕ)) (old new : Talk) →
+      IsTalkAt players traffic out (Keeps out guests) old → AreHeard lines old new →
+      IsFurther players (behind_lines lines traffic) out (Keeps out guests) old new
+  heard_lines traffic out guests [] old new so_far same = same_talk players traffic out (Keeps out guests) old new so_far same
+  heard_lines traffic out guests (line ∷ before) old new so_far (between, are, none, moves) =
+      let so = heard_lines traffic out guests before old between so_far are in
+      let more = moved players (behind_lines before traffic) out (Keeps out guests) (Keeps out guests) between new (Heard line)
+      (λ bytes. refl) (goes_by out (tellings between.told.items) (Heard line) guests (λ c. tt) (λ c. refl)) so.0 moves in
+      (more.0, more.1 ∙ so.1)
+
+  heard_server : (traffic : Traffic) (out : List Telling) (guests : List (Guest S)) (server after : Option (Link S))
+      (old new : Talk) → IsTalkAt players traffic out (Keeps out guests) old → (hears : HearsServer remaining server after old new) →
+      IsFurther players (behind_lines (lines_of_server remaining server after old new hears) traffic) out (Keeps out guests) old new
+  heard_server traffic out guests None after old new so_far (is, same) =
+      same_talk players traffic out (Keeps out guests) old new so_far same
+  heard_server traffic out guests (Some link) after old new so_far (next, is, takes) =
+      heard_lines traffic out guests takes.lines.lines old new so_far takes.lines.heard
+
+  parted : (traffic : Traffic) (out : List Telling) (guests : List (Guest S)) (gone : Bool) (server after : Option (Link S))
+      (old new : Talk) → IsTalkAt players traffic out (Keeps out guests) old → PartsFromServer gone server after old new →
+      IsFurther players (behind_loss gone traffic) out (Keeps out guests) old new
+  parted traffic out guests false server after old new so_far (is, same) =
+      same_talk players traffic out (Keeps out guests) old new so_far same
+  parted traffic out guests true server after old new so_far (is, anew) = (
+    at_anew players traffic out (Keeps out guests) (Keeps out guests) _ _ _ _ old.desk new.desk Gone (λ bytes. refl)
+        (goes_by out (tellings old.told.items) Gone guests (λ c. tt) (λ c. refl)) so_far anew.steps anew.nothing,
+    anew.next,
+  )
+
+  -- These are kept, more holds, and nothing is to go to connections.
+  record Closing (out : List Telling) (stay : List (Guest S)) (P : List Step → Type 0) (steps : List Step) : Type 0 where
+    kept : Keeps out stay steps
+    more : P steps
+
+  -- what holds behind each further step too
+  abbrev Lasts : (List Step → Type 0) → Type 0
+  Lasts P = (s : Step) (steps : List Step) → P steps → P (s ∷ steps)
+
+  abbrev ClosesTo : Traffic → List Telling → List (Guest S) → (List Step → Type 0) → Talk → Talk → Type 0
+  ClosesTo traffic out stay P old new =
+      IsFurther players traffic out (Closing out stay P) old new × (tellings new.told.items ≡ [])
+
+  none_told : (old new : Talk) (c : ℕ) → Moves old (Closed c) new → tellings old.told.items ≡ [] → tellings new.told.items ≡ []
+  none_told old new c moves none =
+      moves.steps.told ∙ (ap (λ (l : List Telling). l ++ moves.steps.tells) none ∙ moves.steps.step.told)
+
+  closed_if : (traffic : Traffic) (out : List Telling) (stay : List (Guest S)) (P : List Step → Type 0) → Lasts P →
+      (lost : Bool) (number : Option ℕ) (old new : Talk) → IsTalkAt players traffic out (Closing out stay P) old →
+      tellings old.told.items ≡ [] → IsClosedIf lost number old new →
+      ClosesTo traffic out stay (λ steps. P steps × ClosedIf lost steps out number) old new
+  closed_if traffic out stay P lasts false number old new so_far none same =
+      let so = same_talk players traffic out (Closing out stay P) old new so_far same in (
+        (
+          at_with players traffic out (Closing out stay P) (Closing out stay (λ steps. P steps × ClosedIf false steps out number))
+              new.desk new.wire.items (tellings new.told.items)
+              (λ steps was. record { kept = was.kept; more = (was.more, tt) }) so.0,
+          so.1,
+        ),
+        ap (λ (t : Talk). tellings t.told.items) same ∙ none,
+      )
+  closed_if traffic out stay P lasts true None old new so_far none same =
+      let so = same_talk players traffic out (Closing out stay P) old new so_far same in (
+        (
+          at_with players traffic out (Closing out stay P) (Closing out stay (λ steps. P steps × ClosedIf true steps out None))
+              new.desk new.wire.items (tellings new.told.items)
+              (λ steps was. record { kept = was.kept; more = (was.more, tt) }) so.0,
+          so.1,
+        ),
+        ap (λ (t : Talk). tellings t.told.items) same ∙ none,
+      )
+  closed_if traffic out stay P lasts true (Some c) old new so_far none moves = (
+    moved players traffic out (Closing out stay P) (Closing out stay (λ steps. P steps × ClosedIf true steps out (Some c))) old new
+        (Closed c) (λ bytes. refl) (λ steps s is tells was. record {
+          kept = goes_by out (tellings old.told.items) (Closed c) stay (λ d. tt) (λ d. refl) steps s is tells was.kept;
+          more = (
+            lasts s steps was.more,
+            record {
+              later = [];
+              closing = s;
+              earlier = steps;
+              steps_are = refl;
+              closes = is;
+              all = tells ∙ (ap (λ (l : List Telling). out ++ l) none ∙ append-nil out);
+            },
+          );
+        }) so_far moves,
+    none_told old new c moves none,
+  )
+
+  closed_all : (traffic : Traffic) (out : List Telling) (stay guests : List (Guest S)) (P : List Step → Type 0) → Lasts P →
+      (old new : Talk) → IsTalkAt players traffic out (Closing out stay P) old → tellings old.told.items ≡ [] →
+      AreClosed guests old new → ClosesTo traffic out stay (λ steps. P steps × AllClosed guests out steps) old new
+  closed_all traffic out stay [] P lasts old new so_far none same =
+      let so = same_talk players traffic out (Closing out stay P) old new so_far same in (
+        (
+          at_with players traffic out (Closing out stay P) (Closing out stay (λ steps. P steps × Unit {0}))
+              new.desk new.wire.items (tellings new.told.items)
+              (λ steps was. record { kept = was.kept; more = (was.more, tt) }) so.0,
+          so.1,
+        ),
+        ap (λ (t : Talk). tellings t.told.items) same ∙ none,
+      )
+  closed_all traffic out stay (guest ∷ guests) P lasts old new so_far none (between, closed, are) =
+      let so = closed_if traffic out stay P lasts guest.is_lost guest.number old between so_far none closed in
+      let all = closed_all traffic out stay guests (λ steps. P steps × ClosedIf guest.is_lost steps out guest.number)
+      (λ s steps was. (lasts s steps was.0, closed_if_on guest.is_lost s steps out guest.number was.1)) between new so.0.0 so.1 are in (
+        (
+          at_with players traffic out
+              (Closing out stay (λ steps. (P steps × ClosedIf guest.is_lost steps out guest.number) × AllClosed guests out steps))
+              (Closing out stay (λ steps. P steps × AllClosed (guest ∷ guests) out steps)) new.desk new.wire.items
+              (tellings new.told.items)
+              (λ steps was. record { kept = was.kept; more = (was.more.0.0, (was.more.0.1, was.more.1)) }) all.0.0,
+          all.0.1 ∙ so.0.1,
+        ),
+        all.1,
+      )
 
 -- ---- numbers
 
@@ -208,51 +441,273 @@ own_all from (n ∷ ns) (m ∷ ms) to (one, owns) (mid, first, all) = (
   own_all mid ns ms to (own_up from mid ns (up_one from n m mid first) owns) all,
 )
 
+own_next : (from : ℕ) (n m : Option ℕ) (mid : ℕ) (ns : List (Option ℕ)) → IsOwn from n ns → AreOwn from ns → Numbered from n m mid →
+    IsOwn mid m ns
+own_next from n m mid ns one owns (inl (same, e)) =
+    subst (λ (k : Option ℕ). IsOwn mid k ns) (sym same) (subst (λ (k : ℕ). IsOwn k n ns) (sym e) one)
+own_next from n m mid ns one owns (inr (c, is, le, e)) =
+    subst (λ (k : Option ℕ). IsOwn mid k ns) (sym is) (omega arith, none_above c from ns le owns)
+
+-- those that were attended have numbers of their own among those that will be
+abbrev AllOwn : ℕ → List (Option ℕ) → List (Option ℕ) → Type 0
+AllOwn next [] others = Unit {0}
+AllOwn next (n ∷ ns) others = IsOwn next n others × AllOwn next ns others
+
+own_tail : (from mid : ℕ) (n m : Option ℕ) (ns : List (Option ℕ)) → from ≤ mid → IsOwn from n (m ∷ ns) → IsOwn mid n ns
+own_tail from mid None m ns le own = tt
+own_tail from mid (Some c) m ns le (lt, none) = (omega arith, none.1)
+
+all_own_tail : (from mid : ℕ) (done : List (Option ℕ)) (m : Option ℕ) (ns : List (Option ℕ)) → from ≤ mid →
+    AllOwn from done (m ∷ ns) → AllOwn mid done ns
+all_own_tail from mid [] m ns le own = tt
+all_own_tail from mid (n ∷ done) m ns le (one, all) = (own_tail from mid n m ns le one, all_own_tail from mid done m ns le all)
+
+-- a connection that comes is no other
+opened_apart : (from c : ℕ) (n : Option ℕ) (others : List (Option ℕ)) → from ≤ c → IsOwn from n others → ApartFrom n (Opened c)
+opened_apart from c None others le own = tt
+opened_apart from c (Some d) others le (lt, none) = λ same. omega arith
+
+opened_before : (from c : ℕ) (done others : List (Option ℕ)) → from ≤ c → AllOwn from done others → AreApart done (Opened c)
+opened_before from c [] others le own = tt
+opened_before from c (n ∷ done) others le (one, all) =
+    (opened_apart from c n others le one, opened_before from c done others le all)
+
+opened_behind : (from c : ℕ) (ns : List (Option ℕ)) → from ≤ c → AreOwn from ns → AreApart ns (Opened c)
+opened_behind from c [] le own = tt
+opened_behind from c (n ∷ ns) le (one, all) = (opened_apart from c n ns le one, opened_behind from c ns le all)
+
+-- what one says no other says
+said_apart : (b : Bool) (c d : ℕ) (text : List ℕ) → d ≢ c → IsApart c (said_event b d text)
+said_apart true c d text other = other
+said_apart false c d text other = other
+
+said_before_one : (from d : ℕ) (b : Bool) (text : List ℕ) (n : Option ℕ) (others : List (Option ℕ)) →
+    IsOwn from n (Some d ∷ others) → ApartFrom n (said_event b d text)
+said_before_one from d b text None others own = tt
+said_before_one from d b text (Some c) others (lt, none) = said_apart b c d text none.0
+
+said_before : (from d : ℕ) (b : Bool) (text : List ℕ) (done others : List (Option ℕ)) → AllOwn from done (Some d ∷ others) →
+    AreApart done (said_event b d text)
+said_before from d b text [] others own = tt
+said_before from d b text (n ∷ done) others (one, all) =
+    (said_before_one from d b text n others one, said_before from d b text done others all)
+
+said_behind_one : (d : ℕ) (b : Bool) (text : List ℕ) (n : Option ℕ) → IsOther d n → ApartFrom n (said_event b d text)
+said_behind_one d b text None other = tt
+said_behind_one d b text (Some c) other = said_apart b c d text (λ same. other (sym same))
+
+said_behind : (d : ℕ) (b : Bool) (text : List ℕ) (ns : List (Option ℕ)) → HasNone d ns → AreApart ns (said_event b d text)
+said_behind d b text [] none = tt
+said_behind d b text (n ∷ ns) (one, all) = (said_behind_one d b text n one, said_behind d b text ns all)
+
+abbrev is_number : Option ℕ → Bool
+is_number None = false
+is_number (Some c) = true
+
+none_such_number : (c : ℕ) → None ≡ Some c → ⊥
+none_such_number c e = false≢true (ap is_number e)
+
 -- ---- browsers that are attended
 
-heard_as : (players : List Player) (written : List ℕ) (heard : Option HeardOf) (at : ℕ) (number after : Option ℕ) (s t : Talk) →
-    IsTalkAt players written s → IsHeardAs heard at number after s t →
-    IsTalkAt players written t × Numbered s.next number after t.next
-heard_as players written None at number after s t so_far (same_number, same) =
-    let so = same_talk players written s t so_far same in
-    (so.0, inl (same_number, so.1))
-heard_as players written (Some heards.Opened) at None after s t so_far (c, is, opens) = (
-  at_more players written _ _ _ _ s.desk t.desk (Opened c) (λ bytes. refl) so_far opens.steps,
-  inr (c, is, opens.fresh, opens.next),
-)
-heard_as players written (Some heards.Opened) at (Some d) after s t so_far (is, same) =
-    let so = same_talk players written s t so_far same in
-    (so.0, inl (is, so.1))
-heard_as players written (Some (heards.Text text)) at None after s t so_far (is, same) =
-    let so = same_talk players written s t so_far same in
-    (so.0, inl (is, so.1))
-heard_as players written (Some (heards.Text text)) at (Some d) after s t so_far (is, (shown, a_text, no_text, moves)) =
-    let so = moved players written s t (said_event (is_too_fast (until_of s.desk d) at) d shown)
-    (keeps_said (is_too_fast (until_of s.desk d) at) d shown) so_far moves in
-    (so.0, inl (is, so.1))
+module _ {S : Type 0} (remaining contents : S → Option (List ℕ)) (site : Site) (came : List S) (players : List Player)
+    (former : List (Guest S)) (traffic : Traffic) (out : List Telling) where
+  abbrev Served : Option ℕ → Spot S → List Step → Type 0
+  Served n now steps = IsServed remaining contents site came steps out n now
 
-module _ {S : Type 0} (remaining : S → Option (List ℕ)) (site : Site) (at : ℕ) (players : List Player) (written : List ℕ) where
-  attended_one : (guest next : Guest S) (s t : Talk) → IsTalkAt players written s → IsAttended remaining site at guest next s t →
-      IsTalkAt players written t × Numbered s.next guest.number next.number t.next
-  attended_one guest next s t so_far one = elim one.hears [
-    | inl asked ↦
-        let so = heard_as players written asked.heard at one.read.number next.number s t so_far asked.told in
-        (so.0, subst (λ (n : Option ℕ). Numbered s.next n next.number t.next) one.reads.number so.1)
-    | inr same ↦
-        let so = same_talk players written s t so_far same.1 in
-        (so.0, inl (ap (λ (g : Guest S). g.number) same.0 ∙ one.reads.number, so.1))
-  ]
+  abbrev All : List (Guest S) → List Step → Type 0
+  All guests steps = AreServed remaining contents site came steps out guests
 
-  attended_all : (guests after : List (Guest S)) (s t : Talk) → IsTalkAt players written s →
+  -- those that were attended, and those that were let go
+  record Before (done : List (Guest S)) (steps : List Step) : Type 0 where
+    served : All done steps
+    were : WereServed remaining contents site came steps out former
+
+  abbrev OwnBefore : ℕ → List (Guest S) → List (Option ℕ) → Type 0
+  OwnBefore next done others = AllOwn next (numbers done) others × AllOwn next (numbers former) others
+
+  before_on : (done : List (Guest S)) (s : Step) (steps : List Step) → AreApart (numbers done) s.event →
+      AreApart (numbers former) s.event → Before done steps → Before done (s ∷ steps)
+  before_on done s steps apart from_former was = record {
+    served = all_served_on remaining contents site came s steps out done apart was.served;
+    were = all_were_on remaining contents site came s steps out former from_former was.were;
+  }
+
+  -- one of those, of one that is attended, or of those that are to be
+  abbrev IsIn : List (Guest S) → List (Option ℕ) → ℕ → Type 0
+  IsIn done ns c = IsOneOf c (numbers former) ⊎ IsOneOf c (numbers done) ⊎ IsOneOf c ns
+
+  -- one that is attended, those before it and those behind it
+  record Three (done rest : List (Guest S)) (n : Option ℕ) (now : Spot S) (steps : List Step) : Type 0 where
+    before : Before done steps
+    one : Served n now steps
+    behind : All rest steps
+    known : KnowsBy (IsIn done (n ∷ numbers rest)) steps
+
+  with_one : (done rest : List (Guest S)) (n : Option ℕ) (a b : Spot S) → ((steps : List Step) → Served n a steps → Served n b steps) →
+      (steps : List Step) → Three done rest n a steps → Three done rest n b steps
+  with_one done rest n a b more steps three =
+      record { before = three.before; one = more steps three.one; behind = three.behind; known = three.known }
+
+  -- who had no number has this one
+  in_opened : (done rest : List (Guest S)) (d c : ℕ) → IsIn done (None ∷ numbers rest) c → IsIn done (Some d ∷ numbers rest) c
+  in_opened done rest d c (inl gone) = inl gone
+  in_opened done rest d c (inr (inl one)) = inr (inl one)
+  in_opened done rest d c (inr (inr (inl none_such))) = absurd (none_such_number c none_such)
+  in_opened done rest d c (inr (inr (inr one))) = inr (inr (inr one))
+
+  heard_as : (done rest : List (Guest S)) (heard : Option HeardOf) (at : ℕ) (number after : Option ℕ) (a b : Spot S) (s t : Talk) →
+      OwnBefore s.next done (number ∷ numbers rest) → IsOwn s.next number (numbers rest) → AreOwn s.next (numbers rest) →
+      IsTalkAt players traffic out (Three done rest number a) s → DoesAt remaining contents site (Gave heard) a b →
+      IsHeardAs heard at number after s t →
+      IsTalkAt players traffic out (Three done rest after b) t × Numbered s.next number after t.next
+  heard_as done rest None at number after a b s t before own owns so_far does (same_number, same) =
+      let so = same_talk players traffic out (Three done rest number a) s t so_far same in (
+        subst (λ (n : Option ℕ). IsTalkAt players traffic out (Three done rest n b) t) (sym same_number)
+            (at_with players traffic out (Three done rest number a) (Three done rest number b) t.desk t.wire.items
+            (tellings t.told.items) (with_one done rest number a b
+            (λ steps was. gave_nothing remaining contents site came steps out number a b does was)) so.0),
+        inl (same_number, so.1),
+      )
+  heard_as done rest (Some heards.Opened) at None after a b s t before own owns so_far does (c, is, opens) = (
+    subst (λ (n : Option ℕ). IsTalkAt players traffic out (Three done rest n b) t) (sym is)
+        (at_more players traffic out (Three done rest None a) (Three done rest (Some c) b) _ _ _ _ s.desk t.desk (Opened c)
+        (λ bytes. refl) (λ steps step event tells three. record {
+          before = before_on done step steps
+              (subst (λ (e : Event). AreApart (numbers done) e) (sym event)
+              (opened_before s.next c (numbers done) (None ∷ numbers rest) opens.fresh before.0))
+              (subst (λ (e : Event). AreApart (numbers former) e) (sym event)
+              (opened_before s.next c (numbers former) (None ∷ numbers rest) opens.fresh before.1)) three.before;
+          one = gave_opened remaining contents site came steps step out (tellings s.told.items) c a b event tells does three.one;
+          behind = all_served_on remaining contents site came step steps out rest
+              (subst (λ (e : Event). AreApart (numbers rest) e) (sym event)
+              (opened_behind s.next c (numbers rest) opens.fresh owns)) three.behind;
+          known = known_opened (IsIn done (None ∷ numbers rest)) (IsIn done (Some c ∷ numbers rest)) step steps c event
+              (in_opened done rest c) (inr (inr (inl refl))) three.known;
+        }) so_far opens.steps),
+    inr (c, is, opens.fresh, opens.next),
+  )
+  heard_as done rest (Some heards.Opened) at (Some d) after a b s t before own owns so_far does (is, same) =
+      let so = same_talk players traffic out (Three done rest (Some d) a) s t so_far same in (
+        subst (λ (n : Option ℕ). IsTalkAt players traffic out (Three done rest n b) t) (sym is)
+            (at_with players traffic out (Three done rest (Some d) a) (Three done rest (Some d) b) t.desk t.wire.items
+            (tellings t.told.items) (with_one done rest (Some d) a b
+            (λ steps was. gave_again remaining contents site came steps out d a b does was)) so.0),
+        inl (is, so.1),
+      )
+  heard_as done rest (Some (heards.Text text)) at None after a b s t before own owns so_far does (is, same) =
+      let so = same_talk players traffic out (Three done rest None a) s t so_far same in (
+        subst (λ (n : Option ℕ). IsTalkAt players traffic out (Three done rest n b) t) (sym is)
+            (at_with players traffic out (Three done rest None a) (Three done rest None b) t.desk t.wire.items
+            (tellings t.told.items) (with_one done rest None a b
+            (λ steps was. gave_early remaining contents site came steps out text a b does was)) so.0),
+        inl (is, so.1),
+      )
+  heard_as done rest (Some (heards.Text text)) at (Some d) after a b s t before own owns so_far does
+      (is, (shown, a_text, no_text, moves)) =
+      let fast = is_too_fast (until_of s.desk d) at in
+      let so = moved players traffic out (Three done rest (Some d) a) (Three done rest (Some d) b) s t (said_event fast d shown)
+      (keeps_said fast d shown) (λ steps step event tells three. record {
+        before = before_on done step steps
+            (subst (λ (e : Event). AreApart (numbers done) e) (sym event)
+            (said_before s.next d fast shown (numbers done) (numbers rest) before.0))
+            (subst (λ (e : Event). AreApart (numbers former) e) (sym event)
+            (said_before s.next d fast shown (numbers former) (numbers rest) before.1)) three.before;
+        one = gave_text remaining contents site came steps step out d fast text shown a b event a_text no_text does three.one;
+        behind = all_served_on remaining contents site came step steps out rest
+            (subst (λ (e : Event). AreApart (numbers rest) e) (sym event) (said_behind d fast shown (numbers rest) own.1))
+            three.behind;
+        known = known_on (IsIn done (Some d ∷ numbers rest)) step steps
+            (subst (λ (e : Event). IsNoOpening e) (sym event) (said_opens_none fast d shown)) three.known;
+      }) so_far moves in (
+        subst (λ (n : Option ℕ). IsTalkAt players traffic out (Three done rest n b) t) (sym is)
+            (subst (λ (w : Traffic). IsTalkAt players w out (Three done rest (Some d) b) t) (same_said fast d shown traffic) so.0),
+        inl (is, so.1),
+      )
+
+  -- those that were attended, and those that are to be
+  record Two (done rest : List (Guest S)) (steps : List Step) : Type 0 where
+    before : Before done steps
+    behind : All rest steps
+    known : KnowsBy (IsIn done (numbers rest)) steps
+
+  -- who was attended stands before those who are to be
+  in_done : (done rest : List (Guest S)) (next : Guest S) (c : ℕ) → IsIn done (next.number ∷ numbers rest) c →
+      IsIn (next ∷ done) (numbers rest) c
+  in_done done rest next c (inl gone) = inl gone
+  in_done done rest next c (inr (inl one)) = inr (inl (inr one))
+  in_done done rest next c (inr (inr (inl one))) = inr (inl (inl one))
+  in_done done rest next c (inr (inr (inr one))) = inr (inr one)
+
+  in_back : (done rest : List (Guest S)) (next : Guest S) (c : ℕ) → IsIn (next ∷ done) (numbers rest) c →
+      IsIn done (next.number ∷ numbers rest) c
+  in_back done rest next c (inl gone) = inl gone
+  in_back done rest next c (inr (inl (inl one))) = inr (inr (inl one))
+  in_back done rest next c (inr (inl (inr one))) = inr (inl one)
+  in_back done rest next c (inr (inr one)) = inr (inr (inr one))
+
+  attended_one : (at : ℕ) (done rest : List (Guest S)) (guest next : Guest S) (s t : Talk) →
+      OwnBefore s.next done (guest.number ∷ numbers rest) → IsOwn s.next guest.number (numbers rest) →
+      AreOwn s.next (numbers rest) → IsTalkAt players traffic out (Two done (guest ∷ rest)) s →
+      IsAttended remaining site at guest next s t →
+      IsTalkAt players traffic out (Two (next ∷ done) rest) t × Numbered s.next guest.number next.number t.next
+  attended_one at done rest guest next s t before own owns so_far one =
+      let read : IsTalkAt players traffic out (Three done rest one.read.number (spot one.read)) s =
+      at_with players traffic out (Two done (guest ∷ rest)) (Three done rest one.read.number (spot one.read)) s.desk s.wire.items
+      (tellings s.told.items) (λ steps two. record {
+        before = two.before;
+        one = served_read remaining contents site came steps out guest one.read one.reads two.behind.0;
+        behind = two.behind.1;
+        known = subst (λ (n : Option ℕ). KnowsBy (IsIn done (n ∷ numbers rest)) steps) (sym one.reads.number) two.known;
+      }) so_far in
+      let ended : (u : Talk) → IsTalkAt players traffic out (Three done rest next.number (spot next)) u →
+      IsTalkAt players traffic out (Two (next ∷ done) rest) u =
+      λ u at_u. at_with players traffic out (Three done rest next.number (spot next)) (Two (next ∷ done) rest) u.desk u.wire.items
+      (tellings u.told.items) (λ steps three. record {
+        before = record { served = (three.one, three.before.served); were = three.before.were };
+        behind = three.behind;
+        known = λ c come. in_done done rest next c (three.known c come);
+      }) at_u in
+      elim one.hears [
+        | inl asked ↦
+            let so = heard_as done rest asked.heard at one.read.number next.number (spot one.read) (spot next) s t
+            (subst (λ (n : Option ℕ). OwnBefore s.next done (n ∷ numbers rest)) (sym one.reads.number) before)
+            (subst (λ (n : Option ℕ). IsOwn s.next n (numbers rest)) (sym one.reads.number) own) owns read
+            (asked.stream, asked.gives) asked.told in
+            (ended t so.0, subst (λ (n : Option ℕ). Numbered s.next n next.number t.next) one.reads.number so.1)
+        | inr same ↦
+            let here : IsTalkAt players traffic out (Three done rest next.number (spot next)) s =
+            subst (λ (g : Guest S). IsTalkAt players traffic out (Three done rest g.number (spot g)) s) (sym same.0) read in
+            let so = same_talk players traffic out (Two (next ∷ done) rest) s t (ended s here) same.1 in
+            (so.0, inl (ap (λ (g : Guest S). g.number) same.0 ∙ one.reads.number, so.1))
+      ]
+
+  attended_all : (at : ℕ) (done guests after : List (Guest S)) (s t : Talk) → OwnBefore s.next done (numbers guests) →
+      AreOwn s.next (numbers guests) → IsTalkAt players traffic out (Two done guests) s →
       AreAttended remaining site at guests after s t →
-      IsTalkAt players written t × AreNumbered s.next (numbers guests) (numbers after) t.next
-  attended_all [] after s t so_far (none, same) =
-      let so = same_talk players written s t so_far same in
-      (so.0, subst (λ (l : List (Guest S)). AreNumbered s.next [] (numbers l) t.next) (sym none) so.1)
-  attended_all (guest ∷ guests) after s t so_far (next, rest, between, whole, is, are) =
-      let one = attended_one guest next s between so_far is in
-      let all = attended_all guests rest between t one.0 are in (
-        all.0,
+      IsTalkAt players traffic out (Two done after) t × AreNumbered s.next (numbers guests) (numbers after) t.next
+  attended_all at done [] after s t before owns so_far (none, same) =
+      let so = same_talk players traffic out (Two done []) s t so_far same in (
+        subst (λ (l : List (Guest S)). IsTalkAt players traffic out (Two done l) t) (sym none) so.0,
+        subst (λ (l : List (Guest S)). AreNumbered s.next [] (numbers l) t.next) (sym none) so.1,
+      )
+  attended_all at done (guest ∷ guests) after s t before (own, owns) so_far (next, rest, between, whole, is, are) =
+      let one = attended_one at done guests guest next s between before own owns so_far is in
+      let up : s.next ≤ between.next = up_one s.next guest.number next.number between.next one.1 in
+      let all = attended_all at (next ∷ done) guests rest between t (
+        (
+          own_next s.next guest.number next.number between.next (numbers guests) own owns one.1,
+          all_own_tail s.next between.next (numbers done) guest.number (numbers guests) up before.0,
+        ),
+        all_own_tail s.next between.next (numbers former) guest.number (numbers guests) up before.1,
+      )
+      (own_up s.next between.next (numbers guests) up owns) one.0 are in (
+        subst (λ (l : List (Guest S)). IsTalkAt players traffic out (Two done l) t) (sym whole)
+            (at_with players traffic out (Two (next ∷ done) rest) (Two done (next ∷ rest)) t.desk t.wire.items
+            (tellings t.told.items) (λ steps two. record {
+              before = record { served = two.before.served.1; were = two.before.were };
+              behind = (two.before.served.0, two.behind);
+              known = λ c come. in_back done rest next c (two.known c come);
+            }) all.0),
         subst (λ (l : List (Guest S)). AreNumbered s.next (guest.number ∷ numbers guests) (numbers l) t.next) (sym whole)
             (between.next, one.1, all.1),
       )
@@ -313,114 +768,657 @@ module _ {S : Type 0} where
     own_more next xs guest new all,
   )
 
+-- ---- numbers of those that were let go
+
+none_back : (c : ℕ) (fs ns : List (Option ℕ)) → HasNone c (fs ++ ns) → HasNone c ns
+none_back c [] ns none = none
+none_back c (f ∷ fs) ns (other, none) = none_back c fs ns none
+
+own_back : (next : ℕ) (fs ns : List (Option ℕ)) → AreOwn next (fs ++ ns) → AreOwn next ns
+own_back next [] ns own = own
+own_back next (f ∷ fs) ns (one, own) = own_back next fs ns own
+
+all_own_front : (next : ℕ) (fs ns : List (Option ℕ)) → AreOwn next (fs ++ ns) → AllOwn next fs ns
+all_own_front next [] ns own = tt
+all_own_front next (f ∷ fs) ns (one, own) =
+    (own_with next f (fs ++ ns) ns (λ c none. none_back c fs ns none) one, all_own_front next fs ns own)
+
+numbered_front : (from : ℕ) (fs ns ms : List (Option ℕ)) (to : ℕ) → AreNumbered from ns ms to →
+    AreNumbered from (fs ++ ns) (fs ++ ms) to
+numbered_front from [] ns ms to all = all
+numbered_front from (f ∷ fs) ns ms to all = (from, inl (refl, refl), numbered_front from fs ns ms to all)
+
+-- one from among them, in front of them
+none_without : (c : ℕ) (hs : List (Option ℕ)) (n : Option ℕ) (bs : List (Option ℕ)) → HasNone c (hs ++ n ∷ bs) → HasNone c (hs ++ bs)
+none_without c [] n bs (other, none) = none
+none_without c (a ∷ hs) n bs (other, none) = (other, none_without c hs n bs none)
+
+other_there : (c : ℕ) (hs : List (Option ℕ)) (n : Option ℕ) (bs : List (Option ℕ)) → HasNone c (hs ++ n ∷ bs) → IsOther c n
+other_there c [] n bs (other, none) = other
+other_there c (a ∷ hs) n bs (other, none) = other_there c hs n bs none
+
+other_back : (c : ℕ) (a : Option ℕ) (next : ℕ) (hs bs : List (Option ℕ)) → IsOwn next a (hs ++ Some c ∷ bs) → IsOther c a
+other_back c None next hs bs own = tt
+other_back c (Some d) next hs bs (lt, none) =
+    let there : c ≢ d = other_there d hs (Some c) bs none in
+    λ same. there (sym same)
+
+own_moved_one : (next : ℕ) (a n : Option ℕ) (hs bs : List (Option ℕ)) → IsOwn next a (hs ++ n ∷ bs) → IsOwn next n (hs ++ bs) →
+    IsOwn next n (a ∷ hs ++ bs)
+own_moved_one next a None hs bs own one = tt
+own_moved_one next a (Some c) hs bs own (lt, none) = (lt, (other_back c a next hs bs own, none))
+
+own_moved : (next : ℕ) (hs : List (Option ℕ)) (n : Option ℕ) (bs : List (Option ℕ)) → AreOwn next (hs ++ n ∷ bs) →
+    AreOwn next (n ∷ hs ++ bs)
+own_moved next [] n bs own = own
+own_moved next (a ∷ hs) n bs (one, own) =
+    let so = own_moved next hs n bs own in (
+      own_moved_one next a n hs bs one so.0,
+      (own_with next a (hs ++ n ∷ bs) (hs ++ bs) (λ c none. none_without c hs n bs none) one, so.1),
+    )
+
+module _ {S : Type 0} where
+  numbers_both : (a b : List (Guest S)) → numbers (a ++ b) ≡ numbers a ++ numbers b
+  numbers_both [] b = refl
+  numbers_both (x ∷ a) b = ap (λ (ns : List (Option ℕ)). x.number ∷ ns) (numbers_both a b)
+
+  own_apart : (next : ℕ) (former guests : List (Guest S)) → AreOwn next (numbers (former ++ guests)) →
+      AreOwn next (numbers former ++ numbers guests)
+  own_apart next former guests own = subst (λ (ns : List (Option ℕ)). AreOwn next ns) (numbers_both former guests) own
+
+  own_joined : (next : ℕ) (former guests : List (Guest S)) → AreOwn next (numbers former ++ numbers guests) →
+      AreOwn next (numbers (former ++ guests))
+  own_joined next former guests own = subst (λ (ns : List (Option ℕ)). AreOwn next ns) (sym (numbers_both former guests)) own
+
+  own_attended : (from to : ℕ) (former guests after : List (Guest S)) → AreOwn from (numbers (former ++ guests)) →
+      AreNumbered from (numbers guests) (numbers after) to → AreOwn to (numbers (former ++ after))
+  own_attended from to former guests after own all =
+      own_joined to former after (own_all from (numbers former ++ numbers guests) (numbers former ++ numbers after) to
+      (own_apart from former guests own) (numbered_front from (numbers former) (numbers guests) (numbers after) to all))
+
+  own_as : (next : ℕ) (former xs ys : List (Guest S)) → numbers ys ≡ numbers xs → AreOwn next (numbers (former ++ xs)) →
+      AreOwn next (numbers (former ++ ys))
+  own_as next former xs ys same own =
+      own_joined next former ys (subst (λ (ns : List (Option ℕ)). AreOwn next (numbers former ++ ns)) (sym same)
+      (own_apart next former xs own))
+
+  own_added : (next : ℕ) (former guests : List (Guest S)) (guest : Guest S) → guest.number ≡ None →
+      AreOwn next (numbers (former ++ guests)) → AreOwn next (numbers (former ++ (guests ++ guest ∷ [])))
+  own_added next former guests guest new own =
+      subst (λ (gs : List (Guest S)). AreOwn next (numbers gs)) (append_assoc former guests (guest ∷ []))
+      (own_more next (former ++ guests) guest new own)
+
+  abbrev gone_of : List (Guest S) → List (Guest S)
+  gone_of guests = filter (λ (guest : Guest S). guest.is_lost) guests
+
+  abbrev stay_of : List (Guest S) → List (Guest S)
+  stay_of guests = filter (λ (guest : Guest S). not guest.is_lost) guests
+
+  -- those who are let go stand in front of those who were, and the others behind them
+  own_split : (next : ℕ) (hs : List (Option ℕ)) (guests : List (Guest S)) → AreOwn next (hs ++ numbers guests) →
+      AreOwn next (numbers (gone_of guests) ++ (hs ++ numbers (stay_of guests)))
+  own_split next hs [] own = own
+  own_split next hs (x ∷ xs) own = elim (cases_Bool x.is_lost) [
+    | inl goes ↦ subst (λ (b : Bool). AreOwn next (numbers (cond b (x ∷ gone_of xs) (gone_of xs))
+        ++ (hs ++ numbers (cond (not b) (x ∷ stay_of xs) (stay_of xs))))) (sym goes)
+        (own_moved next (numbers (gone_of xs)) x.number (hs ++ numbers (stay_of xs))
+        (own_split next (x.number ∷ hs) xs (own_moved next hs x.number (numbers xs) own)))
+    | inr stays ↦ subst (λ (b : Bool). AreOwn next (numbers (cond b (x ∷ gone_of xs) (gone_of xs))
+        ++ (hs ++ numbers (cond (not b) (x ∷ stay_of xs) (stay_of xs))))) (sym stays)
+        (subst (λ (ns : List (Option ℕ)). AreOwn next (numbers (gone_of xs) ++ ns))
+        (append_assoc hs (x.number ∷ []) (numbers (stay_of xs)))
+        (own_split next (hs ++ x.number ∷ []) xs
+        (subst (λ (ns : List (Option ℕ)). AreOwn next ns) (sym (append_assoc hs (x.number ∷ []) (numbers xs))) own)))
+  ]
+
+  own_parted : (next : ℕ) (former guests : List (Guest S)) → AreOwn next (numbers (former ++ guests)) →
+      AreOwn next (numbers ((gone_of guests ++ former) ++ stay_of guests))
+  own_parted next former guests own =
+      own_joined next (gone_of guests ++ former) (stay_of guests)
+      (subst (λ (ns : List (Option ℕ)). AreOwn next (ns ++ numbers (stay_of guests))) (sym (numbers_both (gone_of guests) former))
+      (subst (λ (ns : List (Option ℕ)). AreOwn next ns)
+      (sym (append_assoc (numbers (gone_of guests)) (numbers former) (numbers (stay_of guests))))
+      (own_split next (numbers former) guests (own_apart next former guests own))))
+
+  -- who is one of them is let go or stays
+  one_front : (c : ℕ) (hs bs : List (Guest S)) → IsOneOf c (numbers hs) → IsOneOf c (numbers (hs ++ bs))
+  one_front c [] bs none_such = absurd none_such
+  one_front c (x ∷ hs) bs (inl is) = inl is
+  one_front c (x ∷ hs) bs (inr one) = inr (one_front c hs bs one)
+
+  one_back : (c : ℕ) (hs bs : List (Guest S)) → IsOneOf c (numbers bs) → IsOneOf c (numbers (hs ++ bs))
+  one_back c [] bs one = one
+  one_back c (x ∷ hs) bs one = inr (one_back c hs bs one)
+
+  one_split : (c : ℕ) (guests : List (Guest S)) → IsOneOf c (numbers guests) →
+      IsOneOf c (numbers (gone_of guests)) ⊎ IsOneOf c (numbers (stay_of guests))
+  one_split c [] none_such = absurd none_such
+  one_split c (x ∷ xs) one = elim (cases_Bool x.is_lost) [
+    | inl goes ↦ subst (λ (b : Bool). IsOneOf c (numbers (cond b (x ∷ gone_of xs) (gone_of xs)))
+        ⊎ IsOneOf c (numbers (cond (not b) (x ∷ stay_of xs) (stay_of xs)))) (sym goes) (elim one [
+          | inl is ↦ inl (inl is)
+          | inr more ↦ elim (one_split c xs more) [ inl gone ↦ inl (inr gone) | inr stay ↦ inr stay ]
+        ])
+    | inr stays ↦ subst (λ (b : Bool). IsOneOf c (numbers (cond b (x ∷ gone_of xs) (gone_of xs)))
+        ⊎ IsOneOf c (numbers (cond (not b) (x ∷ stay_of xs) (stay_of xs)))) (sym stays) (elim one [
+          | inl is ↦ inr (inl is)
+          | inr more ↦ elim (one_split c xs more) [ inl gone ↦ inl gone | inr stay ↦ inr (inr stay) ]
+        ])
+  ]
+
+  one_parted : (c : ℕ) (former guests : List (Guest S)) → IsOneOf c (numbers former) ⊎ IsOneOf c (numbers guests) →
+      IsOneOf c (numbers (gone_of guests ++ former)) ⊎ IsOneOf c (numbers (stay_of guests))
+  one_parted c former guests (inl gone) = inl (one_back c (gone_of guests) former gone)
+  one_parted c former guests (inr one) = elim (one_split c guests one) [
+    | inl gone ↦ inl (one_front c (gone_of guests) former gone)
+    | inr stay ↦ inr stay
+  ]
+
+-- ---- the server's connection
+
+kept_whole : {S : Type 0} (old new : Link S) → IsKept old new → HoldsNoLine old → HoldsNoLine new
+kept_whole old new kept whole = λ goes. subst (λ (l : List ℕ). HasNoFeed l) (sym (ap (λ v. v.items) kept.held)) (whole (kept.lost goes))
+
+heard_whole : {S : Type 0} (remaining : S → Option (List ℕ)) (server after : Option (Link S)) (old new : Talk) →
+    HearsServer remaining server after old new → NoLineWaits server → NoLineWaits after
+heard_whole remaining None after old new (is, same) none = subst (λ s. NoLineWaits s) (sym is) tt
+heard_whole remaining (Some link) after old new (next, is, takes) whole =
+    subst (λ s. NoLineWaits s) (sym is) (takes.whole whole)
+
+parted_whole : {S : Type 0} (gone : Bool) (server after : Option (Link S)) (old new : Talk) →
+    PartsFromServer gone server after old new → NoLineWaits server → NoLineWaits after
+parted_whole false server after old new (is, same) whole = subst (λ s. NoLineWaits s) (sym is) whole
+parted_whole true server after old new (is, anew) whole = subst (λ s. NoLineWaits s) (sym is) tt
+
+told_whole : {S : Type 0} (contents : S → Option (List ℕ)) (front : List ℕ) (server after : Option (Link S)) (old new : List ℕ) →
+    TellsServer contents front server after old new → NoLineWaits server → NoLineWaits after
+told_whole contents front None after old new (is, none, same) whole = subst (λ s. NoLineWaits s) (sym is) tt
+told_whole contents front (Some link) after old new (next, is, hands, kept) whole =
+    subst (λ s. NoLineWaits s) (sym is) (kept_whole link next kept whole)
+
+woken_whole : {S : Type 0} (server after : Option (Link S)) → IsServerAsBefore server after → NoLineWaits server →
+    NoLineWaits after
+woken_whole None after is whole = subst (λ s. NoLineWaits s) (sym is) tt
+woken_whole (Some link) after (next, is, stream, kept) whole =
+    subst (λ s. NoLineWaits s) (sym is) (kept_whole link next kept whole)
+
+-- ---- lines of the server
+
+bytes_both : (lines before : List (List ℕ)) → bytes_before (lines ++ before) ≡ bytes_before before ++ bytes_before lines
+bytes_both [] before = sym (append-nil (bytes_before before))
+bytes_both (line ∷ lines) before =
+    ap (λ (bytes : List ℕ). bytes ++ ended line) (bytes_both lines before)
+    ∙ append_assoc (bytes_before before) (bytes_before lines) (ended line)
+
+feeds_more : (lines before : List (List ℕ)) (old new : Talk) → AreHeard lines old new → AllByRecursion HasNoFeed before →
+    AllByRecursion HasNoFeed (lines ++ before)
+feeds_more [] before old new same none = none
+feeds_more (line ∷ lines) before old new (between, are, whole, moves) none = (whole, feeds_more lines before old between are none)
+
+-- Bytes came of the server: lines that the desk heard, and what is held.
+pub record AreCut {S : Type 0} (taken : List ℕ) (heard : List (List ℕ)) (server : Option (Link S)) : Type 0 where
+  pub rest : List ℕ
+  pub cut : taken ≡ bytes_before heard ++ rest
+  pub feeds : AllByRecursion HasNoFeed heard
+  pub held : IsHeld server rest
+
+cut_more : (taken more rest left : List ℕ) (heard lines : List (List ℕ)) → taken ≡ bytes_before heard ++ rest →
+    rest ++ more ≡ bytes_before lines ++ left → taken ++ more ≡ bytes_before (lines ++ heard) ++ left
+cut_more taken more rest left heard lines so_far next =
+    ap (λ (bytes : List ℕ). bytes ++ more) so_far
+    ∙ (append_assoc (bytes_before heard) rest more
+    ∙ (ap (λ (bytes : List ℕ). bytes_before heard ++ bytes) next
+    ∙ (sym (append_assoc (bytes_before heard) (bytes_before lines) left)
+    ∙ ap (λ (bytes : List ℕ). bytes ++ left) (sym (bytes_both lines heard)))))
+
+heard_cut : {S : Type 0} (remaining : S → Option (List ℕ)) (taken : List ℕ) (heard : List (List ℕ)) (server after : Option (Link S))
+    (old new : Talk) (hears : HearsServer remaining server after old new) → AreCut taken heard server →
+    AreCut (taken ++ bytes_heard remaining server after old new hears)
+    (lines_of_server remaining server after old new hears ++ heard) after
+heard_cut remaining taken heard None after old new (is, same) so_far = record {
+  rest = so_far.rest;
+  cut = append-nil taken ∙ so_far.cut;
+  feeds = so_far.feeds;
+  held = subst (λ s. IsHeld s so_far.rest) (sym is) tt;
+}
+heard_cut remaining taken heard (Some link) after old new (next, is, takes) so_far = record {
+  rest = next.held.items;
+  cut = cut_more taken takes.taken so_far.rest next.held.items heard takes.lines.lines so_far.cut
+      (subst (λ (bytes : List ℕ). bytes ++ takes.taken ≡ bytes_before takes.lines.lines ++ next.held.items) so_far.held
+      takes.lines.cut);
+  feeds = feeds_more takes.lines.lines heard old new takes.lines.heard so_far.feeds;
+  held = subst (λ s. IsHeld s next.held.items) (sym is) refl;
+}
+
+-- the same, of a connection that holds the same or is gone
+cut_by : {S : Type 0} (taken : List ℕ) (heard : List (List ℕ)) (server after : Option (Link S)) →
+    ((rest : List ℕ) → IsHeld server rest → IsHeld after rest) → AreCut taken heard server → AreCut taken heard after
+cut_by taken heard server after stays so_far =
+    record { rest = so_far.rest; cut = so_far.cut; feeds = so_far.feeds; held = stays so_far.rest so_far.held }
+
+kept_held : {S : Type 0} (old new : Link S) (rest : List ℕ) → IsKept old new → old.held.items ≡ rest → new.held.items ≡ rest
+kept_held old new rest kept held = ap (λ v. v.items) kept.held ∙ held
+
+parted_held : {S : Type 0} (gone : Bool) (server after : Option (Link S)) (old new : Talk) →
+    PartsFromServer gone server after old new → (rest : List ℕ) → IsHeld server rest → IsHeld after rest
+parted_held false server after old new (is, same) rest held = subst (λ s. IsHeld s rest) (sym is) held
+parted_held true server after old new (is, anew) rest held = subst (λ s. IsHeld s rest) (sym is) tt
+
+told_held : {S : Type 0} (contents : S → Option (List ℕ)) (front : List ℕ) (server after : Option (Link S)) (old new : List ℕ) →
+    TellsServer contents front server after old new → (rest : List ℕ) → IsHeld server rest → IsHeld after rest
+told_held contents front None after old new (is, none, same) rest held = subst (λ s. IsHeld s rest) (sym is) tt
+told_held contents front (Some link) after old new (next, is, hands, kept) rest held =
+    subst (λ s. IsHeld s rest) (sym is) (kept_held link next rest kept held)
+
+woken_held : {S : Type 0} (server after : Option (Link S)) → IsServerAsBefore server after → (rest : List ℕ) →
+    IsHeld server rest → IsHeld after rest
+woken_held None after is rest held = subst (λ s. IsHeld s rest) (sym is) tt
+woken_held (Some link) after (next, is, stream, kept) rest held =
+    subst (λ s. IsHeld s rest) (sym is) (kept_held link next rest kept held)
+
 -- ---- whatever happens
 
--- what holds of a hall, where this was written to the server's connection
-pub record IsHallAt {S : Type 0} (players : List Player) (written : List ℕ) (hall : Hall S) : Type 0 where
-  pub talk : IsAt players written hall.talk.desk hall.talk.wire.items
-  pub own : AreOwn hall.talk.next (numbers hall.guests.items)
+-- what was written to the server, the bytes that came of it, and that it is there or gone
+pub record Outside : Type 0 where
+  pub wrote : List ℕ
+  pub taken : List ℕ
+  pub presences : List Bool
+
+abbrev outside_in : {S : Type 0} → List (Happening S) → Outside
+outside_in past = record { wrote = written_in past; taken = taken_in past; presences = presences_in past }
+
+-- behind a turn
+abbrev behind_turn : List ℕ → Bool → List ℕ → Outside → Outside
+behind_turn taken gone front o =
+    record { wrote = left gone o.wrote ++ front; taken = o.taken ++ taken; presences = lost_if gone o.presences }
+
+abbrev traffic_of : Outside → List (List ℕ) → Traffic
+traffic_of o heard = record { wrote = o.wrote; heard = heard; presences = o.presences }
+
+-- what holds of a hall, where this was outside and browsers came by these streams
+pub record IsHallAt {S : Type 0} (remaining contents : S → Option (List ℕ)) (players : List Player) (o : Outside)
+    (came : List S) (hall : Hall S) : Type 0 where
+  pub out : List Telling
+  pub heard : List (List ℕ)
+  pub cut : AreCut o.taken heard hall.server
+  pub former : List (Guest S)
+  pub talk : IsAt players (traffic_of o heard) out (AreKept remaining contents hall.site came former out hall.guests.items)
+      hall.talk.desk hall.talk.wire.items (tellings hall.talk.told.items)
+  pub own : AreOwn hall.talk.next (numbers (former ++ hall.guests.items))
+  pub whole : NoLineWaits hall.server
 
 written_on : {S : Type 0} (contents : S → Option (List ℕ)) (front : List ℕ) (server after : Option (Link S)) (old new : List ℕ) →
     TellsServer contents front server after old new → old ≡ front ++ new
 written_on contents front None after old new (is, none, same) = sym same ∙ ap (λ (f : List ℕ). f ++ new) (sym none)
-written_on contents front (Some link) after old new (next, is, hands) = hands.split
+written_on contents front (Some link) after old new (next, is, hands, kept) = hands.split
 
-module _ {S : Type 0} (remaining contents : S → Option (List ℕ)) (players : List Player) (written : List ℕ) where
-  turned_on : (at : ℕ) (old new : Hall S) (t : HasTurned remaining contents at old new) → IsHallAt players written old →
-      IsHallAt players (left t.is_gone written ++ t.front) new
-  turned_on at old new t so_far =
-      let heard = heard_server remaining players written old.server t.server_heard old.talk t.heard so_far.talk t.hears in
-      let gone = parted players written t.is_gone t.server_heard t.server t.heard t.parted heard.0 t.parts in
-      let base = left t.is_gone written in
-      let said = attended_all remaining old.site at players base old.guests.items t.attended t.parted t.said gone.0 t.attends in
-      let own_then : AreOwn t.parted.next (numbers old.guests.items) =
-      subst (λ (n : ℕ). AreOwn n (numbers old.guests.items)) (sym (gone.1 ∙ heard.1)) so_far.own in
-      let own_said : AreOwn t.said.next (numbers t.attended) =
-      own_all t.parted.next (numbers old.guests.items) (numbers t.attended) t.said.next own_then said.1 in
-      let rest_at : IsAt players (base ++ t.front) t.rest.desk t.rest.wire.items =
-      subst (λ (d : Desk). IsAt players (base ++ t.front) d t.rest.wire.items) (sym t.desk) (record {
-        steps = said.0.steps;
-        run = said.0.run;
-        players_are = said.0.players_are;
-        sent = said.0.sent ∙ (ap (λ (bytes : List ℕ). base ++ bytes)
-            (written_on contents t.front t.server new.server t.said.wire.items t.rest.wire.items t.tells)
-            ∙ sym (append_assoc base t.front t.rest.wire.items));
-      }) in
-      let closed = closed_all players (base ++ t.front) t.parted_from.settled t.rest new.talk rest_at t.parted_from.closes in
-      let same : numbers t.parted_from.settled ≡ numbers t.attended =
-      same_numbers IsAsBefore (λ x y one. one.number) t.written t.parted_from.settled t.parted_from.settles
-      ∙ (same_numbers (IsWritten contents old.site) (λ x y one. one.number) t.told t.written t.writes
+module _ {S : Type 0} (remaining contents : S → Option (List ℕ)) (site : Site) (came : List S) (former : List (Guest S)) where
+  -- each is served on, and has the number that it had
+  kept_zip : (out more : List Telling) (R : Guest S → Guest S → Type 0) →
+      ((steps : List Step) (x y : Guest S) → R x y → IsServed remaining contents site came steps out x.number (spot x) →
+      IsServed remaining contents site came steps (out ++ more) y.number (spot y)) →
+      ((x y : Guest S) → R x y → y.number ≡ x.number) → (xs ys : List (Guest S)) → AllZip R xs ys → (steps : List Step) →
+      AreKept remaining contents site came former out xs steps → AreKept remaining contents site came former (out ++ more) ys steps
+  kept_zip out more R each same xs ys all steps kept = record {
+    served = all_served_zip remaining contents site came steps out (out ++ more) R (each steps) xs ys all kept.served;
+    were = all_were_out remaining contents site came steps out more former kept.were;
+    known = λ c come. elim (kept.known c come) [
+      | inl gone ↦ inl gone
+      | inr one ↦ inr (subst (λ (ns : List (Option ℕ)). IsOneOf c ns) (sym (same_numbers R same xs ys all)) one)
+    ];
+  }
+
+  -- where nothing went out
+  kept_same : (out : List Telling) (R : Guest S → Guest S → Type 0) →
+      ((steps : List Step) (x y : Guest S) → R x y → IsServed remaining contents site came steps out x.number (spot x) →
+      IsServed remaining contents site came steps out y.number (spot y)) →
+      ((x y : Guest S) → R x y → y.number ≡ x.number) → (xs ys : List (Guest S)) → AllZip R xs ys → (steps : List Step) →
+      AreKept remaining contents site came former out xs steps → AreKept remaining contents site came former out ys steps
+  kept_same out R each same xs ys all steps kept = record {
+    served = all_served_zip remaining contents site came steps out out R (each steps) xs ys all kept.served;
+    were = kept.were;
+    known = λ c come. elim (kept.known c come) [
+      | inl gone ↦ inl gone
+      | inr one ↦ inr (subst (λ (ns : List (Option ℕ)). IsOneOf c ns) (sym (same_numbers R same xs ys all)) one)
+    ];
+  }
+
+  -- those who are lost are let go
+  kept_parted : (out : List Telling) (guests : List (Guest S)) (steps : List Step) →
+      AreKept remaining contents site came former out guests steps → AllClosed guests out steps →
+      AreKept remaining contents site came (gone_of guests ++ former) out (stay_of guests) steps
+  kept_parted out guests steps kept closed = record {
+    served = all_served_filter remaining contents site came (λ (guest : Guest S). not guest.is_lost) steps out guests kept.served;
+    were = all_let_go remaining contents site came steps out guests former kept.served closed kept.were;
+    known = λ c come. one_parted c former guests (kept.known c come);
+  }
+
+module _ {S : Type 0} (remaining contents : S → Option (List ℕ)) (players : List Player) (came : List S) where
+  -- what went out is delivered, and a front of what is to go to the server is written
+  gone_out : (site : Site) (former : List (Guest S)) (out : List Telling) (base : Traffic) (front : List ℕ) (said : Talk) (desk : Desk)
+      (wire : List ℕ) (guests told : List (Guest S)) → AreDelivered said.told.items guests told → said.wire.items ≡ front ++ wire →
+      desk ≡ said.desk →
+      IsAt players base out (AreKept remaining contents site came former out guests) said.desk said.wire.items
+      (tellings said.told.items) →
+      IsAt players (behind_front front base) (out ++ tellings said.told.items)
+      (AreKept remaining contents site came former (out ++ tellings said.told.items) told) desk wire []
+  gone_out site former out base front said desk wire guests told delivers split same so_far = record {
+    steps = so_far.steps;
+    run = subst (λ (d : Desk). IsRun players so_far.steps (view d)) (sym same) so_far.run;
+    players_are = ap (λ (d : Desk). d.players.items) same ∙ so_far.players_are;
+    sent = so_far.sent ∙ (ap (λ (bytes : List ℕ). base.wrote ++ bytes) split ∙ sym (append_assoc base.wrote front wire));
+    heard = so_far.heard;
+    presences = so_far.presences;
+    tells = so_far.tells ∙ sym (append-nil (out ++ tellings said.told.items));
+    holds = kept_zip remaining contents site came former out (tellings said.told.items) (AreTold delivers.made)
+        (λ steps x y one was. served_told remaining contents site came steps out said.told.items delivers.made x y
+        delivers.are_made one was) (λ x y one. told_number delivers.made x y one) guests told delivers.are_told so_far.steps
+        so_far.holds;
+  }
+
+  -- What holds behind a turn, of the desk and of browsers' numbers, where this was so before.
+  record IsTurnedTo (traffic : Traffic) (later : List Telling) (site : Site) (old new : Hall S) : Type 0 where
+    former : List (Guest S)
+    talk : IsAt players traffic later (AreKept remaining contents site came former later new.guests.items) new.talk.desk
+        new.talk.wire.items (tellings new.talk.told.items)
+    own : AreOwn new.talk.next (numbers (former ++ new.guests.items))
+
+  -- from where browsers are attended on
+  attended_on : (at : ℕ) (former : List (Guest S)) (base : Traffic) (out : List Telling) (old new : Hall S)
+      (t : HasTurned remaining contents at old new) →
+      IsAt players base out (AreKept remaining contents old.site came former out old.guests.items) t.parted.desk t.parted.wire.items
+      (tellings t.parted.told.items) → AreOwn t.parted.next (numbers (former ++ old.guests.items)) →
+      IsTurnedTo (behind_front t.front base) (out ++ tellings t.said.told.items) old.site old new
+  attended_on at former base out old new t so_far own =
+      let site = old.site in
+      let later = out ++ tellings t.said.told.items in
+      let wrote = behind_front t.front base in
+      let settled = t.parted_from.settled in
+      let apart = own_apart t.parted.next former old.guests.items own in
+      let two : IsTalkAt players base out (Two remaining contents site came players former base out [] old.guests.items) t.parted =
+      at_with players base out (AreKept remaining contents site came former out old.guests.items)
+      (Two remaining contents site came players former base out [] old.guests.items) t.parted.desk t.parted.wire.items
+      (tellings t.parted.told.items) (λ steps kept. record {
+        before = record { served = tt; were = kept.were };
+        behind = kept.served;
+        known = λ c come. elim (kept.known c come) [ inl gone ↦ inl gone | inr one ↦ inr (inr one) ];
+      }) so_far in
+      let said = attended_all remaining contents site came players former base out at [] old.guests.items t.attended t.parted t.said
+      (tt, all_own_front t.parted.next (numbers former) (numbers old.guests.items) apart)
+      (own_back t.parted.next (numbers former) (numbers old.guests.items) apart) two t.attends in
+      let attended : IsAt players base out (AreKept remaining contents site came former out t.attended) t.said.desk
+      t.said.wire.items (tellings t.said.told.items) =
+      at_with players base out (Two remaining contents site came players former base out [] t.attended)
+      (AreKept remaining contents site came former out t.attended) t.said.desk t.said.wire.items (tellings t.said.told.items)
+      (λ steps two. record {
+        served = two.behind;
+        were = two.before.were;
+        known = λ c come. elim (two.known c come) [
+          | inl gone ↦ inl gone
+          | inr others ↦ elim others [ inl none_such ↦ absurd none_such | inr one ↦ inr one ]
+        ];
+      }) said.0 in
+      let looked : IsAt players base out (AreKept remaining contents site came former out t.looked) t.said.desk
+      t.said.wire.items (tellings t.said.told.items) =
+      at_with players base out (AreKept remaining contents site came former out t.attended)
+      (AreKept remaining contents site came former out t.looked) t.said.desk t.said.wire.items (tellings t.said.told.items)
+      (kept_same remaining contents site came former out IsLookedAfter
+      (λ steps x y one was. served_looked remaining contents site came steps out x y one was) (λ x y one. one.number) t.attended
+      t.looked t.looks) attended in
+      let told = gone_out site former out base t.front t.said t.rest.desk t.rest.wire.items t.looked t.told t.delivers
+      (written_on contents t.front t.server new.server t.said.wire.items t.rest.wire.items t.tells) t.desk looked in
+      let none : tellings t.rest.told.items ≡ [] = ap (λ (l : List Told). tellings l) t.none in
+      let at_settled : IsAt players wrote later (Closing remaining contents site came players former later settled (λ steps. Unit {0}))
+      t.rest.desk t.rest.wire.items (tellings t.rest.told.items) =
+      subst (λ (l : List Telling). IsAt players wrote later
+      (Closing remaining contents site came players former later settled (λ steps. Unit {0})) t.rest.desk t.rest.wire.items l) (sym none)
+      (at_with players wrote later (AreKept remaining contents site came former later t.told)
+      (Closing remaining contents site came players former later settled (λ steps. Unit {0})) t.rest.desk t.rest.wire.items []
+      (λ steps kept. record {
+        kept = kept_same remaining contents site came former later IsAsBefore
+            (λ steps x y one was. served_before remaining contents site came steps later x y one was) (λ x y one. one.number) t.written
+            settled t.parted_from.settles steps
+            (kept_same remaining contents site came former later (IsWritten contents site)
+            (λ steps x y one was. served_written remaining contents site came steps later x y one was) (λ x y one. one.number) t.told
+            t.written t.writes steps kept);
+        more = tt;
+      }) told) in
+      let closed = closed_all remaining contents site came players former wrote later settled settled (λ steps. Unit {0})
+      (λ s steps was. tt) t.rest new.talk at_settled none t.parted_from.closes in
+      let same : numbers settled ≡ numbers t.attended =
+      same_numbers IsAsBefore (λ x y one. one.number) t.written settled t.parted_from.settles
+      ∙ (same_numbers (IsWritten contents site) (λ x y one. one.number) t.told t.written t.writes
       ∙ (same_numbers (AreTold t.delivers.made) (λ x y one. told_number t.delivers.made x y one) t.looked t.told
       t.delivers.are_told
       ∙ same_numbers IsLookedAfter (λ x y one. one.number) t.attended t.looked t.looks)) in
-      let own_settled : AreOwn t.said.next (numbers t.parted_from.settled) =
-      subst (λ (ns : List (Option ℕ)). AreOwn t.said.next ns) (sym same) own_said in
+      let own_said : AreOwn t.said.next (numbers (former ++ t.attended)) =
+      own_attended t.parted.next t.said.next former old.guests.items t.attended own said.1 in
+      let own_settled : AreOwn t.said.next (numbers ((gone_of settled ++ former) ++ stay_of settled)) =
+      own_parted t.said.next former settled (own_as t.said.next former t.attended settled same own_said) in
       record {
-        talk = closed.0;
-        own = subst (λ (n : ℕ). AreOwn n (numbers new.guests.items)) (sym (closed.1 ∙ t.next))
-            (subst (λ (gs : List (Guest S)). AreOwn t.said.next (numbers gs)) (sym t.parted_from.stay_is)
-            (own_filtered (λ (guest : Guest S). not guest.is_lost) t.said.next t.parted_from.settled own_settled));
+        former = gone_of settled ++ former;
+        talk = subst (λ (gs : List (Guest S)). IsAt players wrote later
+            (AreKept remaining contents site came (gone_of settled ++ former) later gs) new.talk.desk new.talk.wire.items
+            (tellings new.talk.told.items)) (sym t.parted_from.stay_is)
+            (at_with players wrote later
+            (Closing remaining contents site came players former later settled (λ steps. Unit {0} × AllClosed settled later steps))
+            (AreKept remaining contents site came (gone_of settled ++ former) later (stay_of settled)) new.talk.desk
+            new.talk.wire.items (tellings new.talk.told.items)
+            (λ steps was. kept_parted remaining contents site came former later settled steps was.kept was.more.1) closed.0.0);
+        own = subst (λ (n : ℕ). AreOwn n (numbers ((gone_of settled ++ former) ++ new.guests.items))) (sym (closed.0.1 ∙ t.next))
+            (subst (λ (gs : List (Guest S)). AreOwn t.said.next (numbers ((gone_of settled ++ former) ++ gs)))
+            (sym t.parted_from.stay_is) own_settled);
       }
 
-module _ {S : Type 0} (players : List Player) where
-  admitted : (written : List ℕ) (stream : S) (old new : Hall S) → Admits stream old new → IsHallAt players written old →
-      IsHallAt players written new
-  admitted written stream old new admits so_far = record {
-    talk = subst (λ (t : Talk). IsTalkAt players written t) (sym admits.talk) so_far.talk;
-    own = subst (λ (t : Talk). AreOwn t.next (numbers new.guests.items)) (sym admits.talk) (elim admits.guests [
-      | inl same ↦ subst (λ (gs : List (Guest S)). AreOwn old.talk.next (numbers gs)) (sym same) so_far.own
-      | inr more ↦ subst (λ (gs : List (Guest S)). AreOwn old.talk.next (numbers gs)) (sym more.2)
-          (own_more old.talk.next old.guests.items more.0 more.1.number so_far.own)
-    ]);
-  }
-
-  woken : (written : List ℕ) (old new : Hall S) → IsWoken old new → IsHallAt players written old → IsHallAt players written new
-  woken written old new wakes so_far = record {
-    talk = subst (λ (t : Talk). IsTalkAt players written t) (sym wakes.talk) so_far.talk;
-    own = subst (λ (t : Talk). AreOwn t.next (numbers new.guests.items)) (sym wakes.talk)
-        (subst (λ (ns : List (Option ℕ)). AreOwn old.talk.next ns)
-        (sym (same_numbers IsAsBefore (λ x y one. one.number) old.guests.items new.guests.items wakes.guests)) so_far.own);
-  }
-
-  server_came : (written : List ℕ) (stream : S) (old new : Hall S) → ServerComes stream old new → IsHallAt players written old →
-      IsHallAt players [] new
-  server_came written stream old new comes so_far = record {
-    talk = at_anew players written _ _ _ _ old.talk.desk new.talk.desk Here (λ bytes. refl) so_far.talk comes.talk.steps
-        comes.talk.nothing;
-    own = subst (λ (n : ℕ). AreOwn n (numbers new.guests.items)) (sym comes.talk.next)
-        (subst (λ (gs : List (Guest S)). AreOwn old.talk.next (numbers gs)) (sym (ap (λ gs. gs.items) comes.guests)) so_far.own);
-  }
-
-  turned_by : (past : List (Happening S)) (at : ℕ) (gone : Bool) (front : List ℕ) (now : Hall S) →
-      IsHallAt players (left gone (written_in past) ++ front) now → IsHallAt players (written_in (Turned at gone front ∷ past)) now
-  turned_by past at true front now so = so
-  turned_by past at false front now so = so
+  turned_on : (o : Outside) (at : ℕ) (old new : Hall S) (t : HasTurned remaining contents at old new) →
+      IsHallAt remaining contents players o came old →
+      IsHallAt remaining contents players
+      (behind_turn (bytes_heard remaining old.server t.server_heard old.talk t.heard t.hears) t.is_gone t.front o) came new
+  turned_on o at old new t so_far =
+      let site = old.site in
+      let out = so_far.out in
+      let former = so_far.former in
+      let traffic = traffic_of o so_far.heard in
+      let lines = lines_of_server remaining old.server t.server_heard old.talk t.heard t.hears in
+      let base = behind_loss t.is_gone (behind_lines lines traffic) in
+      let later = out ++ tellings t.said.told.items in
+      let heard = heard_server remaining contents site came players former traffic out old.guests.items old.server t.server_heard
+      old.talk t.heard so_far.talk t.hears in
+      let gone = parted remaining contents site came players former (behind_lines lines traffic) out old.guests.items t.is_gone
+      t.server_heard t.server t.heard t.parted heard.0 t.parts in
+      let own_then : AreOwn t.parted.next (numbers (former ++ old.guests.items)) =
+      subst (λ (n : ℕ). AreOwn n (numbers (former ++ old.guests.items))) (sym (gone.1 ∙ heard.1)) so_far.own in
+      let so = attended_on at former base out old new t gone.0 own_then in
+      record {
+        out = later;
+        heard = lines ++ so_far.heard;
+        cut = cut_by (o.taken ++ bytes_heard remaining old.server t.server_heard old.talk t.heard t.hears) (lines ++ so_far.heard)
+            t.server_heard new.server
+            (λ rest held. told_held contents t.front t.server new.server t.said.wire.items t.rest.wire.items t.tells rest
+            (parted_held t.is_gone t.server_heard t.server t.heard t.parted t.parts rest held))
+            (heard_cut remaining o.taken so_far.heard old.server t.server_heard old.talk t.heard t.hears so_far.cut);
+        former = so.former;
+        talk = subst (λ (w : Site). IsAt players (behind_front t.front base) later
+            (AreKept remaining contents w came so.former later new.guests.items) new.talk.desk new.talk.wire.items
+            (tellings new.talk.told.items)) (sym t.site) so.talk;
+        own = so.own;
+        whole = told_whole contents t.front t.server new.server t.said.wire.items t.rest.wire.items t.tells
+            (parted_whole t.is_gone t.server_heard t.server t.heard t.parted t.parts
+            (heard_whole remaining old.server t.server_heard old.talk t.heard t.hears so_far.whole));
+      }
 
 module _ {S : Type 0} (remaining contents : S → Option (List ℕ)) (players : List Player) where
-  life_at : (past : List (Happening S)) (now : Hall S) → IsLife remaining contents players past now →
-      IsHallAt players (written_in past) now
-  life_at [] now (site, begins) = record {
+  -- the same of a hall whose site and desk are as they were
+  with_guests : (traffic : Traffic) (came more : List S) (former : List (Guest S)) (old new : Hall S) → new.talk ≡ old.talk →
+      new.site ≡ old.site → (out : List Telling) →
+      ((steps : List Step) → AreKept remaining contents old.site came former out old.guests.items steps →
+      AreKept remaining contents old.site more former out new.guests.items steps) →
+      IsAt players traffic out (AreKept remaining contents old.site came former out old.guests.items) old.talk.desk
+      old.talk.wire.items (tellings old.talk.told.items) →
+      IsAt players traffic out (AreKept remaining contents new.site more former out new.guests.items) new.talk.desk
+      new.talk.wire.items (tellings new.talk.told.items)
+  with_guests traffic came more former old new talk site out kept so_far =
+      subst (λ (w : Site). IsAt players traffic out (AreKept remaining contents w more former out new.guests.items)
+      new.talk.desk new.talk.wire.items (tellings new.talk.told.items)) (sym site)
+      (subst (λ (t : Talk). IsAt players traffic out (AreKept remaining contents old.site more former out new.guests.items)
+      t.desk t.wire.items (tellings t.told.items)) (sym talk)
+      (at_with players traffic out (AreKept remaining contents old.site came former out old.guests.items)
+      (AreKept remaining contents old.site more former out new.guests.items) old.talk.desk old.talk.wire.items
+      (tellings old.talk.told.items) kept so_far))
+
+  -- one more stream by which a browser came
+  kept_came : (site : Site) (came : List S) (stream : S) (former : List (Guest S)) (out : List Telling) (guests : List (Guest S))
+      (steps : List Step) → AreKept remaining contents site came former out guests steps →
+      AreKept remaining contents site (stream ∷ came) former out guests steps
+  kept_came site came stream former out guests steps kept = record {
+    served = all_came remaining contents site came stream steps out guests kept.served;
+    were = all_were_came remaining contents site came stream steps out former kept.were;
+    known = kept.known;
+  }
+
+  -- and the browser that came by it
+  kept_more : (site : Site) (came : List S) (stream : S) (former : List (Guest S)) (out : List Telling) (guests : List (Guest S))
+      (guest : Guest S) (steps : List Step) → IsNewGuest stream guest →
+      AreKept remaining contents site came former out guests steps →
+      AreKept remaining contents site (stream ∷ came) former out (guests ++ guest ∷ []) steps
+  kept_more site came stream former out guests guest steps new kept =
+      let so = kept_came site came stream former out guests steps kept in
+      record {
+        served = all_served_more remaining contents site (stream ∷ came) steps out guests guest so.served
+            (served_new remaining contents site came stream steps out guest new);
+        were = so.were;
+        known = λ c come. elim (kept.known c come) [
+          | inl gone ↦ inl gone
+          | inr one ↦ inr (one_front c guests (guest ∷ []) one)
+        ];
+      }
+
+  admitted : (o : Outside) (came : List S) (stream : S) (old new : Hall S) → Admits stream old new →
+      IsHallAt remaining contents players o came old → IsHallAt remaining contents players o (stream ∷ came) new
+  admitted o came stream old new admits so_far =
+      let former = so_far.former in
+      let out = so_far.out in
+      record {
+        out = out;
+        heard = so_far.heard;
+        cut = subst (λ s. AreCut o.taken so_far.heard s) (sym admits.server) so_far.cut;
+        former = former;
+        talk = with_guests (traffic_of o so_far.heard) came (stream ∷ came) former old new admits.talk admits.site out
+            (λ steps kept. elim admits.guests [
+              | inl same ↦ subst (λ (gs : List (Guest S)). AreKept remaining contents old.site (stream ∷ came) former out gs steps)
+                  (sym same) (kept_came old.site came stream former out old.guests.items steps kept)
+              | inr more ↦ subst (λ (gs : List (Guest S)). AreKept remaining contents old.site (stream ∷ came) former out gs steps)
+                  (sym more.2) (kept_more old.site came stream former out old.guests.items more.0 steps more.1 kept)
+            ]) so_far.talk;
+        own = subst (λ (t : Talk). AreOwn t.next (numbers (former ++ new.guests.items))) (sym admits.talk) (elim admits.guests [
+          | inl same ↦ subst (λ (gs : List (Guest S)). AreOwn old.talk.next (numbers (former ++ gs))) (sym same) so_far.own
+          | inr more ↦ subst (λ (gs : List (Guest S)). AreOwn old.talk.next (numbers (former ++ gs))) (sym more.2)
+              (own_added old.talk.next former old.guests.items more.0 more.1.number so_far.own)
+        ]);
+        whole = subst (λ s. NoLineWaits s) (sym admits.server) so_far.whole;
+      }
+
+  woken : (o : Outside) (came : List S) (old new : Hall S) → IsWoken old new →
+      IsHallAt remaining contents players o came old → IsHallAt remaining contents players o came new
+  woken o came old new wakes so_far =
+      let former = so_far.former in
+      let out = so_far.out in
+      record {
+        out = out;
+        heard = so_far.heard;
+        cut = cut_by o.taken so_far.heard old.server new.server (woken_held old.server new.server wakes.server) so_far.cut;
+        former = former;
+        talk = with_guests (traffic_of o so_far.heard) came came former old new wakes.talk wakes.site out
+            (λ steps kept. kept_same remaining contents old.site came former out IsAsBefore
+            (λ steps x y one was. served_before remaining contents old.site came steps out x y one was) (λ x y one. one.number)
+            old.guests.items new.guests.items wakes.guests steps kept) so_far.talk;
+        own = subst (λ (t : Talk). AreOwn t.next (numbers (former ++ new.guests.items))) (sym wakes.talk)
+            (own_as old.talk.next former old.guests.items new.guests.items
+            (same_numbers IsAsBefore (λ x y one. one.number) old.guests.items new.guests.items wakes.guests) so_far.own);
+        whole = woken_whole old.server new.server wakes.server so_far.whole;
+      }
+
+  -- (no line is held of a connection that begins)
+  begun_whole : (link : Link S) → link.held.items ≡ [] → HoldsNoLine link
+  begun_whole link held = λ goes. subst (λ (l : List ℕ). HasNoFeed l) (sym held) (All-nil (λ b. is_feed b ≡ false))
+
+  server_came : (o : Outside) (came : List S) (stream : S) (old new : Hall S) → ServerComes stream old new →
+      IsHallAt remaining contents players o came old →
+      IsHallAt remaining contents players (record { wrote = []; taken = []; presences = true ∷ o.presences }) came new
+  server_came o came stream old new comes so_far =
+      let same = ap (λ gs. gs.items) comes.guests in
+      let traffic = traffic_of o so_far.heard in
+      let former = so_far.former in
+      let out = so_far.out in
+      let kept = AreKept remaining contents old.site came former out old.guests.items in
+      record {
+        out = out;
+        heard = [];
+        cut = record { rest = []; cut = refl; feeds = tt; held = subst (λ s. IsHeld s []) (sym comes.server) comes.held };
+        former = former;
+        talk = subst (λ (w : Site). IsAt players (behind Here traffic) out
+            (AreKept remaining contents w came former out new.guests.items) new.talk.desk new.talk.wire.items
+            (tellings new.talk.told.items)) (sym comes.site)
+            (subst (λ (gs : List (Guest S)). IsAt players (behind Here traffic) out
+            (AreKept remaining contents old.site came former out gs) new.talk.desk new.talk.wire.items
+            (tellings new.talk.told.items)) (sym same)
+            (at_anew players traffic out kept kept _ _ _ _ old.talk.desk new.talk.desk Here (λ bytes. refl)
+            (goes_by remaining contents old.site came players former out (tellings old.talk.told.items) Here old.guests.items
+            (λ c. tt) (λ c. refl)) so_far.talk comes.talk.steps comes.talk.nothing));
+        own = subst (λ (n : ℕ). AreOwn n (numbers (former ++ new.guests.items))) (sym comes.talk.next)
+            (subst (λ (gs : List (Guest S)). AreOwn old.talk.next (numbers (former ++ gs))) (sym same) so_far.own);
+        whole = subst (λ s. NoLineWaits s) (sym comes.server) (begun_whole comes.link comes.held);
+      }
+
+  turned_by : (past : List (Happening S)) (at : ℕ) (taken : List ℕ) (gone : Bool) (front : List ℕ) (now : Hall S) →
+      IsHallAt remaining contents players (behind_turn taken gone front (outside_in past)) (streams_in past) now →
+      IsHallAt remaining contents players (outside_in (Turned at taken gone front ∷ past)) (streams_in past) now
+  turned_by past at taken true front now so = so
+  turned_by past at taken false front now so = so
+
+  begun_at : (site : Site) (now : Hall S) → BeginsHall site players now →
+      IsHallAt remaining contents players (record { wrote = []; taken = []; presences = [] }) [] now
+  begun_at site now begins = record {
+    out = [];
+    heard = [];
+    cut = record { rest = []; cut = refl; feeds = tt; held = subst (λ s. IsHeld s []) (sym begins.server) tt };
+    former = [];
     talk = record {
       steps = [];
       run = begins.talk.desk;
       players_are = begins.talk.players_are;
       sent = sym begins.talk.wire;
+      heard = refl;
+      presences = refl;
+      tells = sym (ap tellings begins.talk.told);
+      holds = subst (λ (gs : List (Guest S)). AreKept remaining contents now.site [] [] [] gs []) (sym begins.guests)
+          (record { served = tt; were = tt; known = λ c come. absurd (false≢true come) });
     };
     own = subst (λ (gs : List (Guest S)). AreOwn now.talk.next (numbers gs)) (sym begins.guests) tt;
+    whole = subst (λ s. NoLineWaits s) (sym begins.server) tt;
   }
+
+  life_at : (past : List (Happening S)) (now : Hall S) → IsLife remaining contents players past now →
+      IsHallAt remaining contents players (outside_in past) (streams_in past) now
+  life_at [] now (site, begins) = begun_at site now begins
   life_at (Came stream ∷ past) now (before, life, happens) =
-      admitted players (written_in past) stream before now happens (life_at past before life)
-  life_at (Woke ∷ past) now (before, life, happens) = woken players (written_in past) before now happens (life_at past before life)
+      admitted (outside_in past) (streams_in past) stream before now happens (life_at past before life)
+  life_at (Woke ∷ past) now (before, life, happens) =
+      woken (outside_in past) (streams_in past) before now happens (life_at past before life)
   life_at (ServerCame stream ∷ past) now (before, life, happens) =
-      server_came players (written_in past) stream before now happens (life_at past before life)
-  life_at (Turned at gone front ∷ past) now (before, life, happens) =
-      turned_by players past at gone front now
-      (subst (λ (f : List ℕ). IsHallAt players (left gone (written_in past) ++ f) now) happens.front_is
-      (subst (λ (g : Bool). IsHallAt players (left g (written_in past) ++ happens.turned.front) now) happens.gone
-      (turned_on remaining contents players (written_in past) at before now happens.turned (life_at past before life))))
+      server_came (outside_in past) (streams_in past) stream before now happens (life_at past before life)
+  life_at (Turned at taken gone front ∷ past) now (before, life, happens) =
+      let o = outside_in past in
+      let came = streams_in past in
+      let t = happens.turned in
+      turned_by past at taken gone front now
+      (subst (λ (f : List ℕ). IsHallAt remaining contents players (behind_turn taken gone f o) came now) happens.front_is
+      (subst (λ (g : Bool). IsHallAt remaining contents players (behind_turn taken g t.front o) came now) happens.gone
+      (subst (λ (bytes : List ℕ). IsHallAt remaining contents players (behind_turn bytes t.is_gone t.front o) came now)
+      happens.taken_is (turned_on remaining contents players came o at before now t (life_at past before life)))))
 
   pub life_right : (past : List (Happening S)) (now : Hall S) → IsLife remaining contents players past now →
-      IsRightLife players past now
+      IsRightLife remaining contents players past now
   life_right past now life =
       let at = life_at past now life in
       let good = run_good players at.talk.steps (view now.talk.desk) at.talk.run in
@@ -430,5 +1428,57 @@ module _ {S : Type 0} (remaining contents : S → Option (List ℕ)) (players : 
         lines = good.right;
         tells = good.told;
         sent = at.talk.sent;
+        rest = at.cut.rest;
+        heard = at.cut.cut ∙ ap (λ (lines : List (List ℕ)). bytes_before lines ++ at.cut.rest) (sym at.talk.heard);
+        feeds = subst (λ (lines : List (List ℕ)). AllByRecursion HasNoFeed lines) (sym at.talk.heard) at.cut.feeds;
+        held = at.cut.held;
+        whole = at.whole;
+        presences = at.talk.presences;
+        out = at.out;
+        told = at.talk.tells;
+        gone = at.former;
         own = at.own;
+        known = at.talk.holds.known;
+        served = at.talk.holds.served;
+        were = at.talk.holds.were;
       }
+
+  -- ---- what passes at a lobby
+
+  -- a life, whatever happened
+  abbrev IsSomeLife : Hall S → Type 0
+  IsSomeLife now = (past : List (Happening S)) × IsLife remaining contents players past now
+
+  reached_life : (old new : Hall S) → IsReached old new → IsSomeLife old → IsSomeLife new
+  reached_life old new (inl same) (past, life) =
+      (past, subst (λ (h : Hall S). IsLife remaining contents players past h) (sym same) life)
+  reached_life old new (inr (none, (stream, comes))) (past, life) = (ServerCame stream ∷ past, (old, life, comes))
+
+  welcomed_life : (streams : List S) (old new : Hall S) → AreAdmitted streams old new → IsSomeLife old → IsSomeLife new
+  welcomed_life [] old new same (past, life) =
+      (past, subst (λ (h : Hall S). IsLife remaining contents players past h) (sym same) life)
+  welcomed_life (stream ∷ streams) old new (between, are, admits) so_far =
+      let so = welcomed_life streams old between are so_far in
+      (Came stream ∷ so.0, (between, so.1, admits))
+
+  turned_life : (at : ℕ) (old new : Hall S) → IsLobbyTurn remaining contents at old new → IsSomeLife old → IsSomeLife new
+  turned_life at old new turn so_far =
+      let so = welcomed_life turn.streams turn.reached turn.welcomed turn.welcomes
+      (reached_life old turn.reached turn.reaches so_far) in (
+        Turned at (bytes_heard remaining turn.welcomed.server turn.turns.server_heard turn.welcomed.talk turn.turns.heard turn.turns.hears)
+            turn.turns.is_gone turn.turns.front ∷ so.0,
+        (turn.welcomed, so.1, record { turned = turn.turns; taken_is = refl; gone = refl; front_is = refl }),
+      )
+
+  lobby_life : (passed : List Passing) (now : Hall S) → IsLobbyLife remaining contents players passed now → IsSomeLife now
+  lobby_life [] now begins = ([], begins)
+  lobby_life (TurnAt at ∷ passed) now (before, life, turn) = turned_life at before now turn (lobby_life passed before life)
+  lobby_life (Rested ∷ passed) now (before, life, wakes) =
+      let so = lobby_life passed before life in
+      (Woke ∷ so.0, (before, so.1, wakes))
+
+  pub lobby_right : (passed : List Passing) (now : Hall S) → IsLobbyLife remaining contents players passed now →
+      (past : List (Happening S)) × IsLife remaining contents players past now × IsRightLife remaining contents players past now
+  lobby_right passed now life =
+      let so = lobby_life passed now life in
+      (so.0, so.1, life_right so.0 now so.1)

@@ -9,7 +9,7 @@ use Rattle.lobby_web.specs.declared.site.Site.{Site}
 use Rattle.lobby_web.specs.declared.socket.Heard.{Heard}
 use Rattle.lobby_web.specs.declared.socket.Heard.TheVariants as heards
 use Rattle.lobby_web.specs.declared.socket.Unsaid.{Unsaid}
-use Rattle.lobby_web.specs.Browsing.{IsNew, pending, Takes, HearsNext, SaysTo, Writes}
+use Rattle.lobby_web.specs.Browsing.{IsNew, pending, WantsBytes, Takes, HearsNext, SaysTo, Writes}
 use Rattle.lobby_loop.specs.declared.guest.Guest.{Guest}
 use Rattle.lobby_loop.specs.declared.made.Made.{Made}
 use Rattle.lobby_loop.specs.declared.talk.Talk.{Talk}
@@ -29,12 +29,14 @@ pub record IsAsBefore {S : Type 0} (old new : Guest S) : Type 0 where
 
 -- ---- what comes
 
--- Bytes came of a browser's socket, and its connection takes them; none where it is told that no more come. Or nothing came.
+-- Bytes came of a browser's socket where they are wanted, and its connection takes them; none where it is told that no more come.
+-- Or nothing came.
 pub record IsRead {S : Type 0} (remaining : S → Option (List ℕ)) (site : Site) (old new : Guest S) : Type 0 where
   pub number : new.number ≡ old.number
   pub taken : List ℕ
   pub consumed : Consumes (remaining old.stream) (remaining new.stream) taken
-  pub takes : (new.browser ≡ old.browser) × (taken ≡ []) ⊎ Takes site taken old.browser.stage new.browser.stage
+  pub takes : (new.browser ≡ old.browser) × (taken ≡ [])
+      ⊎ WantsBytes old.browser.stage × Takes site taken old.browser.stage new.browser.stage
 
 -- A text of a connection is said to the desk; what is no text is said as the empty text, which is refused.
 abbrev pub IsTextSaid : List ℕ → ℕ → ℕ → Talk → Talk → Type 0

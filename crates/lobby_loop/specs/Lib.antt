@@ -4,4 +4,6 @@ pub mod Talking
 pub mod Guests
 pub mod Lines
 pub mod Turning
+pub mod Doing
+pub mod Speaking
 pub mod Living

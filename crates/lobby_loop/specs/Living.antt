@@ -1,24 +1,28 @@
 -- Whatever happens to a hall, from its beginning on.
-use Rattle.std.specs.Prelude.{ℕ, ◌≡◌, ◌≢◌, ◌<◌, Bool, true, false, List, [], ◌∷◌, ◌++◌, map, Option, None, Some}
-use Rattle.std.specs.List.{AllZip}
+use Rattle.std.specs.Prelude.{ℕ, ◌≡◌, ◌≢◌, ◌<◌, ◌⊎◌, Bool, true, false, List, [], ◌∷◌, ◌++◌, map, Option, None, Some}
+use Rattle.std.specs.List.{AllZip, AllByRecursion}
+use Rattle.session_lines.specs.Lines.{HasNoFeed}
 use Rattle.lobby_desk.specs.declared.players.Player.{Player}
-use Rattle.lobby_desk.specs.Events.{Event, Gone, Here}
+use Rattle.lobby_desk.specs.Events.{Event, Heard, Gone, Here, Telling, tellings}
 use Rattle.lobby_desk.specs.Lines.{bytes_of}
 use Rattle.lobby_desk.specs.Who.{view}
-use Rattle.lobby_desk.specs.History.{Step, IsRun, AllRight, AllTold}
+use Rattle.lobby_desk.specs.History.{Step, has_come, IsRun, AllRight, AllTold}
 use Rattle.lobby_web.specs.declared.site.Site.{Site}
 use Rattle.lobby_loop.specs.declared.guest.Guest.{Guest}
 use Rattle.lobby_loop.specs.declared.hall.Hall.{Hall}
 use Rattle.lobby_loop.specs.Guests.{IsAsBefore}
-use Rattle.lobby_loop.specs.Turning.{BeginsHall, Admits, IsServerAsBefore, ServerComes, HasTurned}
+use Rattle.lobby_loop.specs.declared.link.Link.{Link}
+use Rattle.lobby_loop.specs.Lines.{HoldsNoLine, bytes_of as bytes_before}
+use Rattle.lobby_loop.specs.Turning.{BeginsHall, Admits, IsServerAsBefore, ServerComes, HasTurned, bytes_heard, IsLobbyTurn}
+use Rattle.lobby_loop.specs.Doing.{all_tells, AreServed, WereServed}
 
--- What happens to a hall: a browser comes, sockets may be ready, the server is there, a turn. In a turn the connection to the
--- server may be lost, and behind that bytes are written to it.
+-- What happens to a hall: a browser comes, sockets may be ready, the server is there, a turn. In a turn bytes come of the server,
+-- then the connection to it may be lost, and behind that bytes are written to it.
 pub data Happening (S : Type 0) : Type 0 where
   Came : (stream : S) → Happening S
   Woke : Happening S
   ServerCame : (stream : S) → Happening S
-  Turned : (at : ℕ) → (is_gone : Bool) → (front : List ℕ) → Happening S
+  Turned : (at : ℕ) → (taken : List ℕ) → (is_gone : Bool) → (front : List ℕ) → Happening S
 
 -- Sockets may be ready, and nothing else happens.
 pub record IsWoken {S : Type 0} (old new : Hall S) : Type 0 where
@@ -27,10 +31,11 @@ pub record IsWoken {S : Type 0} (old new : Hall S) : Type 0 where
   pub server : IsServerAsBefore old.server new.server
   pub site : new.site ≡ old.site
 
--- a turn in which the connection to the server is lost or not, and these bytes are written to it
-pub record TurnsBy {S : Type 0} (remaining contents : S → Option (List ℕ)) (at : ℕ) (is_gone : Bool) (front : List ℕ)
-    (old new : Hall S) : Type 0 where
+-- a turn in which these bytes come of the server, the connection to it is lost or not, and these bytes are written to it
+pub record TurnsBy {S : Type 0} (remaining contents : S → Option (List ℕ)) (at : ℕ) (taken : List ℕ) (is_gone : Bool)
+    (front : List ℕ) (old new : Hall S) : Type 0 where
   pub turned : HasTurned remaining contents at old new
+  pub taken_is : bytes_heard remaining old.server turned.server_heard old.talk turned.heard turned.hears ≡ taken
   pub gone : turned.is_gone ≡ is_gone
   pub front_is : turned.front ≡ front
 
@@ -38,7 +43,7 @@ abbrev pub Happens : {S : Type 0} → (S → Option (List ℕ)) → (S → Optio
 Happens remaining contents (Came stream) old new = Admits stream old new
 Happens remaining contents Woke old new = IsWoken old new
 Happens remaining contents (ServerCame stream) old new = ServerComes stream old new
-Happens remaining contents (Turned at is_gone front) old new = TurnsBy remaining contents at is_gone front old new
+Happens remaining contents (Turned at taken is_gone front) old new = TurnsBy remaining contents at taken is_gone front old new
 
 -- a hall that begins, and what happened to it, the newest first
 abbrev pub IsLife : {S : Type 0} → (S → Option (List ℕ)) → (S → Option (List ℕ)) → List Player → List (Happening S) → Hall S
@@ -53,8 +58,28 @@ written_in [] = []
 written_in (Came stream ∷ past) = written_in past
 written_in (Woke ∷ past) = written_in past
 written_in (ServerCame stream ∷ past) = []
-written_in (Turned at true front ∷ past) = front
-written_in (Turned at false front ∷ past) = written_in past ++ front
+written_in (Turned at taken true front ∷ past) = front
+written_in (Turned at taken false front ∷ past) = written_in past ++ front
+
+-- the bytes that came of the server since its connection began, also where that is lost by now
+abbrev pub taken_in : {S : Type 0} → List (Happening S) → List ℕ
+taken_in [] = []
+taken_in (Came stream ∷ past) = taken_in past
+taken_in (Woke ∷ past) = taken_in past
+taken_in (ServerCame stream ∷ past) = []
+taken_in (Turned at taken is_gone front ∷ past) = taken_in past ++ taken
+
+-- that the server is there, and that its connection is lost, the newest first
+abbrev pub lost_if : Bool → List Bool → List Bool
+lost_if true before = false ∷ before
+lost_if false before = before
+
+abbrev pub presences_in : {S : Type 0} → List (Happening S) → List Bool
+presences_in [] = []
+presences_in (Came stream ∷ past) = presences_in past
+presences_in (Woke ∷ past) = presences_in past
+presences_in (ServerCame stream ∷ past) = true ∷ presences_in past
+presences_in (Turned at taken is_gone front ∷ past) = lost_if is_gone (presences_in past)
 
 -- the bytes of the lines that the desk had for the server since its connection began
 abbrev pub kept : Event → List ℕ → List ℕ
@@ -66,6 +91,31 @@ abbrev pub sent_in : List Step → List ℕ
 sent_in [] = []
 sent_in (s ∷ past) = kept s.event (sent_in past) ++ bytes_of s.lines
 
+-- the lines that the desk heard of the server since its connection began, the newest first
+abbrev pub line_more : Event → List (List ℕ) → List (List ℕ)
+line_more (Heard line) lines = line ∷ lines
+line_more Here lines = []
+line_more _ lines = lines
+
+abbrev pub lines_heard : List Step → List (List ℕ)
+lines_heard [] = []
+lines_heard (s ∷ past) = line_more s.event (lines_heard past)
+
+-- what the desk was told of whether the server is there, the newest first
+abbrev pub presence_more : Event → List Bool → List Bool
+presence_more Gone before = false ∷ before
+presence_more Here before = true ∷ before
+presence_more _ before = before
+
+abbrev pub presences_told : List Step → List Bool
+presences_told [] = []
+presences_told (s ∷ past) = presence_more s.event (presences_told past)
+
+-- these bytes of the server are held, where it is there
+abbrev pub IsHeld : {S : Type 0} → Option (Link S) → List ℕ → Type 0
+IsHeld None rest = Unit {0}
+IsHeld (Some link) rest = link.held.items ≡ rest
+
 -- none of these connections has this number
 abbrev pub IsOther : ℕ → Option ℕ → Type 0
 IsOther c None = Unit {0}
@@ -74,6 +124,11 @@ IsOther c (Some d) = d ≢ c
 abbrev pub HasNone : ℕ → List (Option ℕ) → Type 0
 HasNone c [] = Unit {0}
 HasNone c (n ∷ ns) = IsOther c n × HasNone c ns
+
+-- one of these connections has this number
+abbrev pub IsOneOf : ℕ → List (Option ℕ) → Type 0
+IsOneOf c [] = ⊥
+IsOneOf c (n ∷ ns) = (n ≡ Some c) ⊎ IsOneOf c ns
 
 -- Each number is below this one, and of one connection alone.
 abbrev pub IsOwn : ℕ → Option ℕ → List (Option ℕ) → Type 0
@@ -87,13 +142,62 @@ AreOwn next (n ∷ ns) = IsOwn next n ns × AreOwn next ns
 abbrev pub numbers : {S : Type 0} → List (Guest S) → List (Option ℕ)
 numbers guests = map (λ guest. guest.number) guests
 
--- What is promised of whatever happened: the desk has taken a run of steps, in which every line to the server and every message
--- to a connection is right; what was written to the server since its connection began is a front of the bytes of these lines,
--- and the rest of them is to go; and no two browsers have one connection's number.
-pub record IsRightLife {S : Type 0} (players : List Player) (past : List (Happening S)) (now : Hall S) : Type 0 where
+-- Each connection that the desk was told of is that of one of these browsers, which were let go or are there.
+abbrev pub AreKnown : {S : Type 0} → List Step → List (Guest S) → List (Guest S) → Type 0
+AreKnown steps gone guests =
+    (c : ℕ) → has_come steps c ≡ true → IsOneOf c (numbers gone) ⊎ IsOneOf c (numbers guests)
+
+-- the streams by which browsers came
+abbrev pub streams_in : {S : Type 0} → List (Happening S) → List S
+streams_in [] = []
+streams_in (Came stream ∷ past) = stream ∷ streams_in past
+streams_in (Woke ∷ past) = streams_in past
+streams_in (ServerCame stream ∷ past) = streams_in past
+streams_in (Turned at taken is_gone front ∷ past) = streams_in past
+
+-- no whole line of the server is held back, where it is there
+abbrev pub NoLineWaits : {S : Type 0} → Option (Link S) → Type 0
+NoLineWaits None = Unit {0}
+NoLineWaits (Some link) = HoldsNoLine link
+
+-- What is promised of whatever happened. The desk has taken a run of steps, in which every line to the server and every message to
+-- a connection is right. What was written to the server since its connection began is a front of the bytes of these lines, and the
+-- rest of them is to go. The lines that the desk heard since then stand in front of all bytes that came of the server, and where its
+-- connection goes on no whole line of it waits; the desk was told that the server is there or gone just where it was. What the desk
+-- told connections went out of its hands, and the rest of it is to go. Of all browsers that came, those that were let go too, no two
+-- have one connection's number, and the desk was told of no connection but theirs; the desk has, under its number, all that a browser
+-- said, and of what went out it was told all that is for its number.
+pub record IsRightLife {S : Type 0} (remaining contents : S → Option (List ℕ)) (players : List Player) (past : List (Happening S))
+    (now : Hall S) : Type 0 where
   pub steps : List Step
   pub run : IsRun players steps (view now.talk.desk)
   pub lines : AllRight players steps
   pub tells : AllTold players steps
   pub sent : sent_in steps ≡ written_in past ++ now.talk.wire.items
-  pub own : AreOwn now.talk.next (numbers now.guests.items)
+  pub rest : List ℕ
+  pub heard : taken_in past ≡ bytes_before (lines_heard steps) ++ rest
+  pub feeds : AllByRecursion HasNoFeed (lines_heard steps)
+  pub held : IsHeld now.server rest
+  pub whole : NoLineWaits now.server
+  pub presences : presences_told steps ≡ presences_in past
+  pub out : List Telling
+  pub told : all_tells steps ≡ out ++ tellings now.talk.told.items
+  pub gone : List (Guest S)
+  pub own : AreOwn now.talk.next (numbers (gone ++ now.guests.items))
+  pub known : AreKnown steps gone now.guests.items
+  pub served : AreServed remaining contents now.site (streams_in past) steps out now.guests.items
+  pub were : WereServed remaining contents now.site (streams_in past) steps out gone
+
+-- Turns of a lobby, at these moments, and rests between them, in which sockets may become ready.
+pub data Passing : Type 0 where
+  TurnAt : (at : ℕ) → Passing
+  Rested : Passing
+
+-- a lobby that begins, and what passed, the newest first
+abbrev pub IsLobbyLife : {S : Type 0} → (S → Option (List ℕ)) → (S → Option (List ℕ)) → List Player → List Passing → Hall S
+    → Type 0
+IsLobbyLife remaining contents players [] now = (site : Site) × BeginsHall site players now
+IsLobbyLife {S} remaining contents players (TurnAt at ∷ past) now =
+    (before : Hall S) × IsLobbyLife remaining contents players past before × IsLobbyTurn remaining contents at before now
+IsLobbyLife {S} remaining contents players (Rested ∷ past) now =
+    (before : Hall S) × IsLobbyLife remaining contents players past before × IsWoken before now

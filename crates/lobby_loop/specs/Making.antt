@@ -1,5 +1,5 @@
 -- Messages as browsers get them.
-use Rattle.std.specs.Prelude.{ℕ, ◌≡◌, ◌==◌, Bool, List, [], ◌∷◌, ◌++◌, length, decimal, ◌<◌, ◌^◌, if◌then◌else◌}
+use Rattle.std.specs.Prelude.{ℕ, ◌≡◌, ◌==◌, Bool, List, [], ◌∷◌, ◌++◌, length, codes, decimal, ◌<◌, ◌^◌, if◌then◌else◌}
 use Rattle.std.specs.List.{after_first, before_first}
 use Rattle.std.specs.String.{string_bytes}
 use Rattle.chess_board.specs.declared.moves.Move.{Move}
@@ -47,11 +47,13 @@ pub record IsWithMoves (text new : List ℕ) : Type 0 where
       (moves : List ℕ) × TellsMoves moves p × (new ≡ text ++ moves ++ 10 ∷ [])
   pub none : ((p : Position) → IsValid p → IsFenOf (fen_in text) p → ⊥) → new ≡ text
 
--- The text is `ok pgn G K` and the lines of a PGN: instead of it the positions of the game that this tells.
-abbrev pub IsOfLine : List ℕ → List ℕ → Type 0
-IsOfLine text new = (game : ℕ) (start : Position) (moves : List Move) → game < 2 ^ 32 →
-    word_of (rest_of (rest_of text)) ≡ decimal game → TellsGame (lines_behind text) start moves →
-    IsLineAnswer game start moves new
+-- The text is `ok pgn G K` and the lines of a PGN: instead of it the positions of the game that this tells, or `lost` where it
+-- tells none.
+pub record IsOfLine (text new : List ℕ) : Type 0 where
+  pub told : (game : ℕ) (start : Position) (moves : List Move) → game < 2 ^ 32 →
+      word_of (rest_of (rest_of text)) ≡ decimal game → TellsGame (lines_behind text) start moves →
+      IsLineAnswer game start moves new
+  pub none : ((start : Position) (moves : List Move) → TellsGame (lines_behind text) start moves → ⊥) → new ≡ codes "lost\n"
 
 -- a text of this kind, as it goes out
 abbrev pub IsFinished : Kind → List ℕ → List ℕ → Type 0

@@ -13,7 +13,7 @@ use Rattle.lobby_loop.specs.declared.talk.Talk.{Talk}
 use Rattle.lobby_loop.specs.Talking.{Begins, Moves, MovesAnew}
 use Rattle.lobby_loop.specs.Making.{IsMadeOf}
 use Rattle.lobby_loop.specs.Guests.{IsNewGuest, IsAsBefore, AreAttended, AreTold, IsWritten, IsLookedAfter}
-use Rattle.lobby_loop.specs.Lines.{TakesIn, HandsOn}
+use Rattle.lobby_loop.specs.Lines.{TakesIn, HandsOn, IsKept}
 
 -- Each browser is told those of these messages that are for its connection, whole and in their order, as they go out.
 pub record AreDelivered {S : Type 0} (told : List Told) (old new : List (Guest S)) : Type 0 where
@@ -27,6 +27,17 @@ HearsServer remaining None server old new = (server ≡ None) × (new ≡ old)
 HearsServer {S} remaining (Some link) server old new =
     (after : Link S) × (server ≡ Some after) × TakesIn remaining link after old new
 
+-- the bytes that came of it then
+abbrev pub bytes_heard : {S : Type 0} → (remaining : S → Option (List ℕ)) → (server after : Option (Link S)) → (old new : Talk) →
+    HearsServer remaining server after old new → List ℕ
+bytes_heard remaining None after old new (is, same) = []
+bytes_heard remaining (Some link) after old new (next, is, takes) = takes.taken
+
+-- whether its connection is lost
+abbrev pub link_lost : {S : Type 0} → Option (Link S) → Bool
+link_lost None = false
+link_lost (Some link) = link.is_lost
+
 -- Where its connection is lost it is there no more, and the desk is told that.
 abbrev pub PartsFromServer : {S : Type 0} → Bool → Option (Link S) → Option (Link S) → Talk → Talk → Type 0
 PartsFromServer false server after old new = (after ≡ server) × (new ≡ old)
@@ -38,6 +49,7 @@ abbrev pub TellsServer : {S : Type 0} → (S → Option (List ℕ)) → List ℕ
 TellsServer contents front None server old new = (server ≡ None) × (front ≡ []) × (new ≡ old)
 TellsServer {S} contents front (Some link) server old new =
     (after : Link S) × (server ≡ Some after) × HandsOn front (contents link.stream) (contents after.stream) old new
+    × IsKept link after
 
 -- The desk is told of one who is let go that its connection is gone, if that had come.
 abbrev pub IsClosedIf : Bool → Option ℕ → Talk → Talk → Type 0
@@ -74,7 +86,7 @@ pub record IsHallAsBefore {S : Type 0} (old new : Hall S) : Type 0 where
 abbrev pub IsServerAsBefore : {S : Type 0} → Option (Link S) → Option (Link S) → Type 0
 IsServerAsBefore None server = server ≡ None
 IsServerAsBefore {S} (Some link) server =
-    (after : Link S) × (server ≡ Some after) × (after.held ≡ link.held) × (after.stream ≡ link.stream)
+    (after : Link S) × (server ≡ Some after) × (after.stream ≡ link.stream) × IsKept link after
 
 -- A browser comes, behind those who are there, or is turned away.
 pub record Admits {S : Type 0} (stream : S) (old new : Hall S) : Type 0 where
@@ -103,6 +115,7 @@ pub record HasTurned {S : Type 0} (remaining contents : S → Option (List ℕ))
   pub server : Option (Link S)
   pub parted : Talk
   pub is_gone : Bool
+  pub gone_is : is_gone ≡ link_lost server_heard
   pub parts : PartsFromServer is_gone server_heard server heard parted
   pub attended : List (Guest S)
   pub said : Talk
@@ -121,3 +134,26 @@ pub record HasTurned {S : Type 0} (remaining contents : S → Option (List ℕ))
   pub writes : AllZip (IsWritten contents old.site) told written
   pub parted_from : AreParted written new.guests.items rest new.talk
   pub site : new.site ≡ old.site
+
+-- Browsers come or are turned away, one after the other, the last first.
+abbrev pub AreAdmitted : {S : Type 0} → List S → Hall S → Hall S → Type 0
+AreAdmitted [] old new = new ≡ old
+AreAdmitted {S} (stream ∷ before) old new = (between : Hall S) × AreAdmitted before old between × Admits stream between new
+
+-- The server is reached, where it was not there; or it is not.
+abbrev pub IsReached : {S : Type 0} → Hall S → Hall S → Type 0
+IsReached {S} old new = (new ≡ old) ⊎ ((old.server ≡ None) × ((stream : S) × ServerComes stream old new))
+
+-- One turn of the lobby: the server is reached or not, browsers come or are turned away, and then all who are connected have
+-- one turn.
+pub record IsLobbyTurn {S : Type 0} (remaining contents : S → Option (List ℕ)) (at : ℕ) (old new : Hall S) : Type 0 where
+  pub reached : Hall S
+  pub reaches : IsReached old reached
+  pub streams : List S
+  pub welcomed : Hall S
+  pub welcomes : AreAdmitted streams reached welcomed
+  pub turns : HasTurned remaining contents at welcomed new
+
+-- of a socket's bytes nothing is known
+abbrev pub unknown : {S : Type 0} → S → Option (List ℕ)
+unknown stream = None

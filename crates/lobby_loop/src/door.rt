@@ -1,5 +1,6 @@
 //! Where browsers come in.
-ghost use Rattle.std.specs.Prelude.{◌≡◌, ◌↔◌, ◌⊎◌};
+ghost use Rattle.std.specs.Prelude.{◌≡◌, ◌↔◌, ◌⊎◌, List};
+ghost use Rattle.lobby_loop.specs.Turning.{Admits, AreAdmitted};
 
 use crate::hall::Hall;
 use mio::net::{TcpListener, TcpStream};
@@ -122,7 +123,9 @@ pub enum Welcomed {
 }
 
 // A browser comes in, or is turned away where there is no room.
-fn take_in<D: Listens>(door: &mut D, hall: &mut Hall<D::Stream>, mut stream: D::Stream, at: u64) {
+fn take_in<D: Listens>(door: &mut D, hall: &mut Hall<D::Stream>, mut stream: D::Stream, at: u64)
+    ensures { (came : D.Stream) × Admits came hall.old hall.new }
+{
     if let Some(key) = hall.next_key() {
         if door.watch(&mut stream, key) {
             hall.admit(stream, key, at);
@@ -136,7 +139,9 @@ fn take_in<D: Listens>(door: &mut D, hall: &mut Hall<D::Stream>, mut stream: D::
 const TRIES: usize = 64;
 
 /// Accepts those who wait, up to 64.
-pub fn welcome<D: Listens>(door: &mut D, hall: &mut Hall<D::Stream>, at: u64) -> Welcomed {
+pub fn welcome<D: Listens>(door: &mut D, hall: &mut Hall<D::Stream>, at: u64) -> Welcomed
+    ensures { (streams : List D.Stream) × AreAdmitted streams hall.old hall.new }
+{
     for _ in 0..TRIES {
         match door.accept_one() {
             Found::Connection(stream) => take_in(door, hall, stream, at),

@@ -72,8 +72,9 @@ impl<S> Guest<S> {
     }
 
     /// Its stream.
-    #[cfg(test)]
-    pub fn stream(&self) -> &S {
+    pub fn stream(&self) -> &S
+        ensures { result.now ≡ self.now.stream }
+    {
         &self.stream
     }
 

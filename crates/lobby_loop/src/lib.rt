@@ -10,9 +10,8 @@ mod lobby;
 mod made;
 mod pieces;
 mod talk;
-#[cfg(test)]
-mod tests;
 
-pub use door::Entrance;
-pub use law::law_of_halls;
+pub use door::{Entrance, Found, Listens, Welcomed, welcome};
+pub use hall::Hall;
+pub use law::{law_of_browsers, law_of_halls, law_of_lobbies};
 pub use lobby::{Fault, Lobby, Turned};

@@ -1,10 +1,10 @@
 //! The one connection to the server: bytes to it, and lines from it.
-ghost use Rattle.std.specs.Prelude.{ℕ, List, ◌≡◌, ◌≤◌, ◌++◌, [], true, IfOk, OnOk, length, take, drop};
+ghost use Rattle.std.specs.Prelude.{ℕ, List, ◌≡◌, ◌≤◌, ◌++◌, [], true, IfOk, OnOk, IsUtf8, length, take, drop};
 ghost use Rattle.std.specs.Bool.{OnTrue, OnFalse};
 ghost use Rattle.std.specs.Io.KnownBytes.{Consumes};
 ghost use Rattle.lobby_desk.specs.Events.{Heard};
 ghost use Rattle.lobby_loop.specs.Talking.{Moves};
-ghost use Rattle.lobby_loop.specs.Lines.{AreTaken, TakesIn, HandsOn};
+ghost use Rattle.lobby_loop.specs.Lines.{AreTaken, IsLeft, IsKept, TakesIn, HandsOn};
 
 use crate::pieces::{Came, Gone, PIECE_ROOM, read_piece, write_piece};
 use crate::talk::Talk;
@@ -40,7 +40,7 @@ fn give_up(held: &mut Vec<u8>, count: usize)
 // Tells the desk a line. False where it is no text, and then nothing was told.
 fn hear_line(talk: &mut Talk, line: &[u8]) -> Result<bool, AllocError>
     ensures told { IfOk result (λ is_text. OnTrue is_text (Moves talk.old (Heard line.now) talk.new)) }
-    ensures none { IfOk result (λ is_text. OnFalse is_text (talk.new ≡ talk.old)) }
+    ensures none { IfOk result (λ is_text. OnFalse is_text ((talk.new ≡ talk.old) × ¬ IsUtf8 line.now)) }
 {
     match str::from_utf8(line) {
         Ok(line) => {
@@ -56,6 +56,7 @@ fn hear_line(talk: &mut Talk, line: &[u8]) -> Result<bool, AllocError>
 fn hear_lines(talk: &mut Talk, held: &[u8]) -> Result<(usize, bool), AllocError>
     ensures within { IfOk result (λ told. told.0 ≤ length held.now) }
     ensures told { IfOk result (λ told. AreTaken held.now (drop told.0 held.now) talk.old talk.new) }
+    ensures left { IfOk result (λ told. IsLeft told.1 (drop told.0 held.now)) }
 {
     let mut from = 0;
     while let Some(at) = first_feed(&held[from..]) {
@@ -83,14 +84,15 @@ impl<S> Link<S> {
     }
 
     /// Its stream.
-    #[cfg(test)]
-    pub fn stream(&self) -> &S {
+    pub fn stream(&self) -> &S
+        ensures { result.now ≡ self.now.stream }
+    {
         &self.stream
     }
 
     /// Its socket may be ready.
     pub fn wake(&mut self)
-        ensures held { self.new.held ≡ self.old.held }
+        ensures kept { IsKept self.old self.new }
         ensures stream { self.new.stream ≡ self.old.stream }
     {
         self.can_read = true;
@@ -98,7 +100,9 @@ impl<S> Link<S> {
     }
 
     /// Whether it has ended or failed.
-    pub fn is_lost(&self) -> bool {
+    pub fn is_lost(&self) -> bool
+        ensures { result ≡ self.now.is_lost }
+    {
         self.is_lost
     }
 }
@@ -148,7 +152,8 @@ impl<S: Read + Write> Link<S> {
 
     /// Writes what it takes of what is to go there. It tells whether that was anything.
     pub fn write_out(&mut self, wire: &mut Vec<u8>) -> bool
-        ensures { (front : List ℕ) × HandsOn front (S.contents self.old.stream) (S.contents self.new.stream) wire.old.items wire.new.items }
+        ensures hands { (front : List ℕ) × HandsOn front (S.contents self.old.stream) (S.contents self.new.stream) wire.old.items wire.new.items }
+        ensures kept { IsKept self.old self.new }
     {
         if !self.can_write || self.is_lost || wire.is_empty() {
             return false;

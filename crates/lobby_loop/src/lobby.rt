@@ -1,5 +1,8 @@
 //! The sockets of a lobby, and what wakes it.
-ghost use Rattle.std.specs.Prelude.{◌≡◌};
+ghost use Rattle.std.specs.Prelude.{◌≡◌, List, None, IfOk, OnOk, is_some};
+ghost use Rattle.mio.specs.declared.net.stream.TcpStream.{TcpStream};
+ghost use Rattle.lobby_loop.specs.Turning.{BeginsHall, AreAdmitted, IsReached, IsLobbyTurn, unknown};
+ghost use Rattle.lobby_loop.specs.Living.{IsWoken};
 
 use crate::door::{Entrance, Gate, Welcomed, welcome};
 use crate::hall::Hall;
@@ -85,6 +88,35 @@ fn is_made(call: &TcpStream) -> Option<bool> {
     }
 }
 
+// The socket of this name may be ready. It tells whether that is the entrance.
+fn wake_socket(hall: &mut Hall<TcpStream>, key: usize) -> bool
+    ensures { IsWoken hall.old hall.new }
+{
+    match key {
+        ENTRANCE => true,
+        SERVER => {
+            hall.wake_server();
+            false
+        }
+        key => {
+            hall.wake(key);
+            false
+        }
+    }
+}
+
+// The sockets of these events may be ready. It tells whether the entrance is among them.
+fn wake_each(events: &Events, hall: &mut Hall<TcpStream>) -> bool
+    ensures { IsWoken hall.old hall.new }
+{
+    let mut has_entrance = false;
+    for event in events.iter() {
+        let is_entrance = wake_socket(hall, usize::from(event.token()));
+        has_entrance |= is_entrance;
+    }
+    has_entrance
+}
+
 // The earlier of two moments, where there are any.
 fn earlier(a: Option<u64>, b: Option<u64>) -> Option<u64> {
     match (a, b) {
@@ -104,7 +136,9 @@ impl Lobby {
         server: SocketAddr,
         site: Site,
         players: Vec<Player>,
-    ) -> io::Result<Lobby> {
+    ) -> io::Result<Lobby>
+        ensures { IfOk result (λ lobby. BeginsHall site players.items lobby.hall) }
+    {
         let poll = Poll::new(net)?;
         poll.registry().register(&mut entrance.listener, Token(ENTRANCE), Interest::READABLE)?;
         Ok(Lobby {
@@ -122,7 +156,9 @@ impl Lobby {
     }
 
     /// Whether the server is there.
-    pub fn has_server(&self) -> bool {
+    pub fn has_server(&self) -> bool
+        ensures { result ≡ is_some self.now.hall.server }
+    {
         self.hall.has_server()
     }
 
@@ -132,7 +168,9 @@ impl Lobby {
     }
 
     // Accepts who waits at the entrance, and tells whether more may.
-    fn welcome(&mut self, at: u64) -> bool {
+    fn welcome(&mut self, at: u64) -> bool
+        ensures { (streams : List TcpStream) × AreAdmitted streams self.old.hall self.new.hall }
+    {
         if !self.has_more || at < self.ask_at {
             return false;
         }
@@ -154,7 +192,9 @@ impl Lobby {
     }
 
     // Begins a connection to the server.
-    fn begin_call(&mut self, net: &impl Net, at: u64) {
+    fn begin_call(&mut self, net: &impl Net, at: u64)
+        ensures { self.new.hall ≡ self.old.hall }
+    {
         self.call_at = at.saturating_add(RETRY);
         self.call_until = at.saturating_add(PATIENCE);
         let Ok(mut call) = TcpStream::connect(net, self.server) else {
@@ -171,7 +211,10 @@ impl Lobby {
     }
 
     // Goes on with the connection to the server that is being made.
-    fn end_call(&mut self, call: TcpStream, at: u64) -> Result<bool, AllocError> {
+    fn end_call(&mut self, call: TcpStream, at: u64) -> Result<bool, AllocError>
+        requires { self.old.hall.server ≡ None }
+        ensures { OnOk result (IsReached self.old.hall self.new.hall) }
+    {
         match is_made(&call) {
             Some(true) => {
                 self.hall.server_came(call)?;
@@ -186,7 +229,9 @@ impl Lobby {
     }
 
     // Reaches for the server where it is not there, and tells whether it came.
-    fn reach_server(&mut self, net: &impl Net, at: u64) -> Result<bool, AllocError> {
+    fn reach_server(&mut self, net: &impl Net, at: u64) -> Result<bool, AllocError>
+        ensures { OnOk result (IsReached self.old.hall self.new.hall) }
+    {
         if self.hall.has_server() {
             return Ok(false);
         }
@@ -217,7 +262,9 @@ impl Lobby {
     }
 
     /// One turn at a moment, in milliseconds of a clock that does not go back. It waits for nothing.
-    pub fn turn(&mut self, net: &impl Net, at: u64) -> Result<Turned, Fault> {
+    pub fn turn(&mut self, net: &impl Net, at: u64) -> Result<Turned, Fault>
+        ensures { OnOk result (IsLobbyTurn unknown unknown at self.old.hall self.new.hall) }
+    {
         let has_reached = self.reach_server(net, at)?;
         let has_welcomed = self.welcome(at);
         let has_turned = self.hall.turn(at)?;
@@ -228,18 +275,18 @@ impl Lobby {
     }
 
     // The sockets that were ready are looked at in the next turn.
-    fn wake(&mut self) {
-        for event in self.events.iter() {
-            match usize::from(event.token()) {
-                ENTRANCE => self.has_more = true,
-                SERVER => self.hall.wake_server(),
-                key => self.hall.wake(key),
-            }
+    fn wake(&mut self)
+        ensures { IsWoken self.old.hall self.new.hall }
+    {
+        if wake_each(&self.events, &mut self.hall) {
+            self.has_more = true;
         }
     }
 
     /// Waits until a socket is ready, or as long as the turn before says; not at all where that had something to do.
-    pub fn rest(&mut self, turned: Turned) -> Result<(), Fault> {
+    pub fn rest(&mut self, turned: Turned) -> Result<(), Fault>
+        ensures { OnOk result (IsWoken self.old.hall self.new.hall) }
+    {
         let most = match turned {
             Turned::Worked => Some(Duration::ZERO),
             Turned::Idle(most) => most.map(Duration::from_millis),

@@ -2,7 +2,5 @@
 #![tactic(auto)]
 
 mod telling;
-#[cfg(test)]
-mod tests;
 
 pub use telling::{moves_line, push_move};

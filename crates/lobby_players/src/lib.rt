@@ -6,8 +6,6 @@ mod faults;
 mod line;
 mod lines;
 mod reading;
-#[cfg(test)]
-mod tests;
 mod token;
 
 pub use adding::{Addition, added};

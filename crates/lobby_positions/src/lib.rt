@@ -5,7 +5,5 @@ mod answer;
 mod lines;
 mod playing;
 mod rows;
-#[cfg(test)]
-mod tests;
 
 pub use answer::line_answer;

@@ -1,5 +1,5 @@
 -- What the answers to one request after another say of each, and of the last.
-use Rattle.std.proofs.Common.{ℕ, ◌≡◌, ◌==◌, List, [], ◌∷◌, ◌++◌, true, false, refl, sym, ap, ◌∙◌, subst, rules, arith, tests}
+use Rattle.std.proofs.Common.{ℕ, ◌≡◌, ◌==◌, List, [], ◌∷◌, ◌++◌, true, false, refl, sym, ap, ◌∙◌, subst, arith}
 use Rattle.std.proofs.lemmas.Bool.Decides.{nat_tests}
 use Rattle.http_server.specs.Exchange.{Call, Chain}
 use Rattle.lobby_web.specs.declared.site.Site.{Site}

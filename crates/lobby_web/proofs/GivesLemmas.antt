@@ -1,17 +1,16 @@
 -- What `next` gives, from the frame that it came to.
-use Rattle.std.proofs.Common.{ℕ, ◌≡◌, ◌≢◌, ◌⊎◌, inl, inr, List, [], ◌∷◌, ◌++◌, drop, Bool, true, false, Option, None, Some, Ok, Err, refl, sym, ap, ◌∙◌, append_assoc, append-nil, subst}
-use Rattle.websocket.specs.declared.error.Error.{Error}
+use Rattle.std.proofs.Common.{ℕ, ◌≡◌, ◌≢◌, inl, inr, List, [], ◌∷◌, ◌++◌, drop, true, false, Option, None, Some, Ok, refl, sym, ap, ◌∙◌, append_assoc, append-nil, subst}
 use Rattle.websocket.specs.declared.protocol.frame.coding.CloseCode.{CloseCode}
 use Rattle.websocket.specs.declared.protocol.frame.coding.CloseCode.TheVariants as Code
-use Rattle.websocket.specs.declared.protocol.frame.codec.FrameStatus.TheVariants.{Partial, Complete}
+use Rattle.websocket.specs.declared.protocol.frame.codec.FrameStatus.TheVariants.{Partial}
 use Rattle.websocket.specs.Content.{Content, text, binary, ping, pong, close}
-use Rattle.websocket.specs.Connection.{Connection, Effect, read_step}
+use Rattle.websocket.specs.Connection.{Connection, read_step}
 use Rattle.lobby_web.specs.declared.socket.Socket.{Socket}
 use Rattle.lobby_web.specs.declared.socket.Frame.{Frame}
 use Rattle.lobby_web.specs.declared.socket.Frame.TheVariants as Is
 use Rattle.lobby_web.specs.Codes.{IsFrameOf, IsTextOf}
 use Rattle.lobby_web.specs.Frames.{Run, Runs, texts, text_in, replies, reply_bytes}
-use Rattle.lobby_web.specs.Talking.{IsSame, TakesWhole, TakesNothing, Gives, GivesTexts, given, ClosesBy, EndsWith}
+use Rattle.lobby_web.specs.Talking.{IsSame, TakesWhole, TakesNothing, Gives, ClosesBy}
 use Rattle.lobby_web.proofs.RunLemmas.{runs-snoc, texts-snoc, replies-snoc}
 
 -- the text of a frame

@@ -1,11 +1,9 @@
 -- Which requests are answered by an upgrade.
-use Rattle.std.proofs.Common.{ℕ, ◌≡◌, ◌⊎◌, inl, inr, List, [], ◌∷◌, ◌++◌, Option, None, Some, Bool, true, false, MatchBool, Result, Ok, Err, OnOk, codes, refl, sym, ◌∙◌, arith, subst}
+use Rattle.std.proofs.Common.{ℕ, ◌≡◌, ◌⊎◌, inl, inr, List, Option, None, Some, Bool, true, false, MatchBool, Result, Ok, Err, OnOk, codes, refl, sym, arith, subst}
 use Rattle.http.specs.declared.request.Request.{Request}
 use Rattle.http_server.specs.declared.response.Response.{Response}
-use Rattle.http_server.specs.Exchange.{Call}
-use Rattle.http_server.specs.Response.{IsResponse}
 use Rattle.websocket.specs.declared.handshake.failure.HandshakeError.{HandshakeError}
-use Rattle.websocket.specs.Handshake.{IsValidKey, AnswersKey, accept_key_of}
+use Rattle.websocket.specs.Handshake.{AnswersKey}
 use Rattle.lobby_web.specs.declared.site.Site.{Site}
 use Rattle.lobby_web.specs.declared.site.File.{File}
 use Rattle.lobby_web.specs.Pages.{file_at}

@@ -11,3 +11,6 @@ pub mod ServeLemmas
 pub mod ReadLemmas
 pub mod LifeLemmas
 pub mod SayingLemmas
+pub mod RoomLemmas
+pub mod HoldingLemmas
+pub mod ShutLemmas

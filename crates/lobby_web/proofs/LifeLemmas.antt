@@ -1,15 +1,13 @@
 -- What a socket gives over its whole life.
-use Rattle.std.proofs.Common.{ℕ, ◌≡◌, ◌⊎◌, inl, inr, List, [], ◌∷◌, ◌++◌, Bool, true, false, not, ◌&&◌, Option, None, Some, Result, Ok, Err, refl, sym, ap, ◌∙◌, append_assoc, append-nil, subst}
+use Rattle.std.proofs.Common.{ℕ, ◌≡◌, ◌⊎◌, inl, inr, List, [], ◌∷◌, ◌++◌, Bool, true, false, not, ◌&&◌, Option, None, Some, Ok, Err, refl, sym, ap, ◌∙◌, append_assoc, append-nil, subst}
 use Rattle.websocket.specs.Content.{Content, text, binary, ping, pong, close}
 use Rattle.websocket.specs.Connection.{Connection, can_write}
 use Rattle.lobby_web.specs.declared.socket.Socket.{Socket}
-use Rattle.lobby_web.specs.declared.socket.Heard.{Heard}
 use Rattle.lobby_web.specs.declared.socket.Heard.TheVariants.{Opened, Text as Words}
-use Rattle.lobby_web.specs.declared.socket.Unsaid.{Unsaid}
 use Rattle.lobby_web.specs.declared.socket.Unsaid.TheVariants.{NotOpen, NotText, Slow, Memory}
 use Rattle.lobby_web.specs.Frames.{Run, Runs, texts}
-use Rattle.lobby_web.specs.Talking.{Keeps, TakesIn, Hears, Says, Gives, GivesTexts, given, may_say, said_state}
-use Rattle.lobby_web.specs.Happening.{Event, came, asked, said, wrote, Does, Happen, bytes_in, all_bytes, text_heard, texts_given, all_texts, is_close, KeepsOpen, AllKeepOpen, AreGiven, Heeds}
+use Rattle.lobby_web.specs.Talking.{Gives, GivesTexts, given, may_say, said_state}
+use Rattle.lobby_web.specs.Happening.{Event, came, asked, said, wrote, Does, Happen, bytes_in, all_bytes, texts_given, all_texts, is_close, KeepsOpen, AllKeepOpen, AreGiven, Heeds}
 use Rattle.lobby_web.proofs.RunLemmas.{runs-more, runs-join, texts-append}
 
 shut : (s : Socket) → s.is_over ≡ true → may_say s ≡ true → ⊥

@@ -1,18 +1,17 @@
 -- What goes out of a socket over its whole life.
-use Rattle.std.proofs.Common.{ℕ, ◌≡◌, ◌⊎◌, inl, inr, List, [], ◌∷◌, ◌++◌, Bool, true, false, Option, None, Some, Result, Ok, Err, refl, sym, ap, ◌∙◌, append_assoc, append-nil, subst}
+use Rattle.std.proofs.Common.{ℕ, ◌≡◌, ◌⊎◌, inl, inr, List, [], ◌∷◌, ◌++◌, Bool, true, false, Option, None, Some, Ok, Err, refl, sym, ap, ◌∙◌, append_assoc, append-nil}
 use Rattle.websocket.specs.declared.protocol.frame.coding.OpCode.TheVariants as Op
 use Rattle.websocket.specs.declared.protocol.frame.coding.Control.TheVariants as Control
 use Rattle.websocket.specs.declared.protocol.frame.coding.CloseCode.{CloseCode}
 use Rattle.websocket.specs.Content.{Content, text, binary, ping, pong, close, close_payload, content_opcode, content_payload}
-use Rattle.websocket.specs.Connection.{Connection, Effect, Outgoing}
+use Rattle.websocket.specs.Connection.{Connection, Outgoing}
 use Rattle.lobby_web.specs.declared.socket.Socket.{Socket}
 use Rattle.lobby_web.specs.declared.socket.Heard.{Heard}
 use Rattle.lobby_web.specs.declared.socket.Heard.TheVariants.{Opened, Text as Words}
-use Rattle.lobby_web.specs.declared.socket.Unsaid.{Unsaid}
 use Rattle.lobby_web.specs.declared.socket.Unsaid.TheVariants.{NotOpen, NotText, Slow, Memory}
 use Rattle.lobby_web.specs.Frames.{Run, Runs, replies, reply_bytes, frame_bytes, frames_bytes, outgoing, texts_sent, text_payload}
-use Rattle.lobby_web.specs.Talking.{TakesIn, Hears, Says, Gives, ClosesBy, close_frame}
-use Rattle.lobby_web.specs.Happening.{Event, came, asked, said, wrote, Does, Happen, all_written, bytes_out, text_of, text_if, texts_said, all_said, Utters}
+use Rattle.lobby_web.specs.Talking.{Gives, ClosesBy, close_frame}
+use Rattle.lobby_web.specs.Happening.{Event, came, asked, said, wrote, Does, Happen, all_written, bytes_out, text_of, texts_said, Utters}
 use Rattle.lobby_web.proofs.ReplyLemmas.{no-text}
 
 pub frames_bytes-append : (outs more : List Outgoing) → frames_bytes (outs ++ more) ≡ frames_bytes outs ++ frames_bytes more

@@ -1,12 +1,11 @@
 -- What a server sends has no mask, and what it sends and reads leaves it a server.
-use Rattle.std.proofs.Common.{ℕ, ◌≡◌, ◌⊎◌, inl, inr, List, [], ◌∷◌, ◌++◌, Bool, true, false, not, Option, None, Some, is_some, Ok, Err, Result, OnOk, OnErr, refl, sym, ap, ◌∙◌, append-nil}
+use Rattle.std.proofs.Common.{ℕ, ◌≡◌, inl, inr, List, [], ◌++◌, true, false, Option, None, Some, is_some, Ok, Err, Result, OnOk, OnErr, refl, sym, ap, ◌∙◌, append-nil}
 use Rattle.websocket.specs.declared.error.Error.{Error}
 use Rattle.websocket.specs.declared.protocol.config.Role.{Role}
 use Rattle.websocket.specs.declared.protocol.config.Role.TheVariants.{Server}
 use Rattle.websocket.specs.declared.protocol.state.WebSocketState.{WebSocketState}
 use Rattle.websocket.specs.declared.protocol.state.WebSocketState.TheVariants as State
 use Rattle.websocket.specs.declared.protocol.frame.coding.CloseCode.{CloseCode}
-use Rattle.websocket.specs.declared.protocol.frame.coding.OpCode.{OpCode}
 use Rattle.websocket.specs.declared.protocol.frame.coding.OpCode.TheVariants as Op
 use Rattle.websocket.specs.declared.protocol.frame.coding.Control.TheVariants as Control
 use Rattle.websocket.specs.declared.protocol.frame.coding.Data.TheVariants as Data
@@ -14,7 +13,7 @@ use Rattle.websocket.specs.declared.protocol.frame.codec.FrameStatus.{FrameStatu
 use Rattle.websocket.specs.declared.protocol.frame.codec.FrameStatus.TheVariants.{Partial, Complete}
 use Rattle.websocket.specs.Frame.{after_check, Checked, encode_frame}
 use Rattle.websocket.specs.Content.{Content, text, binary, ping, pong, close, close_payload, content_opcode, content_payload}
-use Rattle.websocket.specs.Connection.{Connection, Effect, Outgoing, Sends, IsMaskOf, whole_header, read_step, write_step, write_active, close_step, close_to, check_close, check_can_write, check_control_size, closing_state, can_write, failed_connection}
+use Rattle.websocket.specs.Connection.{Connection, Effect, Outgoing, Sends, whole_header, read_step, write_step, write_active, close_step, close_to, check_close, check_can_write, check_control_size, closing_state, can_write, failed_connection}
 use Rattle.websocket.specs.View.{Leaves, ReadLeaves}
 use Rattle.lobby_web.specs.Frames.{frame_bytes, reply_bytes}
 use Rattle.lobby_web.specs.Talking.{ClosesBy, said_state}

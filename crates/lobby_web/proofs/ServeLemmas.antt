@@ -1,8 +1,8 @@
 -- What the calls of a service say of a site's answers.
-use Rattle.std.proofs.Common.{ℕ, ◌≡◌, List, [], ◌∷◌, ◌++◌, true, false, refl, sym, ap, ◌∙◌, append_assoc, subst}
+use Rattle.std.proofs.Common.{◌≡◌, [], ◌∷◌, ◌++◌, true, false, sym, ap, ◌∙◌, append_assoc, subst}
 use Rattle.http_server.specs.declared.state.Config.{Config}
 use Rattle.http_server.specs.declared.state.State.TheVariants.{Upgraded}
-use Rattle.http_server.specs.Exchange.{Call, Chain, Calls}
+use Rattle.http_server.specs.Exchange.{Calls}
 use Rattle.http_server.specs.History.{History, IsServed, Rests, IsQuiet}
 use Rattle.lobby_web.specs.declared.site.Site.{Site}
 use Rattle.lobby_web.specs.declared.answer.Asked.{Asked}

@@ -1,5 +1,5 @@
 -- What a read of one frame says of the frame, the state and what is left.
-use Rattle.std.proofs.Common.{ℕ, ◌≡◌, ◌<◌, ◌≤◌, List, [], ◌∷◌, ◌++◌, drop, length, Option, Some, None, option_map, Ok, Err, Result, refl, sym, ap, ◌∙◌, subst, arith, length-drop}
+use Rattle.std.proofs.Common.{ℕ, ◌≡◌, ◌<◌, List, ◌++◌, drop, length, Option, Some, None, option_map, Ok, Err, Result, refl, ap, ◌∙◌, subst, arith, length-drop}
 use Rattle.websocket.specs.declared.error.Error.{Error}
 use Rattle.websocket.specs.declared.protocol.config.Role.TheVariants.{Server}
 use Rattle.websocket.specs.declared.protocol.context.Step.{Step}

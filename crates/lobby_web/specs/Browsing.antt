@@ -1,6 +1,5 @@
 -- One browser's connection, from its first byte on.
-use Rattle.std.specs.Prelude.{ℕ, ◌≡◌, ◌≢◌, ◌<◌, ◌≤◌, ◌⊎◌, Bool, true, false, List, [], ◌∷◌, ◌++◌, drop, length, ⊤, Option, Some, None, Result, Ok, Err}
-use Rattle.http.specs.declared.request.Request.{Request}
+use Rattle.std.specs.Prelude.{ℕ, ◌≡◌, ◌≢◌, ◌<◌, ◌≤◌, Bool, true, false, List, [], ◌∷◌, ◌++◌, drop, length, ⊤, Option, None, Result, Err}
 use Rattle.http_server.specs.declared.state.Config.{Config}
 use Rattle.http_server.specs.declared.state.State.TheVariants.{Open, Upgraded}
 use Rattle.http_server.specs.Connection.{config_of, history}

@@ -8,3 +8,4 @@ pub mod Frames
 pub mod Talking
 pub mod Browsing
 pub mod Happening
+pub mod Holding

@@ -19,7 +19,7 @@ use Rattle.lobby_web.specs.declared.socket.Unsaid.TheVariants.{NotOpen, NotText,
 use Rattle.lobby_web.specs.Codes.{IsFrameOf}
 use Rattle.lobby_web.specs.Frames.{Run, Runs, texts, replies, reply_bytes, frame_bytes}
 
--- A socket that begins: a server's, open, with no message begun, and with the limits on messages.
+-- A socket that begins: a server's, open and not told so yet, with no message begun, and with the limits on messages.
 pub record IsFresh (s : Socket) : Type 0 where
   pub conn : s.context ≡ record {
     role = Server;
@@ -28,6 +28,7 @@ pub record IsFresh (s : Socket) : Type 0 where
     fragments = None;
   }
   pub begun : s.is_over ≡ false
+  pub untold : s.is_told ≡ false
 
 -- Only what waits to be written is another.
 abbrev pub Keeps : Socket → Socket → Type 0
@@ -131,13 +132,14 @@ Says content old new (Ok _) =
     (may_say old ≡ true) × (new.context ≡ said_state content old.context) × (new.input.items ≡ old.input.items)
     × (new.is_over ≡ false) × (new.is_told ≡ old.is_told)
     × (new.output.items ≡ old.output.items ++ frame_bytes (content_opcode content) (content_payload content))
-Says content old new (Err NotOpen) = (may_say old ≡ false) × IsSame old new
+Says content old new (Err NotOpen) = (may_say old ≡ false) × IsSame old new × (new.is_told ≡ old.is_told)
 Says content old new (Err NotText) = ⊥
 Says content old new (Err Slow) =
     (may_say old ≡ true) × (1048576 < length old.output.items) × (new.is_over ≡ true)
-    × (new.output.items ≡ old.output.items)
+    × (new.output.items ≡ old.output.items) × (new.is_told ≡ old.is_told)
 Says content old new (Err Memory) =
     (may_say old ≡ true) × (new.is_over ≡ true) × (new.output.items ≡ old.output.items)
+    × (new.is_told ≡ old.is_told)
 
 -- What is heard next: first, once, that it is open, and nothing else changes by it; then what its frames give.
 abbrev pub Hears : Socket → Socket → Option Heard → Type 0
@@ -150,4 +152,5 @@ abbrev pub TakesIn : List ℕ → Socket → Socket → Type 0
 TakesIn bytes old new =
     (new.output.items ≡ old.output.items)
     × ((new.is_over ≡ true) ⊎ ((bytes ≢ []) × (new.context ≡ old.context) × (new.input.items ≡ old.input.items ++ bytes)
-    × (new.is_over ≡ old.is_over) × (new.is_told ≡ old.is_told)))
+    × (new.is_over ≡ old.is_over)))
+    × (new.is_told ≡ old.is_told)

@@ -7,11 +7,9 @@ mod browser;
 mod laws;
 mod site;
 mod socket;
-#[cfg(test)]
-mod tests;
 
 pub use crate::browser::{Browser, MOST_AT_ONCE};
-pub use crate::laws::{law_of_messages, law_of_sayings};
+pub use crate::laws::{law_of_floods, law_of_messages, law_of_sayings};
 pub use crate::site::{File, Kind, Site};
 pub use crate::socket::{Heard, Unsaid};
 pub use websocket::protocol::CloseCode;

@@ -14,6 +14,3 @@ mod used;
 pub use codec::{read_record, write_record};
 pub use header::{has_signature, read_header, write_header};
 pub use sector::{read_sector, write_sector};
-
-#[cfg(test)]
-mod tests;

@@ -11,9 +11,6 @@ ghost use Rattle.sector_dev.specs.Replay.{recorded_is_coherent};
 use crate::{CrashDevice, Device, DeviceFault, Fate, Got, Sector};
 use std::alloc::{AllocError, Global};
 
-#[cfg(test)]
-mod tests;
-
 /// A recorded call.
 #[derive(Clone, Copy)]
 pub enum Call {

@@ -5,9 +5,6 @@ ghost use Rattle.sector_dev.specs.Device.{IsRead, WithOrWithout, IsUnchanged, Is
 
 use crate::{Device, DeviceFault, Got};
 
-#[cfg(test)]
-mod tests;
-
 /// A device of which one call fails, and later ones go on. All else is the device below: it keeps the model where that
 /// one does.
 #[derive(Drop)]

@@ -2,8 +2,6 @@
 #![tactic(auto)]
 
 mod command_line;
-#[cfg(test)]
-mod tests;
 mod version;
 mod words;
 

@@ -2,7 +2,5 @@
 #![tactic(auto)]
 
 mod cutting;
-#[cfg(test)]
-mod tests;
 
 pub use cutting::parts;

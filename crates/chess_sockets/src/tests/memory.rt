@@ -20,11 +20,14 @@ const BOB: &[Gives] = &[
     Gives::Text("name bob\n"),
     Gives::Text("open black 300 0\n"),
     Gives::Text("name bob\n"),
+    Gives::Text("join 1\n"),
+    Gives::Text("list\npgn 1\n"),
+    Gives::Text("show 1\n"),
     Gives::Nothing,
 ];
 
 /// How many answers each is to have.
-const ANSWERS: usize = 3;
+const ANSWERS: [usize; 2] = [3, 7];
 
 /// What was seen of a refusal.
 #[derive(Clone, Copy, Debug, PartialEq, Eq)]
@@ -35,12 +38,31 @@ struct Seen {
     told: usize,
     /// How many clients were closed.
     closed: usize,
+    /// How many answers say that the game to be joined is one's own.
+    alone: usize,
+}
+
+impl Seen {
+    // Whether one refusal, or none, came to this. Where the first game was not opened, the second has its number.
+    fn is_of_one_refusal(self) -> bool {
+        let Seen {
+            refusals,
+            told,
+            closed,
+            alone,
+        } = self;
+        match (refusals, told, closed) {
+            (0, 0, 0) | (1, 0, 0) => alone == 0,
+            (0, 1, 0) | (0, 0, 1) => alone <= 1,
+            _ => false,
+        }
+    }
 }
 
 // A connection with room for all that it takes.
 fn roomy(alloc: Global, gives: &'static [Gives]) -> Option<Peer> {
     let mut peer = made(alloc, gives, Takes::All);
-    peer.written.reserve(1_000).ok()?;
+    peer.written.reserve(2_000).ok()?;
     Some(peer)
 }
 
@@ -56,35 +78,63 @@ fn begin(alloc: Global) -> Option<(Hub<MemoryDevice>, Vec<Client<Peer>>)> {
     }
 }
 
-// How many answers say that memory was refused; `None` where there are not three, or another is not `ok`.
-fn told_of(written: &[u8]) -> Option<usize> {
-    let (mut answers, mut told) = (0usize, 0usize);
+/// What a client was told.
+#[derive(Clone, Copy)]
+struct Told {
+    answers: usize,
+    /// How many say that memory was refused.
+    refused: usize,
+    /// How many say that the game is its own: the other has none.
+    alone: usize,
+}
+
+// Whether a line is the first of an answer. The others are of a body.
+fn is_first(line: &str) -> bool {
+    line.starts_with("ok ") || line.starts_with("no ")
+}
+
+// Counts the answers. `None` where one is another than `ok` and these.
+fn told_of(written: &[u8]) -> Option<Told> {
+    let (mut answers, mut refused, mut alone) = (0usize, 0usize, 0usize);
     for line in str::from_utf8(written).ok()?.lines() {
+        if !is_first(line) {
+            continue;
+        }
         answers = answers.saturating_add(1);
         if line == "no 22 NoMemory" {
-            told = told.saturating_add(1);
+            refused = refused.saturating_add(1);
+        } else if line == "no 16 SamePlayer" {
+            alone = alone.saturating_add(1);
         } else if !line.starts_with("ok ") {
             return None;
         }
     }
-    if answers == ANSWERS { Some(told) } else { None }
+    Some(Told {
+        answers,
+        refused,
+        alone,
+    })
 }
 
 // What is seen once all is served. `None` where a client that is open has not all its answers.
 fn look(clients: &[Client<Peer>], hub: &Hub<MemoryDevice>) -> Option<Seen> {
-    let (mut told, mut closed) = (0usize, 0usize);
-    for client in clients {
-        if hub.is_open(client.sid()) {
-            told = told.saturating_add(told_of(client.stream().written.as_slice())?);
-        } else {
-            closed = closed.saturating_add(1);
-        }
-    }
-    Some(Seen {
+    let mut seen = Seen {
         refusals: hub.refusals(),
-        told,
-        closed,
-    })
+        ..NOTHING
+    };
+    for (client, wanted) in clients.iter().zip(ANSWERS) {
+        if !hub.is_open(client.sid()) {
+            seen.closed = seen.closed.saturating_add(1);
+            continue;
+        }
+        let told = told_of(client.stream().written.as_slice())?;
+        if told.answers != wanted {
+            return None;
+        }
+        seen.told = seen.told.saturating_add(told.refused);
+        seen.alone = seen.alone.saturating_add(told.alone);
+    }
+    Some(seen)
 }
 
 // Serves for so many turns, and goes on where a turn was refused memory. A fault, where it is another.
@@ -113,6 +163,7 @@ const NOTHING: Seen = Seen {
     refusals: 0,
     told: 0,
     closed: 0,
+    alone: 0,
 };
 
 /// In so many turns both have all their answers.
@@ -139,20 +190,7 @@ fn refused_memory(rt: HostRuntime) {
     match serve(&mut clients, &mut hub, TURNS) {
         Ok(()) => {
             let found = look(clients.as_slice(), &hub);
-            assert!(rt;
-                found == Some(NOTHING)
-                    || found
-                        == Some(Seen {
-                            refusals: 1,
-                            ..NOTHING
-                        })
-                    || found == Some(Seen { told: 1, ..NOTHING })
-                    || found
-                        == Some(Seen {
-                            closed: 1,
-                            ..NOTHING
-                        })
-            );
+            assert!(rt; found.is_some_and(|seen| seen.is_of_one_refusal()));
         }
         // The device in memory was refused it.
         Err(fault) => assert!(rt; matches!(fault, HubFault::Store(StoreFault::Device { .. }))),

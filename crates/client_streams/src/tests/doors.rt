@@ -22,6 +22,8 @@ impl Listens for Queue {
 
     ghost given_so_far = { λ queue. queue.given };
 
+    ghost tried_so_far = { λ queue. queue.tries };
+
     fn accept_one(&mut self) -> Option<usize> {
         let code = match self.codes.get(self.tries) {
             Some(code) => *code,

@@ -1,6 +1,7 @@
--- No connection was given so far.
-use Rattle.std.proofs.Common.{◌≡◌}
+-- No connection was given so far, and each try is counted.
+use Rattle.std.proofs.Common.{◌≡◌, ◌≤◌}
 use Rattle.client_streams.proofs.door.next_connection.Given as goal
 
 abbrev pub invariant-loop : goal.invariant-loop
-invariant-loop g l = g.L.Listens.given_so_far l.door ≡ g.L.Listens.given_so_far l.fn.door
+invariant-loop g l = (g.L.Listens.given_so_far l.door ≡ g.L.Listens.given_so_far l.fn.door)
+    × (g.L.Listens.tried_so_far l.fn.door ≤ g.L.Listens.tried_so_far l.door)

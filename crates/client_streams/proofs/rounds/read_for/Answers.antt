@@ -1,28 +1,43 @@
 -- What came is held back, and goes to the session.
-use Rattle.std.proofs.Common.{◌∙◌, None, ap, refl, subst, sym}
+use Rattle.std.proofs.Common.{◌∙◌, ℕ, List, None, ap, refl, subst, sym}
+use Rattle.std.proofs.lemmas.Bool.{false≢true}
+use Rattle.session_lines.specs.Lines.{IsUnfinished}
 use Rattle.std.specs.Prelude.{IsSome, IsSomeAnd}
 use Rattle.std.specs.Io.KnownBytes.{Keeps}
 use Rattle.std.specs.Bool.{OnTrue}
 use Rattle.chess_sessions.specs.Session.{session_at, Changes}
-use Rattle.client_streams.specs.Clients.{IsSilent}
+use Rattle.client_streams.specs.Clients.{IsSilent, IsHeldUp}
 use Rattle.client_streams.specs.Closings.{HasFailed, WasRefused, IsReason}
 use Rattle.client_streams.specs.Incoming.{held}
+use Rattle.client_streams.specs.Sending.{waiting}
+use Rattle.client_streams.proofs.TakingLemmas.{some_closed, up_unfinished}
 use Rattle.client_streams.specs.Rounds.{intake, IsRead}
 use Rattle.client_streams.proofs.HeardLemmas.{heard_on, end_on}
 use Rattle.client_streams.proofs.RoundLemmas.{not_closed, passed_over, is_read, read_nothing, sends, unchanged_by, silent_written, silent_reason, reason_of_trouble, on_true, both_true, on_false}
 use Rattle.client_streams.proofs.rounds.read_for.Goals as goal
 
-pub returns-then-not-is_open : goal.returns-then-not-is_open
-returns-then-not-is_open g c =
-    passed_over g.S.Read.remaining c.args.reading.silence c.args.reading.at c.args.client.now (intake c.args.sessions.now c.args.room.now.lines)
+pub returns-then-not-is_open-clause-read : goal.returns-then-not-is_open-clause-read
+returns-then-not-is_open-clause-read g c =
+    let client = c.args.client.now in
+    let room = c.args.room.now in
+    let m = session_at c.args.sessions.now client.sid in
+    passed_over g.S.Read.remaining c.args.reading.silence c.args.reading.at room.longest client
+    (intake c.args.sessions.now room.lines)
+    (some_closed (λ s. IsHeldUp (waiting client.outgoing) (held client.incoming) s m) m (λ is. false≢true (sym c.if-not-is_open.true
+    ∙ c.is_open.ensures.1 (subst (λ sid. IsSome (session_at c.args.sessions.now sid)) (sym c.sid.ensures) is))))
 
-pub returns-then-is_passed_over : goal.returns-then-is_passed_over
-returns-then-is_passed_over g c =
-    passed_over g.S.Read.remaining c.args.reading.silence c.args.reading.at c.args.client.now (intake c.args.sessions.now c.args.room.now.lines)
+pub returns-then-is_passed_over-clause-read : goal.returns-then-is_passed_over-clause-read
+returns-then-is_passed_over-clause-read g c =
+    let client = c.args.client.now in
+    let room = c.args.room.now in
+    let m = session_at c.args.sessions.now client.sid in
+    passed_over g.S.Read.remaining c.args.reading.silence c.args.reading.at room.longest client
+    (intake c.args.sessions.now room.lines)
+    (up_unfinished (waiting client.outgoing) (held client.incoming) m m (c.is_passed_over.ensures c.if-is_passed_over.true))
 
 -- Nothing came: the session may be closed.
-pub returns-then-is_quiet : goal.returns-then-is_quiet
-returns-then-is_quiet g c =
+pub returns-then-is_quiet-clause-read : goal.returns-then-is_quiet-clause-read
+returns-then-is_quiet-clause-read g c =
     let rest = g.S.Read.remaining in
     let client = c.args.client.now in
     let after = c.take_in-any.new.self in
@@ -32,20 +47,22 @@ returns-then-is_quiet g c =
     let new = c.close_silent.new.sessions in
     let done = c.close_silent.result in
     let room = c.args.room.now.lines in
+    let longest = c.args.room.now.longest in
     let silence = c.args.reading.silence in
     let at = c.args.reading.at in
     let peer = c.take_in-any.ensures.peer in
     let (sid, holds, waits_on, stream, heard_at, has_ended, still) = c.close_silent.ensures.peer in
-    let (idle, kept, same, stays, left, wait) = c.take_in-any.ensures.quiet (sym c.is_quiet.ensures ∙ c.if-is_quiet.true) in
+    let (idle, kept, same, stays, left, wait, none) = c.take_in-any.ensures.quiet (sym c.is_quiet.ensures ∙ c.if-is_quiet.true) in
     let open_now = subst (λ sid. IsSome (session_at old sid)) c.sid.ensures
     (c.is_open.ensures.0 c.if-not-is_open.false) in
-    subst (λ n. IsRead rest silence at client last (intake old room) (intake new n)) (sym left)
-    (read_nothing rest silence at client last room old new done (sid ∙ peer.0) (waits_on ∙ peer.1)
+    subst (λ n. IsRead rest silence at longest client last (intake old room) (intake new n)) (sym left)
+    (read_nothing rest silence at longest client last room old new done (sid ∙ peer.0) (waits_on ∙ peer.1)
     (heard_on (rest client.wire.stream) (rest after.wire.stream) (rest last.wire.stream) at client.heard_at after.heard_at last.heard_at
     c.take_in-any.ensures.heard (ap rest stream) heard_at)
     (end_on (rest after.wire.stream) (rest last.wire.stream) client.has_ended after.has_ended last.has_ended
     c.take_in-any.ensures.ended (ap rest stream) has_ended)
-    (subst (λ s. Keeps (rest client.wire.stream) (rest s)) (sym stream) kept) (holds ∙ same) (still ∙ wait) open_now
+    (subst (λ s. Keeps (rest client.wire.stream) (rest s)) (sym stream) kept) (holds ∙ same)
+    (subst (λ (l : List ℕ). IsUnfinished l) (sym holds) none) (still ∙ wait) open_now
     (on_true done (λ is. sym peer.1 ∙ silent_written silence after between at (c.close_silent.ensures.silent.0 is)))
     (λ waits. stream ∙ (c.take_in-any.ensures.unread waits).0)
     (subst (λ s. OnTrue done (Changes s new client.sid None)) stays
@@ -55,19 +72,20 @@ returns-then-is_quiet g c =
     (c.close_silent.ensures.silent.0 is)) c.close_silent.ensures.told))
     (on_false done (λ e. unchanged_by old new (e ∙ stays)) c.close_silent.ensures.stays))
 
-pub returns : goal.returns
-returns g c =
+pub returns-clause-read : goal.returns-clause-read
+returns-clause-read g c =
     let rest = g.S.Read.remaining in
     let client = c.args.client.now in
     let after = c.take_in-any.new.self in
     let old = c.args.sessions.now in
     let new = c.take_in-any.new.sessions in
     let room = c.args.room.now.lines in
+    let longest = c.args.room.now.longest in
     let left = c.take_in-any.new.room.lines in
     let before = session_at old client.sid in
     let open_now = subst (λ sid. IsSome (session_at old sid)) c.sid.ensures
     (c.is_open.ensures.0 c.if-not-is_open.false) in
-    is_read rest c.args.reading.silence c.args.reading.at client after (intake old room) (intake new left) c.take_in-any.ensures.peer.0
+    is_read rest c.args.reading.silence c.args.reading.at longest client after (intake old room) (intake new left) c.take_in-any.ensures.peer.0
     c.take_in-any.ensures.peer.1
     (λ waits.
     let same = c.take_in-any.ensures.unread waits in
@@ -76,6 +94,6 @@ returns g c =
     (λ was none. reason_of_trouble (HasFailed after) (WasRefused after)
     (IsSomeAnd c.args.reading.silence (IsSilent after old c.args.reading.at)) after.closing
     (c.take_in-any.ensures.reason none))
-    (sends room left (rest client.wire.stream) (rest after.wire.stream) (held client.incoming) (held after.incoming) client.sid
-    old new before (session_at new client.sid) refl refl open_now c.take_in-any.ensures.taken
+    (sends room left longest (rest client.wire.stream) (rest after.wire.stream) (waiting client.outgoing)
+    (held client.incoming) (held after.incoming) client.sid old new before (session_at new client.sid) refl refl open_now c.take_in-any.ensures.taken
     c.take_in-any.ensures.others)

@@ -1,8 +1,12 @@
 -- Who was read for so far was, and the others are as they were.
+use Rattle.client_streams.specs.Clients.{IsLongest}
 use Rattle.client_streams.specs.Rounds.{intake, Holds, IsRead}
 use Rattle.client_streams.proofs.RoundLemmas.{IsDoneTo}
 use Rattle.client_streams.proofs.rounds.take_in_all.Given as goal
 
 abbrev pub invariant-loop-client : goal.invariant-loop-client
-invariant-loop-client g l = IsDoneTo Holds (IsRead g.S.Read.remaining l.fn.reading.silence l.fn.reading.at) l.client-index l.fn.clients.items l.client-items
-    (intake l.fn.sessions 1) (intake l.sessions l.room.lines)
+invariant-loop-client g l = record {
+  done : IsDoneTo Holds (IsRead g.S.Read.remaining l.fn.reading.silence l.fn.reading.at l.room.longest) l.client-index
+      l.fn.clients.items l.client-items (intake l.fn.sessions 1) (intake l.sessions l.room.lines);
+  longest : IsLongest l.fn.sessions l.fn.clients.items l.room.longest;
+}

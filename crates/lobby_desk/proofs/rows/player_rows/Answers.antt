@@ -1,4 +1,4 @@
-use Rattle.std.proofs.Common.{ℕ, ◌≡◌, ◌++◌, List, length, codes, decimal, ap, ◌∙◌, arith}
+use Rattle.std.proofs.Common.{ℕ, ◌++◌, List, length, codes, decimal, ap, ◌∙◌}
 use Rattle.lobby_desk.specs.Players.{row_of}
 use Rattle.lobby_desk.proofs.PlayerRows.{rows_more}
 use Rattle.lobby_desk.proofs.rows.player_rows.Goals as goal

@@ -1,10 +1,11 @@
 use Rattle.std.proofs.Common.{◌≡◌, ◌<◌, ◌+◌, ◌-◌, ◌∷◌, ◌++◌, ℕ, Bool, List, length, get_or, take, drop, subst, ap, ◌∙◌, arith}
-use Rattle.std.specs.Bool.{OnTrue}
+use Rattle.std.specs.Prelude.{IsUtf8}
+use Rattle.std.specs.Bool.{OnTrue, OnFalse}
 use Rattle.std.proofs.lemmas.List.{take_rest, drop-drop, length-drop}
 use Rattle.session_lines.specs.Lines.{HasNoFeed}
 use Rattle.lobby_desk.specs.Events.{Heard}
 use Rattle.lobby_loop.specs.Talking.{Moves}
-use Rattle.lobby_loop.proofs.Taking.{cut_at, taken_more}
+use Rattle.lobby_loop.proofs.Taking.{cut_at, taken_more, left_at}
 use Rattle.lobby_loop.proofs.link.hear_lines.Goals as goal
 
 pub loop-at-preserved : goal.loop-at-preserved
@@ -31,3 +32,23 @@ loop-at-preserved c =
           (cut_at rest at lt feed ∙ ap (λ (l : List ℕ). take at rest ++ 10 ∷ l) (drop-drop (at + 1) from held)) none
           (subst (λ (n : ℕ). Moves old (Heard (take n rest)) new) size moves),
     )
+
+pub returns-then-not-branch-clause-left : goal.returns-then-not-branch-clause-left
+returns-then-not-branch-clause-left c =
+    let held = c.args.held.now in
+    let from = c.loop-at.from in
+    let at = c.in-Some.at in
+    let rest = drop from held in
+    let old = c.loop-at.talk in
+    let new = c.hear_line.new.talk in
+    let whole : take (length held - from) rest ≡ rest = take_rest held from in
+    let found = c.in-Some.ensures.found in
+    let lt : at < length rest = subst (λ (l : List ℕ). at < length l) whole found.0 in
+    let feed : get_or rest at 0 ≡ 10 = subst (λ (l : List ℕ). get_or l at 0 ≡ 10) whole found.1 in
+    let none : HasNoFeed (take at rest) = subst (λ (l : List ℕ). HasNoFeed (take at l)) whole c.in-Some.ensures.first in
+    let size : (from + at) - from ≡ at = omega arith in
+    let said : OnFalse c.in_ok-hear_line.field-0 ((new ≡ old) × ¬ IsUtf8 (take ((from + at) - from) rest)) =
+    c.in_ok-hear_line.ensures.none in
+    let no_text : (new ≡ old) × ¬ IsUtf8 (take ((from + at) - from) rest) =
+    subst (λ (b : Bool). OnFalse b ((new ≡ old) × ¬ IsUtf8 (take ((from + at) - from) rest))) c.if-not-branch.true said in
+    left_at rest at lt feed none (subst (λ (n : ℕ). ¬ IsUtf8 (take n rest)) size no_text.1)

@@ -9,7 +9,7 @@ use Rattle.chess_repeat.proofs.histories.History.push.Goals as goal
 
 pub invariant_of-self-2 : goal.invariant_of-self-2
 invariant_of-self-2 c =
-    let key = c.key_from-key.result in
+    let key = c.new-whole.result in
     let inside = c.self.inside.clocks.items in
     let old = c.self.inside.counts.entries in
     let new = c.insert.new.self.entries in
@@ -32,40 +32,40 @@ returns-clause-pushed c list is =
     let new = c.insert.new.self.entries in
     let clocks : c.push.new.self.items ≡ c.args.self.now.clocks ++ p.halfmove ∷ [] =
     first_of (search rules, grind (arith, common_steps)) in
-    let counted : c.count-count.result ≡ count_in old c.key_from-key.result =
-    c.count-count.ensures ∙ ap (λ (h : HistoryState). count_in h.counts c.key_from-key.result) (sym c.self.view_is) in
-    let more : CountsOneMore c.key_from-key.result old new =
-    counts_one_more c.key_from-key.result old new c.count-count.result counted c.in_ok-insert.ensures.updates.0 in
+    let counted : c.count-count.result ≡ count_in old c.new-whole.result =
+    c.count-count.ensures ∙ ap (λ (h : HistoryState). count_in h.counts c.new-whole.result) (sym c.self.view_is) in
+    let more : CountsOneMore c.new-whole.result old new =
+    counts_one_more c.new-whole.result old new c.count-count.result counted c.in_ok-insert.ensures.updates.0 in
     let More : List ℕ → Type 0 = λ key. CountsOneMore key old new in
     let Seen : HistoryState → Type 0 = λ h. CountsOneMore (key_of p) h.counts new in
     let now : HistoryState = record { clocks = c.push.new.self.items; counts = new } in
     history-push c.args.self.now now list p c.rights-valid.ensures.valid is clocks
-    (subst Seen c.self.view_is (subst More c.key_from-key.ensures more))
+    (subst Seen c.self.view_is (subst More (c.new-whole.ensures ∙ c.key_from-key.ensures) more))
 
 pub returns-clause-count : goal.returns-clause-count
 returns-clause-count c =
     let p = c.args.board.now in
     let old = c.self.inside.counts.entries in
     let new = c.insert.new.self.entries in
-    let counted : c.count-count.result ≡ count_in old c.key_from-key.result =
-    c.count-count.ensures ∙ ap (λ (h : HistoryState). count_in h.counts c.key_from-key.result) (sym c.self.view_is) in
-    let more : CountsOneMore c.key_from-key.result old new =
-    counts_one_more c.key_from-key.result old new c.count-count.result counted c.in_ok-insert.ensures.updates.0 in
-    ap (λ (n : ℕ). n + 1) counted ∙ sym (counted_more c.key_from-key.result old new more)
-    ∙ ap (λ (key : List ℕ). count_in new key) c.key_from-key.ensures
+    let counted : c.count-count.result ≡ count_in old c.new-whole.result =
+    c.count-count.ensures ∙ ap (λ (h : HistoryState). count_in h.counts c.new-whole.result) (sym c.self.view_is) in
+    let more : CountsOneMore c.new-whole.result old new =
+    counts_one_more c.new-whole.result old new c.count-count.result counted c.in_ok-insert.ensures.updates.0 in
+    ap (λ (n : ℕ). n + 1) counted ∙ sym (counted_more c.new-whole.result old new more)
+    ∙ ap (λ (key : List ℕ). count_in new key) (c.new-whole.ensures ∙ c.key_from-key.ensures)
 
 pub returns-clause-times : goal.returns-clause-times
 returns-clause-times c list is =
     let p = c.args.board.now in
     let old = c.self.inside.counts.entries in
     let new = c.insert.new.self.entries in
-    let counted : c.count-count.result ≡ count_in old c.key_from-key.result =
-    c.count-count.ensures ∙ ap (λ (h : HistoryState). count_in h.counts c.key_from-key.result) (sym c.self.view_is) in
-    let more : CountsOneMore c.key_from-key.result old new =
-    counts_one_more c.key_from-key.result old new c.count-count.result counted c.in_ok-insert.ensures.updates.0 in
+    let counted : c.count-count.result ≡ count_in old c.new-whole.result =
+    c.count-count.ensures ∙ ap (λ (h : HistoryState). count_in h.counts c.new-whole.result) (sym c.self.view_is) in
+    let more : CountsOneMore c.new-whole.result old new =
+    counts_one_more c.new-whole.result old new c.count-count.result counted c.in_ok-insert.ensures.updates.0 in
     let times : c.count-count.result + 1 ≡ count_by (λ q. is_key (key_of q) (key_of p)) list =
-    ap (λ (n : ℕ). n + 1) counted ∙ sym (counted_more c.key_from-key.result old new more)
-    ∙ ap (λ (key : List ℕ). count_in new key) c.key_from-key.ensures ∙ is.counts (key_of p) in
+    ap (λ (n : ℕ). n + 1) counted ∙ sym (counted_more c.new-whole.result old new more)
+    ∙ ap (λ (key : List ℕ). count_in new key) (c.new-whole.ensures ∙ c.key_from-key.ensures) ∙ is.counts (key_of p) in
     let Times : ℕ → Type 0 = IsTimes p list in
     subst Times (sym times) (counted_times p list c.rights-valid.ensures.valid is.valid)
 

@@ -10,7 +10,8 @@ pub returns-clause-times : goal.returns-clause-times
 returns-clause-times c list is =
     let p = c.args.board.now in
     let counted : c.count.result ≡ count_by (λ q. is_key (key_of q) (key_of p)) list =
-    c.count.ensures ∙ ap (count_in c.args.self.now.counts) c.key_from.ensures ∙ is.counts (key_of p) in
+    c.count.ensures ∙ ap (count_in c.args.self.now.counts) (c.new.ensures ∙ c.key_from.ensures)
+    ∙ is.counts (key_of p) in
     let Times : ℕ → Type 0 = IsTimes p list in
     subst Times (sym counted) (counted_times p list c.rights-valid.ensures.valid is.valid)
 

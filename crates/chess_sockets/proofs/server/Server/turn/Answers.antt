@@ -5,7 +5,7 @@ use Rattle.chess_hub.specs.Faults.{CountsFault}
 use Rattle.chess_sockets.specs.Serving.{state_of}
 use Rattle.chess_sockets.specs.Turns.{EndsServing, IsTurnRefusal}
 use Rattle.chess_sockets.proofs.StoreLemmas.{lasts_over, lasts_handed, of_fault, counts_refused, counts_done}
-use Rattle.chess_sockets.proofs.ServingLemmas.{welcomed_there, welcomed_on}
+use Rattle.chess_sockets.proofs.ServingLemmas.{welcomed_there, welcomed_on, asked_there}
 use Rattle.chess_sockets.proofs.server.Server.turn.Goals as goal
 
 -- ---- what is left of the store
@@ -159,3 +159,29 @@ returns-in_err-has_served-clause-counts g c =
     (counts_refused c.serve_clients.result r.result e.0 c.in_err-has_served.field-0.0
     c.welcome-came.new.self.hub.refusals c.serve_clients.new.hub.refusals c.in_err-has_served.was e.1 e.2
     c.serve_clients.ensures.counts)
+
+-- ---- who is asked for
+
+pub returns-then-came-has_served-clause-asked : goal.returns-then-came-has_served-clause-asked
+returns-then-came-has_served-clause-asked g c =
+    let old = c.args.self.now in
+    let p = c.part.new.self in
+    let w = c.welcome-came.new.self in
+    asked_there p.rested old.rested p.door old.door w.door c.part-2.new.self.door c.part.ensures.rested c.part.ensures.door
+    c.part-2.ensures.door c.welcome-came.ensures.asked
+
+pub returns-else-came-has_served-clause-asked : goal.returns-else-came-has_served-clause-asked
+returns-else-came-has_served-clause-asked g c =
+    let old = c.args.self.now in
+    let p = c.part.new.self in
+    let w = c.welcome-came.new.self in
+    asked_there p.rested old.rested p.door old.door w.door c.part-2.new.self.door c.part.ensures.rested c.part.ensures.door
+    c.part-2.ensures.door c.welcome-came.ensures.asked
+
+pub returns-in_err-has_served-clause-asked : goal.returns-in_err-has_served-clause-asked
+returns-in_err-has_served-clause-asked g c =
+    let old = c.args.self.now in
+    let p = c.part.new.self in
+    let w = c.welcome-came.new.self in
+    asked_there p.rested old.rested p.door old.door w.door w.door c.part.ensures.rested c.part.ensures.door refl
+    c.welcome-came.ensures.asked

@@ -3,46 +3,53 @@ use Rattle.std.proofs.Common.{inl, refl, rules, arith}
 use Rattle.chess_sessions.specs.Session.{session_at}
 use Rattle.std.proofs.lemmas.Bool.{false≢true}
 use Rattle.client_streams.specs.Incoming.{held}
-use Rattle.client_streams.proofs.TakingLemmas.{gives-nothing, gives-closed, gives-fed, cut-off, heard_open, waits-still, waits-longer, waits-no-more}
+use Rattle.client_streams.specs.Sending.{waiting}
+use Rattle.client_streams.proofs.TakingLemmas.{gives-none-up, gives-none-yet, gives-closed, gives-fed, up_lines, cut-off, most-left, heard_open}
 use Rattle.client_streams.proofs.RoundLemmas.{not_closed}
 use Rattle.client_streams.proofs.client.Client.hand_on.Goals as goal
 
 pub returns-then-waiting-gt0-clause-gives : goal.returns-then-waiting-gt0-clause-gives
 returns-then-waiting-gt0-clause-gives g c =
     let client = c.args.self.now in
+    let room = c.args.room.now in
     let m = session_at c.args.sessions.now client.sid in
-    gives-nothing c.args.room.now.lines c.args.room.now.lines m m (held client.incoming) (omega arith) refl
-    (waits-still (held client.incoming) client.waited client.waited refl)
+    gives-none-up room.lines room.longest m m (waiting client.outgoing) (held client.incoming) refl
+    (up_lines (waiting client.outgoing) (held client.incoming) m m c.waiting.result c.waiting.ensures (omega (arith, c.if-waiting-gt0.true))) refl
 
 pub returns-then-not-admit-clause-gives : goal.returns-then-not-admit-clause-gives
 returns-then-not-admit-clause-gives g c =
-    let m = session_at c.args.sessions.now c.args.self.now.sid in
-    let holds = held c.args.self.now.incoming in
+    let client = c.args.self.now in
+    let room = c.args.room.now in
+    let m = session_at c.args.sessions.now client.sid in
     let cut = c.portion-portion.ensures.portion in
-    gives-nothing c.args.room.now.lines c.admit.new.self.lines m m holds c.admit.ensures.fewer refl
-    (waits-longer holds c.portion-portion.result.now cut.rest c.args.self.now.waited _ cut.order
-    (λ little. false≢true (c.if-not-admit.ensures.may.1 (inl little))) (search rules))
+    gives-none-yet room.lines c.admit.new.self.lines room.longest m (waiting client.outgoing) (held client.incoming)
+    c.portion-portion.result.now cut.rest c.if-not-admit.ensures.refused cut.order
+    (λ little. false≢true (c.if-not-admit.ensures.may.1 (inl little))) (search rules) c.if-not-admit.ensures.waits
 
 pub returns-then-feed-clause-gives : goal.returns-then-feed-clause-gives
 returns-then-feed-clause-gives g c =
-    let sid = c.args.self.now.sid in
-    let holds = held c.args.self.now.incoming in
+    let client = c.args.self.now in
+    let room = c.args.room.now in
+    let sid = client.sid in
+    let holds = held client.incoming in
     let portion = c.portion-portion.result.now in
     let cut = c.portion-portion.ensures.portion in
     let keeps = held c.give_up.new.self in
-    gives-fed c.args.room.now.lines c.admit.new.self.lines (session_at c.args.sessions.now sid)
-    (session_at c.feed.new.sessions sid) holds portion keeps
-    (cut-off holds portion cut.rest keeps cut.order c.give_up.ensures) c.admit.ensures.fewer c.if-not-admit.ensures.dear
-    c.if-feed.ensures.heard
-    (waits-no-more holds portion keeps c.args.self.now.waited 0 c.give_up.ensures c.portion-portion.ensures.some refl)
+    gives-fed client.waited 0 room.lines c.admit.new.self.lines room.longest (session_at c.args.sessions.now sid)
+    (session_at c.feed.new.sessions sid) (waiting client.outgoing) holds portion keeps
+    (cut-off holds portion cut.rest keeps cut.order c.give_up.ensures)
+    (most-left holds portion cut.rest keeps cut.order c.give_up.ensures cut.most) c.admit.ensures.fewer
+    c.if-not-admit.ensures.dear c.admit.ensures.spent c.if-feed.ensures.heard c.give_up.ensures
+    c.portion-portion.ensures.some refl
 
 pub returns-else-feed-clause-gives : goal.returns-else-feed-clause-gives
 returns-else-feed-clause-gives g c =
-    let sid = c.args.self.now.sid in
-    gives-closed c.args.room.now.lines c.admit.new.self.lines (session_at c.args.sessions.now sid)
-    (session_at c.feed.new.sessions sid) (held c.args.self.now.incoming) c.admit.ensures.fewer
-    c.if-feed.ensures.closed
-    (waits-still (held c.args.self.now.incoming) c.args.self.now.waited c.args.self.now.waited refl)
+    let client = c.args.self.now in
+    let room = c.args.room.now in
+    let sid = client.sid in
+    gives-closed room.lines c.admit.new.self.lines room.longest (session_at c.args.sessions.now sid)
+    (session_at c.feed.new.sessions sid) (waiting client.outgoing) (held client.incoming) c.admit.ensures.fewer
+    c.if-feed.ensures.closed refl
 
 -- who is not refused memory is not closed
 

@@ -1,24 +1,29 @@
 -- What came is held back, and then the session is given what stands in front.
 use Rattle.std.proofs.Common.{◌≡◌, ◌∙◌, ℕ, List, Option, None, IfSome, ap, refl, subst, sym, arith}
+use Rattle.std.proofs.lemmas.Bool.{false≢true}
 use Rattle.chess_sessions.specs.Session.{Changes, session_at}
 use Rattle.client_streams.specs.Clients.{GivesOn, TakesIn}
 use Rattle.client_streams.specs.Closings.{IsTrouble}
 use Rattle.client_streams.specs.Incoming.{held}
+use Rattle.client_streams.specs.Sending.{waiting}
 use Rattle.client_streams.proofs.HeardLemmas.{heard_as_before, heard_on, end_as_before, end_on}
 use Rattle.client_streams.proofs.RoundLemmas.{not_closed}
 use Rattle.client_streams.proofs.ClosingLemmas.{has_failed}
-use Rattle.client_streams.proofs.TakingLemmas.{takes-nothing, takes-in, gives-nothing, gives-closed, waits-still}
+use Rattle.client_streams.proofs.TakingLemmas.{takes-nothing, takes-in, gives-none-up, gives-closed, up_unsent, up_unfinished}
 use Rattle.client_streams.proofs.client.Client.take_in.Goals as goal
 
 pub returns-then-not-is_empty-clause-taken : goal.returns-then-not-is_empty-clause-taken
 returns-then-not-is_empty-clause-taken g c =
     let client = c.args.self.now in
-    let room = c.args.room.now.lines in
+    let room = c.args.room.now in
     let m = session_at c.args.sessions.now client.sid in
     let bytes = g.S.Read.remaining client.wire.stream in
     let holds = held client.incoming in
-    takes-in client.waited client.waited room room m m bytes bytes holds holds holds (takes-nothing bytes holds)
-    (gives-nothing room room m m holds (omega arith) refl (waits-still holds client.waited client.waited refl))
+    let unsent = waiting client.outgoing in
+    takes-in client.waited client.waited room.lines room.lines room.longest m m bytes bytes unsent holds holds holds
+    (takes-nothing bytes holds)
+    (gives-none-up room.lines room.longest m m unsent holds refl
+    (up_unsent unsent holds m m (λ none. false≢true (sym c.if-not-is_empty.true ∙ c.is_empty.ensures.1 none))) refl)
 
 pub returns-then-not-is_unfinished-clause-taken : goal.returns-then-not-is_unfinished-clause-taken
 returns-then-not-is_unfinished-clause-taken g c =
@@ -27,34 +32,39 @@ returns-then-not-is_unfinished-clause-taken g c =
     let old = c.args.sessions.now in
     let new = c.hand_on.new.sessions in
     let rest = g.S.Read.remaining in
-    subst (λ (b : Option (List ℕ)). IfSome (session_at old client.sid) (λ s. TakesIn c.args.room.now.lines
-    c.hand_on.new.room.lines (rest client.wire.stream) b (held client.incoming) (held after.incoming) client.waited after.waited s
-    (session_at new client.sid))) (sym (ap rest c.hand_on.ensures.stream))
-    (takes-in client.waited after.waited c.args.room.now.lines c.hand_on.new.room.lines (session_at old client.sid) (session_at new client.sid)
-    (rest client.wire.stream) (rest client.wire.stream) (held client.incoming) (held client.incoming) (held after.incoming)
-    (takes-nothing (rest client.wire.stream) (held client.incoming)) c.hand_on.ensures.gives)
+    let room = c.args.room.now in
+    let unsent = waiting client.outgoing in
+    subst (λ (b : Option (List ℕ)). IfSome (session_at old client.sid) (λ s. TakesIn room.lines
+    c.hand_on.new.room.lines room.longest (rest client.wire.stream) b unsent (held client.incoming) (held after.incoming)
+    client.waited after.waited s (session_at new client.sid))) (sym (ap rest c.hand_on.ensures.stream))
+    (takes-in client.waited after.waited room.lines c.hand_on.new.room.lines room.longest (session_at old client.sid)
+    (session_at new client.sid) (rest client.wire.stream) (rest client.wire.stream) unsent (held client.incoming)
+    (held client.incoming) (held after.incoming) (takes-nothing (rest client.wire.stream) (held client.incoming))
+    c.hand_on.ensures.gives)
 
 pub returns-in-Nothing-clause-taken : goal.returns-in-Nothing-clause-taken
 returns-in-Nothing-clause-taken g c =
     let client = c.args.self.now in
     let after = c.read_more.new.self in
-    let room = c.args.room.now.lines in
+    let room = c.args.room.now in
     let m = session_at c.args.sessions.now client.sid in
-    takes-in client.waited after.waited room room m m (g.S.Read.remaining client.wire.stream) (g.S.Read.remaining after.wire.stream) (held client.incoming)
-    (held after.incoming) (held after.incoming) c.read_more.ensures.takes
-    (gives-nothing room room m m (held after.incoming) (omega arith) refl
-    (waits-still (held after.incoming) client.waited after.waited c.read_more.ensures.peer.2))
+    takes-in client.waited after.waited room.lines room.lines room.longest m m (g.S.Read.remaining client.wire.stream)
+    (g.S.Read.remaining after.wire.stream) (waiting client.outgoing) (held client.incoming) (held after.incoming)
+    (held after.incoming) c.read_more.ensures.takes
+    (gives-none-up room.lines room.longest m m (waiting client.outgoing) (held after.incoming) refl
+    (up_unfinished (waiting client.outgoing) (held after.incoming) m m (c.read_more.ensures.nothing c.in-Nothing.is)) c.read_more.ensures.peer.2)
 
 pub returns-in-End-clause-taken : goal.returns-in-End-clause-taken
 returns-in-End-clause-taken g c =
     let client = c.args.self.now in
     let after = c.read_more.new.self in
-    let room = c.args.room.now.lines in
+    let room = c.args.room.now in
     let m = session_at c.args.sessions.now client.sid in
-    takes-in client.waited after.waited room room m m (g.S.Read.remaining client.wire.stream) (g.S.Read.remaining after.wire.stream) (held client.incoming)
-    (held after.incoming) (held after.incoming) c.read_more.ensures.takes
-    (gives-nothing room room m m (held after.incoming) (omega arith) refl
-    (waits-still (held after.incoming) client.waited after.waited c.read_more.ensures.peer.2))
+    takes-in client.waited after.waited room.lines room.lines room.longest m m (g.S.Read.remaining client.wire.stream)
+    (g.S.Read.remaining after.wire.stream) (waiting client.outgoing) (held client.incoming) (held after.incoming)
+    (held after.incoming) c.read_more.ensures.takes
+    (gives-none-up room.lines room.longest m m (waiting client.outgoing) (held after.incoming) refl
+    (up_unfinished (waiting client.outgoing) (held after.incoming) m m (c.read_more.ensures.end c.in-End.is)) c.read_more.ensures.peer.2)
 
 pub returns-in-Fault-clause-taken : goal.returns-in-Fault-clause-taken
 returns-in-Fault-clause-taken g c =
@@ -62,20 +72,25 @@ returns-in-Fault-clause-taken g c =
     let between = c.read_more.new.self in
     let after = c.close.new.self in
     let room = c.args.room.now.lines in
+    let longest = c.args.room.now.longest in
     let old = c.args.sessions.now in
     let new = c.close.new.sessions in
     let rest = g.S.Read.remaining in
+    let unsent = waiting client.outgoing in
     let closed = subst (λ (n : ℕ). Changes old new n None) c.read_more.ensures.peer.0 c.close.ensures.closed in
     let (sid, ended, quiet, holds, waits, stream, heard_at, wait) = c.close.ensures.peer in
-    subst (λ (b : Option (List ℕ)). IfSome (session_at old client.sid) (λ s. TakesIn room room (rest client.wire.stream) b
-    (held client.incoming) (held after.incoming) client.waited after.waited s (session_at new client.sid)))
+    subst (λ (b : Option (List ℕ)). IfSome (session_at old client.sid) (λ s. TakesIn room room longest
+    (rest client.wire.stream) b unsent (held client.incoming) (held after.incoming) client.waited after.waited s
+    (session_at new client.sid)))
     (sym (ap rest stream))
-    (subst (λ (l : List ℕ). IfSome (session_at old client.sid) (λ s. TakesIn room room (rest client.wire.stream)
-    (rest between.wire.stream) (held client.incoming) l client.waited after.waited s (session_at new client.sid))) (sym holds)
-    (takes-in client.waited after.waited room room (session_at old client.sid) (session_at new client.sid) (rest client.wire.stream) (rest between.wire.stream)
-    (held client.incoming) (held between.incoming) (held between.incoming) c.read_more.ensures.takes
-    (gives-closed room room (session_at old client.sid) (session_at new client.sid) (held between.incoming) (omega arith)
-    closed.changed (waits-still (held between.incoming) client.waited after.waited (wait ∙ c.read_more.ensures.peer.2)))))
+    (subst (λ (l : List ℕ). IfSome (session_at old client.sid) (λ s. TakesIn room room longest (rest client.wire.stream)
+    (rest between.wire.stream) unsent (held client.incoming) l client.waited after.waited s (session_at new client.sid)))
+    (sym holds)
+    (takes-in client.waited after.waited room room longest (session_at old client.sid) (session_at new client.sid)
+    (rest client.wire.stream) (rest between.wire.stream) unsent (held client.incoming) (held between.incoming)
+    (held between.incoming) c.read_more.ensures.takes
+    (gives-closed room room longest (session_at old client.sid) (session_at new client.sid) unsent (held between.incoming)
+    (omega arith) closed.changed (wait ∙ c.read_more.ensures.peer.2))))
 
 pub returns-in-Fault-clause-heard : goal.returns-in-Fault-clause-heard
 returns-in-Fault-clause-heard g c =
@@ -93,20 +108,27 @@ returns-in-Bytes-clause-taken g c =
     let between = c.read_more.new.self in
     let after = c.hand_on-in-Bytes.new.self in
     let room = c.args.room.now.lines in
+    let longest = c.args.room.now.longest in
     let left = c.hand_on-in-Bytes.new.room.lines in
     let old = c.args.sessions.now in
     let new = c.hand_on-in-Bytes.new.sessions in
     let rest = g.S.Read.remaining in
-    let gives = subst (λ (n : ℕ). IfSome (session_at old n) (λ s. GivesOn room left (held between.incoming)
-    (held after.incoming) client.waited after.waited s (session_at new n))) c.read_more.ensures.peer.0
-    (subst (λ (w : ℕ). IfSome (session_at old between.sid) (λ s. GivesOn room left (held between.incoming)
-    (held after.incoming) w after.waited s (session_at new between.sid))) c.read_more.ensures.peer.2
-    c.hand_on-in-Bytes.ensures.gives) in
-    subst (λ (b : Option (List ℕ)). IfSome (session_at old client.sid) (λ s. TakesIn room left (rest client.wire.stream) b
-    (held client.incoming) (held after.incoming) client.waited after.waited s (session_at new client.sid)))
+    let unsent = waiting client.outgoing in
+    let (same, waits, still) = c.read_more.ensures.peer in
+    let gives = subst (λ (n : ℕ). IfSome (session_at old n) (λ s. GivesOn room left longest unsent (held between.incoming)
+    (held after.incoming) client.waited after.waited s (session_at new n))) same
+    (subst (λ (w : ℕ). IfSome (session_at old between.sid) (λ s. GivesOn room left longest unsent (held between.incoming)
+    (held after.incoming) w after.waited s (session_at new between.sid))) still
+    (subst (λ (u : List ℕ). IfSome (session_at old between.sid) (λ s. GivesOn room left longest u (held between.incoming)
+    (held after.incoming) between.waited after.waited s (session_at new between.sid))) waits
+    c.hand_on-in-Bytes.ensures.gives)) in
+    subst (λ (b : Option (List ℕ)). IfSome (session_at old client.sid) (λ s. TakesIn room left longest
+    (rest client.wire.stream) b unsent (held client.incoming) (held after.incoming) client.waited after.waited s
+    (session_at new client.sid)))
     (sym (ap rest c.hand_on-in-Bytes.ensures.stream))
-    (takes-in client.waited after.waited room left (session_at old client.sid) (session_at new client.sid) (rest client.wire.stream) (rest between.wire.stream)
-    (held client.incoming) (held between.incoming) (held after.incoming) c.read_more.ensures.takes gives)
+    (takes-in client.waited after.waited room left longest (session_at old client.sid) (session_at new client.sid)
+    (rest client.wire.stream) (rest between.wire.stream) unsent (held client.incoming) (held between.incoming)
+    (held after.incoming) c.read_more.ensures.takes gives)
 
 pub returns-then-not-is_unfinished-clause-heard : goal.returns-then-not-is_unfinished-clause-heard
 returns-then-not-is_unfinished-clause-heard g c =

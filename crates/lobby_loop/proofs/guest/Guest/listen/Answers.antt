@@ -1,5 +1,5 @@
 -- A text of a connection that has a number.
-use Rattle.std.proofs.Common.{ℕ, List, Option, None, Some, refl, sym, subst}
+use Rattle.std.proofs.Common.{ℕ, List, Option, Some, refl, sym, subst}
 use Rattle.lobby_web.specs.declared.socket.Heard.TheVariants as heards
 use Rattle.lobby_loop.specs.Guests.{IsHeardAs, IsTextSaid}
 use Rattle.lobby_loop.proofs.guest.Guest.listen.Goals as goal

@@ -1,5 +1,4 @@
-use Rattle.std.proofs.Common.{◌≡◌, ◌<◌, ◌++◌, length, drop, sym, subst, ◌∙◌, List, ℕ}
-use Rattle.lobby_web.specs.Frames.{reply_bytes}
+use Rattle.std.proofs.Common.{◌≡◌, ◌<◌, length, drop, sym, subst, ◌∙◌, List, ℕ}
 use Rattle.lobby_web.proofs.TakeLemmas.{whole, takes}
 use Rattle.lobby_web.proofs.socket.Socket.take_frame.Goals as goal
 

@@ -1,0 +1,95 @@
+//! Nights on a file in memory, with every kill.
+use crate::{Archive, Step, game_of, pgn_of};
+use night_files::{Fate, MemoryFile};
+use std::alloc::Global;
+use std::test::Fail;
+
+// The games of a night, by number.
+const GAMES: [(u32, &str); 3] = [
+    (7, "[White \"a \\\"b\\\"\"]\n\n1. e4 *\n\n"),
+    (1, ""),
+    (4_294_967_295, "{\\n}\n"),
+];
+
+// What a crash does to the bytes that are not synced.
+const CUTS: [&[Fate]; 4] = [
+    &[],
+    &[Fate::Kept; 20],
+    &[Fate::Zeroed; 20],
+    &[Fate::Kept; 100],
+];
+
+// Keeps all games until a call fails. It tells how many calls were answered.
+fn keep_all(alloc: Global, archive: &mut Archive<MemoryFile>) -> usize {
+    let mut answered: usize = 0;
+    for (game, pgn) in &GAMES {
+        if archive.keep(alloc, *game, pgn.as_bytes()).is_err() {
+            return answered;
+        }
+        answered = answered.saturating_add(1);
+    }
+    answered
+}
+
+// Whether games are the first ones of the night, and at least so many.
+fn are_first(games: &[u32], least: usize) -> bool {
+    let mut all = GAMES.iter();
+    games.len() >= least
+        && games
+            .iter()
+            .all(|game| all.next().map(|one| one.0) == Some(*game))
+}
+
+// One kill: after so many calls, with these fates. Whether the next life has what was answered, and keeps all once.
+fn survives(alloc: Global, calls: u32, fates: &[Fate]) -> Result<bool, Fail> {
+    let file = MemoryFile::new(alloc, Some(calls));
+    let Ok(mut archive) = Archive::open(alloc, file) else {
+        return Ok(true);
+    };
+    let answered = keep_all(alloc, &mut archive);
+    let file = archive.into_file().crash(fates, None)?;
+    let Ok(mut archive) = Archive::open(alloc, file) else {
+        return Ok(false);
+    };
+    let kept = are_first(archive.games(), answered);
+    let again = keep_all(alloc, &mut archive);
+    Ok(kept && again == 3 && archive.games().len() == 3 && are_first(archive.games(), 3))
+}
+
+#[test]
+fn keeps_each_game_once(rt: HostRuntime) -> Result<(), Fail> {
+    for calls in 0..10 {
+        for fates in &CUTS {
+            assert!(rt; survives(rt.alloc(), calls, fates)?);
+        }
+    }
+    Ok(())
+}
+
+#[test]
+fn tells_what_is_to_be_done(rt: HostRuntime) -> Result<(), Fail> {
+    let file = MemoryFile::new(rt.alloc(), None);
+    let Ok(mut archive) = Archive::open(rt.alloc(), file) else {
+        assert!(rt; false);
+        return Ok(());
+    };
+    assert!(rt; archive.step_for(7, true, true) == Step::Keep);
+    assert!(rt; archive.step_for(7, false, true) == Step::Nothing);
+    assert!(rt; archive.keep(rt.alloc(), 7, b"*\n").is_ok());
+    assert!(rt; archive.has(7) && !archive.has(8));
+    assert!(rt; archive.step_for(7, true, true) == Step::Drop);
+    assert!(rt; archive.step_for(7, true, false) == Step::Nothing);
+    Ok(())
+}
+
+#[test]
+fn reads_lines(rt: HostRuntime) -> Result<(), Fail> {
+    let line = "{\"game\":12,\"pgn\":\"[A \\\"b\\\\\\\\\\\"]\\n*\\n\"}";
+    assert!(rt; game_of(line) == Some(12));
+    let pgn = pgn_of(rt.alloc(), line)?;
+    assert!(rt; pgn.as_slice() == b"[A \"b\\\\\"]\n*\n".as_slice());
+    assert!(rt; game_of("{\"game\":012,").is_none());
+    assert!(rt; game_of("{\"act\":1,").is_none());
+    assert!(rt; game_of("").is_none());
+    Ok(())
+}

@@ -1,0 +1,158 @@
+//! The word that keeps games that are over.
+use crate::command_line::Keeping;
+use crate::compared::has_game;
+use crate::link::Link;
+use crate::names::{full_name, players_of};
+use crate::rows::{Row, row_of};
+use anyhow::{Context, Result};
+use archive_file::{Archive, Step};
+use archive_text::{Heading, archived};
+use lobby_desk::Player;
+use night_files::NamedFile;
+use std::alloc::Global;
+use std::fs::{self, File};
+use std::net::{Net, TcpStream};
+use std::rt::Files;
+use text_parts::parts;
+
+/// How many games were kept and dropped.
+#[derive(Clone, Copy)]
+struct Counts {
+    kept: u32,
+    dropped: u32,
+}
+
+/// An archive that is filled from a server.
+#[derive(Drop)]
+struct Keeper<'a> {
+    alloc: Global,
+    link: Link,
+    archive: Archive<NamedFile>,
+    // The archive's lines when it was opened.
+    lines: String,
+    players: &'a [Player],
+    keeping: Keeping<'a>,
+    counts: Counts,
+}
+
+impl Keeper<'_> {
+    // Asks for the PGN of a game that is over, as the archive has it; none where the game has left the table since.
+    fn pgn_of(&mut self, row: Row<'_>) -> Result<Option<Vec<u8>>> {
+        let game = row.game;
+        let line = format!(in self.alloc; "pgn {game}")?;
+        let front = format!(in self.alloc; "ok pgn {game} ")?;
+        let answer = self.link.ask(line.as_str(), front.as_str())?;
+        if answer.behind.is_empty() {
+            return Ok(None);
+        }
+        let heading = Heading {
+            white: full_name(self.players, row.white),
+            black: full_name(self.players, row.black),
+            ..self.keeping.heading
+        };
+        let pgn = archived(self.alloc, &heading, answer.behind.as_str(), &[]).context(format_args!(
+            "game {game}"
+        ))?;
+        Ok(Some(pgn))
+    }
+
+    // Keeps a game that is over.
+    fn keep(&mut self, row: Row<'_>) -> Result<()> {
+        let game = row.game;
+        let Some(pgn) = self.pgn_of(row)? else {
+            return Ok(());
+        };
+        let is_new = self
+            .archive
+            .keep(self.alloc, game, pgn.as_slice())
+            .context(format_args!("game {game}"))?;
+        if is_new {
+            self.counts.kept = self.counts.kept.saturating_add(1);
+        }
+        Ok(())
+    }
+
+    // Stops where a game that was in the archive already is another than the one of the table.
+    fn compare(&mut self, row: Row<'_>) -> Result<()> {
+        let game = row.game;
+        let Some(pgn) = self.pgn_of(row)? else {
+            return Ok(());
+        };
+        if !has_game(self.alloc, self.lines.as_str(), game, pgn.as_slice())? {
+            anyhow::bail!("the archive has another game {game} than the table: nothing is dropped");
+        }
+        Ok(())
+    }
+
+    // Drops a game, under the name of a player who has a seat in it.
+    fn drop_game(&mut self, row: Row<'_>) -> Result<()> {
+        let game = row.game;
+        let white = row.white;
+        let name = format!(in self.alloc; "name {white}")?;
+        let drop = format!(in self.alloc; "drop {game}")?;
+        if self.link.is_done(name.as_str())? && self.link.is_done(drop.as_str())? {
+            self.counts.dropped = self.counts.dropped.saturating_add(1);
+        }
+        Ok(())
+    }
+
+    // Does what is to be done about a game.
+    fn look_at(&mut self, row: Row<'_>) -> Result<()> {
+        let drops = self.keeping.drops;
+        let was_there = self.archive.has(row.game);
+        if self.archive.step_for(row.game, row.is_over, drops) == Step::Keep {
+            self.keep(row)?;
+        }
+        if self.archive.step_for(row.game, row.is_over, drops) == Step::Drop {
+            if was_there {
+                self.compare(row)?;
+            }
+            self.drop_game(row)?;
+        }
+        Ok(())
+    }
+
+    // Looks at each game of the table.
+    fn look_at_all(&mut self) -> Result<()> {
+        let answer = self.link.ask("list", "ok list ")?;
+        let lines = parts(self.alloc, answer.behind.as_str(), '\n')?;
+        for line in lines.as_slice() {
+            match row_of(line) {
+                Some(row) => self.look_at(row)?,
+                None => anyhow::bail!("the server's list has a row of another form: {line:?}"),
+            }
+        }
+        Ok(())
+    }
+}
+
+/// Keeps the games of a server that are over, and drops them where that is asked.
+pub fn keep<R>(rt: &R, keeping: &Keeping<'_>) -> Result<()>
+where
+    R: Files<File = File> + Net<Stream = TcpStream> + AllocGlobal + Print,
+{
+    let players = players_of(rt, keeping.players)?;
+    let path = keeping.archive;
+    let file = NamedFile::open(rt, path).context(format_args!("opening {path}"))?;
+    let archive = Archive::open(rt.alloc(), file).context(format_args!("opening {path}"))?;
+    let lines = fs::read_to_string(rt, path).context(format_args!("reading {path}"))?;
+    let server = keeping.server;
+    let link = Link::open(rt, server).context(format_args!("the server at {server}"))?;
+    let mut keeper = Keeper {
+        alloc: rt.alloc(),
+        link,
+        archive,
+        lines,
+        players: players.as_slice(),
+        keeping: *keeping,
+        counts: Counts {
+            kept: 0,
+            dropped: 0,
+        },
+    };
+    keeper.look_at_all()?;
+    let Counts { kept, dropped } = keeper.counts;
+    let all = keeper.archive.games().len();
+    println!(rt; "kept {kept}, dropped {dropped}, in the archive {all}")?;
+    Ok(())
+}

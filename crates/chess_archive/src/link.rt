@@ -1,0 +1,70 @@
+//! A connection to the server.
+use anyhow::{Context, Result};
+use std::alloc::Global;
+use std::io::{BufRead, BufReader, Write};
+use std::net::{Net, SocketAddr, TcpStream};
+
+/// A connection, by which one line is asked at a time.
+#[derive(Drop)]
+pub struct Link {
+    alloc: Global,
+    stream: BufReader<TcpStream>,
+}
+
+/// An answer: its first line, and the lines behind it.
+#[derive(Drop)]
+pub struct Answer {
+    pub first: String,
+    pub behind: String,
+}
+
+// How many lines stand behind an answer that begins so; none behind another.
+fn lines_behind(first: &str, front: &str) -> u32 {
+    match first.strip_prefix(front) {
+        Some(count) => count.parse::<u32>().unwrap_or(0),
+        None => 0,
+    }
+}
+
+impl Link {
+    /// Connects to the server.
+    pub fn open<R: Net<Stream = TcpStream> + AllocGlobal>(
+        rt: &R,
+        server: SocketAddr,
+    ) -> Result<Link> {
+        let stream = TcpStream::connect(rt, server)?;
+        Ok(Link {
+            alloc: rt.alloc(),
+            stream: BufReader::new(rt.alloc(), stream)?,
+        })
+    }
+
+    // Puts a line of the server behind a text, and tells where it was whole.
+    fn read_line(&mut self, into: &mut String) -> Result<()> {
+        self.stream.read_line(into)?;
+        if !into.ends_with('\n') {
+            anyhow::bail!("the server is gone");
+        }
+        Ok(())
+    }
+
+    /// Asks a line. Where the answer begins with `front`, a number behind that says how many lines follow.
+    pub fn ask(&mut self, line: &str, front: &str) -> Result<Answer> {
+        self.stream.get_mut().write_all(line.as_bytes())?;
+        self.stream.get_mut().write_all(b"\n")?;
+        let mut first = String::new(self.alloc);
+        self.read_line(&mut first)?;
+        first.pop();
+        let mut behind = String::new(self.alloc);
+        for _ in 0..lines_behind(first.as_str(), front) {
+            self.read_line(&mut behind)?;
+        }
+        Ok(Answer { first, behind })
+    }
+
+    /// Asks a line, of which the answer is one line; whether it begins with `ok`.
+    pub fn is_done(&mut self, line: &str) -> Result<bool> {
+        let answer = self.ask(line, "ok")?;
+        Ok(answer.first.starts_with("ok"))
+    }
+}

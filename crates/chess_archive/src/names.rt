@@ -1,0 +1,24 @@
+//! Full names of players.
+use anyhow::{Context, Result};
+use lobby_desk::Player;
+use std::fs;
+use std::rt::Files;
+
+/// The players of a file; none without a file.
+pub fn players_of<R: Files + AllocGlobal>(rt: &R, file: Option<&str>) -> Result<Vec<Player>> {
+    let Some(file) = file else {
+        return Ok(Vec::new(rt.alloc()));
+    };
+    let text = fs::read(rt, file).context(format_args!("reading {file}"))?;
+    lobby_players::read(rt.alloc(), text.as_slice()).context(format_args!("{file}"))
+}
+
+/// The full name of a player, and the name itself where it is not among the players.
+pub fn full_name<'a>(players: &'a [Player], name: &'a str) -> &'a str {
+    for player in players {
+        if player.name.as_str() == name {
+            return player.full_name.as_str();
+        }
+    }
+    name
+}

@@ -1,0 +1,33 @@
+//! Plays what browsers, the server and the time do to a desk of three players, and writes what goes to the server and what
+//! browsers are told. A line of standard input is `browser` (one more comes), `leave N`, `say N TEXT` (with `|` for a line
+//! feed), `wait MS` (so many milliseconds pass), `here`, `gone` or `server LINE`. It is written back behind `% `; then what
+//! goes to the server, each line behind `> `, and each message behind the numbers of those who are told it.
+#![tactic(auto)]
+
+mod club;
+mod play;
+
+use anyhow::Result;
+use play::Play;
+use std::io::{self, BufRead, BufReader, Write};
+use std::process::ExitCode;
+
+fn main(rt: HostRuntime) -> ExitCode {
+    match run(&rt) {
+        Ok(()) => ExitCode::SUCCESS,
+        Err(error) => {
+            let _ = eprintln!(rt; "{error:#}");
+            ExitCode::FAILURE
+        }
+    }
+}
+
+fn run(rt: &HostRuntime) -> Result<()> {
+    let mut play = Play::new(rt.alloc())?;
+    for line in BufReader::new(rt.alloc(), rt.reader())?.lines(rt.alloc()) {
+        let line = line?;
+        let text = play.told_of(line.as_str())?;
+        io::writer(rt).write_all(text.as_str().as_bytes())?;
+    }
+    Ok(())
+}

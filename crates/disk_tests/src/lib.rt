@@ -1,0 +1,15 @@
+//! Tests of the crates of the disk, by what these export alone: so none of them is proved twice.
+#![tactic(auto)]
+
+#[cfg(test)]
+mod bytes;
+#[cfg(test)]
+mod callers;
+#[cfg(test)]
+mod copies;
+#[cfg(test)]
+mod memory_device;
+#[cfg(test)]
+mod names;
+#[cfg(test)]
+mod once_device;

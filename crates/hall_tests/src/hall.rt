@@ -1,0 +1,350 @@
+//! Browsers and a server over streams that give and take little, or fail.
+use lobby_loop::{Found, Hall, Listens, Welcomed, welcome};
+use lobby_web::Site;
+use std::alloc::Global;
+use std::hash::RandomState;
+use std::io;
+use std::io::{Error, ErrorKind, Read, Write};
+use std::process::Abort;
+
+/// What a stream gives at a read.
+#[derive(Clone, Copy)]
+enum Gives {
+    Bytes(&'static [u8]),
+    Nothing,
+    End,
+    Reset,
+}
+
+/// A stream that gives these, one at a read, and the last one again and again, and takes so many bytes at a write.
+#[derive(Drop)]
+struct Peer {
+    gives: &'static [Gives],
+    reads: usize,
+    takes: usize,
+    is_full: bool,
+    written: Vec<u8>,
+}
+
+impl Read for Peer {
+    fn read(&mut self, buf: &mut [u8]) -> io::Result<usize> {
+        let last = self.gives.len().saturating_sub(1);
+        let place = if self.reads < last { self.reads } else { last };
+        self.reads = self.reads.saturating_add(1);
+        match self.gives.get(place) {
+            Some(Gives::Bytes(bytes)) if bytes.len() <= buf.len() => {
+                buf[..bytes.len()].copy_from_slice(bytes);
+                Ok(bytes.len())
+            }
+            Some(Gives::Nothing) => Err(Error::from(ErrorKind::WouldBlock)),
+            Some(Gives::Reset) => Err(Error::from(ErrorKind::ConnectionReset)),
+            _ => Ok(0),
+        }
+    }
+}
+
+impl Write for Peer {
+    fn write(&mut self, buf: &[u8]) -> io::Result<usize> {
+        self.is_full = !self.is_full;
+        if !self.is_full {
+            return Err(Error::from(ErrorKind::WouldBlock));
+        }
+        let count = if buf.len() < self.takes {
+            buf.len()
+        } else {
+            self.takes
+        };
+        self.written.extend_from_slice(&buf[..count])?;
+        Ok(count)
+    }
+
+    fn flush(&mut self) -> io::Result<()> {
+        Ok(())
+    }
+}
+
+const UPGRADE: &[u8] =
+    b"GET /ws HTTP/1.1\r\nHost: a:1\r\nOrigin: http://a:1\r\nConnection: Upgrade\r\nUpgrade: websocket\r\nSec-WebSocket-Version: 13\r\nSec-WebSocket-Key: AAAAAAAAAAAAAAAAAAAAAA==\r\n\r\n";
+
+fn stream_of(alloc: Global, gives: &'static [Gives], takes: usize) -> Peer {
+    Peer {
+        gives,
+        reads: 0,
+        takes,
+        is_full: false,
+        written: Vec::new(alloc),
+    }
+}
+
+// A hall under the host `a:1`, with one browser that gives these, before a server that gives those.
+fn begun(
+    rt: &impl Abort,
+    alloc: Global,
+    keys: RandomState,
+    browser: Peer,
+    server: Peer,
+) -> Hall<Peer> {
+    let mut hosts = Vec::new(alloc);
+    hosts
+        .push(b"a:1".to_vec(alloc).expect(rt, "memory"))
+        .expect(rt, "memory");
+    let site = Site::new(hosts, Vec::new(alloc));
+    let mut hall = Hall::new(alloc, keys, site, Vec::new(alloc));
+    hall.server_came(server).expect(rt, "memory");
+    hall.admit(browser, 2, 0);
+    hall
+}
+
+// So many turns with all sockets awake, so many milliseconds apart.
+fn turn(rt: &impl Abort, hall: &mut Hall<Peer>, turns: u64, apart: u64) {
+    for turn in 0..turns {
+        hall.turn(turn.saturating_mul(apart)).expect(rt, "memory");
+        hall.wake(2);
+        hall.wake_server();
+    }
+}
+
+/// What one browser and the server give.
+#[derive(Clone, Copy)]
+struct Script {
+    browser: &'static [Gives],
+    server: &'static [Gives],
+    /// So many bytes the browser's socket takes at a write.
+    takes: usize,
+}
+
+/// Where halls are tried.
+#[derive(Drop)]
+struct Lab {
+    alloc: Global,
+    keys: RandomState,
+}
+
+// What becomes of them in so many turns, so many milliseconds apart.
+fn played(rt: &impl Abort, lab: &Lab, script: Script, turns: u64, apart: u64) -> Hall<Peer> {
+    let alloc = lab.alloc;
+    let keys = lab.keys;
+    let browser = stream_of(alloc, script.browser, script.takes);
+    let server = stream_of(alloc, script.server, 1_000);
+    let mut hall = begun(rt, alloc, keys, browser, server);
+    turn(rt, &mut hall, turns, apart);
+    hall
+}
+
+// Whether what was written to the browser ends with these bytes.
+fn is_told(hall: &Hall<Peer>, end: &[u8]) -> bool {
+    match hall.guest_stream() {
+        Some(peer) => peer.written.as_slice().ends_with(end),
+        None => false,
+    }
+}
+
+// Whether this was written to the server.
+fn is_asked(hall: &Hall<Peer>, lines: &[u8]) -> bool {
+    match hall.server_stream() {
+        Some(peer) => peer.written.as_slice() == lines,
+        None => false,
+    }
+}
+
+// These before a server that says nothing.
+fn alone(browser: &'static [Gives]) -> Script {
+    Script {
+        browser,
+        server: &[Gives::Nothing],
+        takes: 1_000,
+    }
+}
+
+// A message with a line feed in it, one of 256 bytes, one that is no ASCII, and one without a byte.
+const NONE: &[u8] =
+    b"\x81\x86\0\0\0\0show\n7\x81\xfe\x01\0\0\0\0\0show 000000000000000000000000000000000000000000000000000000000\
+0000000000000000000000000000000000000000000000000000000000000000000000000000000000000000000000000000\
+0000000000000000000000000000000000000000000000000000000000000000000000000000000000000000000001\
+\x81\x87\0\0\0\0show \xc3\xa4\x81\x80\0\0\0\0";
+
+// 22 times `leave lobby`
+const FLOOD: &[u8] =
+    b"\x81\x8b\0\0\0\0leave lobby\x81\x8b\0\0\0\0leave lobby\x81\x8b\0\0\0\0leave lobby\x81\x8b\0\0\0\0leave lobby\
+\x81\x8b\0\0\0\0leave lobby\x81\x8b\0\0\0\0leave lobby\x81\x8b\0\0\0\0leave lobby\x81\x8b\0\0\0\0leave lobby\
+\x81\x8b\0\0\0\0leave lobby\x81\x8b\0\0\0\0leave lobby\x81\x8b\0\0\0\0leave lobby\x81\x8b\0\0\0\0leave lobby\
+\x81\x8b\0\0\0\0leave lobby\x81\x8b\0\0\0\0leave lobby\x81\x8b\0\0\0\0leave lobby\x81\x8b\0\0\0\0leave lobby\
+\x81\x8b\0\0\0\0leave lobby\x81\x8b\0\0\0\0leave lobby\x81\x8b\0\0\0\0leave lobby\x81\x8b\0\0\0\0leave lobby\
+\x81\x8b\0\0\0\0leave lobby\x81\x8b\0\0\0\0leave lobby";
+
+#[test]
+fn a_message_goes_to_the_server_or_is_refused(rt: HostRuntime) {
+    let lab = Lab {
+        alloc: rt.alloc(),
+        keys: RandomState::new(&rt).expect(&rt, "keys"),
+    };
+    // half a frame, and an answer in two pieces
+    let halves = Script {
+        browser: &[
+            Gives::Bytes(UPGRADE),
+            Gives::Nothing,
+            Gives::Bytes(b"\x81\x86\0\0\0\0sho"),
+            Gives::Nothing,
+            Gives::Bytes(b"w 7"),
+            Gives::Nothing,
+        ],
+        server: &[
+            Gives::Nothing,
+            Gives::Nothing,
+            Gives::Nothing,
+            Gives::Nothing,
+            Gives::Nothing,
+            Gives::Nothing,
+            Gives::Nothing,
+            Gives::Nothing,
+            Gives::Bytes(b"no 3 "),
+            Gives::Bytes(b"NoGame\n"),
+            Gives::Nothing,
+        ],
+        takes: 7,
+    };
+    // (the first is not answered)
+    let three = alone(&[
+        Gives::Bytes(UPGRADE),
+        Gives::Bytes(b"\x81\x85\0\0\0\0fen 1\x81\x85\0\0\0\0fen 2\x81\x85\0\0\0\0fen 3"),
+        Gives::Nothing,
+    ]);
+    let no_lines = alone(&[Gives::Bytes(UPGRADE), Gives::Bytes(NONE), Gives::Nothing]);
+    let flood = alone(&[Gives::Bytes(UPGRADE), Gives::Bytes(FLOOD), Gives::Nothing]);
+    let cases: [(Script, &[u8], &[u8]); 4] = [
+        (
+            halves,
+            b"show 7\n",
+            b"\x81\x0cserver here\n\x81\x0cno 3 NoGame\n",
+        ),
+        (three, b"fen 1\n", b"\x81\x0cserver here\n"),
+        (
+            no_lines,
+            b"",
+            b"\x81\x0cserver here\n\x81\x0dno 1 BadLine\n\x81\x0dno 1 BadLine\n\x81\x0dno 1 BadLine\n\x81\x0dno 1 BadLine\n",
+        ),
+        (
+            flood,
+            b"",
+            b"\x81\x0fok leave lobby\n\x81\x0eno 34 TooFast\n\x81\x0eno 34 TooFast\n",
+        ),
+    ];
+    for (script, asked, told) in cases {
+        let hall = played(&rt, &lab, script, 90, 1);
+        assert!(rt; is_asked(&hall, asked) && is_told(&hall, told));
+    }
+}
+
+#[test]
+fn who_is_silent_is_asked_and_then_let_go(rt: HostRuntime) {
+    let lab = Lab {
+        alloc: rt.alloc(),
+        keys: RandomState::new(&rt).expect(&rt, "keys"),
+    };
+    let open = alone(&[Gives::Bytes(UPGRADE), Gives::Nothing]);
+    for turns in [40, 74] {
+        let asked = played(&rt, &lab, open, turns, 1_000);
+        assert!(rt; is_told(&asked, b"\x81\x0cserver here\n\x89\0"));
+    }
+    assert!(rt; played(&rt, &lab, open, 82, 1_000).len() == 0);
+}
+
+#[test]
+fn half_a_head_and_then_nothing_is_let_go(rt: HostRuntime) {
+    let lab = Lab {
+        alloc: rt.alloc(),
+        keys: RandomState::new(&rt).expect(&rt, "keys"),
+    };
+    let half = alone(&[
+        Gives::Bytes(b"GET /ws HTTP/1.1\r\nHost: a:1\r\n"),
+        Gives::Nothing,
+    ]);
+    assert!(rt; played(&rt, &lab, half, 59, 1_000).len() == 1);
+    assert!(rt; played(&rt, &lab, half, 67, 1_000).len() == 0);
+}
+
+#[test]
+fn who_closes_is_let_go_and_who_is_reset(rt: HostRuntime) {
+    let lab = Lab {
+        alloc: rt.alloc(),
+        keys: RandomState::new(&rt).expect(&rt, "keys"),
+    };
+    let closes = alone(&[
+        Gives::Bytes(UPGRADE),
+        Gives::Bytes(b"\x88\x82\0\0\0\0\x03\xe8"),
+        Gives::Nothing,
+    ]);
+    let is_reset = alone(&[Gives::Bytes(UPGRADE), Gives::Nothing, Gives::Reset]);
+    for script in [closes, is_reset] {
+        let hall = played(&rt, &lab, script, 90, 1);
+        assert!(rt; hall.len() == 0 && hall.has_server());
+    }
+}
+
+#[test]
+fn an_answer_that_breaks_off_is_lost(rt: HostRuntime) {
+    let lab = Lab {
+        alloc: rt.alloc(),
+        keys: RandomState::new(&rt).expect(&rt, "keys"),
+    };
+    let script = Script {
+        browser: &[
+            Gives::Bytes(UPGRADE),
+            Gives::Bytes(b"\x81\x84\0\0\0\0list"),
+            Gives::Nothing,
+        ],
+        server: &[
+            Gives::Nothing,
+            Gives::Nothing,
+            Gives::Nothing,
+            Gives::Nothing,
+            Gives::Nothing,
+            Gives::Bytes(b"ok list 2\n1 ann bob 0 *\n"),
+            Gives::End,
+        ],
+        takes: 1_000,
+    };
+    let hall = played(&rt, &lab, script, 90, 1);
+    assert!(rt; !hall.has_server() && is_told(&hall, b"\x81\x05lost\n\x81\x0cserver gone\n"));
+}
+
+/// An entrance that finds these, one at a try.
+#[derive(Drop)]
+struct Door {
+    finds: &'static [ErrorKind],
+    tries: usize,
+}
+
+impl Listens for Door {
+    type Stream = Peer;
+
+    fn accept_one(&mut self) -> Found<Peer> {
+        let found = self.finds.get(self.tries).copied();
+        self.tries = self.tries.saturating_add(1);
+        match found {
+            Some(ErrorKind::ConnectionAborted) => Found::Lost,
+            Some(ErrorKind::OutOfMemory) => Found::Refused,
+            _ => Found::Nobody,
+        }
+    }
+
+    fn watch(&mut self, _stream: &mut Peer, _key: usize) -> bool {
+        false
+    }
+}
+
+#[test]
+fn a_failed_accept_ends_the_turn_at_the_door(rt: HostRuntime) {
+    let lab = Lab {
+        alloc: rt.alloc(),
+        keys: RandomState::new(&rt).expect(&rt, "keys"),
+    };
+    let mut hall = played(&rt, &lab, alone(&[Gives::End]), 90, 1);
+    let mut door = Door {
+        finds: &[ErrorKind::ConnectionAborted, ErrorKind::OutOfMemory],
+        tries: 0,
+    };
+    assert!(rt; welcome(&mut door, &mut hall, 0) == Welcomed::Refused);
+    assert!(rt; door.tries == 2);
+    assert!(rt; welcome(&mut door, &mut hall, 0) == Welcomed::All);
+}

@@ -1,0 +1,6 @@
+//! The command line of the lobby: its words and the texts of their help.
+#![tactic(auto)]
+
+mod command_line;
+
+pub use command_line::{Adding, Serving, Word, read_words, words_given};

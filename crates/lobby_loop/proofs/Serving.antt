@@ -1,0 +1,593 @@
+-- What is done at a browser's connection is told on.
+use Rattle.std.proofs.Common.{◌≡◌, ◌≢◌, ◌≤◌, ℕ, Bool, true, false, inl, inr, List, [], ◌∷◌, ◌++◌, Option, None, Some, filter, cond, length, take, refl, ap, sym, ◌∙◌, subst, append_assoc, append-nil, length-append, arith, Vec, Global}
+use Rattle.std.specs.Prelude.{◌==◌, IsUtf8, if◌then◌else◌}
+use Rattle.std.specs.List.{AllZip}
+use Rattle.std.specs.String.{string_bytes}
+use Rattle.std.specs.Io.KnownBytes.{Consumes, Appends}
+use Rattle.std.proofs.lemmas.Bool.{cases_Bool, false≢true}
+use Rattle.std.proofs.lemmas.Bool.Decides.{eqb_tells}
+use Rattle.websocket.specs.Content.{text as Text, ping as Ping}
+use Rattle.lobby_desk.specs.declared.telling.Told.{Told}
+use Rattle.lobby_desk.specs.Events.{Event, Opened, Closed, Said, Hurried, Heard, Gone, Here, Telling, telling, tellings}
+use Rattle.lobby_desk.specs.Who.{at_table, said_event}
+use Rattle.lobby_desk.specs.History.{Step}
+use Rattle.lobby_web.specs.declared.browser.Browser.{Browser}
+use Rattle.lobby_web.specs.declared.site.Site.{Site}
+use Rattle.lobby_web.specs.declared.socket.Heard.TheVariants as heards
+use Rattle.lobby_web.specs.Browsing.{pending}
+use Rattle.lobby_loop.specs.declared.guest.Guest.{Guest}
+use Rattle.lobby_loop.specs.declared.made.Made.{Made}
+use Rattle.lobby_loop.specs.Making.{IsMadeOf}
+use Rattle.lobby_loop.specs.Guests.{IsNewGuest, IsAsBefore, IsRead, IsSaidIf, is_for, AreTold, IsWritten, IsLookedAfter}
+use Rattle.lobby_loop.specs.Living.{numbers}
+use Rattle.lobby_loop.specs.Doing.{Doing, Took, Tried, Gave, WasTold, Wrote, Spot, spot, DoesAt, has_opened, texts_more, texts_given, texts_told, AreLate, message_of, messages_of, IsSaidAs, IsSaidBy, all_tells, told_for, is_opening, before_opening, IsToldAs, IsToldOf, IsToldBy, IsServed, WasClosed, WereServed, AreServed}
+
+-- ---- events of other connections
+
+differs : (d c : ℕ) → d ≢ c → (d == c) ≡ false
+differs d c other = elim (eqb_tells d c) [ inl both ↦ absurd (other both.1) | inr both ↦ both.0 ]
+
+pub is_same : (c : ℕ) → (c == c) ≡ true
+is_same c = elim (eqb_tells c c) [ inl both ↦ both.0 | inr both ↦ absurd (both.1 refl) ]
+
+-- an event that says nothing of what a connection said, and does not open it
+abbrev pub IsApart : ℕ → Event → Type 0
+IsApart c (Opened d) = d ≢ c
+IsApart c (Said d text) = d ≢ c
+IsApart c (Hurried d) = d ≢ c
+IsApart c _ = Unit {0}
+
+abbrev pub ApartFrom : Option ℕ → Event → Type 0
+ApartFrom None e = Unit {0}
+ApartFrom (Some c) e = IsApart c e
+
+abbrev pub AreApart : List (Option ℕ) → Event → Type 0
+AreApart [] e = Unit {0}
+AreApart (n ∷ ns) e = ApartFrom n e × AreApart ns e
+
+message_apart : (c : ℕ) (e : Event) (before : List Event) → IsApart c e → message_of c e before ≡ before
+message_apart c (Opened d) before apart = ap (λ (b : Bool). if b then [] else before) (differs d c apart)
+message_apart c (Closed d) before apart = refl
+message_apart c (Said d text) before apart = ap (λ (b : Bool). if b then Said d text ∷ before else before) (differs d c apart)
+message_apart c (Hurried d) before apart = ap (λ (b : Bool). if b then Hurried d ∷ before else before) (differs d c apart)
+message_apart c (Heard line) before apart = refl
+message_apart c Gone before apart = refl
+message_apart c Here before apart = refl
+
+opening_apart : (c : ℕ) (e : Event) → IsApart c e → is_opening c e ≡ false
+opening_apart c (Opened d) apart = differs d c apart
+opening_apart c (Closed d) apart = refl
+opening_apart c (Said d text) apart = refl
+opening_apart c (Hurried d) apart = refl
+opening_apart c (Heard line) apart = refl
+opening_apart c Gone apart = refl
+opening_apart c Here apart = refl
+
+said_on : (n : Option ℕ) (s : Step) (steps : List Step) (past : List Doing) → ApartFrom n s.event → IsSaidBy steps n past →
+    IsSaidBy (s ∷ steps) n past
+said_on None s steps past apart said = said
+said_on (Some c) s steps past apart (opened, said) = (
+  opened,
+  subst (λ (l : List Event). AllZip IsSaidAs (texts_given past) l)
+      (sym (message_apart c s.event (messages_of c steps) apart)) said,
+)
+
+told_on : (n : Option ℕ) (s : Step) (steps : List Step) (out : List Telling) (past : List Doing) → ApartFrom n s.event →
+    IsToldBy steps out n past → IsToldBy (s ∷ steps) out n past
+told_on None s steps out past apart told = told
+told_on (Some c) s steps out past apart told = record {
+  before = told.before;
+  since = told.since;
+  split = told.split;
+  early = subst (λ (b : Bool). length told.before ≤ length (all_tells (if b then steps else before_opening c steps)))
+      (sym (opening_apart c s.event apart)) told.early;
+  told = told.told;
+}
+
+-- ---- what changes nothing of what was said and told
+
+said_same : (n : Option ℕ) (steps : List Step) (p q : List Doing) → has_opened q ≡ has_opened p → texts_given q ≡ texts_given p →
+    IsSaidBy steps n p → IsSaidBy steps n q
+said_same None steps p q opened texts said = opened ∙ said
+said_same (Some c) steps p q opened texts (was, said) = (
+  opened ∙ was,
+  subst (λ (l : List (List ℕ)). AllZip IsSaidAs l (messages_of c steps)) (sym texts) said,
+)
+
+told_same : (n : Option ℕ) (steps : List Step) (out : List Telling) (p q : List Doing) → texts_told q ≡ texts_told p →
+    IsToldBy steps out n p → IsToldBy steps out n q
+told_same None steps out p q texts told = texts ∙ told
+told_same (Some c) steps out p q texts told = record {
+  before = told.before;
+  since = told.since;
+  split = told.split;
+  early = told.early;
+  told = subst (λ (l : List (List ℕ)). AllZip IsToldAs (told_for c told.since) l) (sym texts) told.told;
+}
+
+-- what says nothing to the desk, and tells no text
+record IsQuiet (d : Doing) (past : List Doing) : Type 0 where
+  opened : has_opened (d ∷ past) ≡ has_opened past
+  given : texts_given (d ∷ past) ≡ texts_given past
+  told : texts_told (d ∷ past) ≡ texts_told past
+  late : AreLate past → AreLate (d ∷ past)
+
+-- nothing came before its socket was open
+no_texts : (past : List Doing) → has_opened past ≡ false → texts_given past ≡ []
+no_texts [] closed = refl
+no_texts (Took bytes ∷ past) closed = no_texts past closed
+no_texts (Tried ∷ past) closed = no_texts past closed
+no_texts (Gave None ∷ past) closed = no_texts past closed
+no_texts (Gave (Some heards.Opened) ∷ past) closed = absurd (false≢true (sym closed))
+no_texts (Gave (Some (heards.Text text)) ∷ past) closed =
+    ap (λ (b : Bool). texts_more (Some (heards.Text text)) b (texts_given past)) closed ∙ no_texts past closed
+no_texts (WasTold content answer ∷ past) closed = no_texts past closed
+no_texts (Wrote bytes ∷ past) closed = no_texts past closed
+
+-- ---- messages for a connection
+
+told_for_both : (c : ℕ) (a b : List Telling) → told_for c (a ++ b) ≡ told_for c a ++ told_for c b
+told_for_both c [] b = refl
+told_for_both c (t ∷ a) b = elim (cases_Bool (at_table t.to c)) [
+  | inl is ↦
+      ap (λ (u : Bool). if u then t ∷ told_for c (a ++ b) else told_for c (a ++ b)) is
+      ∙ (ap (λ (l : List Telling). t ∷ l) (told_for_both c a b)
+      ∙ ap (λ (u : Bool). (if u then t ∷ told_for c a else told_for c a) ++ told_for c b) (sym is))
+  | inr is ↦
+      ap (λ (u : Bool). if u then t ∷ told_for c (a ++ b) else told_for c (a ++ b)) is
+      ∙ (told_for_both c a b
+      ∙ ap (λ (u : Bool). (if u then t ∷ told_for c a else told_for c a) ++ told_for c b) (sym is))
+]
+
+zip_both : {A B : Type 0} (R : A → B → Type 0) (xs us : List A) (ys vs : List B) → AllZip R xs ys → AllZip R us vs →
+    AllZip R (xs ++ us) (ys ++ vs)
+zip_both R [] us [] vs none all = all
+zip_both R [] us (y ∷ ys) vs none_such all = absurd none_such
+zip_both R (x ∷ xs) us [] vs none_such all = absurd none_such
+zip_both R (x ∷ xs) us (y ∷ ys) vs (one, more) all = (one, zip_both R xs us ys vs more all)
+
+-- one message more went out, which the connection was told, if it is for it
+told_further : (steps : List Step) (out : List Telling) (c : ℕ) (t : Telling) (texts : List (List ℕ)) (p q : List Doing) →
+    texts_told q ≡ texts_told p ++ texts → AllZip IsToldAs (told_for c (t ∷ [])) texts → IsToldOf steps out c p →
+    IsToldOf steps (out ++ t ∷ []) c q
+told_further steps out c t texts p q are new told = record {
+  before = told.before;
+  since = told.since ++ t ∷ [];
+  split = ap (λ (l : List Telling). l ++ t ∷ []) told.split ∙ append_assoc told.before told.since (t ∷ []);
+  early = told.early;
+  told = subst (λ (l : List (List ℕ)). AllZip IsToldAs (told_for c (told.since ++ t ∷ [])) l) (sym are)
+      (subst (λ (l : List Telling). AllZip IsToldAs l (texts_told p ++ texts)) (sym (told_for_both c told.since (t ∷ [])))
+      (zip_both IsToldAs (told_for c told.since) (told_for c (t ∷ [])) (texts_told p) texts told.told new));
+}
+
+for_it : (c : ℕ) (t : Telling) (text : List ℕ) → at_table t.to c ≡ true → IsToldAs t text →
+    AllZip IsToldAs (told_for c (t ∷ [])) (text ∷ [])
+for_it c t text is made = subst (λ (b : Bool). AllZip IsToldAs (if b then t ∷ [] else []) (text ∷ [])) (sym is) (made, tt)
+
+not_for_it : (c : ℕ) (t : Telling) → at_table t.to c ≡ false → AllZip IsToldAs (told_for c (t ∷ [])) []
+not_for_it c t is = subst (λ (b : Bool). AllZip IsToldAs (if b then t ∷ [] else []) []) (sym is) tt
+
+-- ---- a connection that is gone
+
+closed_on : (s : Step) (steps : List Step) (until : List Telling) (n : Option ℕ) → WasClosed steps until n →
+    WasClosed (s ∷ steps) until n
+closed_on s steps until None was = tt
+closed_on s steps until (Some c) was = record {
+  later = s ∷ was.later;
+  closing = was.closing;
+  earlier = was.earlier;
+  steps_are = ap (λ (l : List Step). s ∷ l) was.steps_are;
+  closes = was.closes;
+  all = was.all;
+}
+
+-- Of those who are lost the desk was told that they are gone.
+abbrev pub ClosedIf : Bool → List Step → List Telling → Option ℕ → Type 0
+ClosedIf false steps until n = Unit {0}
+ClosedIf true steps until n = WasClosed steps until n
+
+abbrev pub AllClosed : {S : Type 0} → List (Guest S) → List Telling → List Step → Type 0
+AllClosed [] until steps = Unit {0}
+AllClosed (x ∷ xs) until steps = ClosedIf x.is_lost steps until x.number × AllClosed xs until steps
+
+pub closed_if_on : (lost : Bool) (s : Step) (steps : List Step) (until : List Telling) (n : Option ℕ) → ClosedIf lost steps until n →
+    ClosedIf lost (s ∷ steps) until n
+closed_if_on false s steps until n was = tt
+closed_if_on true s steps until n was = closed_on s steps until n was
+
+-- ---- a browser that is connected
+
+module _ {S : Type 0} (remaining contents : S → Option (List ℕ)) (site : Site) (came : List S) where
+  abbrev Served : List Step → List Telling → Option ℕ → Spot S → Type 0
+  Served steps out number now = IsServed remaining contents site came steps out number now
+
+  done_more : (steps : List Step) (out : List Telling) (n : Option ℕ) (d : Doing) (a b : Spot S) →
+      ((past : List Doing) → IsQuiet d past) → DoesAt remaining contents site d a b → Served steps out n a → Served steps out n b
+  done_more steps out n d a b quiet does was = record {
+    first = was.first;
+    new = was.new;
+    among = was.among;
+    past = d ∷ was.past;
+    done = (a, was.done, does);
+    late = (quiet was.past).late was.late;
+    said = said_same n steps was.past (d ∷ was.past) (quiet was.past).opened (quiet was.past).given was.said;
+    told = told_same n steps out was.past (d ∷ was.past) (quiet was.past).told was.told;
+  }
+
+  -- where its connection and its socket are as they were
+  stays_at : (steps : List Step) (out : List Telling) (n : Option ℕ) (old new : Guest S) → new.browser ≡ old.browser →
+      new.stream ≡ old.stream → Served steps out n (spot old) → Served steps out n (spot new)
+  stays_at steps out n old new browser stream was =
+      subst (λ (b : Browser). Served steps out n (record { stage = b.stage; stream = new.stream })) (sym browser)
+      (subst (λ (s : S). Served steps out n (record { stage = old.browser.stage; stream = s })) (sym stream) was)
+
+  pub served_before : (steps : List Step) (out : List Telling) (old new : Guest S) → IsAsBefore old new →
+      Served steps out old.number (spot old) → Served steps out new.number (spot new)
+  served_before steps out old new same was =
+      subst (λ (n : Option ℕ). Served steps out n (spot new)) (sym same.number)
+      (stays_at steps out old.number old new same.browser same.stream was)
+
+  pub served_read : (steps : List Step) (out : List Telling) (old new : Guest S) → IsRead remaining site old new →
+      Served steps out old.number (spot old) → Served steps out new.number (spot new)
+  served_read steps out old new reads was =
+      subst (λ (n : Option ℕ). Served steps out n (spot new)) (sym reads.number) (elim reads.takes [
+        | inl none ↦ done_more steps out old.number Tried (spot old) (spot new)
+            (λ past. record { opened = refl; given = refl; told = refl; late = λ so_far. so_far }) (
+              ap (λ (b : Browser). b.stage) none.0,
+              inl (subst (λ (l : List ℕ). Consumes (remaining old.stream) (remaining new.stream) l)
+                  none.1 reads.consumed),
+            ) was
+        | inr takes ↦ done_more steps out old.number (Took reads.taken) (spot old) (spot new)
+            (λ past. record { opened = refl; given = refl; told = refl; late = λ so_far. so_far }) (reads.consumed, takes.0, takes.1) was
+      ])
+
+  pub served_looked : (steps : List Step) (out : List Telling) (old new : Guest S) → IsLookedAfter old new →
+      Served steps out old.number (spot old) → Served steps out new.number (spot new)
+  served_looked steps out old new looks was =
+      subst (λ (n : Option ℕ). Served steps out n (spot new)) (sym looks.number) (elim looks.said [
+        | inl same ↦ stays_at steps out old.number old new same looks.stream was
+        | inr pings ↦ done_more steps out old.number (WasTold (Ping []) pings.0) (spot old) (spot new)
+            (λ past. record { opened = refl; given = refl; told = append-nil (texts_told past); late = λ so_far. (inl refl, so_far) }) (looks.stream, refl, pings.1) was
+      ])
+
+  pub served_written : (steps : List Step) (out : List Telling) (old new : Guest S) → IsWritten contents site old new →
+      Served steps out old.number (spot old) → Served steps out new.number (spot new)
+  served_written steps out old new written was =
+      subst (λ (n : Option ℕ). Served steps out n (spot new)) (sym written.number) (elim written.goes [
+        | inl none ↦ done_more steps out old.number Tried (spot old) (spot new)
+            (λ past. record { opened = refl; given = refl; told = refl; late = λ so_far. so_far }) (
+              ap (λ (b : Browser). b.stage) none.0,
+              inr (subst (λ (k : ℕ). Appends (contents old.stream) (contents new.stream) (take k (pending old.browser.stage))) none.1 written.written),
+            ) was
+        | inr writes ↦ done_more steps out old.number (Wrote (take written.count (pending old.browser.stage))) (spot old) (spot new)
+            (λ past. record { opened = refl; given = refl; told = refl; late = λ so_far. so_far })
+            (written.count, written.within, refl, written.written, writes) was
+      ])
+
+  -- what it gave next, and what the desk was told of that
+  pub gave_nothing : (steps : List Step) (out : List Telling) (n : Option ℕ) (a b : Spot S) →
+      DoesAt remaining contents site (Gave None) a b → Served steps out n a → Served steps out n b
+  gave_nothing steps out n a b does was =
+      done_more steps out n (Gave None) a b (λ past. record { opened = refl; given = refl; told = refl; late = λ so_far. so_far }) does was
+
+  pub gave_again : (steps : List Step) (out : List Telling) (c : ℕ) (a b : Spot S) →
+      DoesAt remaining contents site (Gave (Some heards.Opened)) a b → Served steps out (Some c) a → Served steps out (Some c) b
+  gave_again steps out c a b does was = record {
+    first = was.first;
+    new = was.new;
+    among = was.among;
+    past = Gave (Some heards.Opened) ∷ was.past;
+    done = (a, was.done, does);
+    late = was.late;
+    said = (refl, was.said.1);
+    told = told_same (Some c) steps out was.past (Gave (Some heards.Opened) ∷ was.past) refl was.told;
+  }
+
+  pub gave_early : (steps : List Step) (out : List Telling) (text : Vec ℕ Global) (a b : Spot S) →
+      DoesAt remaining contents site (Gave (Some (heards.Text text))) a b → Served steps out None a → Served steps out None b
+  gave_early steps out text a b does was = record {
+    first = was.first;
+    new = was.new;
+    among = was.among;
+    past = Gave (Some (heards.Text text)) ∷ was.past;
+    done = (a, was.done, does);
+    late = was.late;
+    said = was.said;
+    told = was.told;
+  }
+
+  pub gave_opened : (steps : List Step) (s : Step) (out t : List Telling) (c : ℕ) (a b : Spot S) → s.event ≡ Opened c →
+      all_tells steps ≡ out ++ t → DoesAt remaining contents site (Gave (Some heards.Opened)) a b → Served steps out None a →
+      Served (s ∷ steps) out (Some c) b
+  gave_opened steps s out t c a b is tells does was =
+      let own : is_opening c s.event ≡ true = ap (is_opening c) is ∙ is_same c in
+      let none : message_of c s.event (messages_of c steps) ≡ [] =
+      ap (λ (e : Event). message_of c e (messages_of c steps)) is
+      ∙ ap (λ (u : Bool). if u then [] else messages_of c steps) (is_same c) in
+      let whole : length out ≤ length (all_tells steps) = omega (arith, ap length tells, length-append out t) in
+      record {
+        first = was.first;
+        new = was.new;
+        among = was.among;
+        past = Gave (Some heards.Opened) ∷ was.past;
+        done = (a, was.done, does);
+        late = was.late;
+        said = (
+          refl,
+          subst (λ (l : List (List ℕ)). AllZip IsSaidAs l (messages_of c (s ∷ steps))) (sym (no_texts was.past was.said))
+              (subst (λ (l : List Event). AllZip IsSaidAs [] l) (sym none) tt),
+        );
+        told = record {
+          before = out;
+          since = [];
+          split = sym (append-nil out);
+          early = subst (λ (u : Bool). length out ≤ length (all_tells (if u then steps else before_opening c steps))) (sym own) whole;
+          told = subst (λ (l : List (List ℕ)). AllZip IsToldAs [] l) (sym was.told) tt;
+        };
+      }
+
+  said_as : (b : Bool) (c : ℕ) (text shown : List ℕ) (before : List Event) → (IsUtf8 text → shown ≡ text) →
+      (¬ IsUtf8 text → shown ≡ []) → (texts : List (List ℕ)) → AllZip IsSaidAs texts before →
+      AllZip IsSaidAs (text ∷ texts) (message_of c (said_event b c shown) before)
+  said_as true c text shown before is is_not texts said =
+      subst (λ (u : Bool). AllZip IsSaidAs (text ∷ texts) (if u then Hurried c ∷ before else before)) (sym (is_same c)) (tt, said)
+  said_as false c text shown before is is_not texts said =
+      subst (λ (u : Bool). AllZip IsSaidAs (text ∷ texts) (if u then Said c shown ∷ before else before)) (sym (is_same c))
+      ((is, is_not), said)
+
+  not_opening : (b : Bool) (c : ℕ) (shown : List ℕ) → is_opening c (said_event b c shown) ≡ false
+  not_opening true c shown = refl
+  not_opening false c shown = refl
+
+  pub gave_text : (steps : List Step) (s : Step) (out : List Telling) (c : ℕ) (hurried : Bool) (text : Vec ℕ Global) (shown : List ℕ)
+      (a b : Spot S) → s.event ≡ said_event hurried c shown → (IsUtf8 text.items → shown ≡ text.items) →
+      (¬ IsUtf8 text.items → shown ≡ []) → DoesAt remaining contents site (Gave (Some (heards.Text text))) a b →
+      Served steps out (Some c) a → Served (s ∷ steps) out (Some c) b
+  gave_text steps s out c hurried text shown a b is text_is text_is_not does was =
+      let (opened, said) = was.said in
+      let other : is_opening c s.event ≡ false = ap (is_opening c) is ∙ not_opening hurried c shown in
+      record {
+        first = was.first;
+        new = was.new;
+        among = was.among;
+        past = Gave (Some (heards.Text text)) ∷ was.past;
+        done = (a, was.done, does);
+        late = was.late;
+        said = (
+          opened,
+          subst (λ (u : Bool). AllZip IsSaidAs (texts_more (Some (heards.Text text)) u (texts_given was.past))
+              (message_of c s.event (messages_of c steps))) (sym opened)
+              (subst (λ (e : Event). AllZip IsSaidAs (text.items ∷ texts_given was.past) (message_of c e (messages_of c steps)))
+              (sym is) (said_as hurried c text.items shown (messages_of c steps) text_is text_is_not (texts_given was.past) said)),
+        );
+        told = record {
+          before = was.told.before;
+          since = was.told.since;
+          split = was.told.split;
+          early = subst (λ (u : Bool). length was.told.before ≤ length (all_tells (if u then steps else before_opening c steps)))
+              (sym other) was.told.early;
+          told = was.told.told;
+        };
+      }
+
+  -- one message goes out of the desk's hands
+  served_one : (n : Option ℕ) (steps : List Step) (out : List Telling) (told : Told) (made : Made) (old new : Guest S) →
+      IsMadeOf told made → new.stream ≡ old.stream →
+      IsSaidIf (is_for n made.to.items) (string_bytes made.text) old.browser new.browser → Served steps out n (spot old) →
+      Served steps (out ++ telling told ∷ []) n (spot new)
+  served_one None steps out told made old new is stream same was =
+      let so = stays_at steps out None old new same stream was in
+      record {
+        first = so.first;
+        new = so.new;
+        among = so.among;
+        past = so.past;
+        done = so.done;
+        late = so.late;
+        said = so.said;
+        told = so.told;
+      }
+  served_one (Some c) steps out told made old new is stream said was =
+      let to : at_table made.to.items c ≡ at_table (telling told).to c = ap (λ l. at_table l.items c) is.to in
+      elim (cases_Bool (at_table made.to.items c)) [
+        | inl for_c ↦
+            let (answer, says) = subst (λ (u : Bool). IsSaidIf u (string_bytes made.text) old.browser new.browser) for_c said in
+            record {
+              first = was.first;
+              new = was.new;
+              among = was.among;
+              past = WasTold (Text (string_bytes made.text)) answer ∷ was.past;
+              done = (spot old, was.done, (stream, refl, says));
+              late = (inr was.said.0, was.late);
+              said = was.said;
+              told = told_further steps out c (telling told) (string_bytes made.text ∷ []) was.past
+                  (WasTold (Text (string_bytes made.text)) answer ∷ was.past) refl
+                  (for_it c (telling told) (string_bytes made.text) (sym to ∙ for_c) is.text) was.told;
+            }
+        | inr not_for_c ↦
+            let same = subst (λ (u : Bool). IsSaidIf u (string_bytes made.text) old.browser new.browser) not_for_c said in
+            let so = stays_at steps out (Some c) old new same stream was in
+            record {
+              first = so.first;
+              new = so.new;
+              among = so.among;
+              past = so.past;
+              done = so.done;
+              late = so.late;
+              said = so.said;
+              told = told_further steps out c (telling told) [] so.past so.past (sym (append-nil (texts_told so.past)))
+                  (not_for_it c (telling told) (sym to ∙ not_for_c)) so.told;
+            }
+      ]
+
+  pub served_told : (steps : List Step) (out : List Telling) (told : List Told) (made : List Made) (old new : Guest S) →
+      AllZip IsMadeOf told made → AreTold made old new → Served steps out old.number (spot old) →
+      Served steps (out ++ tellings told) new.number (spot new)
+  served_told steps out [] [] old new none same was =
+      subst (λ (l : List Telling). Served steps l new.number (spot new)) (sym (append-nil out))
+      (subst (λ (g : Guest S). Served steps out g.number (spot g)) (sym same) was)
+  served_told steps out [] (m ∷ made) old new none_such are was = absurd none_such
+  served_told steps out (t ∷ told) [] old new none_such are was = absurd none_such
+  served_told steps out (t ∷ told) (m ∷ made) old new (one, all) (between, is, are) was =
+      let mid : Served steps (out ++ telling t ∷ []) between.number (spot between) =
+      subst (λ (n : Option ℕ). Served steps (out ++ telling t ∷ []) n (spot between)) (sym is.number)
+      (served_one old.number steps out t m old between one is.stream is.said was) in
+      subst (λ (l : List Telling). Served steps l new.number (spot new)) (append_assoc out (telling t ∷ []) (tellings told))
+      (served_told steps (out ++ telling t ∷ []) told made between new all are mid)
+
+  -- ---- all of them
+
+  abbrev pub AllServed : List Step → List Telling → List (Guest S) → Type 0
+  AllServed steps out guests = AreServed remaining contents site came steps out guests
+
+  pub served_on : (s : Step) (steps : List Step) (out : List Telling) (n : Option ℕ) (now : Spot S) → ApartFrom n s.event →
+      Served steps out n now → Served (s ∷ steps) out n now
+  served_on s steps out n now apart was = record {
+    first = was.first;
+    new = was.new;
+    among = was.among;
+    past = was.past;
+    done = was.done;
+    late = was.late;
+    said = said_on n s steps was.past apart was.said;
+    told = told_on n s steps out was.past apart was.told;
+  }
+
+  pub all_served_zip : (steps : List Step) (out after : List Telling) (R : Guest S → Guest S → Type 0) →
+      ((x y : Guest S) → R x y → Served steps out x.number (spot x) → Served steps after y.number (spot y)) →
+      (xs ys : List (Guest S)) → AllZip R xs ys → AllServed steps out xs → AllServed steps after ys
+  all_served_zip steps out after R each [] [] none were = tt
+  all_served_zip steps out after R each [] (y ∷ ys) none_such were = absurd none_such
+  all_served_zip steps out after R each (x ∷ xs) [] none_such were = absurd none_such
+  all_served_zip steps out after R each (x ∷ xs) (y ∷ ys) (one, all) (was, were) =
+      (each x y one was, all_served_zip steps out after R each xs ys all were)
+
+  pub all_served_filter : (test : Guest S → Bool) (steps : List Step) (out : List Telling) (guests : List (Guest S)) →
+      AllServed steps out guests → AllServed steps out (filter test guests)
+  all_served_filter test steps out [] were = tt
+  all_served_filter test steps out (x ∷ xs) (was, were) = elim (cases_Bool (test x)) [
+    | inl stays ↦ subst (λ (b : Bool). AllServed steps out (cond b (x ∷ filter test xs) (filter test xs))) (sym stays)
+        (was, all_served_filter test steps out xs were)
+    | inr goes ↦ subst (λ (b : Bool). AllServed steps out (cond b (x ∷ filter test xs) (filter test xs))) (sym goes)
+        (all_served_filter test steps out xs were)
+  ]
+
+  pub all_served_more : (steps : List Step) (out : List Telling) (guests : List (Guest S)) (guest : Guest S) →
+      AllServed steps out guests → Served steps out guest.number (spot guest) → AllServed steps out (guests ++ guest ∷ [])
+  all_served_more steps out [] guest none one = (one, tt)
+  all_served_more steps out (x ∷ xs) guest (was, were) one = (was, all_served_more steps out xs guest were one)
+
+module _ {S : Type 0} (remaining contents : S → Option (List ℕ)) (site : Site) (came : List S) where
+  pub all_served_on : (s : Step) (steps : List Step) (out : List Telling) (guests : List (Guest S)) →
+      AreApart (numbers guests) s.event → AreServed remaining contents site came steps out guests →
+      AreServed remaining contents site came (s ∷ steps) out guests
+  all_served_on s steps out [] apart were = tt
+  all_served_on s steps out (x ∷ xs) (one, all) (was, were) =
+      (served_on remaining contents site came s steps out x.number (spot x) one was, all_served_on s steps out xs all were)
+
+  -- one more stream by which a browser came
+  served_came : (stream : S) (steps : List Step) (out : List Telling) (n : Option ℕ) (now : Spot S) →
+      IsServed remaining contents site came steps out n now → IsServed remaining contents site (stream ∷ came) steps out n now
+  served_came stream steps out n now was = record {
+    first = was.first;
+    new = was.new;
+    among = inr was.among;
+    past = was.past;
+    done = was.done;
+    late = was.late;
+    said = was.said;
+    told = was.told;
+  }
+
+  pub all_came : (stream : S) (steps : List Step) (out : List Telling) (guests : List (Guest S)) →
+      AreServed remaining contents site came steps out guests → AreServed remaining contents site (stream ∷ came) steps out guests
+  all_came stream steps out [] were = tt
+  all_came stream steps out (x ∷ xs) (was, were) =
+      (served_came stream steps out x.number (spot x) was, all_came stream steps out xs were)
+
+  pub served_new : (stream : S) (steps : List Step) (out : List Telling) (guest : Guest S) → IsNewGuest stream guest →
+      IsServed remaining contents site (stream ∷ came) steps out guest.number (spot guest)
+  served_new stream steps out guest is =
+      subst (λ (n : Option ℕ). IsServed remaining contents site (stream ∷ came) steps out n (spot guest)) (sym is.number) (record {
+        first = spot guest;
+        new = is.new;
+        among = inl is.stream_is;
+        past = [];
+        done = refl;
+        late = tt;
+        said = refl;
+        told = refl;
+      })
+
+  -- ---- browsers that were let go
+
+  pub all_were_on : (s : Step) (steps : List Step) (out : List Telling) (guests : List (Guest S)) →
+      AreApart (numbers guests) s.event → WereServed remaining contents site came steps out guests →
+      WereServed remaining contents site came (s ∷ steps) out guests
+  all_were_on s steps out [] apart were = tt
+  all_were_on s steps out (x ∷ xs) (one, all) (was, were) = (
+    record {
+      until = was.until;
+      after = was.after;
+      split = was.split;
+      served = served_on remaining contents site came s steps was.until x.number (spot x) one was.served;
+      closed = closed_on s steps was.until x.number was.closed;
+    },
+    all_were_on s steps out xs all were,
+  )
+
+  -- more went out
+  pub all_were_out : (steps : List Step) (out more : List Telling) (guests : List (Guest S)) →
+      WereServed remaining contents site came steps out guests → WereServed remaining contents site came steps (out ++ more) guests
+  all_were_out steps out more [] were = tt
+  all_were_out steps out more (x ∷ xs) (was, were) = (
+    record {
+      until = was.until;
+      after = was.after ++ more;
+      split = ap (λ (l : List Telling). l ++ more) was.split ∙ append_assoc was.until was.after more;
+      served = was.served;
+      closed = was.closed;
+    },
+    all_were_out steps out more xs were,
+  )
+
+  pub all_were_came : (stream : S) (steps : List Step) (out : List Telling) (guests : List (Guest S)) →
+      WereServed remaining contents site came steps out guests →
+      WereServed remaining contents site (stream ∷ came) steps out guests
+  all_were_came stream steps out [] were = tt
+  all_were_came stream steps out (x ∷ xs) (was, were) = (
+    record {
+      until = was.until;
+      after = was.after;
+      split = was.split;
+      served = served_came stream steps was.until x.number (spot x) was.served;
+      closed = was.closed;
+    },
+    all_were_came stream steps out xs were,
+  )
+
+  -- who is let go, in front of those who were
+  pub all_let_go : (steps : List Step) (out : List Telling) (guests former : List (Guest S)) →
+      AreServed remaining contents site came steps out guests → AllClosed guests out steps →
+      WereServed remaining contents site came steps out former →
+      WereServed remaining contents site came steps out (filter (λ (guest : Guest S). guest.is_lost) guests ++ former)
+  all_let_go steps out [] former served closed were = were
+  all_let_go steps out (x ∷ xs) former (one, all) (closed, more) were =
+      let rest = all_let_go steps out xs former all more were in
+      elim (cases_Bool x.is_lost) [
+        | inl goes ↦ subst (λ (b : Bool). WereServed remaining contents site came steps out
+            (cond b (x ∷ filter (λ (guest : Guest S). guest.is_lost) xs) (filter (λ (guest : Guest S). guest.is_lost) xs) ++ former))
+            (sym goes) (
+              record {
+                until = out;
+                after = [];
+                split = sym (append-nil out);
+                served = one;
+                closed = subst (λ (b : Bool). ClosedIf b steps out x.number) goes closed;
+              },
+              rest,
+            )
+        | inr stays ↦ subst (λ (b : Bool). WereServed remaining contents site came steps out
+            (cond b (x ∷ filter (λ (guest : Guest S). guest.is_lost) xs) (filter (λ (guest : Guest S). guest.is_lost) xs) ++ former))
+            (sym stays) rest
+      ]

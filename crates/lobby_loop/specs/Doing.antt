@@ -1,0 +1,223 @@
+-- What was done at a browser's connection since it came, and what the desk has of it.
+use Rattle.std.specs.Prelude.{ℕ, ◌≡◌, ◌≤◌, ◌⊎◌, ◌==◌, Bool, true, false, List, [], ◌∷◌, ◌++◌, length, take, Option, None, Some, IsUtf8, Result, if◌then◌else◌}
+use Rattle.std.specs.List.{AllZip}
+use Rattle.std.specs.Io.KnownBytes.{Consumes, Appends}
+use Rattle.websocket.specs.Content.{Content}
+use Rattle.lobby_desk.specs.Events.{Event, Opened, Closed, Said, Hurried, Telling}
+use Rattle.lobby_desk.specs.Who.{at_table}
+use Rattle.lobby_desk.specs.History.{Step}
+use Rattle.lobby_web.specs.declared.browser.Stage.{Stage}
+use Rattle.lobby_web.specs.declared.site.Site.{Site}
+use Rattle.lobby_web.specs.declared.socket.Heard.{Heard}
+use Rattle.lobby_web.specs.declared.socket.Heard.TheVariants as heards
+use Rattle.lobby_web.specs.declared.socket.Unsaid.{Unsaid}
+use Rattle.lobby_web.specs.Browsing.{IsNew, pending, WantsBytes, Takes, HearsNext, SaysTo, Writes}
+use Rattle.lobby_web.specs.Happening.{text_of, is_close}
+use Rattle.lobby_loop.specs.declared.guest.Guest.{Guest}
+use Rattle.lobby_loop.specs.Making.{IsFinished}
+
+-- Bytes came of its socket, none where it is told that no more come; the socket was tried for nothing; it was asked what came
+-- next, and gave this; it was to be told this, and that became of it; these bytes were written.
+pub data Doing : Type 0 where
+  Took : (bytes : List ℕ) → Doing
+  Tried : Doing
+  Gave : (heard : Option Heard) → Doing
+  WasTold : (content : Content) → (answer : Result (Unit {0}) Unsaid) → Doing
+  Wrote : (bytes : List ℕ) → Doing
+
+-- where its connection stands, and its socket
+pub record Spot (S : Type 0) : Type 0 where
+  pub stage : Stage
+  pub stream : S
+
+abbrev pub spot : {S : Type 0} → Guest S → Spot S
+spot guest = record { stage = guest.browser.stage; stream = guest.stream }
+
+-- The bytes that its socket gave, where they are wanted, are taken by its connection, and what is written stood in front of what
+-- waits there. The lobby does not begin to close it.
+abbrev pub DoesAt : {S : Type 0} → (S → Option (List ℕ)) → (S → Option (List ℕ)) → Site → Doing → Spot S → Spot S → Type 0
+DoesAt remaining contents site (Took bytes) old new =
+    Consumes (remaining old.stream) (remaining new.stream) bytes × WantsBytes old.stage × Takes site bytes old.stage new.stage
+DoesAt remaining contents site Tried old new =
+    (new.stage ≡ old.stage)
+    × (Consumes (remaining old.stream) (remaining new.stream) [] ⊎ Appends (contents old.stream) (contents new.stream) [])
+DoesAt remaining contents site (Gave heard) old new = (new.stream ≡ old.stream) × HearsNext old.stage new.stage heard
+DoesAt remaining contents site (WasTold content answer) old new =
+    (new.stream ≡ old.stream) × (is_close content ≡ false) × SaysTo content old.stage new.stage answer
+DoesAt remaining contents site (Wrote bytes) old new =
+    (count : ℕ) × (count ≤ length (pending old.stage)) × (bytes ≡ take count (pending old.stage))
+    × Appends (contents old.stream) (contents new.stream) bytes × Writes site count old.stage new.stage
+
+-- all that was done, the newest first
+abbrev pub HasDone : {S : Type 0} → (S → Option (List ℕ)) → (S → Option (List ℕ)) → Site → Spot S → List Doing → Spot S → Type 0
+HasDone remaining contents site first [] now = now ≡ first
+HasDone {S} remaining contents site first (d ∷ past) now =
+    (before : Spot S) × HasDone remaining contents site first past before × DoesAt remaining contents site d before now
+
+-- whether its socket was open, and the texts that came of it since, the newest first
+abbrev pub opens : Option Heard → Bool → Bool
+opens None before = before
+opens (Some heards.Opened) before = true
+opens (Some (heards.Text text)) before = before
+
+abbrev pub has_opened : List Doing → Bool
+has_opened [] = false
+has_opened (Took bytes ∷ past) = has_opened past
+has_opened (Tried ∷ past) = has_opened past
+has_opened (Gave heard ∷ past) = opens heard (has_opened past)
+has_opened (WasTold content answer ∷ past) = has_opened past
+has_opened (Wrote bytes ∷ past) = has_opened past
+
+abbrev pub texts_more : Option Heard → Bool → List (List ℕ) → List (List ℕ)
+texts_more None opened texts = texts
+texts_more (Some heards.Opened) opened texts = texts
+texts_more (Some (heards.Text text)) true texts = text.items ∷ texts
+texts_more (Some (heards.Text text)) false texts = texts
+
+abbrev pub texts_given : List Doing → List (List ℕ)
+texts_given [] = []
+texts_given (Took bytes ∷ past) = texts_given past
+texts_given (Tried ∷ past) = texts_given past
+texts_given (Gave heard ∷ past) = texts_more heard (has_opened past) (texts_given past)
+texts_given (WasTold content answer ∷ past) = texts_given past
+texts_given (Wrote bytes ∷ past) = texts_given past
+
+-- the texts that it was to be told, in their order
+abbrev pub texts_told : List Doing → List (List ℕ)
+texts_told [] = []
+texts_told (Took bytes ∷ past) = texts_told past
+texts_told (Tried ∷ past) = texts_told past
+texts_told (Gave heard ∷ past) = texts_told past
+texts_told (WasTold content answer ∷ past) = texts_told past ++ text_of content
+texts_told (Wrote bytes ∷ past) = texts_told past
+
+-- It was to be told texts only behind that its socket was open.
+abbrev pub IsLate : Content → Bool → Type 0
+IsLate content opened = (text_of content ≡ []) ⊎ (opened ≡ true)
+
+abbrev pub AreLate : List Doing → Type 0
+AreLate [] = Unit {0}
+AreLate (Took bytes ∷ past) = AreLate past
+AreLate (Tried ∷ past) = AreLate past
+AreLate (Gave heard ∷ past) = AreLate past
+AreLate (WasTold content answer ∷ past) = IsLate content (has_opened past) × AreLate past
+AreLate (Wrote bytes ∷ past) = AreLate past
+
+-- ---- what the desk has of it
+
+-- what a connection has said since it came, the newest first
+abbrev pub message_of : ℕ → Event → List Event → List Event
+message_of c (Opened d) before = if d == c then [] else before
+message_of c (Said d text) before = if d == c then Said d text ∷ before else before
+message_of c (Hurried d) before = if d == c then Hurried d ∷ before else before
+message_of c _ before = before
+
+abbrev pub messages_of : ℕ → List Step → List Event
+messages_of c [] = []
+messages_of c (s ∷ past) = message_of c s.event (messages_of c past)
+
+-- A text, as the desk took it: what is no text as the empty one, and nothing of one that came too fast.
+abbrev pub IsSaidAs : List ℕ → Event → Type 0
+IsSaidAs text (Said c shown) = (IsUtf8 text → shown ≡ text) × (¬ IsUtf8 text → shown ≡ [])
+IsSaidAs text (Hurried c) = Unit {0}
+IsSaidAs text _ = ⊥
+
+-- The desk was told, under the number of this connection, each text that came of it, once and in their order, and nothing
+-- else; and nothing before its socket was open.
+abbrev pub IsSaidBy : List Step → Option ℕ → List Doing → Type 0
+IsSaidBy steps None past = has_opened past ≡ false
+IsSaidBy steps (Some c) past =
+    (has_opened past ≡ true) × AllZip IsSaidAs (texts_given past) (messages_of c steps)
+
+-- all that the desk told connections, in its order, and that of it which is for one
+abbrev pub all_tells : List Step → List Telling
+all_tells [] = []
+all_tells (s ∷ past) = all_tells past ++ s.tells
+
+abbrev pub told_for : ℕ → List Telling → List Telling
+told_for c [] = []
+told_for c (t ∷ tells) = if at_table t.to c then t ∷ told_for c tells else told_for c tells
+
+-- what came and went before a connection came, the last time
+abbrev pub is_opening : ℕ → Event → Bool
+is_opening c (Opened d) = d == c
+is_opening c _ = false
+
+abbrev pub before_opening : ℕ → List Step → List Step
+before_opening c [] = []
+before_opening c (s ∷ past) = if is_opening c s.event then past else before_opening c past
+
+-- a message of the desk, as it goes out
+abbrev pub IsToldAs : Telling → List ℕ → Type 0
+IsToldAs t text = IsFinished t.kind t.text text
+
+-- Of what went out of the desk's hands this connection was to be told each message that is for it, once and in their order,
+-- as it goes out, and nothing else: of all but a front of which nothing was told since it came.
+pub record IsToldOf (steps : List Step) (out : List Telling) (c : ℕ) (past : List Doing) : Type 0 where
+  pub before : List Telling
+  pub since : List Telling
+  pub split : out ≡ before ++ since
+  pub early : length before ≤ length (all_tells (before_opening c steps))
+  pub told : AllZip IsToldAs (told_for c since) (texts_told past)
+
+abbrev pub IsToldBy : List Step → List Telling → Option ℕ → List Doing → Type 0
+IsToldBy steps out None past = texts_told past ≡ []
+IsToldBy steps out (Some c) past = IsToldOf steps out c past
+
+-- ---- a browser that is connected
+
+abbrev pub IsAmong : {S : Type 0} → S → List S → Type 0
+IsAmong one [] = ⊥
+IsAmong one (other ∷ others) = (one ≡ other) ⊎ IsAmong one others
+
+-- A browser with this number, at this place: it came by one of these streams, with nothing done; and of all that was done since
+-- the desk has what it said, and it was told what went out for it.
+pub record IsServed {S : Type 0} (remaining contents : S → Option (List ℕ)) (site : Site) (came : List S) (steps : List Step)
+    (out : List Telling) (number : Option ℕ) (now : Spot S) : Type 0 where
+  pub first : Spot S
+  pub new : IsNew first.stage
+  pub among : IsAmong first.stream came
+  pub past : List Doing
+  pub done : HasDone remaining contents site first past now
+  pub late : AreLate past
+  pub said : IsSaidBy steps number past
+  pub told : IsToldBy steps out number past
+
+abbrev pub AreServed : {S : Type 0} → (S → Option (List ℕ)) → (S → Option (List ℕ)) → Site → List S → List Step → List Telling
+    → List (Guest S) → Type 0
+AreServed remaining contents site came steps out [] = Unit {0}
+AreServed remaining contents site came steps out (guest ∷ guests) =
+    IsServed remaining contents site came steps out guest.number (spot guest)
+    × AreServed remaining contents site came steps out guests
+
+-- ---- a browser that was let go
+
+-- The desk was told that this connection is gone when these messages, all that it had told so far, had gone out of its hands.
+pub record IsClosedBehind (steps : List Step) (until : List Telling) (c : ℕ) : Type 0 where
+  pub later : List Step
+  pub closing : Step
+  pub earlier : List Step
+  pub steps_are : steps ≡ later ++ closing ∷ earlier
+  pub closes : closing.event ≡ Closed c
+  pub all : all_tells earlier ≡ until
+
+abbrev pub WasClosed : List Step → List Telling → Option ℕ → Type 0
+WasClosed steps until None = Unit {0}
+WasClosed steps until (Some c) = IsClosedBehind steps until c
+
+-- A browser that had this number and stood at this place when it was let go. Until then it was served: it was told what had gone
+-- out for it; and all that the desk has of its number it has said.
+pub record WasServed {S : Type 0} (remaining contents : S → Option (List ℕ)) (site : Site) (came : List S) (steps : List Step)
+    (out : List Telling) (number : Option ℕ) (last : Spot S) : Type 0 where
+  pub until : List Telling
+  pub after : List Telling
+  pub split : out ≡ until ++ after
+  pub served : IsServed remaining contents site came steps until number last
+  pub closed : WasClosed steps until number
+
+abbrev pub WereServed : {S : Type 0} → (S → Option (List ℕ)) → (S → Option (List ℕ)) → Site → List S → List Step → List Telling
+    → List (Guest S) → Type 0
+WereServed remaining contents site came steps out [] = Unit {0}
+WereServed remaining contents site came steps out (guest ∷ guests) =
+    WasServed remaining contents site came steps out guest.number (spot guest)
+    × WereServed remaining contents site came steps out guests

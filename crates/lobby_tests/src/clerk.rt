@@ -1,0 +1,200 @@
+//! Runs of a clerk, step by step.
+use lobby_archive::Clerk;
+use std::alloc::Global;
+use std::process::Abort;
+
+// What happens, and what is decided then.
+#[derive(Clone, Copy)]
+enum Row {
+    Over(u32, bool),
+    Came(u32, bool),
+    Refused(u32),
+    Answered(&'static str, bool),
+    Synced,
+    Left(u32, bool),
+    Safe(bool),
+    Gone,
+}
+
+// Whether the clerk decides so.
+fn is_so(rt: &impl Abort, clerk: &mut Clerk, row: &Row) -> bool {
+    match row {
+        Row::Over(game, asks) => clerk.over(*game).expect(rt, "memory") == *asks,
+        Row::Came(game, puts) => clerk.came(*game).expect(rt, "memory") == *puts,
+        Row::Refused(game) => {
+            clerk.refused(*game);
+            true
+        }
+        Row::Answered(answer, logs) => clerk.answered(answer) == *logs,
+        Row::Synced => {
+            clerk.synced();
+            true
+        }
+        Row::Left(game, drops) => clerk.left(*game).expect(rt, "memory") == *drops,
+        Row::Safe(safe) => clerk.is_safe() == *safe,
+        Row::Gone => {
+            clerk.gone();
+            true
+        }
+    }
+}
+
+// Of a clerk of this archive each row is so.
+fn check_rows(rt: &impl Abort, alloc: Global, archive: &[u32], rows: &[Row]) {
+    let mut clerk = Clerk::new(alloc, archive).expect(rt, "memory");
+    for row in rows {
+        assert!(rt; is_so(rt, &mut clerk, row));
+    }
+}
+
+// A game ends, is archived, synced, and dropped when nobody looks at it; and each once.
+const EVENING: [Row; 14] = [
+    Row::Answered("ok move 7 41 Qh7#", true),
+    Row::Answered("no 9 BadMove", false),
+    Row::Answered("fallen 8 0-1 6.9", true),
+    Row::Safe(false),
+    Row::Over(7, true),
+    Row::Over(7, false),
+    Row::Left(7, false),
+    Row::Came(7, true),
+    Row::Came(7, false),
+    Row::Left(7, false),
+    Row::Synced,
+    Row::Safe(true),
+    Row::Left(7, true),
+    Row::Left(7, false),
+];
+
+// A lobby that was killed: game 3 stands in the archive, game 4 does not, and both are on the table.
+const AFTER_A_KILL: [Row; 10] = [
+    Row::Over(3, false),
+    Row::Over(4, true),
+    Row::Left(3, false),
+    Row::Synced,
+    Row::Left(3, true),
+    Row::Left(4, false),
+    Row::Gone,
+    Row::Came(4, false),
+    Row::Over(4, true),
+    Row::Came(4, true),
+];
+
+// What was refused is asked for again; a game that is not over is never dropped.
+const REFUSED: [Row; 7] = [
+    Row::Over(5, true),
+    Row::Refused(5),
+    Row::Came(5, false),
+    Row::Over(5, true),
+    Row::Came(5, true),
+    Row::Synced,
+    Row::Left(6, false),
+];
+
+#[test]
+fn a_clerk_decides_so(rt: HostRuntime) {
+    check_rows(&rt, rt.alloc(), &[], &EVENING);
+    check_rows(&rt, rt.alloc(), &[1, 3], &AFTER_A_KILL);
+    check_rows(&rt, rt.alloc(), &[], &REFUSED);
+}
+
+// What happens to games 1, 2 and 3, which are over.
+#[derive(Clone, Copy)]
+enum Step {
+    Over(u32),
+    Came(u32),
+    Synced,
+    Left(u32),
+}
+
+const NIGHT: [Step; 14] = [
+    Step::Over(1),
+    Step::Came(1),
+    Step::Over(2),
+    Step::Left(1),
+    Step::Synced,
+    Step::Left(1),
+    Step::Came(2),
+    Step::Over(3),
+    Step::Came(3),
+    Step::Left(2),
+    Step::Left(3),
+    Step::Synced,
+    Step::Left(2),
+    Step::Left(3),
+];
+
+// The games of the table and those of the archive, of which so many are safe; and whether none was dropped that was not.
+#[derive(Drop)]
+struct World {
+    table: Vec<u32>,
+    archive: Vec<u32>,
+    safe: usize,
+    is_right: bool,
+}
+
+impl World {
+    fn new(rt: &impl Abort, alloc: Global) -> World {
+        World {
+            table: Vec::from_slice(alloc, &[1, 2, 3]).expect(rt, "memory"),
+            archive: Vec::new(alloc),
+            safe: 0,
+            is_right: true,
+        }
+    }
+
+    fn is_safe(&self, game: u32) -> bool {
+        self.archive.iter().take(self.safe).any(|one| *one == game)
+    }
+
+    fn take(&mut self, rt: &impl Abort, clerk: &mut Clerk, step: &Step) {
+        match step {
+            Step::Over(game) => {
+                if self.table.contains(game) {
+                    assert!(rt; clerk.over(*game).is_ok());
+                }
+            }
+            Step::Came(game) => {
+                if clerk.came(*game).expect(rt, "memory") {
+                    assert!(rt; self.archive.push(*game).is_ok());
+                }
+            }
+            Step::Synced => {
+                self.safe = self.archive.len();
+                clerk.synced();
+            }
+            Step::Left(game) => {
+                if clerk.left(*game).expect(rt, "memory") {
+                    self.is_right &= self.is_safe(*game);
+                    self.table.retain(|one| one != game);
+                }
+            }
+        }
+    }
+
+    // A lobby lives through the first steps, and is killed then.
+    fn live(&mut self, rt: &impl Abort, alloc: Global, steps: usize) {
+        let mut clerk = Clerk::new(alloc, self.archive.as_slice()).expect(rt, "memory");
+        for step in NIGHT.iter().take(steps) {
+            self.take(rt, &mut clerk, step);
+        }
+    }
+}
+
+// A lobby is killed after so many steps, what was not synced stays or does not, and another one lives to the end.
+fn comes_out_right(rt: &impl Abort, alloc: Global, steps: usize, is_kept: bool) -> bool {
+    let mut world = World::new(rt, alloc);
+    world.live(rt, alloc, steps);
+    if !is_kept {
+        world.archive.truncate(world.safe);
+    }
+    world.live(rt, alloc, NIGHT.len());
+    world.is_right && world.table.is_empty() && world.archive.as_slice() == [1, 2, 3].as_slice()
+}
+
+#[test]
+fn a_kill_at_any_step_loses_nothing(rt: HostRuntime) {
+    for steps in 0..15 {
+        assert!(rt; comes_out_right(&rt, rt.alloc(), steps, false));
+        assert!(rt; comes_out_right(&rt, rt.alloc(), steps, true));
+    }
+}

@@ -1,0 +1,17 @@
+//! Tests of the crates of the lobby, by what these export alone: so none of them is proved twice.
+#![tactic(auto)]
+
+#[cfg(test)]
+mod archive;
+#[cfg(test)]
+mod clerk;
+#[cfg(test)]
+mod moves;
+#[cfg(test)]
+mod parts;
+#[cfg(test)]
+mod players;
+#[cfg(test)]
+mod positions;
+#[cfg(test)]
+mod web;
