@@ -1,6 +1,7 @@
 //! The word that keeps games that are over.
 use crate::command_line::Keeping;
 use crate::compared::has_game;
+use crate::lines::lines_of;
 use crate::link::Link;
 use crate::names::{full_name, players_of};
 use crate::rows::{Row, row_of};
@@ -43,7 +44,11 @@ impl Keeper<'_> {
         let front = format!(in self.alloc; "ok pgn {game} ")?;
         let answer = self.link.ask(line.as_str(), front.as_str())?;
         if answer.behind.is_empty() {
-            return Ok(None);
+            let first = answer.first.as_str();
+            if first.starts_with("no 3 ") {
+                return Ok(None);
+            }
+            anyhow::bail!("the server does not tell game {game}: {first}");
         }
         let heading = Heading {
             white: full_name(self.players, row.white),
@@ -72,16 +77,18 @@ impl Keeper<'_> {
         Ok(())
     }
 
-    // Stops where a game that was in the archive already is another than the one of the table.
-    fn compare(&mut self, row: Row<'_>) -> Result<()> {
+    // Whether a game that was in the archive already is on the table still. It fails where that is another.
+    fn is_compared(&mut self, row: Row<'_>) -> Result<bool> {
         let game = row.game;
         let Some(pgn) = self.pgn_of(row)? else {
-            return Ok(());
+            return Ok(false);
         };
         if !has_game(self.alloc, self.lines.as_str(), game, pgn.as_slice())? {
-            anyhow::bail!("the archive has another game {game} than the table: nothing is dropped");
+            anyhow::bail!(
+                "the archive has another game {game} than the table: nothing more is dropped"
+            );
         }
-        Ok(())
+        Ok(true)
     }
 
     // Drops a game, under the name of a player who has a seat in it.
@@ -103,10 +110,8 @@ impl Keeper<'_> {
         if self.archive.step_for(row.game, row.is_over, drops) == Step::Keep {
             self.keep(row)?;
         }
-        if self.archive.step_for(row.game, row.is_over, drops) == Step::Drop {
-            if was_there {
-                self.compare(row)?;
-            }
+        let may_go = self.archive.step_for(row.game, row.is_over, drops) == Step::Drop;
+        if may_go && (!was_there || self.is_compared(row)?) {
             self.drop_game(row)?;
         }
         Ok(())
@@ -133,9 +138,12 @@ where
 {
     let players = players_of(rt, keeping.players)?;
     let path = keeping.archive;
+    if fs::exists(rt, path)? {
+        lines_of(rt, path)?;
+    }
     let file = NamedFile::open(rt, path).context(format_args!("opening {path}"))?;
     let archive = Archive::open(rt.alloc(), file).context(format_args!("opening {path}"))?;
-    let lines = fs::read_to_string(rt, path).context(format_args!("reading {path}"))?;
+    let lines = lines_of(rt, path)?;
     let server = keeping.server;
     let link = Link::open(rt, server).context(format_args!("the server at {server}"))?;
     let mut keeper = Keeper {

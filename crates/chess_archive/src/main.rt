@@ -5,6 +5,7 @@ mod command_line;
 mod compared;
 mod export;
 mod keeping;
+mod lines;
 mod link;
 mod names;
 mod rows;
