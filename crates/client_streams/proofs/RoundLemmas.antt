@@ -65,7 +65,7 @@ pub record Sends (room left longest : ℕ) (before after : Option (List ℕ)) (u
   pub order : holds ++ taken ≡ fed ++ keeps
   pub many : fed ≢ [] → AreMost fed keeps
   pub fewer : left ≤ room
-  pub dear : IsDearLine fed → left + 1 ≤ room
+  pub dear : IsDearLine fed → (left + 1 ≤ room) × (longest ≤ waited)
   pub spent : (left ≡ room) ⊎ (is_dear fed ≡ true) ⊎ (session_at new sid ≡ None)
   pub wait : HasWaitedOn (IfSome (session_at old sid) (λ s. IsHeldUp unsent keeps s (session_at new sid))) room longest fed
       keeps waited waits
@@ -371,7 +371,9 @@ module _ {S : Type 0} (remaining : S → Option (List ℕ)) (silence : Option �
     sent = sent_after a.sessions b.sessions c.sessions client.sid read.fed h.0 read.sent;
     many = read.many;
     fewer = subst (λ r. c.room ≤ r) h.1 read.fewer;
-    dear = λ dear. subst (λ r. c.room + 1 ≤ r) h.1 (read.dear dear);
+    dear = λ dear.
+        let first = read.dear dear in
+        (subst (λ r. c.room + 1 ≤ r) h.1 first.0, first.1);
     spent = subst (λ (r : ℕ). (c.room ≡ r) ⊎ (is_dear read.fed ≡ true) ⊎ (session_at c.sessions client.sid ≡ None)) h.1
         read.spent;
     wait = subst (λ (r : ℕ). HasWaitedOn (IsHeldUpBetween client after a.sessions c.sessions) r longest read.fed

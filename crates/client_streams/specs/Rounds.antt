@@ -74,7 +74,7 @@ pub record IsRead {S : Type 0} (remaining : S → Option (List ℕ)) (silence : 
   pub sent : IsSent client.sid fed old.sessions new.sessions
   pub many : fed ≢ [] → AreMost fed (held after.incoming)
   pub fewer : new.room ≤ old.room
-  pub dear : IsDearLine fed → new.room + 1 ≤ old.room
+  pub dear : IsDearLine fed → (new.room + 1 ≤ old.room) × (longest ≤ client.waited)
   pub spent : (new.room ≡ old.room) ⊎ (is_dear fed ≡ true) ⊎ (session_at new.sessions client.sid ≡ None)
   pub wait : HasWaitedOn (IfSome (session_at old.sessions client.sid) (λ s. IsHeldUp (waiting client.outgoing)
       (held after.incoming) s (session_at new.sessions client.sid))) old.room longest fed (held after.incoming)
