@@ -225,7 +225,7 @@ pub has_worked : {S : Type 0} (came served : Bool) (before given gives last : �
     (came || served) ≡ true → OnTrue came (gives ≡ given + 1) → OnFalse came (asked ≡ there) →
     (served ≡ true → 0 < length asked) → given ≡ before → last ≡ gives → there ≡ who →
     (last ≡ before + 1) ⊎ (0 < length who)
-has_worked true served before given gives last who there asked is one stay some from to same =
-    inl (to ∙ one ∙ ap (λ n. n + 1) from)
-has_worked {S = S} false served before given gives last who there asked is one stay some from to same =
+has_worked true served before given gives last who there asked is given_one stay some from to same =
+    inl (to ∙ given_one ∙ ap (λ n. n + 1) from)
+has_worked {S = S} false served before given gives last who there asked is given_one stay some from to same =
     inr (subst (λ (l : List (Client S)). 0 < length l) (stay ∙ same) (some is))
