@@ -57,10 +57,10 @@ Holds old new = IsUnchanged old.sessions new.sessions × (new.room ≡ old.room)
 
 -- What comes on a client's connection is held back, and its session is given what stands in front of that, as much as may
 -- be at once, and nothing else. None is read where a line is held back, and no more is held back than a piece. A line that
--- asks for much is given only where there is room, which nothing else takes but that memory was refused for it, and to who
--- has waited longest; the turns are counted that one waits for it. Of a client for which answers wait nothing is read, and nothing that it sent goes on. A
--- session is closed for a reason: the connection has failed, memory was refused, or it has been silent for as long as it
--- may.
+-- asks for much is given only where there is room, which nothing else takes but one that memory was refused for, and to
+-- who has waited longest; the turns are counted that one waits for it. Of a client for which answers wait nothing is read,
+-- and nothing that it sent goes on. A session is closed for a reason: the connection has failed, memory was refused, or it
+-- has been silent for as long as it may.
 pub record IsRead {S : Type 0} (remaining : S → Option (List ℕ)) (silence : Option ℕ) (at longest : ℕ)
     (client after : Client S) (old new : Intake) : Type 0 where
   pub sid : after.sid ≡ client.sid

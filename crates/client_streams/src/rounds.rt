@@ -129,7 +129,8 @@ pub fn take_in_all<S: Read + Write>(
     sessions: &mut Sessions,
     reading: Reading,
 ) -> bool
-    ensures read { AreRead S.remaining reading.silence reading.at clients.old.items clients.new.items sessions.old sessions.new }
+    ensures read { AreRead S.remaining reading.silence reading.at clients.old.items clients.new.items sessions.old
+        sessions.new }
     ensures all { length clients.new.items ≡ length clients.old.items }
     // Where there are no clients there is nothing to do.
     ensures more { result ≡ true → 0 < length clients.old.items }
