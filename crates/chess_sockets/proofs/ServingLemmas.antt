@@ -1,6 +1,8 @@
 -- Calls one after the other, and what is done for clients as calls of the hub.
-use Rattle.std.specs.Prelude.{◌-◌, ◌^◌, min}
-use Rattle.std.proofs.Common.{◌≡◌, ◌+◌, ap, arith, length, ℕ, List, [], ◌∷◌, ◌++◌, Option, None, refl, sym, ◌∙◌, subst, inl, inr, append-nil}
+use Rattle.std.specs.Prelude.{◌-◌, ◌^◌, ◌||◌, min}
+use Rattle.std.proofs.Common.{◌≡◌, ◌<◌, ◌+◌, ◌⊎◌, Bool, true, false, ap, arith, length, ℕ, List, [], ◌∷◌, ◌++◌, Option, None, refl, sym, ◌∙◌, subst, inl, inr, append-nil}
+use Rattle.std.specs.Bool.{OnTrue, OnFalse}
+use Rattle.std.proofs.lemmas.Bool.{or_cases}
 use Rattle.std.proofs.lemmas.List.{length-append}
 use Rattle.std.proofs.lemmas.List.Elements.{All-nil, All-cons, All-append}
 use Rattle.chess_entry.specs.State.{TableState}
@@ -207,3 +209,23 @@ asked_there rested was old first new last same is left asks =
     subst (λ (r : Rested). IsAskedFor r first last) same
     (subst (λ (d : Door). IsAskedFor rested d last) is
     (subst (λ (d : Door). IsAskedFor rested old d) (sym left) asks))
+
+-- ---- what was work
+
+-- something was read or written, so clients were there
+pub some_there : (read wrote : Bool) (before between : ℕ) → (read || wrote) ≡ true → (read ≡ true → 0 < before) →
+    (wrote ≡ true → 0 < between) → between ≡ before → 0 < before
+some_there read wrote before between is reads writes same = elim (or_cases read wrote is) [
+  | inl any ↦ reads any
+  | inr any ↦ subst (λ (n : ℕ). 0 < n) same (writes any)
+]
+
+-- one came, or clients were served that were there
+pub has_worked : {S : Type 0} (came served : Bool) (before given gives last : ℕ) (who there asked : List (Client S)) →
+    (came || served) ≡ true → OnTrue came (gives ≡ given + 1) → OnFalse came (asked ≡ there) →
+    (served ≡ true → 0 < length asked) → given ≡ before → last ≡ gives → there ≡ who →
+    (last ≡ before + 1) ⊎ (0 < length who)
+has_worked true served before given gives last who there asked is given_one stay some from to same =
+    inl (to ∙ given_one ∙ ap (λ n. n + 1) from)
+has_worked {S = S} false served before given gives last who there asked is given_one stay some from to same =
+    inr (subst (λ (l : List (Client S)). 0 < length l) (stay ∙ same) (some is))

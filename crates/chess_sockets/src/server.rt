@@ -1,5 +1,5 @@
 //! The server.
-ghost use Rattle.std.specs.Prelude.{ℕ, ◌≡◌, ◌+◌, ◌↔◌, true, false, [], Some, None, Ok, IsTrue, IsSomeAnd, IfOk, IfErr, OnOk, length};
+ghost use Rattle.std.specs.Prelude.{ℕ, ◌≡◌, ◌<◌, ◌+◌, ◌↔◌, ◌⊎◌, true, false, [], Some, None, Ok, IsTrue, IsSomeAnd, IfOk, IfErr, OnOk, length};
 ghost use Rattle.std.specs.Bool.{OnTrue, OnFalse};
 ghost use Rattle.table_commits.specs.Means.{IsKept};
 ghost use Rattle.chess_hub.specs.Faults.{CountsFault, refusals_after};
@@ -77,6 +77,8 @@ pub(crate) fn serve_clients<S: Read + Write, D: Device>(
     ensures refused { IfErr result (λ fault. IsRefusal S.remaining reading.silence fault reading.at
         hub.old.store.journal.header.seq hub.old.store.failed clients.old.items clients.new.items
         (state_of hub.old.sessions hub.old.store.table) (state_of hub.new.sessions hub.new.store.table)) }
+    // Where there are no clients there is nothing to do.
+    ensures more { IfOk result (λ more. more ≡ true → 0 < length clients.old.items) }
     // Each session hears what its client's stream gave, and nothing else, but for what comes behind a line that is too
     // long; and what it is given goes to that stream, as far as that takes it, unless the session is closed.
     ensures served { OnOk result (HasServed S.remaining S.contents reading.silence (MayBeAsked hub.old.store.failed
@@ -210,6 +212,7 @@ impl<D: Device, S: Read + Write + From<TcpStream> + Drop> Server<D, S> {
         ensures asked { IsAskedFor self.old.rested self.old.door self.new.door }
         ensures came { OnTrue result (self.new.door.given ≡ self.old.door.given + 1) }
         ensures nobody { OnFalse result (self.new.door.given ≡ self.old.door.given) }
+        ensures stay { OnFalse result (self.new.clients.items ≡ self.old.clients.items) }
         ensures welcomes { IsWelcomed S.from_gives at self.old.door.given self.new.door.given self.old.turned_away
             self.new.turned_away self.old.clients.items self.new.clients.items
             (state_of self.old.hub.sessions self.old.hub.store.table)
@@ -275,6 +278,10 @@ impl<D: Device, S: Read + Write + From<TcpStream> + Drop> Server<D, S> {
         // Whoever may wait is asked for, in each turn, and what comes is work.
         ensures asked { IsAskedFor self.old.rested self.old.door self.new.door }
         ensures came { IfOk result (λ turned. turned ≡ Turned.Idle → self.new.door.given ≡ self.old.door.given) }
+        // Work is one that came or clients that were there, so where an accept fails and no client is there it is none.
+        ensures worked { IfOk result (λ turned. turned ≡ Turned.Worked
+            → (self.new.door.given ≡ self.old.door.given + 1)
+            ⊎ (0 < length (open_in self.old.hub.sessions self.old.clients.items))) }
         // The next turn reads for every client, unless a rest comes first.
         ensures again { OnOk result (self.new.rested ≡ Rested.Not) }
         // Each session hears what its client's stream gave, and what it is given goes to that stream, whatever the streams

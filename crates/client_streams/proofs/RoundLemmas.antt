@@ -65,7 +65,7 @@ pub record Sends (room left longest : ℕ) (before after : Option (List ℕ)) (u
   pub order : holds ++ taken ≡ fed ++ keeps
   pub many : fed ≢ [] → AreMost fed keeps
   pub fewer : left ≤ room
-  pub dear : IsDearLine fed → left + 1 ≤ room
+  pub dear : IsDearLine fed → (left + 1 ≤ room) × (longest ≤ waited)
   pub spent : (left ≡ room) ⊎ (is_dear fed ≡ true) ⊎ (session_at new sid ≡ None)
   pub wait : HasWaitedOn (IfSome (session_at old sid) (λ s. IsHeldUp unsent keeps s (session_at new sid))) room longest fed
       keeps waited waits
@@ -292,10 +292,11 @@ module _ {S : Type 0} (remaining : S → Option (List ℕ)) (silence : Option �
       IsHeardAt (remaining client.wire.stream) (remaining after.wire.stream) at client.heard_at after.heard_at →
       IsEndSeen (remaining after.wire.stream) client.has_ended after.has_ended →
       PassesClosed client after old.sessions new.sessions → HasReason client after old.sessions new.sessions →
+      (session_at new.sessions client.sid ≡ None → (new.room ≡ old.room) ⊎ WasRefused after) →
       Sends old.room new.room longest (remaining client.wire.stream) (remaining after.wire.stream)
       (waiting client.outgoing) (held client.incoming) (held after.incoming) client.waited after.waited client.sid
       old.sessions new.sessions → IsRead remaining silence at longest client after old new
-  is_read client after old new sid outgoing unread heard ended closed reason sends = record {
+  is_read client after old new sid outgoing unread heard ended closed reason refused sends = record {
     sid = sid;
     outgoing = outgoing;
     taken = sends.taken;
@@ -308,7 +309,14 @@ module _ {S : Type 0} (remaining : S → Option (List ℕ)) (silence : Option �
     many = sends.many;
     fewer = sends.fewer;
     dear = sends.dear;
-    spent = sends.spent;
+    spent = elim sends.spent [
+      | inl still ↦ inl still
+      | inr (inl much) ↦ inr (inl much)
+      | inr (inr none) ↦ elim (refused none) [
+        | inl still ↦ inl still
+        | inr was ↦ inr (inr (none, was))
+      ]
+    ];
     wait = sends.wait;
     unread = unread;
     heard = heard;
@@ -335,6 +343,7 @@ module _ {S : Type 0} (remaining : S → Option (List ℕ)) (silence : Option �
       let unsent = waiting client.outgoing in
       is_read client after (intake old room) (intake new room) sid outgoing
       (λ waits. absurd (waits silent)) heard ended (not_closed (session_at old client.sid) _ is_open) (λ was none. reason)
+      (λ none. inl refl)
       (sends room room longest (remaining client.wire.stream) (remaining after.wire.stream) unsent (held client.incoming)
       (held after.incoming) client.sid old new m n refl refl is_open
       (takes-in client.waited after.waited room room longest m n (remaining client.wire.stream)
@@ -347,7 +356,7 @@ module _ {S : Type 0} (remaining : S → Option (List ℕ)) (silence : Option �
       let unsent = waiting client.outgoing in
       is_read client after (intake old room) (intake new room) sid outgoing
       (λ waits. (stream waits, same, stays)) heard ended (not_closed (session_at old client.sid) _ is_open)
-      (not_now (session_at old client.sid) (session_at new client.sid) (stays client.sid))
+      (not_now (session_at old client.sid) (session_at new client.sid) (stays client.sid)) (λ none. inl refl)
       (sends room room longest (remaining client.wire.stream) (remaining after.wire.stream) unsent (held client.incoming)
       (held after.incoming) client.sid old new m n refl refl is_open
       (takes-in client.waited after.waited room room longest m n (remaining client.wire.stream)
@@ -371,9 +380,11 @@ module _ {S : Type 0} (remaining : S → Option (List ℕ)) (silence : Option �
     sent = sent_after a.sessions b.sessions c.sessions client.sid read.fed h.0 read.sent;
     many = read.many;
     fewer = subst (λ r. c.room ≤ r) h.1 read.fewer;
-    dear = λ dear. subst (λ r. c.room + 1 ≤ r) h.1 (read.dear dear);
-    spent = subst (λ (r : ℕ). (c.room ≡ r) ⊎ (is_dear read.fed ≡ true) ⊎ (session_at c.sessions client.sid ≡ None)) h.1
-        read.spent;
+    dear = λ dear.
+        let first = read.dear dear in
+        (subst (λ r. c.room + 1 ≤ r) h.1 first.0, first.1);
+    spent = subst (λ (r : ℕ). (c.room ≡ r) ⊎ (is_dear read.fed ≡ true)
+        ⊎ (session_at c.sessions client.sid ≡ None) × WasRefused after) h.1 read.spent;
     wait = subst (λ (r : ℕ). HasWaitedOn (IsHeldUpBetween client after a.sessions c.sessions) r longest read.fed
         (held after.incoming) client.waited after.waited) h.1
         (waits-for b.room longest read.fed (held after.incoming) client.waited after.waited

@@ -176,7 +176,7 @@ gives-closed {waited = waited} {waits = waits} room left longest (Some s) n unse
 -- it is given this
 pub gives-fed : (waited waits room left longest : ℕ) (m n : Option SessionState)
     (unsent holds fed keeps : List ℕ) → holds ≡ fed ++ keeps → AreMost fed keeps → left ≤ room →
-    (IsDearLine fed → left + 1 ≤ room) → (left ≡ room) ⊎ (is_dear fed ≡ true) →
+    (IsDearLine fed → (left + 1 ≤ room) × (longest ≤ waited)) → (left ≡ room) ⊎ (is_dear fed ≡ true) →
     IfSome m (λ s. IsSomeAnd n (HasHeard s fed)) → keeps ≡ drop (length fed) holds → (fed ≡ [] → IsUnfinished holds) →
     waits ≡ 0 → IfSome m (λ s. GivesOn room left longest unsent holds keeps waited waits s n)
 gives-fed waited waits room left longest None n unsent holds fed keeps order most le dear spent heard behind some is = tt

@@ -80,8 +80,8 @@ pub record HasWaitedOn (HeldUp : Type 0) (room longest : ℕ) (fed keeps : List 
       ⊎ (new ≡ min (old + 1) (2 ^ 32 - 1)) × (is_dear keeps ≡ true) × ((room ≡ 0) ⊎ (old < longest))
 
 -- The session is given what stands in front of what is held back for it, as much as may be at once; a line that asks for
--- much takes of the room that the turn has for such lines, and nothing else does. It is closed only where it is given
--- nothing.
+-- much takes of the room that the turn has for such lines, and nothing else does, and it is given only where nobody has
+-- waited longer. It is closed only where it is given nothing.
 pub record GivesOn (room left longest : ℕ) (unsent holds keeps : List ℕ) (waited waits : ℕ) (old : SessionState)
     (new : Option SessionState) : Type 0 where
   pub fed : List ℕ
@@ -90,7 +90,7 @@ pub record GivesOn (room left longest : ℕ) (unsent holds keeps : List ℕ) (wa
   pub gone : new ≡ None → fed ≡ []
   pub many : fed ≢ [] → AreMost fed keeps
   pub fewer : left ≤ room
-  pub dear : IsDearLine fed → left + 1 ≤ room
+  pub dear : IsDearLine fed → (left + 1 ≤ room) × (longest ≤ waited)
   pub spent : (left ≡ room) ⊎ (is_dear fed ≡ true) ⊎ (new ≡ None)
   pub wait : HasWaitedOn (IsHeldUp unsent keeps old new) room longest fed keeps waited waits
 

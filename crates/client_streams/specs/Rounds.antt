@@ -8,7 +8,7 @@ use Rattle.chess_sessions.specs.declared.sessions.Sessions.{Sessions}
 use Rattle.chess_sessions.specs.Session.{Said, SessionState, session_at, Changes, IsUnchanged, due, first_due, given_one}
 use Rattle.client_streams.specs.declared.client.Client.{Client}
 use Rattle.client_streams.specs.Clients.{IsSilent, IsLongest, IsHeardAt, IsEndSeen, IsHeldUp, HasWaitedOn, HandsOut, to_go}
-use Rattle.client_streams.specs.Closings.{IsReason, IsOver}
+use Rattle.client_streams.specs.Closings.{WasRefused, IsReason, IsOver}
 use Rattle.client_streams.specs.Portions.{is_dear, IsDearLine, IsPortion, AreMost}
 use Rattle.client_streams.specs.Incoming.{held}
 use Rattle.client_streams.specs.Sending.{waiting}
@@ -57,10 +57,10 @@ Holds old new = IsUnchanged old.sessions new.sessions × (new.room ≡ old.room)
 
 -- What comes on a client's connection is held back, and its session is given what stands in front of that, as much as may
 -- be at once, and nothing else. None is read where a line is held back, and no more is held back than a piece. A line that
--- asks for much is given only where there is room, which nothing else takes, and to who has waited longest; the turns are
--- counted that one waits for it. Of a client for which answers wait nothing is read, and nothing that it sent goes on. A
--- session is closed for a reason: the connection has failed, memory was refused, or it has been silent for as long as it
--- may.
+-- asks for much is given only where there is room, which nothing else takes but one that memory was refused for, and to
+-- who has waited longest; the turns are counted that one waits for it. Of a client for which answers wait nothing is read,
+-- and nothing that it sent goes on. A session is closed for a reason: the connection has failed, memory was refused, or it
+-- has been silent for as long as it may.
 pub record IsRead {S : Type 0} (remaining : S → Option (List ℕ)) (silence : Option ℕ) (at longest : ℕ)
     (client after : Client S) (old new : Intake) : Type 0 where
   pub sid : after.sid ≡ client.sid
@@ -74,8 +74,9 @@ pub record IsRead {S : Type 0} (remaining : S → Option (List ℕ)) (silence : 
   pub sent : IsSent client.sid fed old.sessions new.sessions
   pub many : fed ≢ [] → AreMost fed (held after.incoming)
   pub fewer : new.room ≤ old.room
-  pub dear : IsDearLine fed → new.room + 1 ≤ old.room
-  pub spent : (new.room ≡ old.room) ⊎ (is_dear fed ≡ true) ⊎ (session_at new.sessions client.sid ≡ None)
+  pub dear : IsDearLine fed → (new.room + 1 ≤ old.room) × (longest ≤ client.waited)
+  pub spent : (new.room ≡ old.room) ⊎ (is_dear fed ≡ true)
+      ⊎ (session_at new.sessions client.sid ≡ None) × WasRefused after
   pub wait : HasWaitedOn (IfSome (session_at old.sessions client.sid) (λ s. IsHeldUp (waiting client.outgoing)
       (held after.incoming) s (session_at new.sessions client.sid))) old.room longest fed (held after.incoming)
       client.waited after.waited

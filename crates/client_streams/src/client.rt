@@ -3,7 +3,7 @@ ghost use Rattle.std.specs.Prelude.{◌≡◌, ◌≢◌, ◌≤◌, ◌++◌, �
 ghost use Rattle.std.specs.Io.KnownBytes.{Keeps};
 ghost use Rattle.chess_sessions.specs.Session.{said, session_at, due, Changes};
 ghost use Rattle.client_streams.specs.Clients.{IsOpen, OthersStay, IsSilent, IsHeardAt, IsEndSeen, GivesOn, TakesIn, HandsOut, bytes_of, to_go};
-ghost use Rattle.client_streams.specs.Closings.{IsSound, IsTrouble};
+ghost use Rattle.client_streams.specs.Closings.{IsSound, IsTrouble, WasRefused};
 ghost use Rattle.session_lines.specs.Lines.{IsUnfinished};
 ghost use Rattle.client_streams.specs.Incoming.{held};
 ghost use Rattle.client_streams.specs.Pieces.{Takes};
@@ -253,6 +253,7 @@ impl<S: Read + Write> Client<S> {
         ensures ended { self.new.has_ended ≡ self.old.has_ended }
         ensures stream { self.new.wire.stream ≡ self.old.wire.stream }
         ensures reason { session_at sessions.new self.old.sid ≡ None → IsTrouble self.new }
+        ensures refused { session_at sessions.new self.old.sid ≡ None → WasRefused self.new }
         ensures others { OthersStay sessions.old sessions.new self.old.sid }
     {
         if sessions.waiting(self.sid) > 0 {
@@ -304,6 +305,9 @@ impl<S: Read + Write> Client<S> {
         ensures unread { waiting self.old.outgoing ≢ [] → (self.new.wire.stream ≡ self.old.wire.stream)
             × (held self.new.incoming ≡ held self.old.incoming) × (sessions.new ≡ sessions.old) }
         ensures reason { session_at sessions.new self.old.sid ≡ None → IsTrouble self.new }
+        // Of those that are closed only one that memory was refused for takes room.
+        ensures refused { session_at sessions.new self.old.sid ≡ None
+            → (room.new.lines ≡ room.old.lines) ⊎ WasRefused self.new }
         ensures others { OthersStay sessions.old sessions.new self.old.sid }
     {
         self.is_quiet = false;

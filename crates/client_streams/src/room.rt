@@ -35,7 +35,8 @@ impl Room {
         ensures may { IsTrue result ↔ ((is_dear portion.now ≡ false)
             ⊎ ((0 < self.old.lines) × (self.old.longest ≤ waited))) }
         ensures fewer { self.new.lines ≤ self.old.lines }
-        ensures dear { OnTrue result (IsDearLine portion.now → self.new.lines + 1 ≤ self.old.lines) }
+        ensures dear { OnTrue result (IsDearLine portion.now → (self.new.lines + 1 ≤ self.old.lines)
+            × (self.old.longest ≤ waited)) }
         // Nothing else takes room.
         ensures spent { (self.new.lines ≡ self.old.lines) ⊎ (is_dear portion.now ≡ true) }
         ensures refused { OnFalse result (self.new.lines ≡ self.old.lines) }

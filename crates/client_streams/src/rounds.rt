@@ -1,5 +1,5 @@
 //! What a turn of a server does for all its clients, one after the other.
-ghost use Rattle.std.specs.Prelude.{◌≡◌, ◌≤◌, ◌↔◌, ◌⊎◌, true, Some, None, IsTrue, IsSomeAnd};
+ghost use Rattle.std.specs.Prelude.{◌≡◌, ◌≤◌, ◌<◌, ◌↔◌, ◌⊎◌, true, Some, None, IsTrue, IsSomeAnd, length};
 ghost use Rattle.std.specs.Bool.{OnTrue, OnFalse};
 ghost use Rattle.chess_sessions.specs.Session.{Changes, IsUnchanged};
 ghost use Rattle.session_lines.specs.Lines.{IsUnfinished};
@@ -129,7 +129,11 @@ pub fn take_in_all<S: Read + Write>(
     sessions: &mut Sessions,
     reading: Reading,
 ) -> bool
-    ensures { AreRead S.remaining reading.silence reading.at clients.old.items clients.new.items sessions.old sessions.new }
+    ensures read { AreRead S.remaining reading.silence reading.at clients.old.items clients.new.items sessions.old
+        sessions.new }
+    ensures all { length clients.new.items ≡ length clients.old.items }
+    // Where there are no clients there is nothing to do.
+    ensures more { result ≡ true → 0 < length clients.old.items }
 {
     let mut piece = [0u8; PIECE_ROOM];
     let mut room = Room::new(longest_wait(clients, sessions));
@@ -153,7 +157,8 @@ fn write_for<S: Read + Write>(client: &mut Client<S>, sessions: &mut Sessions) -
 /// Writes for each client what can be written, closes the sessions that are over, and tells whether there was anything to
 /// do.
 pub fn hand_out_all<S: Read + Write>(clients: &mut Vec<Client<S>>, sessions: &mut Sessions) -> bool
-    ensures { AreWritten S.contents clients.old.items clients.new.items sessions.old sessions.new }
+    ensures written { AreWritten S.contents clients.old.items clients.new.items sessions.old sessions.new }
+    ensures more { result ≡ true → 0 < length clients.old.items }
 {
     let mut any = false;
     for client in clients.iter_mut() {

@@ -1,9 +1,9 @@
 -- The store is asked by the hub's turn alone; what is done for the clients is done to the sessions alone.
-use Rattle.std.proofs.Common.{◌≡◌, Bool, Err, ap, refl}
+use Rattle.std.proofs.Common.{◌≡◌, Bool, Err, length, ap, refl}
 use Rattle.chess_hub.specs.Faults.{CountsFault}
 use Rattle.chess_hub.specs.Turning.{AsksFor, AreRefused, IsTurnFault}
 use Rattle.chess_sockets.specs.Serving.{state_of}
-use Rattle.chess_sockets.proofs.ServingLemmas.{are_read, are_written}
+use Rattle.chess_sockets.proofs.ServingLemmas.{are_read, are_written, some_there}
 use Rattle.chess_sockets.proofs.StoreLemmas.{lasts_over, lasts_refused, of_answered, of_refused, at_err, turn_ends, turn_refusal, counts_refused, counts_done}
 use Rattle.chess_sockets.proofs.server.serve_clients.Goals as goal
 
@@ -22,13 +22,20 @@ returns-clause-served g c =
       answers = record {
         heard = state_of heard old.store.table;
         reads = are_read old.store.table g.S.Read.remaining c.args.reading.silence c.args.reading.at c.args.clients.now.items read old.sessions heard
-            c.take_in_all-has_read.ensures;
+            c.take_in_all-has_read.ensures.read;
         turned = of_answered c.turn.result tt c.in_default.is c.turn.ensures.turned;
         works = of_answered c.turn.result tt c.in_default.is c.turn.ensures.works;
       };
       writes = are_written answered.store.table g.S.Write.contents read c.hand_out_all-has_written.new.clients.items
-          answered.sessions written c.hand_out_all-has_written.ensures;
+          answered.sessions written c.hand_out_all-has_written.ensures.written;
     }
+
+-- ---- whether there is more to do
+
+pub returns-clause-more : goal.returns-clause-more
+returns-clause-more g c = λ is. some_there c.take_in_all-has_read.result c.hand_out_all-has_written.result
+    (length c.args.clients.now.items) (length c.take_in_all-has_read.new.clients.items) is
+    c.take_in_all-has_read.ensures.more c.hand_out_all-has_written.ensures.more c.take_in_all-has_read.ensures.all
 
 -- ---- what is left of the store
 
@@ -68,7 +75,7 @@ returns-in-Err-clause-refused g c =
     let read = c.take_in_all-has_read.new.clients.items in
     turn_refusal (n ≡ s) c.args.reading.at heard s.journal.header.seq s.failed s.table n.table _ c.args.reading.silence
     c.args.clients.now.items read (state_of old.sessions s.table) (state_of c.turn.new.self.sessions n.table) s.table
-    (are_read s.table g.S.Read.remaining c.args.reading.silence c.args.reading.at c.args.clients.now.items read old.sessions heard c.take_in_all-has_read.ensures)
+    (are_read s.table g.S.Read.remaining c.args.reading.silence c.args.reading.at c.args.clients.now.items read old.sessions heard c.take_in_all-has_read.ensures.read)
     (of_refused c.turn.result c.in-Err.fault c.in-Err.is c.turn.ensures.unchanged) refl refl
     (λ e. ap (λ s. s.table) e) c.in-Err.fault
     (at_err c.turn.result c.in-Err.fault (λ fault. IsTurnFault fault (n ≡ s) (λ refused. AsksFor c.args.reading.at 64 heard

@@ -10,7 +10,10 @@ loop-client-preserved g c =
     let items = c.loop-client.client-items in
     let lt : c.loop-client.client-index < length items =
     omega (arith, c.loop-client-test.true, c.loop-client.auto.client-items) in
-    done_further IsUnchanged unchanged-refl (IsWritten g.S.Write.contents) (written_after g.S.Write.contents)
-    c.args.clients.now.items items c.loop-client.client-index c.client-item.result c.write_for-any.new.client
-    c.args.sessions.now c.loop-client.sessions c.write_for-any.new.sessions lt c.loop-client.invariant
-    c.write_for-any.ensures
+    let so_far = c.loop-client.invariant in
+    record {
+      done = done_further IsUnchanged unchanged-refl (IsWritten g.S.Write.contents) (written_after g.S.Write.contents)
+          c.args.clients.now.items items c.loop-client.client-index c.client-item.result c.write_for-any.new.client
+          c.args.sessions.now c.loop-client.sessions c.write_for-any.new.sessions lt so_far.done c.write_for-any.ensures;
+      more = λ is. omega (arith, lt, so_far.done.whole);
+    }

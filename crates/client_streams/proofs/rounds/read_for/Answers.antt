@@ -93,7 +93,7 @@ returns-clause-read g c =
     (not_closed before _ open_now)
     (λ was none. reason_of_trouble (HasFailed after) (WasRefused after)
     (IsSomeAnd c.args.reading.silence (IsSilent after old c.args.reading.at)) after.closing
-    (c.take_in-any.ensures.reason none))
+    (c.take_in-any.ensures.reason none)) c.take_in-any.ensures.refused
     (sends room left longest (rest client.wire.stream) (rest after.wire.stream) (waiting client.outgoing)
     (held client.incoming) (held after.incoming) client.sid old new before (session_at new client.sid) refl refl open_now c.take_in-any.ensures.taken
     c.take_in-any.ensures.others)

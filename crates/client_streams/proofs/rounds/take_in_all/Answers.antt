@@ -1,5 +1,5 @@
 -- One client more is read for.
-use Rattle.std.proofs.Common.{◌<◌, ◌+◌, ℕ, List, length, set, subst, sym, ◌∙◌, arith}
+use Rattle.std.proofs.Common.{◌<◌, ◌+◌, ℕ, List, length, set, ap, subst, sym, ◌∙◌, arith}
 use Rattle.std.proofs.lemmas.List.{with_items_is}
 use Rattle.client_streams.specs.declared.client.Client.{Client}
 use Rattle.client_streams.specs.Rounds.{intake, Holds, AreEach, IsRead}
@@ -28,10 +28,18 @@ loop-client-preserved g c =
           (intake c.args.sessions.now 1) (intake c.loop-client.sessions room.lines)
           (intake c.read_for-any.new.sessions last.lines) lt so_far.done c.read_for-any.ensures.read);
       longest = subst (λ (n : ℕ). IsLongest c.args.sessions.now c.args.clients.now.items n) (sym same) so_far.longest;
+      more = λ is. omega (arith, lt, so_far.done.whole);
     }
 
-pub returns : goal.returns
-returns g c =
+pub returns-clause-all : goal.returns-clause-all
+returns-clause-all g c =
+    let clients = c.args.clients.now in
+    let whole = c.loop-client.invariant.done.whole in
+    ap (λ (l : List (Client g.row.S.Denot)). length l)
+    (with_items_is clients c.loop-client.client-items (whole ∙ sym clients.ok.0)) ∙ whole
+
+pub returns-clause-read : goal.returns-clause-read
+returns-clause-read g c =
     let clients = c.args.clients.now in
     let items = c.loop-client.client-items in
     let so_far = c.loop-client.invariant.done in

@@ -1,4 +1,5 @@
 -- Who was read for so far was, and the others are as they were.
+use Rattle.std.proofs.Common.{◌≡◌, ◌<◌, true, length}
 use Rattle.client_streams.specs.Clients.{IsLongest}
 use Rattle.client_streams.specs.Rounds.{intake, Holds, IsRead}
 use Rattle.client_streams.proofs.RoundLemmas.{IsDoneTo}
@@ -9,4 +10,5 @@ invariant-loop-client g l = record {
   done : IsDoneTo Holds (IsRead g.S.Read.remaining l.fn.reading.silence l.fn.reading.at l.room.longest) l.client-index
       l.fn.clients.items l.client-items (intake l.fn.sessions 1) (intake l.sessions l.room.lines);
   longest : IsLongest l.fn.sessions l.fn.clients.items l.room.longest;
+  more : l.any ≡ true → 0 < length l.fn.clients.items;
 }

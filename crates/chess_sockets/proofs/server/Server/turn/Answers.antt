@@ -5,7 +5,7 @@ use Rattle.chess_hub.specs.Faults.{CountsFault}
 use Rattle.chess_sockets.specs.Serving.{state_of}
 use Rattle.chess_sockets.specs.Turns.{EndsServing, IsTurnRefusal}
 use Rattle.chess_sockets.proofs.StoreLemmas.{lasts_over, lasts_handed, of_fault, counts_refused, counts_done}
-use Rattle.chess_sockets.proofs.ServingLemmas.{welcomed_there, welcomed_on, asked_there}
+use Rattle.chess_sockets.proofs.ServingLemmas.{welcomed_there, welcomed_on, asked_there, has_worked}
 use Rattle.chess_sockets.proofs.server.Server.turn.Goals as goal
 
 -- ---- what is left of the store
@@ -92,6 +92,18 @@ returns-else-came-has_served-clause-served g c =
           c.in_ok-has_served.ensures.served;
       stay = rw c.part-2.ensures.hub c.part-2.ensures.stay;
     }
+
+-- ---- what was work
+
+pub returns-then-came-has_served-clause-worked : goal.returns-then-came-has_served-clause-worked
+returns-then-came-has_served-clause-worked g c =
+    let old = c.args.self.now in
+    let p = c.part.new.self in
+    let w = c.welcome-came.new.self in
+    λ is. has_worked c.welcome-came.result c.in_ok-has_served.has_served old.door.given p.door.given w.door.given
+    c.part-2.new.self.door.given _ p.clients.items w.clients.items c.if-came-has_served.true c.welcome-came.ensures.came
+    c.welcome-came.ensures.stay c.in_ok-has_served.ensures.more (ap (λ d. d.given) c.part.ensures.door)
+    (ap (λ d. d.given) c.part-2.ensures.door) c.part.ensures.stay
 
 -- ---- why it ends
 

@@ -65,3 +65,20 @@ returns-then-feed-clause-reason g c =
 
 pub returns-else-feed-clause-reason : goal.returns-else-feed-clause-reason
 returns-else-feed-clause-reason g c = λ none. inl c.if-feed.ensures.refused
+
+pub returns-then-waiting-gt0-clause-refused : goal.returns-then-waiting-gt0-clause-refused
+returns-then-waiting-gt0-clause-refused g c =
+    not_closed (session_at c.args.sessions.now c.args.self.now.sid) _ c.requires
+
+pub returns-then-not-admit-clause-refused : goal.returns-then-not-admit-clause-refused
+returns-then-not-admit-clause-refused g c =
+    not_closed (session_at c.args.sessions.now c.args.self.now.sid) _ c.requires
+
+pub returns-then-feed-clause-refused : goal.returns-then-feed-clause-refused
+returns-then-feed-clause-refused g c =
+    heard_open (session_at c.args.sessions.now c.args.self.now.sid)
+    (session_at c.feed.new.sessions c.args.self.now.sid) c.portion-portion.result.now c.requires
+    c.if-feed.ensures.heard
+
+pub returns-else-feed-clause-refused : goal.returns-else-feed-clause-refused
+returns-else-feed-clause-refused g c = λ none. inl c.if-feed.ensures.refused

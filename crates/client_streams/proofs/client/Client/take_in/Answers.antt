@@ -1,9 +1,9 @@
 -- What came is held back, and then the session is given what stands in front.
-use Rattle.std.proofs.Common.{◌≡◌, ◌∙◌, ℕ, List, Option, None, IfSome, ap, refl, subst, sym, arith}
+use Rattle.std.proofs.Common.{◌≡◌, ◌∙◌, ℕ, List, Option, None, IfSome, inr, ap, refl, subst, sym, arith}
 use Rattle.std.proofs.lemmas.Bool.{false≢true}
 use Rattle.chess_sessions.specs.Session.{Changes, session_at}
 use Rattle.client_streams.specs.Clients.{GivesOn, TakesIn}
-use Rattle.client_streams.specs.Closings.{IsTrouble}
+use Rattle.client_streams.specs.Closings.{WasRefused, IsTrouble}
 use Rattle.client_streams.specs.Incoming.{held}
 use Rattle.client_streams.specs.Sending.{waiting}
 use Rattle.client_streams.proofs.HeardLemmas.{heard_as_before, heard_on, end_as_before, end_on}
@@ -196,3 +196,12 @@ pub returns-in-Bytes-clause-reason : goal.returns-in-Bytes-clause-reason
 returns-in-Bytes-clause-reason g c =
     subst (λ (n : ℕ). session_at c.hand_on-in-Bytes.new.sessions n ≡ None → IsTrouble c.hand_on-in-Bytes.new.self)
     c.read_more.ensures.peer.0 c.hand_on-in-Bytes.ensures.reason
+
+-- who takes room and is closed was refused memory
+
+pub returns-then-not-is_unfinished-clause-refused : goal.returns-then-not-is_unfinished-clause-refused
+returns-then-not-is_unfinished-clause-refused g c = λ none. inr (c.hand_on.ensures.refused none)
+
+pub returns-in-Bytes-clause-refused : goal.returns-in-Bytes-clause-refused
+returns-in-Bytes-clause-refused g c = λ none. inr (subst (λ (n : ℕ). session_at c.hand_on-in-Bytes.new.sessions n ≡ None
+    → WasRefused c.hand_on-in-Bytes.new.self) c.read_more.ensures.peer.0 c.hand_on-in-Bytes.ensures.refused none)
