@@ -514,10 +514,10 @@ export class GameView {
     if (!standing || this.gone) return;
     drawPlayers(this);
     this.renderBoard();
-    drawMoves(this);
     drawActions(this);
     drawOutcome(this);
     drawFacts(this);
+    drawMoves(this);                   // last: how much of them is in sight is settled by what stands around them
     if (document.activeElement === byId('main')) this.app.toHeading();
     if (focused && !focused.getClientRects().length) this.keepFocus();
     this.app.titled(this.title());

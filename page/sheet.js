@@ -16,7 +16,8 @@ export function drawPlayers(game) {
     setText(root.querySelector('.name'), name ? game.app.nameWords(name) : 'waiting …');
     root.querySelector('.name').title = name;
     setText(root.querySelector('.colour'), colourWord(side));
-    setText(root.querySelector('.period'), periodWords(times, standing.ply, game.startSide(), side));
+    const period = standing.article ? '' : periodWords(times, standing.ply, game.startSide(), side);
+    setText(root.querySelector('.period'), period);
     setText(root.querySelector('.score'), scoreOf(standing.result, side));
     const clock = game.clocks[place];
     clock.label = `${colourWord(side)}’s clock`;
