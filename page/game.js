@@ -42,6 +42,7 @@ export class GameView {
     this.root = byId('game-view');
     this.number = 0;
     this.pending = null;               // the ply of a move that was made on the board and is not answered
+    this.lostJoin = 0;                 // the game of a join at the table whose answer was lost
     this.board = new Board((move) => this.moveOnBoard(move), say);
     byId('board').append(this.board.root);
     this.players = { far: byId('far'), near: byId('near') };
@@ -101,6 +102,8 @@ export class GameView {
       this.note('');
       this.suggest(null);
       byId('move-text').value = '';
+      if (number === this.lostJoin) this.lost({ word: 'join' });
+      this.lostJoin = 0;
     }
     this.root.hidden = false;
     this.refresh();
@@ -130,6 +133,7 @@ export class GameView {
     if (this.number !== number) return;
     if (refusal) {
       this.gone = refusal.number === NO_GAME;
+      this.wasTaken = this.gone && (this.wasTaken || Boolean(this.standing));      // (no number is given twice)
       this.note(refusalWords(refusal));
       if (this.gone) this.settleUnsure(null);
       this.render();
@@ -299,8 +303,7 @@ export class GameView {
       else this.note(refusalWords(refusal));
       if (refusal.number === WRONG_PLY || asked.word === 'flag') this.refresh();
     } else if (answer[0] === 'lost') {
-      this.unsure = act;
-      this.note('The connection broke before the answer came. Asking how the game stands …');
+      this.lost(act);
       this.refresh();
     } else if (answer[0] === 'unsent') {
       this.note('There is no connection. Nothing was sent.');
@@ -320,6 +323,12 @@ export class GameView {
     }, 2000);
   }
 
+  /** The answer to an act was lost: the game is to be asked how it stands. */
+  lost(act) {
+    this.unsure = act;
+    this.note('The connection broke before the answer came. Asking how the game stands …');
+  }
+
   /** After an answer that was lost: what the game, as it stands now, shows of that act. */
   settleUnsure(now) {
     const unsure = this.unsure;
@@ -330,7 +339,7 @@ export class GameView {
       this.news(`The connection broke, but your ${what} was taken.`);
     } else if (!now) {
       this.note(refusalWords({ number: NO_GAME }));
-    } else if (now.article || unsure.word === 'flag') {
+    } else if (now.article && unsure.word !== 'drop' || unsure.word === 'flag') {
       this.note('');
     } else if (taken === null) {
       this.note(`The connection broke before the answer to your ${what} came, and the game has gone on.`);
@@ -387,12 +396,15 @@ export class GameView {
       drawOutcome(this);
       return;
     }
+    // (once the server can be reached again, and has told of a call that was lost, the clock is set, and falls anew)
     const call = () => {
       if (this.number !== number || !this.running() || this.standing.side !== side) return;
-      if (this.busy) setTimeout(call, 300);
+      if (this.unsure || !this.app.reachable()) return;
+      if (this.busy) this.calling = setTimeout(call, 300);
       else this.act('flag');
     };
-    setTimeout(call, seat === side ? 1500 : 100);
+    clearTimeout(this.calling);
+    this.calling = setTimeout(call, seat === side ? 1500 : 100);
     drawOutcome(this);
   }
 

@@ -145,7 +145,7 @@ class Page {
     else if (answer[0] === 'unsent') note('There is no connection. Nothing was sent.');
     else if (answer[0] === 'lost') {
       note('The connection broke before the answer came. Looking for your game …');
-      this.lostOpen = { after, note };
+      this.lostOpen = { after, note, colour: line.split(' ')[1] };
     } else {
       this.table.opened();
       this.go(`/game/${answer[0].split(' ')[2]}`);
@@ -204,10 +204,9 @@ class Page {
   }
 
   findOpened() {
-    const { after, note } = this.lostOpen, me = this.me();
+    const { after, note, colour } = this.lostOpen, me = this.me();
     this.lostOpen = null;
-    const row = [...this.table.rows.values()].reverse()
-      .find((one) => one.number > after && (one.white === me || one.black === me));
+    const row = [...this.table.rows.values()].find((one) => one.number > after && one[colour] === me);
     if (row) this.go(`/game/${row.number}`);
     else note('The connection broke, and your game has not been opened so far. Look, and open it again.');
   }

@@ -223,7 +223,10 @@ export class TableView {
     const answer = await this.app.wire.say(`join ${number}`), refusal = readRefusal(answer[0]);
     if (refusal) this.note(refusalWords(refusal));
     else if (answer[0] === 'unsent') this.note('There is no connection. Nothing was sent.');
-    else this.app.go(`/game/${number}`);      // also where the answer was lost: the game shows who sits there
+    else {
+      if (answer[0] === 'lost') this.app.game.lostJoin = number;
+      this.app.go(`/game/${number}`);
+    }
   }
 
   preset(words) {

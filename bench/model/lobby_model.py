@@ -10,8 +10,8 @@ from its standard input, and answers each by `ok` once it holds, so that a test 
 
     gone     the connection to the server breaks: browsers are told, lines are refused by 36
     here     it stands again
-    lose     the next line for the server is taken, but the connection breaks before the answer: `lost`
-    drop     the next line for the server is not taken, and the connection breaks: `lost` too
+    lose     the next act is taken, but the connection to the server breaks before the answer: `lost`
+    drop     the next act is not taken, and the connection breaks: `lost` too
     silent   nothing is answered any more, and the connections stay open
     slow MS  each answer comes MS milliseconds late
 
@@ -135,7 +135,9 @@ class Lobby:
         return self.asked(c, word, name, text)
 
     def asked(self, c, word, name, text):
-        fault, self.fault = self.fault, None
+        fault = self.fault if word in ACTS else None
+        if fault:
+            self.fault = None
         if fault == 'drop':
             self.server_is(False)
             return ['lost'], None
