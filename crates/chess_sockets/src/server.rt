@@ -64,6 +64,18 @@ fn asks_for_one(rested: Rested, found: Found) -> bool
     rested != Rested::Calm || may_wait(found)
 }
 
+// What a turn is told as that found something to do, or did not.
+fn told_as(has_worked: bool) -> Turned
+    ensures worked { result ≡ Turned.Worked → has_worked ≡ true }
+    ensures idle { result ≡ Turned.Idle → has_worked ≡ false }
+{
+    if has_worked {
+        Turned::Worked
+    } else {
+        Turned::Idle
+    }
+}
+
 // Reads for each session, has the hub answer lines that wait, and writes; and tells whether there was anything to read or
 // to write.
 pub(crate) fn serve_clients<S: Read + Write, D: Device>(
@@ -311,11 +323,7 @@ impl<D: Device, S: Read + Write + From<TcpStream> + Drop> Server<D, S> {
         self.rested = Rested::Not;
         let has_served = serve_clients(&mut self.clients, &mut self.hub, reading)?;
         self.part();
-        Ok(if came | has_served {
-            Turned::Worked
-        } else {
-            Turned::Idle
-        })
+        Ok(told_as(came | has_served))
     }
 
     /// Waits until a socket is ready or 10 ms have passed, for use after a turn that found nothing to do. A rest is calm
