@@ -135,7 +135,7 @@ impl<D: Device, S: Read + Write + From<TcpStream> + Drop> Server<D, S> {
         let door = Door::listen(net, port)?;
         let mut watch = Watch::new(net, alloc)?;
         let port = door.port()?;
-        watch.add(door.socket());
+        watch.add(door.socket())?;
         Ok(Server {
             alloc,
             door,
@@ -181,6 +181,7 @@ impl<D: Device, S: Read + Write + From<TcpStream> + Drop> Server<D, S> {
         ensures port { self.new.port ≡ self.old.port }
         ensures silence { self.new.silence ≡ self.old.silence }
         ensures waits { self.new.watch.calm_waits ≡ self.old.watch.calm_waits }
+        ensures blind { self.old.watch.is_blind ≡ true → self.new.watch.is_blind ≡ true }
         ensures door { self.new.door ≡ self.old.door }
         ensures turned_away { self.new.turned_away ≡ self.old.turned_away }
         ensures came { OnTrue result (length self.new.clients.items ≡ length self.old.clients.items + 1) }
@@ -194,7 +195,8 @@ impl<D: Device, S: Read + Write + From<TcpStream> + Drop> Server<D, S> {
             Ok(sid) => sid,
             Err(_) => return false,
         };
-        self.watch.add(stream.as_raw_fd());
+        // One that the system refuses to watch is served too: each rest then ends as though something had come.
+        let _ = self.watch.add(stream.as_raw_fd());
         self.clients
             .push_reserved(Client::new(self.alloc, S::from(stream), sid, at));
         true
@@ -211,6 +213,7 @@ impl<D: Device, S: Read + Write + From<TcpStream> + Drop> Server<D, S> {
         ensures port { self.new.port ≡ self.old.port }
         ensures silence { self.new.silence ≡ self.old.silence }
         ensures waits { self.new.watch.calm_waits ≡ self.old.watch.calm_waits }
+        ensures blind { self.old.watch.is_blind ≡ true → self.new.watch.is_blind ≡ true }
         ensures door { self.new.door ≡ self.old.door }
     {
         if !self.admit(stream, at) {
@@ -234,6 +237,7 @@ impl<D: Device, S: Read + Write + From<TcpStream> + Drop> Server<D, S> {
         ensures port { self.new.port ≡ self.old.port }
         ensures silence { self.new.silence ≡ self.old.silence }
         ensures waits { self.new.watch.calm_waits ≡ self.old.watch.calm_waits }
+        ensures blind { self.old.watch.is_blind ≡ true → self.new.watch.is_blind ≡ true }
     {
         if !asks_for_one(self.rested, self.door.found()) {
             return false;
@@ -257,6 +261,7 @@ impl<D: Device, S: Read + Write + From<TcpStream> + Drop> Server<D, S> {
         ensures port { self.new.port ≡ self.old.port }
         ensures silence { self.new.silence ≡ self.old.silence }
         ensures waits { self.new.watch.calm_waits ≡ self.old.watch.calm_waits }
+        ensures blind { self.old.watch.is_blind ≡ true → self.new.watch.is_blind ≡ true }
     {
         let hub = &self.hub;
         self.clients.retain(|client| hub.is_open(client.sid()));
@@ -306,6 +311,7 @@ impl<D: Device, S: Read + Write + From<TcpStream> + Drop> Server<D, S> {
         ensures port { self.new.port ≡ self.old.port }
         ensures silence { self.new.silence ≡ self.old.silence }
         ensures waits { self.new.watch.calm_waits ≡ self.old.watch.calm_waits }
+        ensures blind { self.old.watch.is_blind ≡ true → self.new.watch.is_blind ≡ true }
         ensures lasts { IsKept (D.state self.old.hub.store.journal.device) self.old.hub.store.journal.header
             self.old.hub.store.journal.compaction self.old.hub.store.table
             → Lasts result (D.state self.old.hub.store.journal.device) (D.state self.new.hub.store.journal.device)
@@ -334,6 +340,9 @@ impl<D: Device, S: Read + Write + From<TcpStream> + Drop> Server<D, S> {
         // A hundred calm waits on end do not come, so neither do a hundred calm rests.
         ensures calm { self.new.rested ≡ Rested.Calm
             → self.new.watch.calm_waits ≡ self.old.watch.calm_waits + 1 }
+        // None is where the system has refused to watch a socket.
+        ensures blind { self.old.watch.is_blind ≡ true → (self.new.rested ≡ Rested.Woken)
+            × (self.new.watch.is_blind ≡ true) }
         ensures woken { self.old.rested ≡ Rested.Woken → self.new.rested ≡ Rested.Woken }
         ensures turned_away { self.new.turned_away ≡ self.old.turned_away }
         ensures port { self.new.port ≡ self.old.port }
