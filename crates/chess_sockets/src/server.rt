@@ -64,6 +64,18 @@ fn asks_for_one(rested: Rested, found: Found) -> bool
     rested != Rested::Calm || may_wait(found)
 }
 
+// What a turn is told as that found something to do, or did not.
+fn told_as(has_worked: bool) -> Turned
+    ensures worked { result ≡ Turned.Worked → has_worked ≡ true }
+    ensures idle { result ≡ Turned.Idle → has_worked ≡ false }
+{
+    if has_worked {
+        Turned::Worked
+    } else {
+        Turned::Idle
+    }
+}
+
 // Reads for each session, has the hub answer lines that wait, and writes; and tells whether there was anything to read or
 // to write.
 pub(crate) fn serve_clients<S: Read + Write, D: Device>(
@@ -123,7 +135,7 @@ impl<D: Device, S: Read + Write + From<TcpStream> + Drop> Server<D, S> {
         let door = Door::listen(net, port)?;
         let mut watch = Watch::new(net, alloc)?;
         let port = door.port()?;
-        watch.add(door.socket());
+        watch.add(door.socket())?;
         Ok(Server {
             alloc,
             door,
@@ -169,6 +181,7 @@ impl<D: Device, S: Read + Write + From<TcpStream> + Drop> Server<D, S> {
         ensures port { self.new.port ≡ self.old.port }
         ensures silence { self.new.silence ≡ self.old.silence }
         ensures waits { self.new.watch.calm_waits ≡ self.old.watch.calm_waits }
+        ensures blind { self.old.watch.is_blind ≡ true → self.new.watch.is_blind ≡ true }
         ensures door { self.new.door ≡ self.old.door }
         ensures turned_away { self.new.turned_away ≡ self.old.turned_away }
         ensures came { OnTrue result (length self.new.clients.items ≡ length self.old.clients.items + 1) }
@@ -182,7 +195,8 @@ impl<D: Device, S: Read + Write + From<TcpStream> + Drop> Server<D, S> {
             Ok(sid) => sid,
             Err(_) => return false,
         };
-        self.watch.add(stream.as_raw_fd());
+        // One that the system refuses to watch is served too: each rest then ends as though something had come.
+        let _ = self.watch.add(stream.as_raw_fd());
         self.clients
             .push_reserved(Client::new(self.alloc, S::from(stream), sid, at));
         true
@@ -199,6 +213,7 @@ impl<D: Device, S: Read + Write + From<TcpStream> + Drop> Server<D, S> {
         ensures port { self.new.port ≡ self.old.port }
         ensures silence { self.new.silence ≡ self.old.silence }
         ensures waits { self.new.watch.calm_waits ≡ self.old.watch.calm_waits }
+        ensures blind { self.old.watch.is_blind ≡ true → self.new.watch.is_blind ≡ true }
         ensures door { self.new.door ≡ self.old.door }
     {
         if !self.admit(stream, at) {
@@ -222,6 +237,7 @@ impl<D: Device, S: Read + Write + From<TcpStream> + Drop> Server<D, S> {
         ensures port { self.new.port ≡ self.old.port }
         ensures silence { self.new.silence ≡ self.old.silence }
         ensures waits { self.new.watch.calm_waits ≡ self.old.watch.calm_waits }
+        ensures blind { self.old.watch.is_blind ≡ true → self.new.watch.is_blind ≡ true }
     {
         if !asks_for_one(self.rested, self.door.found()) {
             return false;
@@ -245,6 +261,7 @@ impl<D: Device, S: Read + Write + From<TcpStream> + Drop> Server<D, S> {
         ensures port { self.new.port ≡ self.old.port }
         ensures silence { self.new.silence ≡ self.old.silence }
         ensures waits { self.new.watch.calm_waits ≡ self.old.watch.calm_waits }
+        ensures blind { self.old.watch.is_blind ≡ true → self.new.watch.is_blind ≡ true }
     {
         let hub = &self.hub;
         self.clients.retain(|client| hub.is_open(client.sid()));
@@ -294,6 +311,7 @@ impl<D: Device, S: Read + Write + From<TcpStream> + Drop> Server<D, S> {
         ensures port { self.new.port ≡ self.old.port }
         ensures silence { self.new.silence ≡ self.old.silence }
         ensures waits { self.new.watch.calm_waits ≡ self.old.watch.calm_waits }
+        ensures blind { self.old.watch.is_blind ≡ true → self.new.watch.is_blind ≡ true }
         ensures lasts { IsKept (D.state self.old.hub.store.journal.device) self.old.hub.store.journal.header
             self.old.hub.store.journal.compaction self.old.hub.store.table
             → Lasts result (D.state self.old.hub.store.journal.device) (D.state self.new.hub.store.journal.device)
@@ -311,11 +329,7 @@ impl<D: Device, S: Read + Write + From<TcpStream> + Drop> Server<D, S> {
         self.rested = Rested::Not;
         let has_served = serve_clients(&mut self.clients, &mut self.hub, reading)?;
         self.part();
-        Ok(if came | has_served {
-            Turned::Worked
-        } else {
-            Turned::Idle
-        })
+        Ok(told_as(came | has_served))
     }
 
     /// Waits until a socket is ready or 10 ms have passed, for use after a turn that found nothing to do. A rest is calm
@@ -326,6 +340,9 @@ impl<D: Device, S: Read + Write + From<TcpStream> + Drop> Server<D, S> {
         // A hundred calm waits on end do not come, so neither do a hundred calm rests.
         ensures calm { self.new.rested ≡ Rested.Calm
             → self.new.watch.calm_waits ≡ self.old.watch.calm_waits + 1 }
+        // None is where the system has refused to watch a socket.
+        ensures blind { self.old.watch.is_blind ≡ true → (self.new.rested ≡ Rested.Woken)
+            × (self.new.watch.is_blind ≡ true) }
         ensures woken { self.old.rested ≡ Rested.Woken → self.new.rested ≡ Rested.Woken }
         ensures turned_away { self.new.turned_away ≡ self.old.turned_away }
         ensures port { self.new.port ≡ self.old.port }

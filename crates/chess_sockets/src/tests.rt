@@ -401,6 +401,16 @@ fn who_has_ended_and_reads_slowly_is_given_all(rt: HostRuntime) {
 }
 
 #[test]
+fn who_sends_on_is_served_on(rt: HostRuntime) {
+    let alloc = rt.alloc();
+    let sends = made(alloc, &[Gives::Text("name a\n")], Takes::All);
+    assert_eq!(rt;
+        play(alloc, sends, NAMED, 2_000, None),
+        left(true, Some(2_000), 2_000, 2_000)
+    );
+}
+
+#[test]
 fn who_takes_nothing_is_read_no_further(rt: HostRuntime) {
     let alloc = rt.alloc();
     let floods = made(alloc, &[Gives::Text(NAMES)], Takes::Nothing);
@@ -533,7 +543,7 @@ fn who_asks_for_much_is_answered_in_turn(rt: HostRuntime) {
     let alloc = rt.alloc();
     assert_eq!(rt; flood(alloc, 63), Some((0, 1)));
     assert_eq!(rt; flood(alloc, 64), Some((1, 1)));
-    assert_eq!(rt; flood(alloc, 640), Some((10, 10)));
+    assert_eq!(rt; flood(alloc, 2_000), Some((31, 32)));
 }
 
 // How many answers a client has a turn after it came and asked for the list, where two others were given 40 lists each and

@@ -223,6 +223,16 @@ takes-in waited waits room left longest (Some s) n before after unsent holds bet
   gives = subst (λ l. GivesOn room left longest unsent l keeps waited waits s n) takes.order gives;
 }
 
+-- and nothing goes on where no line is held back then
+pub takes-in-unfinished : {waited waits : ℕ} (room longest : ℕ) (m : Option SessionState)
+    (before after : Option (List ℕ)) (unsent holds keeps : List ℕ) → Takes before after holds keeps →
+    IsUnfinished keeps → waits ≡ waited →
+    IfSome m (λ s. TakesIn room room longest before after unsent holds keeps waited waits s m)
+takes-in-unfinished {waited = waited} {waits = waits} room longest m before after unsent holds keeps takes unfinished
+    still =
+    takes-in waited waits room room longest m m before after unsent holds keeps keeps takes
+    (gives-none-up room longest m m unsent keeps refl (up_unfinished unsent keeps m m unfinished) still)
+
 -- who has heard something is not closed
 pub heard_open : {Q : Type 0} (m n : Option SessionState) (fed : List ℕ) → IsSome m →
     IfSome m (λ s. IsSomeAnd n (HasHeard s fed)) → n ≡ None → Q

@@ -205,6 +205,15 @@ struct Wrote {
     sent: Sent,
 }
 
+impl Wrote {
+    // Whether there was anything to do: answers came, or what was stuck is written.
+    fn is_work(self, was_stuck: bool) -> bool
+        ensures { IsTrue result ↔ ((self.any ≡ true) ⊎ ((was_stuck ≡ true) × (self.sent ≡ Sent.All))) }
+    {
+        self.any || was_stuck && self.sent == Sent::All
+    }
+}
+
 impl<S: Read + Write> Client<S> {
     #[tactic(auto, using(crate::proofs::HeardLemmas::heard_as_before, crate::proofs::HeardLemmas::heard_now, crate::proofs::HeardLemmas::heard_nothing, crate::proofs::HeardLemmas::heard_interrupted, crate::proofs::HeardLemmas::heard_end, crate::proofs::HeardLemmas::heard_fault, crate::proofs::HeardLemmas::end_now))]
     // Reads at most one piece, unless the peer sends no more, and holds it back. `Nothing` where there is none to read for
@@ -437,6 +446,6 @@ impl<S: Read + Write> Client<S> {
             self.close(sessions, reason);
             return true;
         }
-        wrote.any || was_stuck && wrote.sent == Sent::All
+        wrote.is_work(was_stuck)
     }
 }

@@ -1,5 +1,5 @@
 //! What wakes a server that has nothing to do.
-ghost use Rattle.std.specs.Prelude.{◌≡◌, ◌<◌, ◌+◌, true, false};
+ghost use Rattle.std.specs.Prelude.{◌≡◌, ◌<◌, ◌+◌, true, false, IfOk, OnOk, OnErr};
 
 use mio::unix::SourceFd;
 use mio::{Events, Interest, Poll, Token};
@@ -32,7 +32,10 @@ const CALM: u32 = 100;
 
 impl Watch {
     /// Watches no socket yet. An `Err` is the system's, or memory is refused.
-    pub fn new(net: &impl Net, alloc: Global) -> io::Result<Watch> {
+    pub fn new(net: &impl Net, alloc: Global) -> io::Result<Watch>
+        ensures sees { IfOk result (λ watch. watch.is_blind ≡ false) }
+        ensures waits { IfOk result (λ watch. watch.calm_waits ≡ 0) }
+    {
         Ok(Watch {
             poll: Poll::new(net)?,
             events: Events::with_capacity(alloc, EVENTS)?,
@@ -41,9 +44,11 @@ impl Watch {
         })
     }
 
-    /// Watches a socket too, until it is closed. Where the system refuses that, no wait is calm from then on.
-    pub fn add(&mut self, socket: RawFd)
-        ensures blind { self.old.is_blind ≡ true → self.new.is_blind ≡ true }
+    /// Watches a socket too, until it is closed. An `Err` is the system's, which refuses that: no wait is calm from then on.
+    pub fn add(&mut self, socket: RawFd) -> io::Result<()>
+        ensures refused { OnErr result (self.new.is_blind ≡ true) }
+        ensures watched { OnOk result (self.new.is_blind ≡ self.old.is_blind) }
+        ensures lasts { self.old.is_blind ≡ true → self.new.is_blind ≡ true }
         ensures waits { self.new.calm_waits ≡ self.old.calm_waits }
     {
         let interest = Interest::READABLE | Interest::WRITABLE;
@@ -54,6 +59,7 @@ impl Watch {
         if watched.is_err() {
             self.is_blind = true;
         }
+        watched
     }
 
     /// Waits until one of the sockets is ready or 10 ms have passed, and tells whether the wait was calm: no socket was

@@ -13,6 +13,12 @@ const ANN: &[Gives] = &[
     Gives::Text("na"),
     Gives::Text("me ann\n"),
     Gives::Nothing,
+    Gives::Nothing,
+    Gives::Nothing,
+    Gives::Nothing,
+    // By now bob has joined her game, also where a turn was lost.
+    Gives::Text("move 1 0 e4\n"),
+    Gives::Nothing,
 ];
 
 const BOB: &[Gives] = &[
@@ -24,10 +30,12 @@ const BOB: &[Gives] = &[
     Gives::Text("list\npgn 1\n"),
     Gives::Text("show 1\n"),
     Gives::Nothing,
+    Gives::Text("move 1 1 e5\n"),
+    Gives::Nothing,
 ];
 
 /// How many answers each is to have.
-const ANSWERS: [usize; 2] = [3, 7];
+const ANSWERS: [usize; 2] = [4, 8];
 
 /// What was seen of a refusal.
 #[derive(Clone, Copy, Debug, PartialEq, Eq)]
@@ -38,22 +46,22 @@ struct Seen {
     told: usize,
     /// How many clients were closed.
     closed: usize,
-    /// How many answers say that the game to be joined is one's own.
-    alone: usize,
+    /// How many answers are to lines that want what was refused.
+    behind: usize,
 }
 
 impl Seen {
-    // Whether one refusal, or none, came to this. Where the first game was not opened, the second has its number.
+    // Whether one refusal, or none, came to this. Behind an `open` there are a join and two moves.
     fn is_of_one_refusal(self) -> bool {
         let Seen {
             refusals,
             told,
             closed,
-            alone,
+            behind,
         } = self;
         match (refusals, told, closed) {
-            (0, 0, 0) | (1, 0, 0) => alone == 0,
-            (0, 1, 0) | (0, 0, 1) => alone <= 1,
+            (0, 0, 0) | (1, 0, 0) => behind == 0,
+            (0, 1, 0) | (0, 0, 1) => behind <= 3,
             _ => false,
         }
     }
@@ -84,8 +92,8 @@ struct Told {
     answers: usize,
     /// How many say that memory was refused.
     refused: usize,
-    /// How many say that the game is its own: the other has none.
-    alone: usize,
+    /// How many are to lines that want what was refused.
+    behind: usize,
 }
 
 // Whether a line is the first of an answer. The others are of a body.
@@ -93,9 +101,18 @@ fn is_first(line: &str) -> bool {
     line.starts_with("ok ") || line.starts_with("no ")
 }
 
+// Whether a line is the answer to one that wants what was refused: the game is one's own, or not one's own; nobody has
+// joined it; or the other has not moved.
+fn is_behind(line: &str) -> bool {
+    line == "no 16 SamePlayer"
+        || line == "no 4 NotSeated"
+        || line == "no 5 NotStarted"
+        || line == "no 7 WrongPly 0"
+}
+
 // Counts the answers. `None` where one is another than `ok` and these.
 fn told_of(written: &[u8]) -> Option<Told> {
-    let (mut answers, mut refused, mut alone) = (0usize, 0usize, 0usize);
+    let (mut answers, mut refused, mut behind) = (0usize, 0usize, 0usize);
     for line in str::from_utf8(written).ok()?.lines() {
         if !is_first(line) {
             continue;
@@ -103,8 +120,8 @@ fn told_of(written: &[u8]) -> Option<Told> {
         answers = answers.saturating_add(1);
         if line == "no 22 NoMemory" {
             refused = refused.saturating_add(1);
-        } else if line == "no 16 SamePlayer" {
-            alone = alone.saturating_add(1);
+        } else if is_behind(line) {
+            behind = behind.saturating_add(1);
         } else if !line.starts_with("ok ") {
             return None;
         }
@@ -112,7 +129,7 @@ fn told_of(written: &[u8]) -> Option<Told> {
     Some(Told {
         answers,
         refused,
-        alone,
+        behind,
     })
 }
 
@@ -132,7 +149,7 @@ fn look(clients: &[Client<Peer>], hub: &Hub<MemoryDevice>) -> Option<Seen> {
             return None;
         }
         seen.told = seen.told.saturating_add(told.refused);
-        seen.alone = seen.alone.saturating_add(told.alone);
+        seen.behind = seen.behind.saturating_add(told.behind);
     }
     Some(seen)
 }
@@ -163,7 +180,7 @@ const NOTHING: Seen = Seen {
     refusals: 0,
     told: 0,
     closed: 0,
-    alone: 0,
+    behind: 0,
 };
 
 /// In so many turns both have all their answers.

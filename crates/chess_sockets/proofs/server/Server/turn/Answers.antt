@@ -10,18 +10,8 @@ use Rattle.chess_sockets.proofs.server.Server.turn.Goals as goal
 
 -- ---- what is left of the store
 
-pub returns-then-came-has_served-clause-lasts : goal.returns-then-came-has_served-clause-lasts
-returns-then-came-has_served-clause-lasts g c =
-    let s = c.welcome-came.new.self.hub.store in
-    let n = c.serve_clients.new.hub.store in
-    let state = g.D.Device.state in
-    rw (c.part-2.ensures.hub, sym (c.welcome-came.ensures.store ∙ ap (λ h. h.store) c.part.ensures.hub))
-    (λ kept. lasts_over (Ok c.in_ok-has_served.has_served) c.in_ok-has_served.has_served _ (state s.journal.device)
-    (state n.journal.device) n.journal.header n.journal.compaction s.table n.table refl
-    (c.in_ok-has_served.ensures.lasts kept))
-
-pub returns-else-came-has_served-clause-lasts : goal.returns-else-came-has_served-clause-lasts
-returns-else-came-has_served-clause-lasts g c =
+pub returns-clause-lasts : goal.returns-clause-lasts
+returns-clause-lasts g c =
     let s = c.welcome-came.new.self.hub.store in
     let n = c.serve_clients.new.hub.store in
     let state = g.D.Device.state in
@@ -43,33 +33,8 @@ returns-in_err-has_served-clause-lasts g c =
 
 -- ---- who is served
 
-pub returns-then-came-has_served-clause-served : goal.returns-then-came-has_served-clause-served
-returns-then-came-has_served-clause-served g c =
-    let old = c.args.self.now in
-    let w = c.welcome-came.new.self in
-    let n = c.serve_clients.new in
-    let left = c.part-2.new.self in
-    record {
-      asked = w.clients.items;
-      begun = state_of w.hub.sessions w.hub.store.table;
-      welcomes = welcomed_on g.S.From.from_gives c.args.at old.door.given w.door left.door old.turned_away w.turned_away
-          left.turned_away _ _ _ _ c.part-2.ensures.door c.part-2.ensures.turned_away
-          (welcomed_there g.S.From.from_gives c.args.at c.part.new.self.hub old.hub
-          (λ hub. state_of hub.sessions hub.store.table) c.part.new.self.door old.door w.door.given
-          c.part.new.self.turned_away old.turned_away w.turned_away _ _ _ _ c.part.ensures.hub c.part.ensures.stay
-          c.part.ensures.turned_away c.part.ensures.door c.welcome-came.ensures.welcomes);
-      written = n.clients.items;
-      serves = rw (
-        c.part-2.ensures.hub,
-        sym (c.welcome-came.ensures.store ∙ ap (λ h. h.store) c.part.ensures.hub),
-        sym (c.welcome-came.ensures.silence ∙ c.part.ensures.silence),
-      )
-          c.in_ok-has_served.ensures.served;
-      stay = rw c.part-2.ensures.hub c.part-2.ensures.stay;
-    }
-
-pub returns-else-came-has_served-clause-served : goal.returns-else-came-has_served-clause-served
-returns-else-came-has_served-clause-served g c =
+pub returns-clause-served : goal.returns-clause-served
+returns-clause-served g c =
     let old = c.args.self.now in
     let w = c.welcome-came.new.self in
     let n = c.serve_clients.new in
@@ -95,13 +60,13 @@ returns-else-came-has_served-clause-served g c =
 
 -- ---- what was work
 
-pub returns-then-came-has_served-clause-worked : goal.returns-then-came-has_served-clause-worked
-returns-then-came-has_served-clause-worked g c =
+pub returns-clause-worked : goal.returns-clause-worked
+returns-clause-worked g c =
     let old = c.args.self.now in
     let p = c.part.new.self in
     let w = c.welcome-came.new.self in
     λ is. has_worked c.welcome-came.result c.in_ok-has_served.has_served old.door.given p.door.given w.door.given
-    c.part-2.new.self.door.given _ p.clients.items w.clients.items c.if-came-has_served.true c.welcome-came.ensures.came
+    c.part-2.new.self.door.given _ p.clients.items w.clients.items (c.told_as.ensures.worked is) c.welcome-came.ensures.came
     c.welcome-came.ensures.stay c.in_ok-has_served.ensures.more (ap (λ d. d.given) c.part.ensures.door)
     (ap (λ d. d.given) c.part-2.ensures.door) c.part.ensures.stay
 
@@ -149,15 +114,8 @@ returns-in_err-has_served-clause-cause_err g c =
 
 -- ---- the count of refusals
 
-pub returns-then-came-has_served-clause-counts : goal.returns-then-came-has_served-clause-counts
-returns-then-came-has_served-clause-counts g c =
-    ap (λ h. h.refusals) c.part-2.ensures.hub
-    ∙ counts_done c.serve_clients.result c.in_ok-has_served.has_served c.welcome-came.new.self.hub.refusals
-    c.serve_clients.new.hub.refusals c.in_ok-has_served.was c.serve_clients.ensures.counts
-    ∙ c.welcome-came.ensures.refusals ∙ ap (λ h. h.refusals) c.part.ensures.hub
-
-pub returns-else-came-has_served-clause-counts : goal.returns-else-came-has_served-clause-counts
-returns-else-came-has_served-clause-counts g c =
+pub returns-clause-counts : goal.returns-clause-counts
+returns-clause-counts g c =
     ap (λ h. h.refusals) c.part-2.ensures.hub
     ∙ counts_done c.serve_clients.result c.in_ok-has_served.has_served c.welcome-came.new.self.hub.refusals
     c.serve_clients.new.hub.refusals c.in_ok-has_served.was c.serve_clients.ensures.counts
@@ -174,16 +132,8 @@ returns-in_err-has_served-clause-counts g c =
 
 -- ---- who is asked for
 
-pub returns-then-came-has_served-clause-asked : goal.returns-then-came-has_served-clause-asked
-returns-then-came-has_served-clause-asked g c =
-    let old = c.args.self.now in
-    let p = c.part.new.self in
-    let w = c.welcome-came.new.self in
-    asked_there p.rested old.rested p.door old.door w.door c.part-2.new.self.door c.part.ensures.rested c.part.ensures.door
-    c.part-2.ensures.door c.welcome-came.ensures.asked
-
-pub returns-else-came-has_served-clause-asked : goal.returns-else-came-has_served-clause-asked
-returns-else-came-has_served-clause-asked g c =
+pub returns-clause-asked : goal.returns-clause-asked
+returns-clause-asked g c =
     let old = c.args.self.now in
     let p = c.part.new.self in
     let w = c.welcome-came.new.self in

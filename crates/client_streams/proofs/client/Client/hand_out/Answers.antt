@@ -72,40 +72,8 @@ returns-in_default-clause-given g c =
     (inr (ap (λ o. o.was_refused) c.close.ensures.marks.1 ∙ c.in_default.ensures.memory)))
 
 -- the session goes on
-pub returns-then-wrote-clause-given : goal.returns-then-wrote-clause-given
-returns-then-wrote-clause-given g c =
-    let client = c.args.self.now in
-    let wrote = c.write_out.new.self in
-    let after = c.is_over.new.self in
-    let old = c.args.sessions.now in
-    let mid = c.write_out.new.sessions in
-    let contents = g.S.Write.contents in
-    let kept = c.is_over.ensures.peer in
-    goes_on_open contents client after old mid c.write_out.ensures.given
-    (subst (λ (x : Option (List ℕ)). HandsOut (contents client.wire.stream) x
-    (to_go (session_at old client.sid) (waiting client.outgoing)) (to_go (session_at mid client.sid) (waiting after.outgoing)))
-    (sym (ap contents kept.5)) (subst (λ (l : List ℕ). HandsOut (contents client.wire.stream) (contents wrote.wire.stream)
-    (to_go (session_at old client.sid) (waiting client.outgoing)) (to_go (session_at mid client.sid) l)) (sym kept.4)
-    c.in-Ok.ensures.hands)) c.write_out.ensures.open
-
-pub returns-then-was_stuck-clause-given : goal.returns-then-was_stuck-clause-given
-returns-then-was_stuck-clause-given g c =
-    let client = c.args.self.now in
-    let wrote = c.write_out.new.self in
-    let after = c.is_over.new.self in
-    let old = c.args.sessions.now in
-    let mid = c.write_out.new.sessions in
-    let contents = g.S.Write.contents in
-    let kept = c.is_over.ensures.peer in
-    goes_on_open contents client after old mid c.write_out.ensures.given
-    (subst (λ (x : Option (List ℕ)). HandsOut (contents client.wire.stream) x
-    (to_go (session_at old client.sid) (waiting client.outgoing)) (to_go (session_at mid client.sid) (waiting after.outgoing)))
-    (sym (ap contents kept.5)) (subst (λ (l : List ℕ). HandsOut (contents client.wire.stream) (contents wrote.wire.stream)
-    (to_go (session_at old client.sid) (waiting client.outgoing)) (to_go (session_at mid client.sid) l)) (sym kept.4)
-    c.in-Ok.ensures.hands)) c.write_out.ensures.open
-
-pub returns-else-was_stuck-clause-given : goal.returns-else-was_stuck-clause-given
-returns-else-was_stuck-clause-given g c =
+pub returns-clause-given : goal.returns-clause-given
+returns-clause-given g c =
     let client = c.args.self.now in
     let wrote = c.write_out.new.self in
     let after = c.is_over.new.self in

@@ -9,7 +9,7 @@ use Rattle.client_streams.specs.Sending.{waiting}
 use Rattle.client_streams.proofs.HeardLemmas.{heard_as_before, heard_on, end_as_before, end_on}
 use Rattle.client_streams.proofs.RoundLemmas.{not_closed}
 use Rattle.client_streams.proofs.ClosingLemmas.{has_failed}
-use Rattle.client_streams.proofs.TakingLemmas.{takes-nothing, takes-in, gives-none-up, gives-closed, up_unsent, up_unfinished}
+use Rattle.client_streams.proofs.TakingLemmas.{takes-nothing, takes-in, takes-in-unfinished, gives-none-up, gives-closed, up_unsent}
 use Rattle.client_streams.proofs.client.Client.take_in.Goals as goal
 
 pub returns-then-not-is_empty-clause-taken : goal.returns-then-not-is_empty-clause-taken
@@ -47,24 +47,20 @@ returns-in-Nothing-clause-taken g c =
     let client = c.args.self.now in
     let after = c.read_more.new.self in
     let room = c.args.room.now in
-    let m = session_at c.args.sessions.now client.sid in
-    takes-in client.waited after.waited room.lines room.lines room.longest m m (g.S.Read.remaining client.wire.stream)
-    (g.S.Read.remaining after.wire.stream) (waiting client.outgoing) (held client.incoming) (held after.incoming)
-    (held after.incoming) c.read_more.ensures.takes
-    (gives-none-up room.lines room.longest m m (waiting client.outgoing) (held after.incoming) refl
-    (up_unfinished (waiting client.outgoing) (held after.incoming) m m (c.read_more.ensures.nothing c.in-Nothing.is)) c.read_more.ensures.peer.2)
+    takes-in-unfinished room.lines room.longest (session_at c.args.sessions.now client.sid)
+    (g.S.Read.remaining client.wire.stream) (g.S.Read.remaining after.wire.stream) (waiting client.outgoing)
+    (held client.incoming) (held after.incoming) c.read_more.ensures.takes
+    (c.read_more.ensures.nothing c.in-Nothing.is) c.read_more.ensures.peer.2
 
 pub returns-in-End-clause-taken : goal.returns-in-End-clause-taken
 returns-in-End-clause-taken g c =
     let client = c.args.self.now in
     let after = c.read_more.new.self in
     let room = c.args.room.now in
-    let m = session_at c.args.sessions.now client.sid in
-    takes-in client.waited after.waited room.lines room.lines room.longest m m (g.S.Read.remaining client.wire.stream)
-    (g.S.Read.remaining after.wire.stream) (waiting client.outgoing) (held client.incoming) (held after.incoming)
-    (held after.incoming) c.read_more.ensures.takes
-    (gives-none-up room.lines room.longest m m (waiting client.outgoing) (held after.incoming) refl
-    (up_unfinished (waiting client.outgoing) (held after.incoming) m m (c.read_more.ensures.end c.in-End.is)) c.read_more.ensures.peer.2)
+    takes-in-unfinished room.lines room.longest (session_at c.args.sessions.now client.sid)
+    (g.S.Read.remaining client.wire.stream) (g.S.Read.remaining after.wire.stream) (waiting client.outgoing)
+    (held client.incoming) (held after.incoming) c.read_more.ensures.takes
+    (c.read_more.ensures.end c.in-End.is) c.read_more.ensures.peer.2
 
 pub returns-in-Fault-clause-taken : goal.returns-in-Fault-clause-taken
 returns-in-Fault-clause-taken g c =
