@@ -1,5 +1,6 @@
 //! Streams that give and take little, and sessions that no hub answers.
 mod doors;
+mod watching;
 
 use crate::client::Client;
 use crate::incoming::Incoming;
