@@ -1,11 +1,10 @@
 //! The words of the command line, with the texts of their help.
 use archive_text::Heading;
 use clap::error::ErrorKind;
-use clap::{Arg, ArgAction, ArgMatches, Command, Error};
+use clap::{Arg, ArgMatches, Command, Error};
+use command_words::{VERSION, flag, option};
 use std::alloc::{AllocError, Global};
 use std::net::SocketAddr;
-use std::rt::Env;
-use std::{env, io};
 
 const HELP_OF_KEEP: &str = "\
 It asks the game server at --server for its games, and keeps each one that is over in the
@@ -54,19 +53,6 @@ pub struct Keeping<'a> {
     pub drops: bool,
 }
 
-// An argument `--NAME VALUE`.
-fn option<'a>(
-    alloc: Global,
-    name: &'static str,
-    value: &'static str,
-    help: &'static str,
-) -> Arg<'a> {
-    Arg::new(alloc, name)
-        .long(name)
-        .value_name(value)
-        .help(help)
-}
-
 fn archive_option<'a>(alloc: Global) -> Arg<'a> {
     option(alloc, "archive", "FILE", "The archive's file").required(true)
 }
@@ -79,10 +65,11 @@ fn keep_command<'a>(alloc: Global) -> Result<Command<'a>, AllocError> {
         "FILE",
         "The players' file, for full names",
     );
-    let drop = Arg::new(alloc, "drop")
-        .long("drop")
-        .help("Drops each game that is in the archive from the table")
-        .action(ArgAction::SetTrue);
+    let drop = flag(
+        alloc,
+        "drop",
+        "Drops each game that is in the archive from the table",
+    );
     Command::new(alloc, "keep")
         .about("Keeps the games that are over")
         .after_help(HELP_OF_KEEP)
@@ -103,12 +90,13 @@ fn export_command<'a>(alloc: Global) -> Result<Command<'a>, AllocError> {
         .arg(archive_option(alloc))
 }
 
-fn command_line<'a>(alloc: Global) -> Result<Command<'a>, AllocError> {
+/// The program's command line.
+pub fn command<'a>(alloc: Global) -> Result<Command<'a>, AllocError> {
     let keep = keep_command(alloc)?;
     let export = export_command(alloc)?;
     Command::new(alloc, "chess-archive")
         .about("The archive of a chess club's games.")
-        .version("1.0.0 (rattle-kit-13f)")
+        .version(VERSION)
         .subcommand_required(true)
         .subcommand(keep)?
         .subcommand(export)
@@ -116,7 +104,7 @@ fn command_line<'a>(alloc: Global) -> Result<Command<'a>, AllocError> {
 
 /// Reads the words, the program's own name first. An `Err` is a usage fault, or a request for help.
 pub fn read_words<'a>(alloc: Global, words: &'a [String]) -> Result<Word<'a>, Error> {
-    let mut command = command_line(alloc)?;
+    let mut command = command(alloc)?;
     let matches = command.try_get_matches_from_mut(words)?;
     let word = match matches.subcommand() {
         Some(("keep", values)) => keeping_of(values).map(Word::Keep),
@@ -159,19 +147,4 @@ fn value_of<'a>(values: &ArgMatches<'a>, name: &str, unknown: &'a str) -> Option
         .iter()
         .all(|byte| *byte >= 32 && *byte != 127);
     if is_shown { Some(value) } else { None }
-}
-
-// The fault of words that are no text.
-fn no_text(alloc: Global) -> Result<Error, AllocError> {
-    command_line(alloc)?.error(ErrorKind::InvalidValue, "a word is not in UTF-8")
-}
-
-/// The words of the command line, the program's own name first. An `Err` is a usage fault where one of them is no text,
-/// and `OutOfMemory` where memory was refused.
-pub fn words_given<R: Env + AllocGlobal>(rt: &R) -> Result<Vec<String>, Error> {
-    match env::args(rt) {
-        Ok(args) => Ok(args.collect(rt.alloc())?),
-        Err(fault) if fault.kind() == io::ErrorKind::OutOfMemory => Err(Error::from(AllocError)),
-        Err(_) => Err(no_text(rt.alloc())?),
-    }
 }

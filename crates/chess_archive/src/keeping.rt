@@ -2,14 +2,13 @@
 use crate::command_line::Keeping;
 use crate::compared::has_game;
 use crate::lines::lines_of;
-use crate::link::Link;
-use crate::names::{full_name, players_of};
-use crate::rows::{Row, row_of};
 use anyhow::{Context, Result};
 use archive_file::{Archive, Step};
 use archive_text::{Heading, archived};
 use lobby_desk::Player;
 use night_files::NamedFile;
+use players_file::{full_name, players_of};
+use server_link::{Link, Row, row_of};
 use std::alloc::Global;
 use std::fs::{self, File};
 use std::net::{Net, TcpStream};
@@ -136,7 +135,10 @@ pub fn keep<R>(rt: &R, keeping: &Keeping<'_>) -> Result<()>
 where
     R: Files<File = File> + Net<Stream = TcpStream> + AllocGlobal + Print,
 {
-    let players = players_of(rt, keeping.players)?;
+    let players = match keeping.players {
+        Some(file) => players_of(rt, file)?,
+        None => Vec::new(rt.alloc()),
+    };
     let path = keeping.archive;
     if fs::exists(rt, path)? {
         lines_of(rt, path)?;

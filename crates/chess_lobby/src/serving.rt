@@ -3,19 +3,12 @@ use crate::clock::Moments;
 use crate::page::{is_loopback, site_of};
 use anyhow::{Context, Result};
 use lobby_commands::Serving;
-use lobby_desk::Player;
 use lobby_loop::{Entrance, Lobby};
-use std::fs;
+use players_file::players_of;
 use std::hash::RandomState;
 use std::net::{Net, SocketAddr};
 use std::random::RandomSource;
 use std::rt::{Clock, Files};
-
-// The players of a file.
-fn players_of<R: Files + AllocGlobal>(rt: &R, file: &str) -> Result<Vec<Player>> {
-    let text = fs::read(rt, file).context(format_args!("reading {file}"))?;
-    lobby_players::read(rt.alloc(), text.as_slice()).context(format_args!("{file}"))
-}
 
 /// What an operator was told on standard error.
 #[derive(Drop)]

@@ -2,18 +2,16 @@
 #![tactic(auto)]
 
 use clap::Error;
+use command_words::words_given;
 use journal_words::{copy_journal, format, show_games, widen};
 use server_playing::{run_journal, serve, tell_drill};
-use server_words::{Word, read_words, words_given};
+use server_words::{Word, command, read_words};
 use server_work::{End, Fault, end_of_words, end_of_work, name, play_board, status};
 use std::process::ExitCode;
 
 fn main(rt: HostRuntime) -> ExitCode {
-    let end = match words_given(&rt) {
-        Ok(words) => match read_words(rt.alloc(), words.as_slice()) {
-            Ok(word) => end_of_work(do_work(&rt, word)),
-            Err(error) => end_with(&rt, &error),
-        },
+    let end = match do_words(&rt) {
+        Ok(done) => end_of_work(done),
         Err(error) => end_with(&rt, &error),
     };
     if let End::Fault(fault) = end {
@@ -27,6 +25,13 @@ fn main(rt: HostRuntime) -> ExitCode {
 fn end_with(rt: &HostRuntime, error: &Error) -> End {
     let _ = error.print(rt);
     end_of_words(error)
+}
+
+// Does what the words of the command line ask for.
+fn do_words(rt: &HostRuntime) -> Result<Result<(), Fault>, Error> {
+    let words = words_given(rt, &mut command(rt.alloc())?)?;
+    let word = read_words(rt.alloc(), words.as_slice())?;
+    Ok(do_work(rt, word))
 }
 
 // Does what a word asks for.

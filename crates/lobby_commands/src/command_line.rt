@@ -2,10 +2,9 @@
 use clap::builder::ValueParser;
 use clap::error::ErrorKind;
 use clap::{Arg, ArgAction, ArgMatches, Command, Error};
+use command_words::{VERSION, flag, option};
 use std::alloc::{AllocError, Global};
 use std::net::{IpAddr, Ipv4Addr, SocketAddr};
-use std::rt::Env;
-use std::{env, io};
 
 const HELP_OF_SERVE: &str = "\
 It listens on an address of this machine, prints the page's address, and serves the page
@@ -78,19 +77,6 @@ pub struct Adding<'a> {
     pub page: &'a str,
 }
 
-// An argument `--NAME VALUE`.
-fn option<'a>(
-    alloc: Global,
-    name: &'static str,
-    value: &'static str,
-    help: &'static str,
-) -> Arg<'a> {
-    Arg::new(alloc, name)
-        .long(name)
-        .value_name(value)
-        .help(help)
-}
-
 fn serve_command<'a>(alloc: Global) -> Result<Command<'a>, AllocError> {
     let players = option(alloc, "players", "FILE", "The players' file").required(true);
     let server = option(alloc, "server", "A:P", "Where the game server listens").required(true);
@@ -144,10 +130,7 @@ fn player_command<'a>(alloc: Global) -> Result<Command<'a>, AllocError> {
         "URL",
         "The page's address, http://127.0.0.1:8080/ without it",
     );
-    let arbiter = Arg::new(alloc, "arbiter")
-        .long("arbiter")
-        .help("An arbiter, who may drop games")
-        .action(ArgAction::SetTrue);
+    let arbiter = flag(alloc, "arbiter", "An arbiter, who may drop games");
     Command::new(alloc, "player")
         .about("Puts a player into the players' file, and prints the personal link")
         .after_help(HELP_OF_PLAYER)
@@ -158,12 +141,13 @@ fn player_command<'a>(alloc: Global) -> Result<Command<'a>, AllocError> {
         .arg(arbiter)
 }
 
-fn command_line<'a>(alloc: Global) -> Result<Command<'a>, AllocError> {
+/// The lobby's command line.
+pub fn command<'a>(alloc: Global) -> Result<Command<'a>, AllocError> {
     let serve = serve_command(alloc)?;
     let player = player_command(alloc)?;
     Command::new(alloc, "chess-lobby")
         .about("The lobby of a chess club: players and spectators come by a browser.")
-        .version("1.0.0 (rattle-kit-13f)")
+        .version(VERSION)
         .subcommand_required(true)
         .subcommand(serve)?
         .subcommand(player)
@@ -171,7 +155,7 @@ fn command_line<'a>(alloc: Global) -> Result<Command<'a>, AllocError> {
 
 /// Reads the words, the program's own name first. An `Err` is a usage fault, or a request for help.
 pub fn read_words<'a>(alloc: Global, words: &'a [String]) -> Result<Word<'a>, Error> {
-    let mut command = command_line(alloc)?;
+    let mut command = command(alloc)?;
     let matches = command.try_get_matches_from_mut(words)?;
     let word = match matches.subcommand() {
         Some(("serve", values)) => serving_of(alloc, values)?.map(Word::Serve),
@@ -224,19 +208,4 @@ fn adding_of<'a>(values: &ArgMatches<'a>) -> Option<Adding<'a>> {
         players: values.get_str("players")?,
         page: values.get_str("url").unwrap_or("http://127.0.0.1:8080/"),
     })
-}
-
-// The fault of words that are no text.
-fn no_text(alloc: Global) -> Result<Error, AllocError> {
-    command_line(alloc)?.error(ErrorKind::InvalidValue, "a word is not in UTF-8")
-}
-
-/// The words of the command line, the program's own name first. An `Err` is a usage fault where one of them is no text,
-/// and `OutOfMemory` where memory was refused.
-pub fn words_given<R: Env + AllocGlobal>(rt: &R) -> Result<Vec<String>, Error> {
-    match env::args(rt) {
-        Ok(args) => Ok(args.collect(rt.alloc())?),
-        Err(fault) if fault.kind() == io::ErrorKind::OutOfMemory => Err(Error::from(AllocError)),
-        Err(_) => Err(no_text(rt.alloc())?),
-    }
 }

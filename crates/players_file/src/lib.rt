@@ -2,8 +2,10 @@
 #![tactic(auto)]
 
 mod file;
+mod players;
 
 pub use file::{put, read};
+pub use players::{full_name, players_of};
 
 #[cfg(test)]
 mod tests;

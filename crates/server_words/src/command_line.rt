@@ -1,7 +1,7 @@
 //! The command line: each word with its values and its help.
-use crate::version::VERSION;
 use clap::builder::ValueParser;
 use clap::{Arg, ArgAction, Command};
+use command_words::VERSION;
 use std::alloc::{AllocError, Global};
 
 const HELP_OF_BOARD: &str = "\
@@ -387,7 +387,7 @@ fn commands<'a>(alloc: Global) -> Result<Vec<Command<'a>>, AllocError> {
 }
 
 /// The program's command line.
-pub fn command_line<'a>(alloc: Global) -> Result<Command<'a>, AllocError> {
+pub fn command<'a>(alloc: Global) -> Result<Command<'a>, AllocError> {
     let commands = commands(alloc)?;
     Command::new(alloc, "chess_server")
         .about("A chess game server whose games last. Each word has its own --help.")

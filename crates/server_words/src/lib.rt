@@ -2,8 +2,7 @@
 #![tactic(auto)]
 
 mod command_line;
-mod version;
 mod words;
 
-pub use version::VERSION;
-pub use words::{Copying, Formatting, Serving, Tables, Word, read_words, words_given};
+pub use command_line::command;
+pub use words::{Copying, Formatting, Serving, Tables, Word, read_words};

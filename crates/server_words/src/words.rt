@@ -2,13 +2,11 @@
 ghost use Rattle.rec_codec.specs.declared.limits.Version.TheVariants.{Two};
 ghost use Rattle.rec_codec.specs.Limits.{IsInRange};
 
-use crate::command_line::command_line;
+use crate::command_line::command;
 use clap::error::ErrorKind;
 use clap::{ArgMatches, Command, Error};
 use rec_codec::{Limits, Version};
-use std::alloc::{AllocError, Global};
-use std::rt::Env;
-use std::{env, io};
+use std::alloc::Global;
 
 /// What the program is to do.
 #[derive(Clone, Copy)]
@@ -68,7 +66,7 @@ pub struct Serving<'a> {
 
 /// Reads the words, the program's own name first. An `Err` is a usage fault, or a request for help.
 pub fn read_words<'a>(alloc: Global, words: &'a [String]) -> Result<Word<'a>, Error> {
-    let mut command = command_line(alloc)?;
+    let mut command = command(alloc)?;
     word_given(&mut command, words)
 }
 
@@ -135,19 +133,4 @@ fn serving_of<'a>(values: &ArgMatches<'a>) -> Option<Serving<'a>> {
 fn silence_of(values: &ArgMatches<'_>) -> Option<u64> {
     let seconds: u32 = values.get_one("idle")?;
     Some(u64::from(seconds) * 1_000)
-}
-
-// The fault of words that are no text.
-fn no_text(alloc: Global) -> Result<Error, AllocError> {
-    command_line(alloc)?.error(ErrorKind::InvalidValue, "a word is not in UTF-8")
-}
-
-/// The words of the command line, the program's own name first. An `Err` is a usage fault where one of them is no text,
-/// and `OutOfMemory` where memory was refused.
-pub fn words_given<R: Env + AllocGlobal>(rt: &R) -> Result<Vec<String>, Error> {
-    match env::args(rt) {
-        Ok(args) => Ok(args.collect(rt.alloc())?),
-        Err(fault) if fault.kind() == io::ErrorKind::OutOfMemory => Err(Error::from(AllocError)),
-        Err(_) => Err(no_text(rt.alloc())?),
-    }
 }

@@ -1,14 +1,11 @@
-//! Full names of players.
+//! The players of a file.
 use anyhow::{Context, Result};
 use lobby_desk::Player;
 use std::fs;
 use std::rt::Files;
 
-/// The players of a file; none without a file.
-pub fn players_of<R: Files + AllocGlobal>(rt: &R, file: Option<&str>) -> Result<Vec<Player>> {
-    let Some(file) = file else {
-        return Ok(Vec::new(rt.alloc()));
-    };
+/// The players of a file. It fails where there is no file, or what it has is no players' file.
+pub fn players_of<R: Files + AllocGlobal>(rt: &R, file: &str) -> Result<Vec<Player>> {
     let text = fs::read(rt, file).context(format_args!("reading {file}"))?;
     lobby_players::read(rt.alloc(), text.as_slice()).context(format_args!("{file}"))
 }

@@ -1,0 +1,59 @@
+//! How a program ends.
+ghost use Rattle.std.specs.Prelude.{◌≡◌, IsOk, IfErr};
+ghost use Rattle.std.specs.Process.{exit_status};
+ghost use Rattle.command_words.specs.Ending.{status_of};
+
+use anyhow::Result;
+use clap::Error;
+use std::alloc::AllocError;
+use std::process::ExitCode;
+
+/// Why a program did not do what its words ask for.
+#[derive(Debug, Drop)]
+pub enum NotDone {
+    /// They ask for a text of the command line, as help, or for nothing that it does.
+    Words(Error),
+    /// The work broke off.
+    Work(anyhow::Error),
+}
+
+impl From<Error> for NotDone {
+    fn from(error: Error) -> NotDone {
+        NotDone::Words(error)
+    }
+}
+
+impl From<AllocError> for NotDone {
+    fn from(error: AllocError) -> NotDone {
+        NotDone::Words(Error::from(error))
+    }
+}
+
+impl From<anyhow::Error> for NotDone {
+    fn from(error: anyhow::Error) -> NotDone {
+        NotDone::Work(error)
+    }
+}
+
+/// Prints why a program did not do what its words ask for, and ends it: with status 0 where it did, or printed a text that was
+/// asked for, with 1 where the work broke off, and else with 2.
+pub fn end_of<R: Print + Eprint>(rt: &R, program: &str, done: Result<(), NotDone>) -> ExitCode
+    ensures done { IsOk done → exit_status result ≡ 0 }
+    ensures not_done { IfErr done (λ fault. exit_status result ≡ status_of fault) }
+{
+    match done {
+        Ok(()) => ExitCode::SUCCESS,
+        Err(NotDone::Words(error)) => {
+            let _ = error.print(rt);
+            if error.use_stderr() {
+                ExitCode::from(2)
+            } else {
+                ExitCode::SUCCESS
+            }
+        }
+        Err(NotDone::Work(error)) => {
+            let _ = eprintln!(rt; "{program}: {error:#}");
+            ExitCode::FAILURE
+        }
+    }
+}

@@ -1,0 +1,12 @@
+//! What the command lines of programs share: the words that were given, how an argument is made, and how a program ends.
+#![tactic(auto)]
+
+mod arguments;
+mod ending;
+mod given;
+mod version;
+
+pub use arguments::{flag, option};
+pub use ending::{NotDone, end_of};
+pub use given::words_given;
+pub use version::VERSION;

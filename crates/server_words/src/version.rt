@@ -1,5 +1,0 @@
-//! Which program this is.
-
-/// The program's version, and the kit that it is proved and built with. A program cannot see the kit: this text is what
-/// `--version` prints, and `./release` packs only what a kit of this name has built.
-pub const VERSION: &str = "1.0.0 (rattle-kit-13f)";
