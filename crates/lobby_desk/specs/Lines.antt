@@ -1,9 +1,10 @@
 -- Lines to the server.
-use Rattle.std.specs.Prelude.{ℕ, Bool, false, List, [], ◌∷◌, ◌++◌, Option, Some, None, codes, decimal, if◌then◌else◌}
+use Rattle.std.specs.Prelude.{ℕ, ◌≡◌, Bool, false, List, [], ◌∷◌, ◌++◌, Option, Some, None, codes, decimal, if◌then◌else◌}
 use Rattle.std.specs.Str.{bytes_eq}
 use Rattle.lobby_words.specs.declared.planning.Plan.{Plan}
 use Rattle.lobby_words.specs.declared.planning.Plan.TheVariants as plans
 use Rattle.rec_codec.specs.Name.{IsName}
+use Rattle.lobby_desk.specs.declared.server_line.ServerLine.{ServerLine}
 pub use Rattle.lobby_words.specs.Answers.{ended}
 
 -- lines, one behind the other
@@ -51,3 +52,7 @@ notice_lines (Some game) = game_line (codes "show ") game ∷ game_line (codes "
 abbrev pub IsNamed : Plan → Type 0
 IsNamed (plans.Act who) = IsName who.name
 IsNamed _ = Unit {0}
+
+-- what the server has told is the same
+abbrev pub IsHeardSame : ServerLine → ServerLine → Type 0
+IsHeardSame old new = (new.coming ≡ old.coming) × (new.last ≡ old.last) × (new.waiting ≡ old.waiting)

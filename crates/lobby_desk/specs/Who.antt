@@ -108,12 +108,12 @@ IsAnswered players plan c tells = IsAnsweredIf (is_own plan) players plan c tell
 abbrev pub known : Desk → Known
 known desk = record {
   owed = map owed_of desk.line.queue.items;
-  left = desk.coming.left;
-  begun = string_bytes desk.coming.text;
-  last = string_bytes desk.last;
+  left = desk.line.coming.left;
+  begun = string_bytes desk.line.coming.text;
+  last = string_bytes desk.line.last;
   watches = desk.watches.items;
   table = desk.table.items;
-  waiting = desk.waiting.items;
+  waiting = desk.line.waiting.items;
 }
 
 -- the connection is open, and no answer is owed to it
@@ -305,9 +305,9 @@ pub record Carried (old : Desk) (from : ℕ) (text : List ℕ) (plan : Plan) (un
   pub untils : (c : ℕ) → until_of new c ≡ (if from == c then until else until_of old c)
   pub watches : new.watches.items ≡ plan_watches plan from old.watches.items
   pub table : new.table.items ≡ plan_table plan from old.table.items
-  pub waiting : new.waiting ≡ old.waiting
-  pub coming : new.coming ≡ old.coming
-  pub last : new.last ≡ old.last
+  pub waiting : new.line.waiting ≡ old.line.waiting
+  pub coming : new.line.coming ≡ old.line.coming
+  pub last : new.line.last ≡ old.line.last
   pub players : new.players ≡ old.players
   pub next : new.next ≡ old.next
 
@@ -318,15 +318,15 @@ pub record AnswersTo (o : Owed) (now : List ℕ) (old : Desk) (before after : Li
   pub sent : after ≡ before ++ bytes_of lines
   pub told : told_after ≡ told_before ++ tells
   pub for_whom : IsSentFor o old.line.said now lines new.line.said
-  pub told_whom : IsToldFor (string_bytes old.last) old.watches.items old.table.items o now lines tells
+  pub told_whom : IsToldFor (string_bytes old.line.last) old.watches.items old.table.items o now lines tells
   pub owed : (known new).owed ≡ (known old).owed ++ owed_last (follower o now) lines
-  pub watches : new.watches.items ≡ watch_heard (open_of old) (string_bytes old.last) o old.watches.items
+  pub watches : new.watches.items ≡ watch_heard (open_of old) (string_bytes old.line.last) o old.watches.items
   pub table : new.table.items ≡ table_heard (open_of old) o old.table.items
-  pub waiting : new.waiting.items ≡ waiting_heard o now old.waiting.items
+  pub waiting : new.line.waiting.items ≡ waiting_heard o now old.line.waiting.items
   pub here_is : new.line.is_here ≡ old.line.is_here
   pub visitors : new.visitors ≡ old.visitors
-  pub coming : new.coming ≡ old.coming
-  pub last : new.last ≡ old.last
+  pub coming : new.line.coming ≡ old.line.coming
+  pub last : new.line.last ≡ old.line.last
   pub players : new.players ≡ old.players
   pub next : new.next ≡ old.next
 
@@ -339,12 +339,12 @@ pub record Answered (now : List ℕ) (old : Desk) (before after : List ℕ) (tol
   pub for_whom : IsSentNext (known old).owed old.line.said now lines new.line.said
   pub told_whom : IsToldNext (known old) (known old).owed now lines tells
   pub owed : (known new).owed ≡ owed_answered (known old).owed now lines
-  pub watches : new.watches.items ≡ watch_next (open_of old) (string_bytes old.last) (known old).owed old.watches.items
+  pub watches : new.watches.items ≡ watch_next (open_of old) (string_bytes old.line.last) (known old).owed old.watches.items
   pub table : new.table.items ≡ table_next (open_of old) (known old).owed old.table.items
-  pub waiting : new.waiting.items ≡ waiting_next (known old).owed now old.waiting.items
+  pub waiting : new.line.waiting.items ≡ waiting_next (known old).owed now old.line.waiting.items
   pub here_is : new.line.is_here ≡ old.line.is_here
   pub visitors : new.visitors ≡ old.visitors
-  pub coming : new.coming ≡ old.coming
-  pub last : new.last ≡ old.last
+  pub coming : new.line.coming ≡ old.line.coming
+  pub last : new.line.last ≡ old.line.last
   pub players : new.players ≡ old.players
   pub next : new.next ≡ old.next

@@ -1,7 +1,7 @@
 //! What is done by a plan for a message.
 ghost use Rattle.std.specs.Prelude.{ℕ, List, ◌≡◌, ◌++◌, ◌==◌, ◌||◌, IfOk, IfSome, OnOk, map, is_some, if◌then◌else◌};
 ghost use Rattle.std.specs.String.{string_bytes};
-ghost use Rattle.lobby_desk.specs.Lines.{bytes_of, lines_of, said_after, IsNamed};
+ghost use Rattle.lobby_desk.specs.Lines.{bytes_of, lines_of, said_after, IsNamed, IsHeardSame};
 ghost use Rattle.lobby_desk.specs.Events.{Telling, tellings, owed_of, owed_last, plan_asker};
 ghost use Rattle.lobby_desk.specs.Who.{who_in, open_in_map, until_in, who_noted, plan_watches, plan_table, is_own, IsOwnText, IsAnswered};
 
@@ -81,6 +81,7 @@ pub fn send(
     ensures owed { OnOk result (map owed_of line.new.queue.items ≡ map owed_of line.old.queue.items ++ owed_last (plan_asker plan.now from text.now) (lines_of plan.now line.old.said text.now)) }
     ensures said { OnOk result (line.new.said ≡ said_after plan.now line.old.said) }
     ensures here { line.new.is_here ≡ line.old.is_here }
+    ensures heard { IsHeardSame line.old line.new }
     ensures named { OnOk result (IsNamed plan.now) }
 {
     match plan {

@@ -1,12 +1,14 @@
-//! The lobby's connection to the server: the name that was said last on it, and whose answer comes next.
-ghost use Rattle.std.specs.Prelude.{◌≡◌, ◌++◌, [], ◌∷◌, map, Some, None, OnOk};
+//! The lobby's line to the server: the connection to it, with the name that was said last and whose answers come, and what the
+//! server has told by it.
+ghost use Rattle.std.specs.Prelude.{◌≡◌, ◌++◌, [], ◌∷◌, map, false, Some, None, OnOk};
 ghost use Rattle.rec_codec.specs.Name.{IsName};
 ghost use Rattle.std.specs.String.{string_bytes};
 ghost use Rattle.lobby_desk.specs.Events.{owed_of, owed_last, Asker, ForAct};
 ghost use Rattle.lobby_desk.specs.Lines as lines;
-ghost use Rattle.lobby_desk.specs.Lines.{ended, bytes_of, act_lines, game_line};
+ghost use Rattle.lobby_desk.specs.Lines.{ended, bytes_of, act_lines, game_line, IsHeardSame};
 
 use itoa::Buffer;
+use lobby_words::{Coming, Waiting};
 use rec_codec::Name;
 use std::alloc::{AllocError, Global};
 use std::collections::VecDeque;
@@ -48,7 +50,8 @@ pub enum Due {
     Notice(Notice),
 }
 
-/// The lobby's connection to the server.
+/// The lobby's line to the server. The first four are of the connection that stands, and begin anew with the next one; what the
+/// server has told stays.
 #[derive(Drop)]
 pub struct ServerLine {
     pub is_here: bool,
@@ -56,6 +59,12 @@ pub struct ServerLine {
     pub said: Option<Name>,
     /// Whose answers come, the next first.
     pub queue: VecDeque<Due>,
+    /// The answer of which not every line has come.
+    pub coming: Coming,
+    /// The last whole answer.
+    pub last: String,
+    /// The games that wait for a second player, as far as the answers have told.
+    pub waiting: Vec<Waiting>,
 }
 
 // Puts a line of two parts behind others.
@@ -81,17 +90,41 @@ fn is_said(said: &Option<Name>, name: &Name) -> bool
 }
 
 impl ServerLine {
-    /// A connection on which nothing was said, or none.
-    pub fn new(alloc: Global, is_here: bool) -> ServerLine
-        ensures here { result.is_here ≡ is_here }
+    /// A line to a server that is not there, and has told nothing.
+    pub fn new(alloc: Global) -> ServerLine
+        ensures here { result.is_here ≡ false }
         ensures said { result.said ≡ None }
         ensures owed { result.queue.items ≡ [] }
+        ensures left { result.coming.left ≡ 0 }
+        ensures begun { string_bytes result.coming.text ≡ [] }
+        ensures last { string_bytes result.last ≡ [] }
+        ensures waiting { result.waiting.items ≡ [] }
     {
         ServerLine {
-            is_here,
+            is_here: false,
             said: None,
             queue: VecDeque::new(alloc),
+            coming: Coming::new(alloc),
+            last: String::new(alloc),
+            waiting: Vec::new(alloc),
         }
+    }
+
+    /// The connection is lost, or there is a new one: on what comes next nothing was said, no answer is due, and none has begun.
+    /// What the server has told stays.
+    pub fn renew(&mut self, is_here: bool)
+        ensures here { self.new.is_here ≡ is_here }
+        ensures said { self.new.said ≡ None }
+        ensures owed { self.new.queue.items ≡ [] }
+        ensures left { self.new.coming.left ≡ 0 }
+        ensures begun { string_bytes self.new.coming.text ≡ [] }
+        ensures last { self.new.last ≡ self.old.last }
+        ensures waiting { self.new.waiting ≡ self.old.waiting }
+    {
+        self.is_here = is_here;
+        self.said = None;
+        self.queue.clear();
+        self.coming.clear();
     }
 
     // Sends a line of two parts, whose answer is due.
@@ -106,6 +139,7 @@ impl ServerLine {
         ensures owed { OnOk result (map owed_of self.new.queue.items ≡ map owed_of self.old.queue.items ++ owed_of due ∷ []) }
         ensures said { self.new.said ≡ self.old.said }
         ensures here { self.new.is_here ≡ self.old.is_here }
+        ensures heard { IsHeardSame self.old self.new }
     {
         put(wire, front, rest)?;
         self.queue.push_back(due)?;
@@ -118,6 +152,7 @@ impl ServerLine {
         ensures owed { OnOk result (map owed_of self.new.queue.items ≡ map owed_of self.old.queue.items ++ owed_of due ∷ []) }
         ensures said { self.new.said ≡ self.old.said }
         ensures here { self.new.is_here ≡ self.old.is_here }
+        ensures heard { IsHeardSame self.old self.new }
     {
         self.send("", line, due, wire)
     }
@@ -135,6 +170,7 @@ impl ServerLine {
         ensures owed { OnOk result (map owed_of self.new.queue.items ≡ map owed_of self.old.queue.items ++ owed_last (owed_of due) (act_lines self.old.said name line.now)) }
         ensures said { OnOk result (self.new.said ≡ Some name) }
         ensures here { self.new.is_here ≡ self.old.is_here }
+        ensures heard { IsHeardSame self.old self.new }
         ensures named { OnOk result (IsName name) }
     {
         if is_said(&self.said, &name) {
@@ -157,6 +193,7 @@ impl ServerLine {
         ensures owed { OnOk result (map owed_of self.new.queue.items ≡ map owed_of self.old.queue.items ++ owed_last (Asker act.from (ForAct act.who (string_bytes act.text))) (act_lines self.old.said name (string_bytes act.text))) }
         ensures said { OnOk result (self.new.said ≡ Some name) }
         ensures here { OnOk result (self.new.is_here ≡ self.old.is_here) }
+        ensures heard { OnOk result (IsHeardSame self.old self.new) }
     {
         let text = String::from_str(alloc, act.text.as_str())?;
         self.act(name, text.as_str(), Due::Act(act), wire)
@@ -174,6 +211,7 @@ impl ServerLine {
         ensures owed { OnOk result (map owed_of self.new.queue.items ≡ map owed_of self.old.queue.items ++ owed_of due ∷ []) }
         ensures said { self.new.said ≡ self.old.said }
         ensures here { self.new.is_here ≡ self.old.is_here }
+        ensures heard { IsHeardSame self.old self.new }
     {
         let mut buffer = Buffer::new();
         self.send(word, buffer.format(game), due, wire)

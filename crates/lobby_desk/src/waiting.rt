@@ -8,11 +8,10 @@ ghost use Rattle.lobby_words.specs.Waiting.{is_open};
 ghost use Rattle.lobby_desk.specs.Events.{owed_of};
 ghost use Rattle.lobby_desk.specs.Waiting.{is_opening, is_crowded, waiting_acted, waiting_told, waiting_listed};
 
-use crate::server_line::{Acting, Due};
+use crate::server_line::{Acting, Due, ServerLine};
 use lobby_words::{Waiting, ends_wait, is_list, is_open, waiting_in};
 use rec_codec::Name;
 use std::alloc::{AllocError, Global};
-use std::collections::VecDeque;
 
 // The most games of one player that wait.
 const WAIT_ROOM: usize = 16;
@@ -80,16 +79,18 @@ fn are_many(a: usize, b: usize, c: usize) -> bool
     left == 0
 }
 
-/// Whether no game more of a player may be opened. Those count whose opening is not answered yet.
-pub fn is_crowded(waiting: &[Waiting], queue: &VecDeque<Due>, name: &Name) -> bool
-    ensures { result ≡ is_crowded waiting.now (map owed_of queue.now.items) name.now }
-{
-    let (first, second) = queue.as_slices();
-    are_many(
-        waiting_by(waiting, name),
-        openings(first, name),
-        openings(second, name),
-    )
+impl ServerLine {
+    /// Whether no game more of a player may be opened. Those count whose opening is not answered yet.
+    pub fn is_crowded(&self, name: &Name) -> bool
+        ensures { result ≡ is_crowded self.now.waiting.items (map owed_of self.now.queue.items) name.now }
+    {
+        let (first, second) = self.queue.as_slices();
+        are_many(
+            waiting_by(self.waiting.as_slice(), name),
+            openings(first, name),
+            openings(second, name),
+        )
+    }
 }
 
 // A game waits no more.
