@@ -41,7 +41,8 @@ pub fn pgn_of(
         ..known.heading
     };
     let clocks = clocks(alloc, known.records, game, row.ply)?;
-    let pgn = archived(alloc, &heading, answer.behind.as_str(), clocks.as_slice())
-        .context(format_args!("game {game}"))?;
+    let pgn = archived(alloc, &heading, answer.behind.as_str(), clocks.as_slice()).context(
+        format_args!("game {game}"),
+    )?;
     Ok(Some(pgn))
 }

@@ -100,7 +100,12 @@ fn server_option<'a>(alloc: Global) -> Arg<'a> {
 // What the tags are to say, who the players are, and what the log has.
 fn with_knowledge<'a>(alloc: Global, command: Command<'a>) -> Result<Command<'a>, AllocError> {
     command
-        .arg(option(alloc, "players", "FILE", "The players' file, for full names"))?
+        .arg(option(
+            alloc,
+            "players",
+            "FILE",
+            "The players' file, for full names",
+        ))?
         .arg(option(alloc, "log", "FILE", "The lobby's log, for clocks"))?
         .arg(option(alloc, "event", "TEXT", "The tag Event, ? without it"))?
         .arg(option(alloc, "site", "TEXT", "The tag Site, ? without it"))?

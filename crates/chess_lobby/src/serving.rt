@@ -77,7 +77,15 @@ fn take_turns<R: Clock + Eprint + Net, L: ActLog>(
 /// Serves browsers, and first prints the page's address.
 pub fn serve<R>(rt: &R, serving: &Serving<'_>) -> Result<()>
 where
-    R: Files<File = File> + AllocGlobal + Clone + Drop + Clock + Print + Eprint + Net + RandomSource,
+    R: Files<File = File>
+        + AllocGlobal
+        + Clone
+        + Drop
+        + Clock
+        + Print
+        + Eprint
+        + Net
+        + RandomSource,
 {
     let players = players_of(rt, serving.players)?;
     let mut log = match serving.log {
