@@ -127,6 +127,9 @@ where
         let Some(path) = self.living.archive else {
             return Ok(());
         };
+        if !fs::exists(self.rt, path)? {
+            return Ok(());
+        }
         let text = lines_of(self.rt, path)?;
         for line in parts(alloc, text.as_str(), '\n')?.as_slice() {
             let Some(game) = game_of(line) else {
