@@ -80,8 +80,8 @@ fn stream_of(alloc: Global, gives: &'static [Gives], takes: usize) -> Peer {
 
 // The SHA-256 of `t`.
 const SUM: [u8; 32] = [
-    227, 185, 138, 77, 163, 26, 18, 125, 75, 222, 110, 67, 3, 63, 102, 186,
-    39, 76, 171, 14, 183, 235, 28, 112, 236, 65, 64, 43, 246, 39, 61, 216,
+    227, 185, 138, 77, 163, 26, 18, 125, 75, 222, 110, 67, 3, 63, 102, 186, 39, 76, 171, 14, 183,
+    235, 28, 112, 236, 65, 64, 43, 246, 39, 61, 216,
 ];
 
 // One player, whose token is `t`.
@@ -448,7 +448,10 @@ fn an_act_is_logged_and_told(rt: HostRuntime) {
     };
     let (hall, has_failed) = acted(&rt, &lab, &mut log);
     assert!(rt; !has_failed && is_told(&hall, b"\x81\x0aok open 1\n"));
-    assert!(rt; log.text.as_str() == "by ann open white 300 2\nok open 1\nok show 1 ann - 0 w 300000 300000 - * -\n");
+    assert!(rt;
+        log.text.as_str()
+            == "by ann open white 300 2\nok open 1\nok show 1 ann - 0 w 300000 300000 - * -\n"
+    );
 }
 
 #[test]
