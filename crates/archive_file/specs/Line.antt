@@ -1,15 +1,9 @@
 -- A game's line in the archive, which is an object of JSON.
-use Rattle.std.specs.Prelude.{ℕ, Bool, true, false, ◌||◌, ◌==◌, List, [], ◌∷◌, ◌++◌, codes, decimal, Option, None, flat_map, drop, if◌then◌else◌}
+use Rattle.std.specs.Prelude.{ℕ, false, ◌==◌, List, [], ◌∷◌, ◌++◌, codes, decimal, Option, None, drop, if◌then◌else◌}
 use Rattle.std.specs.List.{before_first, after_first}
 use Rattle.std.specs.Str.{bytes_eq}
+use Rattle.json_text.specs.Strings.{escaped, unescaped_from}
 use Rattle.lobby_words.specs.Words.{number_in}
-
--- a byte in a string of JSON: a line feed is `\n`, a quote and a backslash have a backslash before them
-abbrev pub escaped_byte : ℕ → List ℕ
-escaped_byte b = if b == 10 then 92 ∷ 110 ∷ [] else (if b == 34 || b == 92 then 92 ∷ b ∷ [] else b ∷ [])
-
-abbrev pub escaped : List ℕ → List ℕ
-escaped text = flat_map escaped_byte text
 
 -- `{"game"`
 abbrev pub front : List ℕ
@@ -32,16 +26,6 @@ game_in line =
     if bytes_eq (before_first (λ b. b == 58) line) front
     then number_in (before_comma (after_first (λ b. b == 58) line))
     else None
-
-abbrev pub plain_byte : ℕ → ℕ
-plain_byte b = if b == 110 then 10 else b
-
--- A text whose escapes are taken back, up to the first quote that has none; behind a backslash or not.
-abbrev pub unescaped_from : Bool → List ℕ → List ℕ
-unescaped_from is_behind [] = []
-unescaped_from true (b ∷ rest) = plain_byte b ∷ unescaped_from false rest
-unescaped_from false (b ∷ rest) =
-    if b == 34 then [] else (if b == 92 then unescaped_from true rest else b ∷ unescaped_from false rest)
 
 abbrev pub behind_comma : List ℕ → List ℕ
 behind_comma line = after_first (λ b. b == 44) line

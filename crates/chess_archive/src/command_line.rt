@@ -1,5 +1,6 @@
 //! The words of the command line, with the texts of their help.
 use archive_text::Heading;
+use clap::builder::ValueParser;
 use clap::error::ErrorKind;
 use clap::{Arg, ArgMatches, Command, Error};
 use command_words::{VERSION, flag, option};
@@ -10,6 +11,7 @@ const HELP_OF_KEEP: &str = "\
 It asks the game server at --server for its games, and keeps each one that is over in the
 archive, which it makes where there is none: a line a game, each game once, on the disk
 before the next is asked for. With --drop it then drops the game from the server's table.
+With --log each move has its player's clock behind it where the lobby's log knows it.
 It ends once all games of the table were looked at, and may be killed at any moment and
 given again, as often as is wished.
 
@@ -33,6 +35,21 @@ not know.
 Example:
   chess-archive export --archive night.jsonl >night.pgn";
 
+const HELP_OF_LIVE: &str = "\
+It writes the games that are played at the game server at --server to a file, each with all
+its moves until now, and those that are over; with --archive also those that were kept and
+have left the table. The file is put in its place at once, and only where it has changed, so
+it may be fetched at any moment: pages that show games live take its address. With --log
+each move has its player's clock behind it where the lobby's log knows it.
+
+With --every it goes on until it is killed, and comes back to a server that was away.
+
+Exit status: 0; 1 with what is wrong on standard error; 2 for words that the program does
+not know.
+
+Example:
+  chess-archive live --server 127.0.0.1:5001 --file live.pgn --log club.log --every 5";
+
 /// What the program is to do.
 #[derive(Drop)]
 pub enum Word<'a> {
@@ -40,6 +57,8 @@ pub enum Word<'a> {
     Keep(Keeping<'a>),
     /// To write the games of this archive.
     Export(&'a str),
+    /// To write the games that are played.
+    Live(Living<'a>),
 }
 
 /// What is kept, and where.
@@ -48,39 +67,88 @@ pub struct Keeping<'a> {
     pub server: SocketAddr,
     pub archive: &'a str,
     pub players: Option<&'a str>,
+    pub log: Option<&'a str>,
     /// What the tags are to say; of White and Black nothing yet.
     pub heading: Heading<'a>,
     pub drops: bool,
+}
+
+/// What is written where others fetch it.
+#[derive(Clone, Copy)]
+pub struct Living<'a> {
+    pub server: SocketAddr,
+    pub file: &'a str,
+    pub archive: Option<&'a str>,
+    pub players: Option<&'a str>,
+    pub log: Option<&'a str>,
+    /// What the tags are to say; of White and Black nothing yet.
+    pub heading: Heading<'a>,
+    /// The date, where it is given.
+    pub date: Option<&'a str>,
+    /// After how many seconds it is written again.
+    pub every: Option<u32>,
 }
 
 fn archive_option<'a>(alloc: Global) -> Arg<'a> {
     option(alloc, "archive", "FILE", "The archive's file").required(true)
 }
 
+fn server_option<'a>(alloc: Global) -> Arg<'a> {
+    option(alloc, "server", "A:P", "Where the game server listens").required(true)
+}
+
+// What the tags are to say, who the players are, and what the log has.
+fn with_knowledge<'a>(alloc: Global, command: Command<'a>) -> Result<Command<'a>, AllocError> {
+    command
+        .arg(option(
+            alloc,
+            "players",
+            "FILE",
+            "The players' file, for full names",
+        ))?
+        .arg(option(alloc, "log", "FILE", "The lobby's log, for clocks"))?
+        .arg(option(alloc, "event", "TEXT", "The tag Event, ? without it"))?
+        .arg(option(alloc, "site", "TEXT", "The tag Site, ? without it"))?
+        .arg(option(alloc, "date", "DATE", "The tag Date, ????.??.?? without it"))?
+        .arg(option(alloc, "round", "TEXT", "The tag Round, ? without it"))
+}
+
 fn keep_command<'a>(alloc: Global) -> Result<Command<'a>, AllocError> {
-    let server = option(alloc, "server", "A:P", "Where the game server listens").required(true);
-    let players = option(
-        alloc,
-        "players",
-        "FILE",
-        "The players' file, for full names",
-    );
     let drop = flag(
         alloc,
         "drop",
         "Drops each game that is in the archive from the table",
     );
-    Command::new(alloc, "keep")
+    let command = Command::new(alloc, "keep")
         .about("Keeps the games that are over")
         .after_help(HELP_OF_KEEP)
-        .arg(server)?
-        .arg(archive_option(alloc))?
-        .arg(players)?
-        .arg(option(alloc, "event", "TEXT", "The tag Event, ? without it"))?
-        .arg(option(alloc, "site", "TEXT", "The tag Site, ? without it"))?
-        .arg(option(alloc, "date", "DATE", "The tag Date, ????.??.?? without it"))?
-        .arg(option(alloc, "round", "TEXT", "The tag Round, ? without it"))?
-        .arg(drop)
+        .arg(server_option(alloc))?
+        .arg(archive_option(alloc))?;
+    with_knowledge(alloc, command)?.arg(drop)
+}
+
+fn live_command<'a>(alloc: Global) -> Result<Command<'a>, AllocError> {
+    let file = option(alloc, "file", "FILE", "The file that is written").required(true);
+    let archive = option(
+        alloc,
+        "archive",
+        "FILE",
+        "An archive whose games are written too; with --date those of this date",
+    );
+    let every = option(
+        alloc,
+        "every",
+        "SECONDS",
+        "After how many seconds it is written again, 1 to 3600; once without it",
+    )
+    .value_parser(ValueParser::Unsigned(1, 3_600));
+    let command = Command::new(alloc, "live")
+        .about("Writes the games that are played to a file that others fetch")
+        .after_help(HELP_OF_LIVE)
+        .arg(server_option(alloc))?
+        .arg(file)?
+        .arg(archive)?;
+    with_knowledge(alloc, command)?.arg(every)
 }
 
 fn export_command<'a>(alloc: Global) -> Result<Command<'a>, AllocError> {
@@ -94,12 +162,14 @@ fn export_command<'a>(alloc: Global) -> Result<Command<'a>, AllocError> {
 pub fn command<'a>(alloc: Global) -> Result<Command<'a>, AllocError> {
     let keep = keep_command(alloc)?;
     let export = export_command(alloc)?;
+    let live = live_command(alloc)?;
     Command::new(alloc, "chess-archive")
         .about("The archive of a chess club's games.")
         .version(VERSION)
         .subcommand_required(true)
         .subcommand(keep)?
-        .subcommand(export)
+        .subcommand(export)?
+        .subcommand(live)
 }
 
 /// Reads the words, the program's own name first. An `Err` is a usage fault, or a request for help.
@@ -109,6 +179,7 @@ pub fn read_words<'a>(alloc: Global, words: &'a [String]) -> Result<Word<'a>, Er
     let word = match matches.subcommand() {
         Some(("keep", values)) => keeping_of(values).map(Word::Keep),
         Some(("export", values)) => values.get_str("archive").map(Word::Export),
+        Some(("live", values)) => living_of(values).map(Word::Live),
         _ => None,
     };
     match word {
@@ -120,22 +191,41 @@ pub fn read_words<'a>(alloc: Global, words: &'a [String]) -> Result<Word<'a>, Er
     }
 }
 
-// What `keep` asks for; none where the address is none, or a value cannot stand in a tag.
-fn keeping_of<'a>(values: &ArgMatches<'a>) -> Option<Keeping<'a>> {
-    let heading = Heading {
+// What the tags are to say; none where a value cannot stand in a tag.
+fn heading_of<'a>(values: &ArgMatches<'a>) -> Option<Heading<'a>> {
+    Some(Heading {
         event: value_of(values, "event", "?")?,
         site: value_of(values, "site", "?")?,
         date: value_of(values, "date", "????.??.??")?,
         round: value_of(values, "round", "?")?,
         white: "",
         black: "",
-    };
+    })
+}
+
+// What `keep` asks for; none where the address is none, or a value cannot stand in a tag.
+fn keeping_of<'a>(values: &ArgMatches<'a>) -> Option<Keeping<'a>> {
     Some(Keeping {
         server: values.get_str("server")?.parse().ok()?,
         archive: values.get_str("archive")?,
         players: values.get_str("players"),
-        heading,
+        log: values.get_str("log"),
+        heading: heading_of(values)?,
         drops: values.get_flag("drop"),
+    })
+}
+
+// What `live` asks for; none where the address is none, or a value cannot stand in a tag.
+fn living_of<'a>(values: &ArgMatches<'a>) -> Option<Living<'a>> {
+    Some(Living {
+        server: values.get_str("server")?.parse().ok()?,
+        file: values.get_str("file")?,
+        archive: values.get_str("archive"),
+        players: values.get_str("players"),
+        log: values.get_str("log"),
+        heading: heading_of(values)?,
+        date: values.get_str("date"),
+        every: values.get_one("every"),
     })
 }
 

@@ -11,28 +11,50 @@ fn is_of_the_call(line: &str) -> bool {
         || line.starts_with("[Round ")
 }
 
-// The lines of a PGN that say which game it is.
-fn telling_lines<'a>(alloc: Global, pgn: &'a str) -> Result<Vec<&'a str>, AllocError> {
+// The words of a line of moves, but for the numbers of moves and the comments, which tell what clocks showed. It tells whether a
+// comment goes on behind the line.
+fn push_words<'a>(
+    telling: &mut Vec<&'a str>,
+    alloc: Global,
+    line: &'a str,
+    is_comment: bool,
+) -> Result<bool, AllocError> {
+    let mut is_comment = is_comment;
+    for word in parts(alloc, line, ' ')?.as_slice() {
+        is_comment = is_comment || word.starts_with('{');
+        if !is_comment && !word.ends_with('.') {
+            telling.push(*word)?;
+        }
+        is_comment = is_comment && !word.ends_with('}');
+    }
+    Ok(is_comment)
+}
+
+// The tags of a PGN and the words of its moves that say which game it is.
+fn telling_parts<'a>(alloc: Global, pgn: &'a str) -> Result<Vec<&'a str>, AllocError> {
     let mut telling = Vec::new(alloc);
+    let mut is_comment = false;
     for line in parts(alloc, pgn, '\n')?.as_slice() {
-        if !is_of_the_call(line) {
+        if !line.starts_with('[') {
+            is_comment = push_words(&mut telling, alloc, line, is_comment)?;
+        } else if !is_of_the_call(line) {
             telling.push(*line)?;
         }
     }
     Ok(telling)
 }
 
-// Whether two PGNs are of one game, whatever their events, sites, dates and rounds.
+// Whether two PGNs are of one game, whatever their events, sites, dates, rounds and clocks.
 fn is_same(alloc: Global, one: &[u8], other: &[u8]) -> Result<bool, AllocError> {
     let (Ok(one), Ok(other)) = (str::from_utf8(one), str::from_utf8(other)) else {
         return Ok(false);
     };
-    let one = telling_lines(alloc, one)?;
-    let other = telling_lines(alloc, other)?;
+    let one = telling_parts(alloc, one)?;
+    let other = telling_parts(alloc, other)?;
     Ok(one.as_slice() == other.as_slice())
 }
 
-/// Whether a text of an archive's lines has this game with this PGN, whatever its event, site, date and round.
+/// Whether a text of an archive's lines has this game with this PGN, whatever its event, site, date, round and clocks.
 pub fn has_game(alloc: Global, text: &str, game: u32, pgn: &[u8]) -> Result<bool, AllocError> {
     for line in parts(alloc, text, '\n')?.as_slice() {
         if game_of(line) == Some(game) {

@@ -1,13 +1,13 @@
 //! The word that keeps games that are over.
+use crate::asking::{Knowledge, pgn_of};
 use crate::command_line::Keeping;
 use crate::compared::has_game;
 use crate::lines::lines_of;
+use act_log::read;
 use anyhow::{Context, Result};
 use archive_file::{Archive, Step};
-use archive_text::{Heading, archived};
-use lobby_desk::Player;
 use night_files::NamedFile;
-use players_file::{full_name, players_of};
+use players_file::players_of;
 use server_link::{Link, Row, row_of};
 use std::alloc::Global;
 use std::fs::{self, File};
@@ -30,34 +30,15 @@ struct Keeper<'a> {
     archive: Archive<NamedFile>,
     // The archive's lines when it was opened.
     lines: String,
-    players: &'a [Player],
-    keeping: Keeping<'a>,
+    known: Knowledge<'a>,
+    drops: bool,
     counts: Counts,
 }
 
 impl Keeper<'_> {
-    // Asks for the PGN of a game that is over, as the archive has it; none where the game has left the table since.
+    // Asks for the PGN of a game, as the archive has it; none where the game has left the table since.
     fn pgn_of(&mut self, row: Row<'_>) -> Result<Option<Vec<u8>>> {
-        let game = row.game;
-        let line = format!(in self.alloc; "pgn {game}")?;
-        let front = format!(in self.alloc; "ok pgn {game} ")?;
-        let answer = self.link.ask(line.as_str(), front.as_str())?;
-        if answer.behind.is_empty() {
-            let first = answer.first.as_str();
-            if first.starts_with("no 3 ") {
-                return Ok(None);
-            }
-            anyhow::bail!("the server does not tell game {game}: {first}");
-        }
-        let heading = Heading {
-            white: full_name(self.players, row.white),
-            black: full_name(self.players, row.black),
-            ..self.keeping.heading
-        };
-        let pgn = archived(self.alloc, &heading, answer.behind.as_str(), &[]).context(format_args!(
-            "game {game}"
-        ))?;
-        Ok(Some(pgn))
+        pgn_of(self.alloc, &mut self.link, &self.known, row)
     }
 
     // Keeps a game that is over.
@@ -104,7 +85,7 @@ impl Keeper<'_> {
 
     // Does what is to be done about a game.
     fn look_at(&mut self, row: Row<'_>) -> Result<()> {
-        let drops = self.keeping.drops;
+        let drops = self.drops;
         let was_there = self.archive.has(row.game);
         if self.archive.step_for(row.game, row.is_over, drops) == Step::Keep {
             self.keep(row)?;
@@ -116,10 +97,9 @@ impl Keeper<'_> {
         Ok(())
     }
 
-    // Looks at each game of the table.
-    fn look_at_all(&mut self) -> Result<()> {
-        let answer = self.link.ask("list", "ok list ")?;
-        let lines = parts(self.alloc, answer.behind.as_str(), '\n')?;
+    // Looks at each game of the server's list.
+    fn look_at_all(&mut self, list: &str) -> Result<()> {
+        let lines = parts(self.alloc, list, '\n')?;
         for line in lines.as_slice() {
             match row_of(line) {
                 Some(row) => self.look_at(row)?,
@@ -147,20 +127,30 @@ where
     let archive = Archive::open(rt.alloc(), file).context(format_args!("opening {path}"))?;
     let lines = lines_of(rt, path)?;
     let server = keeping.server;
-    let link = Link::open(rt, server).context(format_args!("the server at {server}"))?;
+    let mut link = Link::open(rt, server).context(format_args!("the server at {server}"))?;
+    let list = link.ask("list", "ok list ")?;
+    // Behind the list, so that the log has what is told of the games that are over in it.
+    let records = match keeping.log {
+        Some(file) => read(rt, file).context(format_args!("reading {file}"))?,
+        None => Vec::new(rt.alloc()),
+    };
     let mut keeper = Keeper {
         alloc: rt.alloc(),
         link,
         archive,
         lines,
-        players: players.as_slice(),
-        keeping: *keeping,
+        known: Knowledge {
+            players: players.as_slice(),
+            heading: keeping.heading,
+            records: records.as_slice(),
+        },
+        drops: keeping.drops,
         counts: Counts {
             kept: 0,
             dropped: 0,
         },
     };
-    keeper.look_at_all()?;
+    keeper.look_at_all(list.behind.as_str())?;
     let Counts { kept, dropped } = keeper.counts;
     let all = keeper.archive.games().len();
     println!(rt; "kept {kept}, dropped {dropped}, in the archive {all}")?;

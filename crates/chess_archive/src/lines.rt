@@ -2,6 +2,7 @@
 //! is refused before.
 use anyhow::{Context, Result, bail};
 use archive_file::game_of;
+use night_files::whole_length;
 use std::fs;
 use std::rt::Files;
 use text_parts::parts;
@@ -11,19 +12,6 @@ const FRONT: &[u8] = b"{\"game\":";
 
 // More than the line of the longest game has.
 const MOST_BEHIND: usize = 4_194_304;
-
-// How many bytes are lines that have ended, before the first zero.
-fn ended(bytes: &[u8]) -> usize {
-    let mut kept = 0;
-    for at in 0..bytes.len() {
-        match bytes[at] {
-            0 => return kept,
-            b'\n' => kept = at + 1,
-            _ => {}
-        }
-    }
-    kept
-}
 
 // Whether what stands behind the lines may be the front of one that was being written: its bytes, or zeros.
 fn may_be_a_front(bytes: &[u8], from: usize) -> bool {
@@ -41,7 +29,7 @@ fn may_be_a_front(bytes: &[u8], from: usize) -> bool {
 /// front of such a line.
 pub fn lines_of<R: Files + AllocGlobal>(rt: &R, file: &str) -> Result<String> {
     let mut bytes = fs::read(rt, file).context(format_args!("reading {file}"))?;
-    let kept = ended(bytes.as_slice());
+    let kept = whole_length(bytes.as_slice());
     let behind = bytes.len().saturating_sub(kept);
     if behind > MOST_BEHIND || !may_be_a_front(bytes.as_slice(), kept) {
         bail!(

@@ -1,16 +1,19 @@
 //! The archive of a chess club's games: its words.
 #![tactic(auto)]
 
+mod asking;
 mod command_line;
 mod compared;
 mod export;
 mod keeping;
 mod lines;
+mod live;
 
 use command_line::{Word, command, read_words};
 use command_words::{NotDone, end_of, words_given};
 use export::export;
 use keeping::keep;
+use live::live;
 use std::process::ExitCode;
 
 fn main(rt: HostRuntime) -> ExitCode {
@@ -30,5 +33,6 @@ fn do_word(rt: &HostRuntime, word: Word<'_>) -> anyhow::Result<()> {
     match word {
         Word::Keep(keeping) => keep(rt, &keeping),
         Word::Export(archive) => export(rt, archive),
+        Word::Live(living) => live(rt, &living),
     }
 }

@@ -3,11 +3,14 @@
 
 mod adding;
 mod clock;
+mod evidence;
+mod log;
 mod page;
 mod serving;
 
 use adding::add_player;
 use command_words::{NotDone, end_of, words_given};
+use evidence::evidence;
 use lobby_commands::{Word, command, read_words};
 use serving::serve;
 use std::process::ExitCode;
@@ -29,5 +32,6 @@ fn do_word(rt: &HostRuntime, word: Word<'_>) -> anyhow::Result<()> {
     match word {
         Word::Serve(serving) => serve(rt, &serving),
         Word::Player(adding) => add_player(rt, &adding),
+        Word::Evidence(asked) => evidence(rt, &asked),
     }
 }

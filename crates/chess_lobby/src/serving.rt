@@ -1,10 +1,12 @@
 //! The word that serves browsers.
 use crate::clock::Moments;
+use crate::log::FileLog;
 use crate::page::{is_loopback, site_of};
 use anyhow::{Context, Result};
 use lobby_commands::Serving;
-use lobby_loop::{Entrance, Lobby, NoActLog};
+use lobby_loop::{ActLog, Entrance, Lobby, NoActLog};
 use players_file::players_of;
+use std::fs::File;
 use std::hash::RandomState;
 use std::net::{Net, SocketAddr};
 use std::random::RandomSource;
@@ -48,10 +50,11 @@ impl<R: Eprint> Telling<'_, R> {
 }
 
 // Takes turns until something is at fault.
-fn take_turns<R: Clock + Eprint + Net>(
+fn take_turns<R: Clock + Eprint + Net, L: ActLog>(
     rt: &R,
     server: SocketAddr,
     lobby: &mut Lobby,
+    log: &mut L,
 ) -> Result<()> {
     let mut moments = Moments::new(rt)?;
     let mut telling = Telling {
@@ -63,7 +66,7 @@ fn take_turns<R: Clock + Eprint + Net>(
     };
     for _ in 0..u64::MAX {
         let at = moments.next();
-        let turned = lobby.turn(rt, at, &mut NoActLog)?;
+        let turned = lobby.turn(rt, at, log)?;
         telling.tell_server(lobby.has_server());
         telling.tell_turned_away(lobby.turned_away(), at);
         lobby.rest(turned)?;
@@ -74,9 +77,21 @@ fn take_turns<R: Clock + Eprint + Net>(
 /// Serves browsers, and first prints the page's address.
 pub fn serve<R>(rt: &R, serving: &Serving<'_>) -> Result<()>
 where
-    R: Files + AllocGlobal + Clone + Drop + Clock + Print + Eprint + Net + RandomSource,
+    R: Files<File = File>
+        + AllocGlobal
+        + Clone
+        + Drop
+        + Clock
+        + Print
+        + Eprint
+        + Net
+        + RandomSource,
 {
     let players = players_of(rt, serving.players)?;
+    let mut log = match serving.log {
+        Some(file) => Some(FileLog::open(rt, file).context(format_args!("opening {file}"))?),
+        None => None,
+    };
     let entrance = Entrance::open(rt, serving.address).context(format_args!(
         "listening on {}",
         serving.address
@@ -97,5 +112,8 @@ where
     if !is_loopback(address) {
         eprintln!(rt; "the line is not encrypted: whoever is on the way reads along, links too")?;
     }
-    take_turns(rt, serving.server, &mut lobby)
+    match &mut log {
+        Some(log) => take_turns(rt, serving.server, &mut lobby, log),
+        None => take_turns(rt, serving.server, &mut lobby, &mut NoActLog),
+    }
 }

@@ -14,6 +14,9 @@ waits for it, and browsers are told; it may be ended and started again at any ti
 A browser is served where it names a host that is taken: 127.0.0.1, localhost and the
 address, each with the port, and what --host names, with the port and without one.
 
+With --log it puts each act that the server took into a file, with its answer, and how the
+game stands behind it, before anybody is told; the file is made where there is none.
+
 It goes on until it is ended: kill it, by any signal. Nothing is lost by that.
 
 The line is not encrypted. On an address other than 127.0.0.1 whoever is on the way reads
@@ -45,6 +48,18 @@ Example:
 prints
   http://127.0.0.1:8080/#6f2d..";
 
+const HELP_OF_EVIDENCE: &str = "\
+It prints what the log has of a game, a line for each act: when it was answered (UTC), who
+said what, the answer, and what both clocks showed behind it, - where that is not known. An
+answer to show that stands behind no act has a line of its own. The log is only read, also
+while a lobby writes it.
+
+Exit status: 0; 1 with what is wrong on standard error, as where the log has no such game; 2
+for words that the program does not know.
+
+Example:
+  chess-lobby evidence --game 7 --log club.log";
+
 const PORT: u16 = 8_080;
 
 /// What the program is to do.
@@ -54,6 +69,15 @@ pub enum Word<'a> {
     Serve(Serving<'a>),
     /// To put a player into a players' file.
     Player(Adding<'a>),
+    /// To tell what the log has of a game.
+    Evidence(Evidence<'a>),
+}
+
+/// A game, and the log that tells of it.
+#[derive(Clone, Copy)]
+pub struct Evidence<'a> {
+    pub game: u32,
+    pub log: &'a str,
 }
 
 /// What is served, and where.
@@ -65,6 +89,7 @@ pub struct Serving<'a> {
     pub page: &'a str,
     /// The names of hosts that are taken besides.
     pub hosts: Vec<&'a str>,
+    pub log: Option<&'a str>,
 }
 
 /// Who is put into a players' file, and the address of the page for the link.
@@ -106,6 +131,12 @@ fn serve_command<'a>(alloc: Global) -> Result<Command<'a>, AllocError> {
         "A name by which browsers reach it; it may be given several times",
     )
     .action(ArgAction::Append);
+    let log = option(
+        alloc,
+        "log",
+        "FILE",
+        "The file of a log of all acts, none without it",
+    );
     Command::new(alloc, "serve")
         .about("Serves the page and its players, over a game server")
         .after_help(HELP_OF_SERVE)
@@ -114,7 +145,20 @@ fn serve_command<'a>(alloc: Global) -> Result<Command<'a>, AllocError> {
         .arg(port)?
         .arg(address)?
         .arg(page)?
-        .arg(host)
+        .arg(host)?
+        .arg(log)
+}
+
+fn evidence_command<'a>(alloc: Global) -> Result<Command<'a>, AllocError> {
+    let game = option(alloc, "game", "G", "The game's number")
+        .value_parser(ValueParser::Unsigned(0, u64::from(u32::MAX)))
+        .required(true);
+    let log = option(alloc, "log", "FILE", "The log").required(true);
+    Command::new(alloc, "evidence")
+        .about("Tells what the log has of a game")
+        .after_help(HELP_OF_EVIDENCE)
+        .arg(game)?
+        .arg(log)
 }
 
 fn player_command<'a>(alloc: Global) -> Result<Command<'a>, AllocError> {
@@ -145,12 +189,14 @@ fn player_command<'a>(alloc: Global) -> Result<Command<'a>, AllocError> {
 pub fn command<'a>(alloc: Global) -> Result<Command<'a>, AllocError> {
     let serve = serve_command(alloc)?;
     let player = player_command(alloc)?;
+    let evidence = evidence_command(alloc)?;
     Command::new(alloc, "chess-lobby")
         .about("The lobby of a chess club: players and spectators come by a browser.")
         .version(VERSION)
         .subcommand_required(true)
         .subcommand(serve)?
-        .subcommand(player)
+        .subcommand(player)?
+        .subcommand(evidence)
 }
 
 /// Reads the words, the program's own name first. An `Err` is a usage fault, or a request for help.
@@ -160,6 +206,7 @@ pub fn read_words<'a>(alloc: Global, words: &'a [String]) -> Result<Word<'a>, Er
     let word = match matches.subcommand() {
         Some(("serve", values)) => serving_of(alloc, values)?.map(Word::Serve),
         Some(("player", values)) => adding_of(values).map(Word::Player),
+        Some(("evidence", values)) => evidence_of(values).map(Word::Evidence),
         _ => None,
     };
     match word {
@@ -186,6 +233,7 @@ fn serving_of<'a>(
         address: SocketAddr::new(address, values.get_one("port").unwrap_or(PORT)),
         page: values.get_str("page").unwrap_or("page"),
         hosts: Vec::from_slice(alloc, values.get_strs("host").unwrap_or(&[]))?,
+        log: values.get_str("log"),
     }))
 }
 
@@ -207,5 +255,12 @@ fn adding_of<'a>(values: &ArgMatches<'a>) -> Option<Adding<'a>> {
         is_arbiter: values.get_flag("arbiter"),
         players: values.get_str("players")?,
         page: values.get_str("url").unwrap_or("http://127.0.0.1:8080/"),
+    })
+}
+
+fn evidence_of<'a>(values: &ArgMatches<'a>) -> Option<Evidence<'a>> {
+    Some(Evidence {
+        game: values.get_one("game")?,
+        log: values.get_str("log")?,
     })
 }

@@ -3,4 +3,4 @@
 
 mod command_line;
 
-pub use command_line::{Adding, Serving, Word, command, read_words};
+pub use command_line::{Adding, Evidence, Serving, Word, command, read_words};

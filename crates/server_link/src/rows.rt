@@ -6,6 +6,8 @@ pub struct Row<'a> {
     pub game: u32,
     pub white: &'a str,
     pub black: &'a str,
+    /// How many moves were made.
+    pub ply: u32,
     pub is_over: bool,
 }
 
@@ -14,11 +16,12 @@ pub fn row_of(line: &str) -> Option<Row<'_>> {
     let (game, rest) = line.split_once(' ')?;
     let (white, rest) = rest.split_once(' ')?;
     let (black, rest) = rest.split_once(' ')?;
-    let (_, result) = rest.split_once(' ')?;
+    let (ply, result) = rest.split_once(' ')?;
     Some(Row {
         game: game.parse::<u32>().ok()?,
         white,
         black,
+        ply: ply.parse::<u32>().ok()?,
         is_over: result != "*",
     })
 }

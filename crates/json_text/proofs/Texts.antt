@@ -1,7 +1,7 @@
--- A text that is escaped comes back.
+-- A text that is escaped comes back, and what stands behind it.
 use Rattle.std.proofs.Common.{ℕ, ◌≡◌, ◌==◌, Bool, true, false, List, [], ◌∷◌, ◌++◌, refl, sym, ap, ◌∙◌}
 use Rattle.std.proofs.lemmas.Bool.Decides.{Decides-eqb}
-use Rattle.archive_file.specs.Line.{escaped_byte, escaped, plain_byte, unescaped_from}
+use Rattle.json_text.specs.Strings.{escaped_byte, escaped, plain_byte, unescaped_from, behind_from}
 
 abbrev Back : List ℕ → List ℕ → Type 0
 Back text rest = unescaped_from false (escaped text ++ (34 ∷ rest)) ≡ text
@@ -44,3 +44,24 @@ one_back b text rest false false false e f g below = other_back b text rest e f 
 pub back : (text rest : List ℕ) → Back text rest
 back [] rest = refl
 back (b ∷ text) rest = one_back b text rest (b == 10) (b == 34) (b == 92) refl refl refl (back text rest)
+
+abbrev Behind : List ℕ → List ℕ → Type 0
+Behind text rest = behind_from false (escaped text ++ (34 ∷ rest)) ≡ rest
+
+behind_step : (b : ℕ) (rest : List ℕ) → (b == 34) ≡ false → (b == 92) ≡ false →
+    behind_from false (b ∷ rest) ≡ behind_from false rest
+behind_step b rest f g = rw f (rw g refl)
+
+one_behind : (b : ℕ) (text rest : List ℕ) (n q s : Bool) → (b == 10) ≡ n → (b == 34) ≡ q → (b == 92) ≡ s → Behind text rest →
+    Behind (b ∷ text) rest
+one_behind b text rest true q s e f g below = rw e below
+one_behind b text rest false true s e f g below = rw e (rw f below)
+one_behind b text rest false false true e f g below = rw e (rw f (rw g below))
+one_behind b text rest false false false e f g below =
+    ap (λ xs. behind_from false ((xs ++ escaped text) ++ (34 ∷ rest))) (other_byte b e f g)
+    ∙ (behind_step b (escaped text ++ (34 ∷ rest)) f g ∙ below)
+
+pub behind : (text rest : List ℕ) → Behind text rest
+behind [] rest = refl
+behind (b ∷ text) rest =
+    one_behind b text rest (b == 10) (b == 34) (b == 92) refl refl refl (behind text rest)

@@ -1,0 +1,77 @@
+-- What stands before a byte and behind it.
+use Rattle.std.proofs.Common.{ℕ, zero, suc, ◌≡◌, ◌≢◌, ◌<◌, ◌+◌, ◌^◌, ◌==◌, ◌||◌, Bool, true, false, List, [], ◌∷◌, ◌++◌, length, take, drop, get_or, Some, decimal, refl, sym, ap, ◌∙◌, arith}
+use Rattle.std.specs.Prelude.{if◌then◌else◌}
+use Rattle.std.specs.List.{list_any, before_first, after_first, position_or_len}
+use Rattle.std.proofs.lemmas.Bool.{false≢true}
+use Rattle.std.proofs.lemmas.Bool.Decides.{Decides-eqb}
+use Rattle.std.proofs.lemmas.List.{take_at}
+use Rattle.std.proofs.lemmas.List.Recursion.{is_position_or_len}
+use Rattle.std.proofs.lemmas.Fmt.{digits_decimal}
+use Rattle.std.proofs.lemmas.Str.Parse.{digit_at}
+use Rattle.json_text.proofs.Spelled.{own}
+
+-- a byte does not stand in a text
+abbrev pub Lacks : ℕ → List ℕ → Type 0
+Lacks c text = list_any (λ b. b == c) text ≡ false
+
+pub or_first : (a b : Bool) → (a || b) ≡ false → a ≡ false
+or_first true b h = absurd (false≢true (sym h))
+or_first false b h = refl
+
+pub or_second : (a b : Bool) → (a || b) ≡ false → b ≡ false
+or_second true b h = absurd (false≢true (sym h))
+or_second false b h = h
+
+pub both_false : (a b : Bool) → a ≡ false → b ≡ false → (a || b) ≡ false
+both_false true b h k = absurd (false≢true (sym h))
+both_false false b h k = k
+
+not_same_by : (a b : ℕ) (t : Bool) → (a == b) ≡ t → a ≢ b → (a == b) ≡ false
+not_same_by a b true e h = absurd (h ((Decides-eqb a b).0 e))
+not_same_by a b false e h = e
+
+pub lacks_each : (c : ℕ) (text : List ℕ) → ((i : ℕ) → i < length text → get_or text i 0 ≢ c) → Lacks c text
+lacks_each c [] h = refl
+lacks_each c (d ∷ text) h =
+    both_false (d == c) (list_any (λ b. b == c) text) (not_same_by d c (d == c) refl (h zero (omega arith)))
+    (lacks_each c text (λ i below. h (suc i) (omega arith)))
+
+pub decimal_lacks : (n : ℕ) → n < 2 ^ 64 → Lacks 44 (decimal n)
+decimal_lacks n small = lacks_each 44 (decimal n) (λ i below e.
+    let digit = digit_at (decimal n) i (digits_decimal own n (omega arith)) below in omega (arith, digit))
+
+-- where a byte stands first
+abbrev spot : ℕ → List ℕ → ℕ
+spot c [] = 0
+spot c (x ∷ xs) = if x == c then 0 else 1 + spot c xs
+
+spot_on : (c d : ℕ) (text : List ℕ) → (d == c) ≡ false → spot c (d ∷ text) ≡ 1 + spot c text
+spot_on c d text e = rw e refl
+
+spot_here : (c : ℕ) (rest : List ℕ) → spot c (c ∷ rest) ≡ 0
+spot_here c rest = let same : (c == c) ≡ true = (Decides-eqb c c).1 refl in rw same refl
+
+spot_at : (c : ℕ) (text rest : List ℕ) → Lacks c text → spot c (text ++ (c ∷ rest)) ≡ length text
+spot_at c [] rest h = spot_here c rest
+spot_at c (d ∷ text) rest h =
+    let on = spot_on c d (text ++ (c ∷ rest)) (or_first (d == c) (list_any (λ b. b == c) text) h) in
+    let more = spot_at c text rest (or_second (d == c) (list_any (λ b. b == c) text) h) in
+    let next : 1 + spot c (text ++ (c ∷ rest)) ≡ length (d ∷ text) = omega (arith, more) in
+    on ∙ next
+
+place_at : (c : ℕ) (text rest : List ℕ) → Lacks c text → position_or_len (λ b. b == c) (text ++ (c ∷ rest)) ≡ length text
+place_at c text rest h =
+    sym (is_position_or_len (spot c) (λ b. b == c) refl (λ x xs. refl) (text ++ (c ∷ rest))) ∙ spot_at c text rest h
+
+pub before_at : (c : ℕ) (text rest : List ℕ) → Lacks c text → before_first (λ b. b == c) (text ++ (c ∷ rest)) ≡ text
+before_at c text rest h =
+    ap (λ n. take n (text ++ (c ∷ rest))) (place_at c text rest h) ∙ take_at text (c ∷ rest) (length text) refl
+
+drop_past : (c : ℕ) (text rest : List ℕ) → drop (length text + 1) (text ++ (c ∷ rest)) ≡ rest
+drop_past c [] rest = refl
+drop_past c (d ∷ text) rest =
+    let on : suc (length text) + 1 ≡ suc (length text + 1) = omega arith in
+    ap (λ n. drop n (d ∷ (text ++ (c ∷ rest)))) on ∙ drop_past c text rest
+
+pub after_at : (c : ℕ) (text rest : List ℕ) → Lacks c text → after_first (λ b. b == c) (text ++ (c ∷ rest)) ≡ rest
+after_at c text rest h = ap (λ n. drop (n + 1) (text ++ (c ∷ rest))) (place_at c text rest h) ∙ drop_past c text rest

@@ -1,0 +1,28 @@
+//! Numbers.
+ghost use Rattle.std.specs.Prelude.{ℕ, ◌≡◌, ◌<◌, ◌^◌, Some, IfSome, decimal};
+ghost use Rattle.json_text.specs.Numbers.{number_in};
+
+use itoa::Buffer;
+
+/// The number below 2 ^ 64 that a text spells, in its one spelling.
+pub fn number_named(text: &str) -> Option<u64>
+    ensures { result ≡ number_in text.now }
+{
+    number_read(text)
+}
+
+// The number that is read and must be what is written for it.
+fn number_read(text: &str) -> Option<u64>
+    ensures some { IfSome result (λ n. (n < 2 ^ 64) × (text.now ≡ decimal n)) }
+    ensures every { (n : ℕ) → n < 2 ^ 64 → text.now ≡ decimal n → result ≡ Some n }
+{
+    let Ok(number) = text.parse::<u64>() else {
+        return None;
+    };
+    let mut buffer = Buffer::new();
+    if buffer.format(number) == text {
+        Some(number)
+    } else {
+        None
+    }
+}
