@@ -11,6 +11,7 @@ import { BAD_TOKEN, refusalWords } from './words.js';
 
 const TOKEN = /^[A-Za-z0-9_-]{16,128}$/;
 const MOST_WATCHED = 14, LEAVE_AFTER = 3000;      // the lobby lets a connection watch 16 games
+const ASKS_ANEW = 15000;           // for games that were opened on the server past the lobby: nobody tells of them
 const session = () => sessionStorage, local = () => localStorage;
 
 class Page {
@@ -21,6 +22,7 @@ class Page {
     this.held = new Set();             // of these, those of which it has said that it does
     this.token = read(session, 'token') || read(local, 'token') || '';
     write(session, 'token', this.token || null);
+    this.begun = new Set();            // one's own games that had begun, or of which it was said
     this.fromLink = false;
     this.takeLink(window.personalLink);
     delete window.personalLink;
@@ -37,6 +39,7 @@ class Page {
     this.listen();
     this.route();
     this.changed();
+    setInterval(() => this.askAnew(), ASKS_ANEW);
   }
 
   listen() {
@@ -162,6 +165,7 @@ class Page {
     }
     const found = /^\/(game|hall)\/(\d{1,10})$/.exec(fragment);
     const number = found ? Number(found[2]) : 0;
+    if (number) this.begun.add(number);
     const view = number ? this.game : fragment === '/hall' ? this.hall : this.table;
     document.body.classList.toggle('hall', Boolean(found && found[1] === 'hall' || view === this.hall));
     document.body.classList.toggle('one-game', Boolean(number));
@@ -201,6 +205,47 @@ class Page {
     this.table.load(readRows(answer.slice(2)));
     if (this.view === this.hall) this.hall.again();
     if (this.lostOpen) this.findOpened();
+    this.findBegun();
+  }
+
+  /** Who is in sight, and plays no game here, asks for the table anew. */
+  async askAnew() {
+    if (document.hidden || !this.player || !this.isAtTable || !this.reachable() || this.isPlaying()) return;
+    const answer = await this.wire.say('lobby', true);
+    if (answer[0] !== 'ok lobby') return;
+    this.table.load(readRows(answer.slice(2)));
+    this.findBegun();
+  }
+
+  /** Whether one is at the board of a game of one's own that goes on. */
+  isPlaying() {
+    return this.view === this.game && this.game.running() && this.game.seat() !== '';
+  }
+
+  /** A game of one's own that has begun since the table was first told. */
+  findBegun() {
+    const me = this.me();
+    if (!me) return;
+    const own = [...this.table.rows.values()].filter(({ white, black, result }) => white && black && result === '*'
+      && (white === me || black === me)).reverse();
+    const row = this.begunFor === me && own.find(({ number }) => !this.begun.has(number));
+    this.begunFor = me;
+    own.forEach(({ number }) => this.begun.add(number));
+    if (row) this.begin(row.number, `Your game ${row.number} against ${
+      this.nameWords(row.white === me ? row.black : row.white)} has begun`);
+  }
+
+  /** One's own game has begun: one is taken to its board, or told the way where one plays at another. */
+  begin(number, words) {
+    this.begun.add(number);
+    if (this.isPlaying()) {
+      byId('invited').hidden = false;
+      byId('invited').replaceChildren(`${words}: the clocks run. `,
+        make('a', { class: 'button strong', href: `#/game/${number}` }, 'Go there'));
+    } else {
+      this.go(`/game/${number}`);
+    }
+    say(`${words}.`);
   }
 
   findOpened() {
@@ -269,17 +314,11 @@ class Page {
   /** Somebody has joined one's own game, or the opponent of a game that is over has opened another. */
   invite(number, by, word, standing) {
     const me = this.me(), here = this.view === this.game && this.game.number === number;
+    if (by === me) this.begun.add(number);
     if (!me || by === me || here) return;
     if (word === 'open' && this.view === this.game && this.game.isOpponent(by)) this.game.suggest({ by, number });
     if (word !== 'join' || standing.white !== me && standing.black !== me) return;
-    if (this.view === this.table) {
-      this.go(`/game/${number}`);
-    } else {
-      byId('invited').hidden = false;
-      byId('invited').replaceChildren(`${this.nameWords(by)} has joined your game ${number}: the clocks run. `,
-        make('a', { class: 'button strong', href: `#/game/${number}` }, 'Go there'));
-    }
-    say(`${this.nameWords(by)} has joined your game ${number}.`);
+    this.begin(number, `${this.nameWords(by)} has joined your game ${number}`);
   }
 
   /** The state of the connection is another. */

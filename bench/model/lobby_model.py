@@ -14,6 +14,7 @@ from its standard input, and answers each by `ok` once it holds, so that a test 
     drop     the next act is not taken, and the connection breaks: `lost` too
     silent   nothing is answered any more, and the connections stay open
     slow MS  each answer comes MS milliseconds late
+    beside WHITE BLACK   a game is opened and joined on the server, past the lobby: nobody is told
 
 Wants Debian's python3-websockets."""
 
@@ -241,6 +242,10 @@ class Lobby:
             self.silent = True
         elif word.startswith('slow '):
             self.delay = int(word[5:]) / 1000
+        elif word.startswith('beside '):
+            white, black = word.split()[1:]
+            number = self.server.ask(white, 'open white 300 2')[0].split()[2]
+            self.server.ask(black, 'join ' + number)
 
     # ---- a connection
 

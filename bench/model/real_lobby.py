@@ -7,6 +7,7 @@ two stands a relay, so that a test can bring about what goes wrong:
     drop     the connection breaks before the next act reaches the server
     slow MS  each answer of the server comes MS milliseconds late
     silent   the lobby stands still, and its connections stay open
+    beside WHITE BLACK   a game is opened and joined on the server, past the lobby
 
 The programs are those that CHESS_SERVER and CHESS_LOBBY name, or this repository's, which are built where they have to be."""
 
@@ -186,6 +187,20 @@ class Programs:
             self.process.send_signal(signal.SIGSTOP)
         elif word.startswith('slow '):
             self.relay.delay = int(word[5:]) / 1000
+        elif word.startswith('beside '):
+            self.beside(*word.split()[1:])
+
+    def beside(self, white, black):
+        with socket.create_connection(('127.0.0.1', self.server.port)) as line:
+            answers = line.makefile('rb')
+
+            def ask(text):
+                line.sendall(text.encode() + b'\n')
+                return answers.readline().decode().split()
+            ask('name ' + white)
+            number = ask('open white 300 2')[2]
+            ask('name ' + black)
+            ask('join ' + number)
 
     def crowd(self, count):
         """Running games of two moves, eight of them of ann and bob; the first one's number."""

@@ -1,0 +1,40 @@
+//! The rounds of a league: games opened for pairings, their results, and the report of a tournament.
+#![tactic(auto)]
+
+mod board;
+mod command_line;
+mod files;
+mod outcomes;
+mod report_word;
+mod results_word;
+mod round_file;
+mod start_word;
+mod table;
+
+use command_line::{Word, command, read_words};
+use command_words::{NotDone, end_of, words_given};
+use report_word::write_report;
+use results_word::write_results;
+use start_word::start;
+use std::process::ExitCode;
+
+fn main(rt: HostRuntime) -> ExitCode {
+    end_of(&rt, "chess-pairings", do_words(&rt))
+}
+
+// Does what the words of the command line ask for.
+fn do_words(rt: &HostRuntime) -> Result<(), NotDone> {
+    let words = words_given(rt, &mut command(rt.alloc())?)?;
+    let word = read_words(rt.alloc(), words.as_slice())?;
+    do_word(rt, &word)?;
+    Ok(())
+}
+
+// Does what a word asks for.
+fn do_word(rt: &HostRuntime, word: &Word<'_>) -> anyhow::Result<()> {
+    match word {
+        Word::Start(starting) => start(rt, starting),
+        Word::Results(asking) => write_results(rt, asking),
+        Word::Report(reporting) => write_report(rt, reporting),
+    }
+}

@@ -1,0 +1,210 @@
+//! The word that opens the games of a round.
+use crate::board::{Became, Board};
+use crate::command_line::Starting;
+use crate::files::{check_notes, pairings_of};
+use crate::round_file::RoundFile;
+use anyhow::{Context, Result};
+use pairing_texts::{Pairing, Stage};
+use server_link::Link;
+use std::fs::File;
+use std::net::{Net, SocketAddr, TcpStream};
+use std::rt::{Clock, Files};
+use std::thread;
+use std::time::{Duration, SystemTime};
+
+// How often it is looked for the server, and for boards whose start has come: the milliseconds between.
+const PAUSE: u64 = 500;
+
+/// The boards of a round, and what became of those that were gone on with.
+#[derive(Drop)]
+struct Rounds {
+    boards: Vec<Board>,
+    file: RoundFile,
+    // The boards, by their numbers, of which the arbiter is asked.
+    asks: Vec<u32>,
+    // Those that have their games and were told.
+    done: Vec<u32>,
+}
+
+// The moment, in milliseconds from 1970 on.
+fn moment<R: Clock>(rt: &R) -> Result<i64> {
+    match SystemTime::now(rt)?.duration_since(SystemTime::UNIX_EPOCH) {
+        Ok(since) => Ok(i64::try_from(since.as_millis()).unwrap_or(i64::MAX)),
+        Err(_) => anyhow::bail!("the system's clock shows a time before 1970"),
+    }
+}
+
+impl Rounds {
+    // Whether nothing is to be done about a board now.
+    fn rests(&self, board: &Board, now: i64) -> bool {
+        let number = board.pairing.board;
+        let is_late = match board.game.start {
+            Some(start) => start <= now,
+            None => true,
+        };
+        !is_late || self.asks.contains(&number) || self.done.contains(&number)
+    }
+
+    fn is_over(&self) -> bool {
+        self.asks.len().saturating_add(self.done.len()) >= self.boards.len()
+    }
+
+    // Goes on with a board over a connection, which is made where there is none.
+    fn go_on_with<R>(
+        &mut self,
+        rt: &R,
+        server: SocketAddr,
+        link: &mut Option<Link>,
+        board: &Board,
+    ) -> Result<()>
+    where
+        R: Net<Stream = TcpStream> + AllocGlobal + Print + Eprint,
+    {
+        let mut held = match link.take() {
+            Some(held) => held,
+            None => Link::open(rt, server).context(format_args!("the server at {server}"))?,
+        };
+        let number = board.pairing.board;
+        match board.go_on(&mut held, &mut self.file)? {
+            Became::Has(game) => {
+                let (white, black) = (board.pairing.white, board.game.black);
+                let (white, black) = (white.as_str(), black.as_str());
+                println!(rt; "board {number}: game {game}, {white} against {black}")?;
+                self.done.push(number)?;
+            }
+            Became::Asks => {
+                let question = board.question(&self.file)?;
+                eprintln!(rt; "chess-pairings: {question}")?;
+                self.asks.push(number)?;
+            }
+        }
+        *link = Some(held);
+        Ok(())
+    }
+
+    // Goes on with each board whose start has come. It tells the first of the failures, after which a board may be gone on
+    // with again.
+    fn go_on<R>(&mut self, rt: &R, server: SocketAddr) -> Result<()>
+    where
+        R: Net<Stream = TcpStream> + AllocGlobal + Print + Eprint + Clock,
+    {
+        let now = moment(rt)?;
+        let mut link = None;
+        let mut first = Ok(());
+        for at in 0..self.boards.len() {
+            let board = self.boards[at];
+            if self.rests(&board, now) {
+                continue;
+            }
+            let done = self.go_on_with(rt, server, &mut link, &board);
+            if self.file.has_failed() {
+                return done;
+            }
+            if first.is_ok() {
+                first = done;
+            }
+        }
+        first
+    }
+}
+
+// The pairing of a board.
+fn board_of(boards: &[Board], number: u32) -> Result<Board> {
+    for board in boards {
+        if board.pairing.board == number {
+            return Ok(*board);
+        }
+    }
+    anyhow::bail!("board {number} has no game to be opened")
+}
+
+// Notes what the arbiter said of boards, where that was not noted before.
+fn take_words(file: &mut RoundFile, boards: &[Board], starting: &Starting<'_>) -> Result<()> {
+    for (number, game) in starting.takes.as_slice() {
+        let board = board_of(boards, *number)?;
+        let is_noted = match file.last_of(*number) {
+            Some(note) => note.stage != Stage::Opening && note.number == *game,
+            None => false,
+        };
+        if !is_noted {
+            file.put(board.note(Stage::Opened, *game))?;
+        }
+    }
+    for (number, game) in starting.afters.as_slice() {
+        let board = board_of(boards, *number)?;
+        let is_noted = match file.last_of(*number) {
+            Some(note) if note.stage == Stage::Opening => note.number >= *game,
+            Some(note) => note.number > *game,
+            None => false,
+        };
+        if !is_noted {
+            file.put(board.note(Stage::Opening, *game))?;
+        }
+    }
+    Ok(())
+}
+
+// The boards of pairings that have a game.
+fn boards_of<R: AllocGlobal>(rt: &R, pairings: &[Pairing]) -> Result<Vec<Board>> {
+    let mut boards = Vec::new(rt.alloc());
+    for pairing in pairings {
+        if let Some(game) = pairing.game {
+            boards.push(Board {
+                alloc: rt.alloc(),
+                pairing: *pairing,
+                game,
+            })?;
+        }
+    }
+    Ok(boards)
+}
+
+// Goes round the boards until each has its game or is the arbiter's. Where the server is gone it is tried again.
+fn go_round<R>(rt: &R, rounds: &mut Rounds, server: SocketAddr) -> Result<()>
+where
+    R: Net<Stream = TcpStream> + AllocGlobal + Print + Eprint + Clock,
+{
+    let mut is_told = false;
+    for _ in 0..u64::MAX {
+        match rounds.go_on(rt, server) {
+            Ok(()) => is_told = false,
+            Err(error) if rounds.file.has_failed() => return Err(error),
+            Err(error) => {
+                if !is_told {
+                    eprintln!(rt; "chess-pairings: {error:#}; it is tried again")?;
+                }
+                is_told = true;
+            }
+        }
+        if rounds.is_over() {
+            return Ok(());
+        }
+        thread::sleep(rt, Duration::from_millis(PAUSE));
+    }
+    Ok(())
+}
+
+/// Opens the game of each board at its start, and notes which it is.
+pub fn start<R>(rt: &R, starting: &Starting<'_>) -> Result<()>
+where
+    R: Files<File = File> + Net<Stream = TcpStream> + AllocGlobal + Print + Eprint + Clock,
+{
+    let pairings = pairings_of(rt, starting.round.pairings)?;
+    let boards = boards_of(rt, pairings.as_slice())?;
+    let mut file = RoundFile::open(rt, starting.round.games)?;
+    check_notes(starting.round.games, file.notes(), pairings.as_slice())?;
+    take_words(&mut file, boards.as_slice(), starting)?;
+    let mut rounds = Rounds {
+        boards,
+        file,
+        asks: Vec::new(rt.alloc()),
+        done: Vec::new(rt.alloc()),
+    };
+    go_round(rt, &mut rounds, starting.server)?;
+    let (boards, games) = (rounds.boards.len(), rounds.done.len());
+    println!(rt; "boards {boards}, games {games}")?;
+    if games < boards {
+        anyhow::bail!("the arbiter is to say which games the others have");
+    }
+    Ok(())
+}

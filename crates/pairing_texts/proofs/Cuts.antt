@@ -1,0 +1,112 @@
+-- A text that was put together is cut where it was joined.
+use Rattle.std.proofs.Common.{ℕ, zero, suc, ◌≡◌, ◌≢◌, ◌<◌, ◌+◌, ◌^◌, ◌==◌, ◌||◌, Bool, true, false, List, [], ◌∷◌, ◌++◌, length, take, drop, get_or, decimal, refl, sym, ap, ◌∙◌, arith, if◌then◌else◌}
+use Rattle.std.specs.List.{list_any, before_first, after_first, position_or_len}
+use Rattle.std.proofs.lemmas.Bool.{false≢true}
+use Rattle.std.proofs.lemmas.Bool.Decides.{Decides-eqb}
+use Rattle.std.proofs.lemmas.List.{take_at, drop_all}
+use Rattle.std.proofs.lemmas.List.Recursion.{is_position_or_len}
+use Rattle.std.proofs.lemmas.Fmt.{digits_decimal}
+use Rattle.std.proofs.lemmas.Str.Parse.{digit_at}
+use Rattle.std.proofs.Math.Seq.{take-length}
+use Rattle.lobby_words.specs.Words.{number_in, or_0, number_or_0}
+use Rattle.lobby_words.proofs.Numbers.{own, number_spelled}
+use Rattle.pairing_texts.specs.Times.{front_of, rest_of}
+
+-- a byte does not stand in a text
+abbrev pub Lacks : ℕ → List ℕ → Type 0
+Lacks c text = list_any (λ b. b == c) text ≡ false
+
+or_first : (a b : Bool) → (a || b) ≡ false → a ≡ false
+or_first true b h = absurd (false≢true (sym h))
+or_first false b h = refl
+
+or_second : (a b : Bool) → (a || b) ≡ false → b ≡ false
+or_second true b h = absurd (false≢true (sym h))
+or_second false b h = h
+
+both_false : (a b : Bool) → a ≡ false → b ≡ false → (a || b) ≡ false
+both_false true b h k = absurd (false≢true (sym h))
+both_false false b h k = k
+
+not_same_by : (a b : ℕ) (t : Bool) → (a == b) ≡ t → a ≢ b → (a == b) ≡ false
+not_same_by a b true e h = absurd (h ((Decides-eqb a b).0 e))
+not_same_by a b false e h = e
+
+pub lacks_more : (c d : ℕ) (text : List ℕ) → d ≢ c → Lacks c text → Lacks c (d ∷ text)
+lacks_more c d text other h = both_false (d == c) (list_any (λ b. b == c) text) (not_same_by d c (d == c) refl other) h
+
+lacks_each : (c : ℕ) (text : List ℕ) → ((i : ℕ) → i < length text → get_or text i 0 ≢ c) → Lacks c text
+lacks_each c [] h = refl
+lacks_each c (d ∷ text) h = lacks_more c d text (h zero (omega arith)) (lacks_each c text (λ i below. h (suc i) (omega arith)))
+
+pub lacks_both : (c : ℕ) (one other : List ℕ) → Lacks c one → Lacks c other → Lacks c (one ++ other)
+lacks_both c [] other h k = k
+lacks_both c (d ∷ one) other h k =
+    both_false (d == c) (list_any (λ b. b == c) (one ++ other)) (or_first (d == c) (list_any (λ b. b == c) one) h)
+    (lacks_both c one other (or_second (d == c) (list_any (λ b. b == c) one) h) k)
+
+-- a number has digits alone
+pub lacks_below : (c n : ℕ) → c < 48 → n < 2 ^ 32 → Lacks c (decimal n)
+lacks_below c n low small = lacks_each c (decimal n) (λ i below e.
+    let digit = digit_at (decimal n) i (digits_decimal own n (omega arith)) below in omega (arith, digit))
+
+pub lacks_above : (c n : ℕ) → 57 < c → n < 2 ^ 32 → Lacks c (decimal n)
+lacks_above c n high small = lacks_each c (decimal n) (λ i below e.
+    let digit = digit_at (decimal n) i (digits_decimal own n (omega arith)) below in omega (arith, digit))
+
+-- where a byte stands first
+abbrev spot : ℕ → List ℕ → ℕ
+spot c [] = 0
+spot c (x ∷ xs) = if x == c then 0 else 1 + spot c xs
+
+spot_on : (c d : ℕ) (text : List ℕ) → (d == c) ≡ false → spot c (d ∷ text) ≡ 1 + spot c text
+spot_on c d text e = rw e refl
+
+spot_here : (c : ℕ) (rest : List ℕ) → spot c (c ∷ rest) ≡ 0
+spot_here c rest = let same : (c == c) ≡ true = (Decides-eqb c c).1 refl in rw same refl
+
+spot_at : (c : ℕ) (text rest : List ℕ) → Lacks c text → spot c (text ++ (c ∷ rest)) ≡ length text
+spot_at c [] rest h = spot_here c rest
+spot_at c (d ∷ text) rest h =
+    let on = spot_on c d (text ++ (c ∷ rest)) (or_first (d == c) (list_any (λ b. b == c) text) h) in
+    let more = spot_at c text rest (or_second (d == c) (list_any (λ b. b == c) text) h) in
+    let next : 1 + spot c (text ++ (c ∷ rest)) ≡ length (d ∷ text) = omega (arith, more) in
+    on ∙ next
+
+spot_none : (c : ℕ) (text : List ℕ) → Lacks c text → spot c text ≡ length text
+spot_none c [] h = refl
+spot_none c (d ∷ text) h =
+    let on = spot_on c d text (or_first (d == c) (list_any (λ b. b == c) text) h) in
+    let more = spot_none c text (or_second (d == c) (list_any (λ b. b == c) text) h) in
+    let next : 1 + spot c text ≡ length (d ∷ text) = omega (arith, more) in
+    on ∙ next
+
+place : (c : ℕ) (text : List ℕ) → spot c text ≡ position_or_len (λ b. b == c) text
+place c text = is_position_or_len (spot c) (λ b. b == c) refl (λ x xs. refl) text
+
+drop_past : (c : ℕ) (text rest : List ℕ) → drop (length text + 1) (text ++ (c ∷ rest)) ≡ rest
+drop_past c [] rest = refl
+drop_past c (d ∷ text) rest =
+    let on : suc (length text) + 1 ≡ suc (length text + 1) = omega arith in
+    ap (λ n. drop n (d ∷ (text ++ (c ∷ rest)))) on ∙ drop_past c text rest
+
+-- the first sign of a text
+pub front_at : (c : ℕ) (text rest : List ℕ) → Lacks c text → front_of c (text ++ (c ∷ rest)) ≡ text
+front_at c text rest h =
+    ap (λ n. take n (text ++ (c ∷ rest))) (sym (place c (text ++ (c ∷ rest))) ∙ spot_at c text rest h)
+    ∙ take_at text (c ∷ rest) (length text) refl
+
+pub rest_at : (c : ℕ) (text rest : List ℕ) → Lacks c text → rest_of c (text ++ (c ∷ rest)) ≡ rest
+rest_at c text rest h =
+    ap (λ n. drop (n + 1) (text ++ (c ∷ rest))) (sym (place c (text ++ (c ∷ rest))) ∙ spot_at c text rest h) ∙ drop_past c text rest
+
+-- a text without the sign
+pub front_whole : (c : ℕ) (text : List ℕ) → Lacks c text → front_of c text ≡ text
+front_whole c text h = ap (λ n. take n text) (sym (place c text) ∙ spot_none c text h) ∙ take-length text
+
+pub rest_none : (c : ℕ) (text : List ℕ) → Lacks c text → rest_of c text ≡ []
+rest_none c text h =
+    ap (λ n. drop (n + 1) text) (sym (place c text) ∙ spot_none c text h) ∙ drop_all (length text + 1) text (omega arith)
+
+pub number_back : (n : ℕ) → n < 2 ^ 32 → number_or_0 (decimal n) ≡ n
+number_back n small = ap or_0 (number_spelled n small)

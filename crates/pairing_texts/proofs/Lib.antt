@@ -1,0 +1,4 @@
+pub mod RowByRow
+pub mod Cuts
+pub mod TimesBack
+pub mod NotesBack

@@ -1,0 +1,173 @@
+-- A note that was written is read as it was.
+use Rattle.std.proofs.Common.{ℕ, ◌≡◌, ◌<◌, ◌^◌, ◌==◌, ◌&&◌, ◌||◌, Bool, true, false, List, [], ◌∷◌, ◌++◌, length, codes, decimal, Option, Some, None, refl, sym, ap, ◌∙◌, subst, arith, append_assoc, if◌then◌else◌}
+use Rattle.std.specs.Prelude.{nat_le}
+use Rattle.std.specs.List.{list_all}
+use Rattle.std.specs.Str.{bytes_eq}
+use Rattle.std.proofs.lemmas.Bool.{false≢true}
+use Rattle.std.proofs.lemmas.Bool.Decides.{Decides-eqb}
+use Rattle.std.proofs.lemmas.Slice.Eq.{bytes_eq-Decides}
+use Rattle.rec_codec.specs.Name.{is_name_byte}
+use Rattle.lobby_words.specs.Words.{number_or_0}
+use Rattle.lobby_words.specs.Waiting.{is_name}
+use Rattle.pairing_texts.specs.declared.notes.Note.{Note}
+use Rattle.pairing_texts.specs.declared.notes.Stage.{Stage}
+use Rattle.pairing_texts.specs.declared.notes.Stage.TheVariants as stages
+use Rattle.pairing_texts.specs.Times.{front_of, rest_of}
+use Rattle.pairing_texts.specs.Rows.{name_in}
+use Rattle.pairing_texts.specs.Notes.{IsNote, stage_text, stage_in, quoted, member_text, note_text, value_of, unquoted, member_in, behind_one, behind_two, behind_three, board_in, white_in, black_in, last_stage, number_at_end, likely_of, likely_note, where_spelled, note_in}
+use Rattle.pairing_texts.proofs.Cuts.{Lacks, lacks_more, lacks_both, lacks_below, lacks_above, front_at, rest_at, number_back}
+
+-- a byte that stands in no name stands in none of these names
+not_one : (c d : ℕ) (t : Bool) → (d == c) ≡ t → is_name_byte c ≡ false → is_name_byte d ≡ true → (d == c) ≡ false
+not_one c d true e out inside = absurd (false≢true (sym out ∙ (ap is_name_byte (sym ((Decides-eqb d c).0 e)) ∙ inside)))
+not_one c d false e out inside = e
+
+and_first : (a b : Bool) → (a && b) ≡ true → a ≡ true
+and_first true b h = refl
+and_first false b h = absurd (false≢true h)
+
+and_second : (a b : Bool) → (a && b) ≡ true → b ≡ true
+and_second true b h = h
+and_second false b h = absurd (false≢true h)
+
+or_false : (a b : Bool) → a ≡ false → b ≡ false → (a || b) ≡ false
+or_false true b h k = absurd (false≢true (sym h))
+or_false false b h k = k
+
+name_lacks : (c : ℕ) (text : List ℕ) → is_name_byte c ≡ false → list_all is_name_byte text ≡ true → Lacks c text
+name_lacks c [] out all = refl
+name_lacks c (d ∷ text) out all =
+    or_false (d == c) _ (not_one c d (d == c) refl out (and_first (is_name_byte d) (list_all is_name_byte text) all))
+    (name_lacks c text out (and_second (is_name_byte d) (list_all is_name_byte text) all))
+
+all_of : (a b c : Bool) → (a && b && c) ≡ true → c ≡ true
+all_of true true c h = h
+all_of true false c h = absurd (false≢true h)
+all_of false b c h = absurd (false≢true h)
+
+bytes_of : (name : List ℕ) → is_name name ≡ true → list_all is_name_byte name ≡ true
+bytes_of name is = all_of (nat_le 1 (length name)) (nat_le (length name) 16) (list_all is_name_byte name) is
+
+named : (name : List ℕ) → is_name name ≡ true → name_in name ≡ Some name
+named name is = ap (λ (b : Bool). if b then Some name else None) is
+
+-- a member with a name's value
+quoted_back : (front name : List ℕ) → Lacks 58 front → is_name name ≡ true → name_in (unquoted (value_of (front ++ (58 ∷ quoted name)))) ≡ Some name
+quoted_back front name low is =
+    let bytes = bytes_of name is in
+    ap (λ (t : List ℕ). name_in (unquoted t)) (rest_at 58 front (quoted name) low)
+    ∙ (ap (λ (t : List ℕ). name_in (front_of 34 t)) (rest_at 34 [] (name ++ (34 ∷ [])) refl)
+    ∙ (ap name_in (front_at 34 name [] (name_lacks 34 name refl bytes)) ∙ named name is))
+
+lacks_comma : (front name : List ℕ) → Lacks 44 front → is_name name ≡ true → Lacks 44 (front ++ (58 ∷ quoted name))
+lacks_comma front name low is =
+    let bytes = bytes_of name is in
+    lacks_both 44 front (58 ∷ quoted name) low
+    (lacks_more 44 58 (quoted name) (λ e. omega (arith, e)) (lacks_more 44 34 (name ++ (34 ∷ [])) (λ e. omega (arith, e))
+    (lacks_both 44 name (34 ∷ []) (name_lacks 44 name refl bytes) refl)))
+
+abbrev board_front : List ℕ
+board_front = 123 ∷ quoted (codes "board")
+
+abbrev last_of : List ℕ → ℕ → List ℕ
+last_of stage number = member_text stage (decimal number) ++ (125 ∷ [])
+
+abbrev from_black : List ℕ → List ℕ → ℕ → List ℕ
+from_black black stage number = member_text (codes "black") (quoted black) ++ (44 ∷ last_of stage number)
+
+abbrev from_white : List ℕ → List ℕ → List ℕ → ℕ → List ℕ
+from_white white black stage number = member_text (codes "white") (quoted white) ++ (44 ∷ from_black black stage number)
+
+abbrev whole : ℕ → List ℕ → List ℕ → List ℕ → ℕ → List ℕ
+whole board white black stage number = (board_front ++ (58 ∷ decimal board)) ++ (44 ∷ from_white white black stage number)
+
+lacks_board : (board : ℕ) → board < 2 ^ 32 → Lacks 44 (board_front ++ (58 ∷ decimal board))
+lacks_board board small =
+    lacks_both 44 board_front (58 ∷ decimal board) refl (lacks_more 44 58 (decimal board) (λ e. omega (arith, e)) (lacks_below 44 board (omega arith) small))
+
+behind_board : (board : ℕ) (rest : List ℕ) → board < 2 ^ 32 → behind_one ((board_front ++ (58 ∷ decimal board)) ++ (44 ∷ rest)) ≡ rest
+behind_board board rest small = rest_at 44 (board_front ++ (58 ∷ decimal board)) rest (lacks_board board small)
+
+board_back : (board : ℕ) (rest : List ℕ) → board < 2 ^ 32 → board_in ((board_front ++ (58 ∷ decimal board)) ++ (44 ∷ rest)) ≡ board
+board_back board rest small =
+    ap (λ (t : List ℕ). number_or_0 (value_of t)) (front_at 44 (board_front ++ (58 ∷ decimal board)) rest (lacks_board board small))
+    ∙ (ap number_or_0 (rest_at 58 board_front (decimal board) refl) ∙ number_back board small)
+
+behind_white : (white rest : List ℕ) → is_name white ≡ true → behind_one (member_text (codes "white") (quoted white) ++ (44 ∷ rest)) ≡ rest
+behind_white white rest is = rest_at 44 (member_text (codes "white") (quoted white)) rest (lacks_comma (quoted (codes "white")) white refl is)
+
+behind_black : (black rest : List ℕ) → is_name black ≡ true → behind_one (member_text (codes "black") (quoted black) ++ (44 ∷ rest)) ≡ rest
+behind_black black rest is = rest_at 44 (member_text (codes "black") (quoted black)) rest (lacks_comma (quoted (codes "black")) black refl is)
+
+white_back : (white rest : List ℕ) → is_name white ≡ true →
+    name_in (unquoted (value_of (member_in (member_text (codes "white") (quoted white) ++ (44 ∷ rest))))) ≡ Some white
+white_back white rest is =
+    ap (λ (t : List ℕ). name_in (unquoted (value_of t)))
+    (front_at 44 (member_text (codes "white") (quoted white)) rest (lacks_comma (quoted (codes "white")) white refl is))
+    ∙ quoted_back (quoted (codes "white")) white refl is
+
+black_back : (black rest : List ℕ) → is_name black ≡ true →
+    name_in (unquoted (value_of (member_in (member_text (codes "black") (quoted black) ++ (44 ∷ rest))))) ≡ Some black
+black_back black rest is =
+    ap (λ (t : List ℕ). name_in (unquoted (value_of t)))
+    (front_at 44 (member_text (codes "black") (quoted black)) rest (lacks_comma (quoted (codes "black")) black refl is))
+    ∙ quoted_back (quoted (codes "black")) black refl is
+
+stage_back : (stage : Stage) (number : ℕ) → stage_in (unquoted (last_of (stage_text stage) number)) ≡ Some stage
+stage_back stages.Opening number =
+    let rest = 58 ∷ (decimal number ++ (125 ∷ [])) in
+    ap (λ (t : List ℕ). stage_in (front_of 34 t)) (rest_at 34 [] (codes "opening" ++ (34 ∷ rest)) refl) ∙ ap stage_in (front_at 34 (codes "opening") rest refl)
+stage_back stages.Opened number =
+    let rest = 58 ∷ (decimal number ++ (125 ∷ [])) in
+    ap (λ (t : List ℕ). stage_in (front_of 34 t)) (rest_at 34 [] (codes "opened" ++ (34 ∷ rest)) refl) ∙ ap stage_in (front_at 34 (codes "opened") rest refl)
+stage_back stages.Joined number =
+    let rest = 58 ∷ (decimal number ++ (125 ∷ [])) in
+    ap (λ (t : List ℕ). stage_in (front_of 34 t)) (rest_at 34 [] (codes "joined" ++ (34 ∷ rest)) refl) ∙ ap stage_in (front_at 34 (codes "joined") rest refl)
+
+end_by : (front : List ℕ) (number : ℕ) → number < 2 ^ 32 → Lacks 58 front →
+    number_or_0 (front_of 125 (value_of (front ++ (58 ∷ (decimal number ++ (125 ∷ [])))))) ≡ number
+end_by front number small low =
+    ap (λ (t : List ℕ). number_or_0 (front_of 125 t)) (rest_at 58 front (decimal number ++ (125 ∷ [])) low)
+    ∙ (ap number_or_0 (front_at 125 (decimal number) [] (lacks_above 125 number (omega arith) small)) ∙ number_back number small)
+
+end_back : (stage : Stage) (number : ℕ) → number < 2 ^ 32 → number_or_0 (front_of 125 (value_of (last_of (stage_text stage) number))) ≡ number
+end_back stages.Opening number small = end_by (quoted (codes "opening")) number small refl
+end_back stages.Opened number small = end_by (quoted (codes "opened")) number small refl
+end_back stages.Joined number small = end_by (quoted (codes "joined")) number small refl
+
+-- where the members of a whole line are
+two_behind : (n : Note) → IsNote n → behind_two (whole n.board n.white n.black (stage_text n.stage) n.number) ≡ from_black n.black (stage_text n.stage) n.number
+two_behind n is =
+    ap behind_one (behind_board n.board (from_white n.white n.black (stage_text n.stage) n.number) is.board)
+    ∙ behind_white n.white (from_black n.black (stage_text n.stage) n.number) is.white
+
+three_behind : (n : Note) → IsNote n → behind_three (whole n.board n.white n.black (stage_text n.stage) n.number) ≡ last_of (stage_text n.stage) n.number
+three_behind n is = ap behind_one (two_behind n is) ∙ behind_black n.black (last_of (stage_text n.stage) n.number) is.black
+
+likely_by : (board number : ℕ) (white black : Option (List ℕ)) (stage : Option Stage) (n : Note) → board ≡ n.board → number ≡ n.number →
+    white ≡ Some n.white → black ≡ Some n.black → stage ≡ Some n.stage → likely_of board number white black stage ≡ Some n
+likely_by board number white black stage n b m w k s =
+    ap (λ (x : ℕ). likely_of x number white black stage) b
+    ∙ (ap (λ (x : ℕ). likely_of n.board x white black stage) m
+    ∙ (ap (λ (x : Option (List ℕ)). likely_of n.board n.number x black stage) w
+    ∙ (ap (λ (x : Option (List ℕ)). likely_of n.board n.number (Some n.white) x stage) k
+    ∙ ap (λ (x : Option Stage). likely_of n.board n.number (Some n.white) (Some n.black) x) s)))
+
+likely_back : (n : Note) → IsNote n → likely_note (note_text n) ≡ Some n
+unfolding likely_note note_text
+likely_back n is =
+    let rest = from_white n.white n.black (stage_text n.stage) n.number in
+    let line = whole n.board n.white n.black (stage_text n.stage) n.number in
+    likely_by (board_in line) (number_at_end line) (white_in line) (black_in line) (last_stage line) n
+    (board_back n.board rest is.board)
+    (ap (λ (t : List ℕ). number_or_0 (front_of 125 (value_of t))) (three_behind n is) ∙ end_back n.stage n.number is.number)
+    (ap (λ (t : List ℕ). name_in (unquoted (value_of (member_in t)))) (behind_board n.board rest is.board)
+    ∙ white_back n.white (from_black n.black (stage_text n.stage) n.number) is.white)
+    (ap (λ (t : List ℕ). name_in (unquoted (value_of (member_in t)))) (two_behind n is)
+    ∙ black_back n.black (last_of (stage_text n.stage) n.number) is.black)
+    (ap (λ (t : List ℕ). stage_in (unquoted t)) (three_behind n is) ∙ stage_back n.stage n.number)
+
+pub note_back : (n : Note) → IsNote n → note_in (note_text n) ≡ Some n
+note_back n is =
+    ap (where_spelled (note_text n)) (likely_back n is)
+    ∙ ap (λ (b : Bool). if b then Some n else None) ((bytes_eq-Decides (note_text n) (note_text n)).1 refl)

@@ -1,0 +1,6 @@
+pub mod Times
+pub mod Rows
+pub mod Round
+pub mod Notes
+pub mod Steps
+pub mod Results

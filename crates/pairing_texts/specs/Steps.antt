@@ -1,0 +1,41 @@
+-- What is to be done about a board.
+use Rattle.std.specs.Prelude.{ℕ, ◌==◌, ◌&&◌, ◌||◌, Bool, true, false, not, nat_lt, List, [], ◌∷◌, flat_map, Option, None, Some, if◌then◌else◌}
+use Rattle.std.specs.Str.{bytes_eq}
+use Rattle.pairing_texts.specs.declared.steps.Seats.{Seats}
+use Rattle.pairing_texts.specs.declared.steps.Step.{Step}
+use Rattle.pairing_texts.specs.declared.steps.Step.TheVariants as steps
+use Rattle.pairing_texts.specs.declared.steps.Row.{Row}
+
+-- nobody sits there, or this player
+abbrev pub is_free_for : List ℕ → Option (List ℕ) → Bool
+is_free_for name None = true
+is_free_for name (Some other) = bytes_eq other name
+
+abbrev pub sits : List ℕ → Option (List ℕ) → Bool
+sits name None = false
+sits name (Some other) = bytes_eq other name
+
+-- A game that may be the board's: opened since that was noted, White's own, and Black's or waiting for somebody.
+abbrev pub may_be : ℕ → List ℕ → List ℕ → Row → Bool
+may_be after white black row = nat_lt after row.game && sits white row.white && is_free_for black row.black
+
+abbrev pub game_where : ℕ → List ℕ → List ℕ → Row → List ℕ
+game_where after white black row = if may_be after white black row then row.game ∷ [] else []
+
+abbrev pub candidates_in : ℕ → List ℕ → List ℕ → List Row → List ℕ
+candidates_in after white black rows = flat_map (game_where after white black) rows
+
+-- Of games that may be the board's and have its times: it is opened where there is none, the one is its, and of several
+-- nobody knows which.
+abbrev pub step_of_games : List ℕ → Step
+step_of_games [] = steps.Open
+step_of_games (game ∷ []) = steps.Take game
+step_of_games (game ∷ other ∷ games) = steps.Ask
+
+-- Of the board's game, by its seats; none where it has left the table, before it was noted that Black joined.
+abbrev pub step_of_seats : ℕ → List ℕ → List ℕ → Option Seats → Step
+step_of_seats game white black None = steps.Ask
+step_of_seats game white black (Some seats) =
+    if not (sits white seats.white) then steps.Ask
+    else (if sits black seats.black then steps.Note game
+    else (if is_free_for black seats.black then steps.Join game else steps.Ask))

@@ -1,0 +1,25 @@
+//! The rows of a text of CSV.
+ghost use Rattle.std.specs.Prelude.{map, IfOk};
+ghost use Rattle.csv.specs.Reading.{AreRecords, default_config, strip_bom};
+ghost use Rattle.csv.specs.Records.{fields_of};
+ghost use Rattle.csv.specs.declared.parser.State.TheVariants as st;
+
+use csv::{Error, ReaderBuilder, StringRecord};
+use std::alloc::Global;
+
+/// The rows of a text (RFC 4180), of any lengths.
+pub fn records_of(alloc: Global, text: &[u8]) -> Result<Vec<StringRecord>, Error>
+    ensures { IfOk result (λ rows. AreRecords default_config st.StartRecord (strip_bom text.now) (map fields_of rows.items)) }
+{
+    let reader = ReaderBuilder::new()
+        .has_headers(false)
+        .flexible(true)
+        .from_reader(alloc, text);
+    let mut rows = Vec::new(alloc);
+    for row in reader.into_records() {
+        if rows.push(row?).is_err() {
+            return Err(Error::out_of_memory());
+        }
+    }
+    Ok(rows)
+}

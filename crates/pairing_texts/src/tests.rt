@@ -1,0 +1,110 @@
+//! The texts of a round, and what is to be done about boards.
+use crate::{
+    Fault, Note, Outcome, Row, RowFault, Seats, Stage, Step, candidates, last_of, note_of,
+    note_text, read, results, step_of_games, step_of_seats, times_of, times_text,
+};
+use rec_codec::Name;
+use std::test::Fail;
+
+const FILE: &[u8] =
+    b"board,white,black,times,start\r\n\"1\",ann,bob,300+2,1970-01-01T01:00:01+01:00\r\n2,cid,,,\r\n";
+
+#[test]
+fn a_round(rt: HostRuntime) -> Result<(), Fail> {
+    let pairings = read(rt.alloc(), FILE)?;
+    assert!(rt; pairings.len() == 2);
+    let first = pairings[0];
+    assert!(rt; first.board == 1 && first.white.as_str() == "ann");
+    let game = first.game;
+    assert!(rt;
+        matches!(game, Some(game) if game.start == Some(1_000) && game.black.as_str() == "bob")
+    );
+    assert!(rt; pairings[1].game.is_none());
+    let twice = b"board,white,black,times,start\n1,ann,bob,300,\n2,cid,ann,300,\n";
+    assert!(rt; read(rt.alloc(), twice).err() == Some(Fault::Row(3, RowFault::BlackTwice)));
+    Ok(())
+}
+
+#[test]
+fn times(rt: HostRuntime) -> Result<(), Fail> {
+    for text in ["300", "300+2", "40/5400:1800", "40/5400+30:1800+30"] {
+        let times = times_of(rt.alloc(), text)?;
+        assert!(rt; times.is_some());
+        if let Some(times) = times {
+            assert!(rt; times_text(rt.alloc(), times)?.as_str() == text);
+        }
+    }
+    for text in [
+        "",
+        "0",
+        "300+0",
+        "300+61",
+        "0300",
+        "40/5400+30:1800",
+        "40/5400",
+        "300:300",
+    ] {
+        assert!(rt; times_of(rt.alloc(), text)?.is_none());
+    }
+    Ok(())
+}
+
+#[test]
+fn notes(rt: HostRuntime) -> Result<(), Fail> {
+    let (Some(white), Some(black)) = (Name::try_new("ann"), Name::try_new("bob")) else {
+        assert!(rt; false);
+        return Ok(());
+    };
+    let note = Note {
+        board: 3,
+        white,
+        black,
+        stage: Stage::Opened,
+        number: 17,
+    };
+    let line = "{\"board\":3,\"white\":\"ann\",\"black\":\"bob\",\"opened\":17}";
+    assert!(rt; note_text(rt.alloc(), &note)?.as_str() == line);
+    assert!(rt; note_of(rt.alloc(), line)? == Some(note));
+    assert!(rt; note_of(rt.alloc(), "{\"board\":3}")?.is_none());
+    assert!(rt; last_of(&[note], 3) == Some(note));
+    assert!(rt; last_of(&[note], 4).is_none());
+    Ok(())
+}
+
+#[test]
+fn boards(rt: HostRuntime) -> Result<(), Fail> {
+    let (white, black) = (Name::try_new("ann"), Name::try_new("bob"));
+    let (Some(ann), Some(bob)) = (white, black) else {
+        assert!(rt; false);
+        return Ok(());
+    };
+    let row = |game: u32, black: Option<Name>| Row { game, white, black };
+    let rows = [row(16, None), row(17, None), row(18, white), row(19, black)];
+    let games = candidates(rt.alloc(), 16, &ann, &bob, &rows)?;
+    assert!(rt; games.as_slice() == [17, 19].as_slice());
+    assert!(rt; step_of_games(&[]) == Step::Open);
+    assert!(rt; step_of_games(&[17]) == Step::Take(17));
+    assert!(rt; step_of_games(&[17, 19]) == Step::Ask);
+    let seats = |black: Option<Name>| Some(Seats { white, black });
+    assert!(rt; step_of_seats(17, &ann, &bob, seats(None)) == Step::Join(17));
+    assert!(rt; step_of_seats(17, &ann, &bob, seats(black)) == Step::Note(17));
+    assert!(rt; step_of_seats(17, &ann, &bob, seats(white)) == Step::Ask);
+    assert!(rt; step_of_seats(17, &ann, &bob, None) == Step::Ask);
+    Ok(())
+}
+
+#[test]
+fn a_results_file(rt: HostRuntime) -> Result<(), Fail> {
+    let outcome = Outcome {
+        board: 1,
+        white: "ann",
+        black: "bob",
+        result: "1-0",
+        article: "5.1.1",
+        game: Some(17),
+    };
+    let text = results(rt.alloc(), &[outcome])?;
+    let wanted = b"board,white,black,result,article,game\r\n1,ann,bob,1-0,5.1.1,17\r\n";
+    assert!(rt; text.as_slice() == wanted.as_slice());
+    Ok(())
+}

@@ -1,0 +1,165 @@
+//! The times of a game.
+ghost use Rattle.std.specs.Prelude.{◌≡◌, ◌++◌, ◌<◌, decimal, OnOk, IfOk};
+ghost use Rattle.std.specs.String.{string_bytes};
+ghost use Rattle.lobby_words.specs.Words as words;
+ghost use Rattle.pairing_texts.specs.Times as spec;
+
+use itoa::Buffer;
+use lobby_words::number_named;
+use std::alloc::{AllocError, Global};
+
+/// The first period's moves, and the seconds that stand for the second.
+#[derive(Clone, Copy, Debug, PartialEq, Eq)]
+pub struct Period {
+    pub moves: u32,
+    pub seconds: u32,
+}
+
+/// The times of a game, in seconds.
+#[derive(Clone, Copy, Debug, PartialEq, Eq)]
+pub struct Times {
+    pub initial: u32,
+    pub increment: u32,
+    /// Where there is a second period.
+    pub period: Option<Period>,
+}
+
+/// What stands before the first sign, and what stands behind it.
+pub fn cut(text: &str, sign: char) -> (&str, &str)
+    requires { sign < 128 }
+    ensures front { result.0.now ≡ spec.front_of sign text.entry.now }
+    ensures rest { result.1.now ≡ spec.rest_of sign text.entry.now }
+{
+    match text.split_once(sign) {
+        Some((front, rest)) => (front, rest),
+        None => (text, ""),
+    }
+}
+
+/// The number of a text, and 0 where it is none's.
+pub fn number_or_0(text: &str) -> u32
+    ensures { result ≡ words.number_or_0 text.now }
+{
+    match number_named(text) {
+        Some(number) => number,
+        None => 0,
+    }
+}
+
+// The times of which a text may be that of.
+#[tactic(auto, unfolding(crate::specs::Times::likely_times))]
+fn likely_times(text: &str) -> Times
+    ensures { result ≡ spec.likely_times text.now }
+{
+    let (moves, rest) = cut(text, '/');
+    if rest.is_empty() {
+        let (initial, increment) = cut(text, '+');
+        return Times {
+            initial: number_or_0(initial),
+            increment: number_or_0(increment),
+            period: None,
+        };
+    }
+    let (first, second) = cut(rest, ':');
+    let (initial, increment) = cut(first, '+');
+    let (seconds, _) = cut(second, '+');
+    Times {
+        initial: number_or_0(initial),
+        increment: number_or_0(increment),
+        period: Some(Period {
+            moves: number_or_0(moves),
+            seconds: number_or_0(seconds),
+        }),
+    }
+}
+
+/// A number behind a text.
+pub fn push_number(text: &mut String, number: u32) -> Result<(), AllocError>
+    ensures { OnOk result (string_bytes text.new ≡ string_bytes text.old ++ decimal number) }
+{
+    let mut buffer = Buffer::new();
+    text.push_str(buffer.format(number))?;
+    Ok(())
+}
+
+// Seconds and the increment.
+fn push_span(text: &mut String, seconds: u32, increment: u32) -> Result<(), AllocError>
+    ensures { OnOk result (string_bytes text.new ≡ string_bytes text.old ++ spec.span_text seconds increment) }
+{
+    push_number(text, seconds)?;
+    if increment > 0 {
+        text.push('+')?;
+        push_number(text, increment)?;
+    }
+    Ok(())
+}
+
+// The moves of the first period.
+fn push_moves(text: &mut String, period: Option<Period>) -> Result<(), AllocError>
+    ensures { OnOk result (string_bytes text.new ≡ string_bytes text.old ++ spec.moves_text period) }
+{
+    if let Some(period) = period {
+        push_number(text, period.moves)?;
+        text.push('/')?;
+    }
+    Ok(())
+}
+
+// The second period.
+fn push_second(text: &mut String, period: Option<Period>, increment: u32) -> Result<(), AllocError>
+    ensures { OnOk result (string_bytes text.new ≡ string_bytes text.old ++ spec.second_text period increment) }
+{
+    if let Some(period) = period {
+        text.push(':')?;
+        push_span(text, period.seconds, increment)?;
+    }
+    Ok(())
+}
+
+/// The text of times, as the tag TimeControl of PGN has them.
+#[tactic(auto, unfolding(crate::specs::Times::times_text))]
+pub fn times_text(alloc: Global, times: Times) -> Result<String, AllocError>
+    ensures { IfOk result (λ text. string_bytes text ≡ spec.times_text times) }
+{
+    let mut text = String::new(alloc);
+    push_moves(&mut text, times.period)?;
+    push_span(&mut text, times.initial, times.increment)?;
+    push_second(&mut text, times.period, times.increment)?;
+    Ok(text)
+}
+
+fn is_between(low: u32, high: u32, number: u32) -> bool
+    ensures { result ≡ spec.is_between low high number }
+{
+    low <= number && number <= high
+}
+
+fn is_period(period: Option<Period>) -> bool
+    ensures { result ≡ spec.is_period period }
+{
+    match period {
+        None => true,
+        Some(period) => is_between(1, 255, period.moves) && is_between(1, 86_400, period.seconds),
+    }
+}
+
+// Whether the server takes the times.
+fn are_taken(times: Times) -> bool
+    ensures { result ≡ spec.are_taken times }
+{
+    is_between(1, 86_400, times.initial) && times.increment <= 60 && is_period(times.period)
+}
+
+/// The times of a text; `None` where it is the text of none that the server takes.
+#[tactic(auto, unfolding(crate::specs::Times::times_in))]
+pub fn times_of(alloc: Global, text: &str) -> Result<Option<Times>, AllocError>
+    ensures { IfOk result (λ times. times ≡ spec.times_in text.now) }
+{
+    let times = likely_times(text);
+    let told = times_text(alloc, times)?;
+    if are_taken(times) && told.as_str() == text {
+        Ok(Some(times))
+    } else {
+        Ok(None)
+    }
+}

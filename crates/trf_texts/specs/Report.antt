@@ -1,0 +1,102 @@
+-- A tournament report, FIDE's TRF-16: lines of fixed columns. Columns are counted in characters from 1 on.
+use Rattle.std.specs.Prelude.{ℕ, zero, suc, ◌+◌, ◌-◌, ◌/◌, ◌%◌, ◌==◌, Bool, not, nat_lt, List, [], ◌∷◌, ◌++◌, length, replicate, codes, decimal, map, flat_map, Option, None, Some, if◌then◌else◌}
+use Rattle.trf_texts.specs.declared.cells.Cell.{Cell}
+use Rattle.trf_texts.specs.declared.cells.Meeting.{Meeting}
+use Rattle.trf_texts.specs.declared.columns.Event.{Event}
+use Rattle.trf_texts.specs.Cells.{cell_in}
+
+-- a text at the right of so many columns
+unfoldable pub at_right : ℕ → List ℕ → List ℕ
+at_right width text = replicate (width - length text) 32 ++ text
+
+-- a byte with which a character of UTF-8 begins
+abbrev pub begins : ℕ → Bool
+begins b = not (b / 64 == 2)
+
+-- a text's first characters, as many as there is room for, and spaces in the room that is left
+abbrev pub at_left : ℕ → List ℕ → List ℕ
+at_left room [] = replicate room 32
+at_left zero (b ∷ bs) = if begins b then [] else b ∷ at_left zero bs
+at_left (suc room) (b ∷ bs) = if begins b then b ∷ at_left room bs else b ∷ at_left (suc room) bs
+
+-- no control character, which would spoil the lines
+abbrev pub plain_byte : ℕ → ℕ
+plain_byte b = if nat_lt b 32 then 32 else b
+
+-- columns 1 to 3 and from 5 on
+abbrev pub line_of : List ℕ → List ℕ → List ℕ
+line_of id text = id ++ (32 ∷ (map plain_byte text ++ (10 ∷ [])))
+
+-- points with one digit behind the point
+unfoldable pub points_text : ℕ → List ℕ
+points_text halves = decimal (halves / 2) ++ (46 ∷ (if halves % 2 == 0 then 48 ∷ [] else 53 ∷ []))
+
+-- the opponent in four columns, 0000 without one
+unfoldable pub opponent_text : ℕ → List ℕ
+opponent_text n = if n == 0 then codes "0000" else at_right 4 (decimal n)
+
+-- a round in ten columns: two spaces, the opponent, a space, the colour, a space, the result
+unfoldable pub cell_text : Cell → List ℕ
+cell_text cell = 32 ∷ 32 ∷ (opponent_text cell.opponent ++ (32 ∷ cell.colour ∷ 32 ∷ cell.sign ∷ []))
+
+abbrev pub cells_text : ℕ → List (List Meeting) → List ℕ
+cells_text n rounds = flat_map (λ round. cell_text (cell_in n round)) rounds
+
+-- the half points of a player
+abbrev pub halves_in : ℕ → List (List Meeting) → ℕ
+halves_in n [] = 0
+halves_in n (round ∷ rounds) = (cell_in n round).halves + halves_in n rounds
+
+-- how many of the players 1 to `count` have more half points
+abbrev pub better_than : ℕ → List (List Meeting) → ℕ → ℕ
+better_than halves rounds zero = 0
+better_than halves rounds (suc count) =
+    (if nat_lt halves (halves_in (suc count) rounds) then 1 else 0) + better_than halves rounds count
+
+-- Columns 1 to 80 of a player's line: 5 to 8 have the number, 15 to 47 the name; sex, title, rating, federation, FIDE's number
+-- and the date of birth, 10 to 13 and 49 to 79, are not known.
+unfoldable pub front_text : ℕ → List ℕ → List ℕ
+front_text n name =
+    codes "001 " ++ (at_right 4 (decimal n) ++ (replicate 6 32 ++ (at_left 33 (map plain_byte name) ++ replicate 33 32)))
+
+-- Columns 81 to 89: the points, and the place among so many players.
+unfoldable pub standing_text : List (List Meeting) → ℕ → ℕ → List ℕ
+standing_text rounds count n =
+    at_right 4 (points_text (halves_in n rounds)) ++ (32 ∷ at_right 4 (decimal (better_than (halves_in n rounds) rounds count + 1)))
+
+-- The line of a player among so many: columns 92 to 99 have the first round, and so on.
+unfoldable pub player_line : List (List Meeting) → ℕ → ℕ → List ℕ → List ℕ
+player_line rounds count n name = front_text n name ++ (standing_text rounds count n ++ (cells_text n rounds ++ (10 ∷ [])))
+
+-- the lines of players, numbered from this on
+abbrev pub players_text : List (List Meeting) → ℕ → ℕ → List (List ℕ) → List ℕ
+players_text rounds count n [] = []
+players_text rounds count n (name ∷ names) = player_line rounds count n name ++ players_text rounds count (suc n) names
+
+-- how many rounds there are to be, as pairing programs ask
+abbrev pub rounds_line : Option ℕ → List ℕ
+rounds_line None = []
+rounds_line (Some n) = line_of (codes "XXR") (decimal n)
+
+-- what and where the tournament is, and when
+unfoldable pub place_text : Event → List ℕ
+place_text e =
+    line_of (codes "012") e.name.now ++ (line_of (codes "022") e.city.now ++ (line_of (codes "032") e.federation.now
+    ++ (line_of (codes "042") e.begins.now ++ line_of (codes "052") e.ends.now)))
+
+-- how many players there are, how many of them are known to have a rating, and how many teams
+unfoldable pub counts_text : ℕ → List ℕ
+counts_text count = line_of (codes "062") (decimal count) ++ (line_of (codes "072") (codes "0") ++ line_of (codes "082") (codes "0"))
+
+-- of which kind it is, who directs it, and the times
+unfoldable pub kind_text : Event → List ℕ
+kind_text e =
+    line_of (codes "092") e.kind.now ++ (line_of (codes "102") e.arbiter.now ++ (line_of (codes "112") e.deputy.now
+    ++ line_of (codes "122") e.times.now))
+
+unfoldable pub event_text : Event → ℕ → List ℕ
+event_text e count = place_text e ++ (counts_text count ++ (kind_text e ++ rounds_line e.rounds))
+
+-- the report of these players, who are numbered from 1 on in their order
+unfoldable pub report_text : Event → List (List ℕ) → List (List Meeting) → List ℕ
+report_text e names rounds = event_text e (length names) ++ players_text rounds (length names) 1 names
