@@ -4,6 +4,8 @@
 mod adding;
 mod clock;
 mod evidence;
+mod health;
+mod live;
 mod log;
 mod page;
 mod serving;

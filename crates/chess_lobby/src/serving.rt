@@ -1,5 +1,7 @@
 //! The word that serves browsers.
 use crate::clock::Moments;
+use crate::health::Health;
+use crate::live::Live;
 use crate::log::FileLog;
 use crate::page::{is_loopback, site_of};
 use anyhow::{Context, Result};
@@ -50,22 +52,31 @@ impl<R: Eprint> Telling<'_, R> {
 }
 
 // Takes turns until something is at fault.
-fn take_turns<R: Clock + Eprint + Net, L: ActLog>(
+fn take_turns<R, L: ActLog>(
     rt: &R,
-    server: SocketAddr,
+    serving: &Serving<'_>,
     lobby: &mut Lobby,
     log: &mut L,
-) -> Result<()> {
+) -> Result<()>
+where
+    R: Files + AllocGlobal + Clone + Drop + Clock + Eprint + Net,
+{
     let mut moments = Moments::new(rt)?;
     let mut telling = Telling {
         rt,
-        server,
+        server: serving.server,
         is_here: false,
         turned_away: 0,
         next_at: 0,
     };
+    let mut health = Health::new(rt.alloc());
+    let mut live = serving.live.map(|file| Live::new(rt, file));
     for _ in 0..u64::MAX {
         let at = moments.next();
+        health.look(lobby, at)?;
+        if let Some(live) = &mut live {
+            live.look(lobby, at)?;
+        }
         let turned = lobby.turn(rt, at, log)?;
         telling.tell_server(lobby.has_server());
         telling.tell_turned_away(lobby.turned_away(), at);
@@ -113,7 +124,7 @@ where
         eprintln!(rt; "the line is not encrypted: whoever is on the way reads along, links too")?;
     }
     match &mut log {
-        Some(log) => take_turns(rt, serving.server, &mut lobby, log),
-        None => take_turns(rt, serving.server, &mut lobby, &mut NoActLog),
+        Some(log) => take_turns(rt, serving, &mut lobby, log),
+        None => take_turns(rt, serving, &mut lobby, &mut NoActLog),
     }
 }

@@ -16,6 +16,9 @@ address, each with the port, and what --host names, with the port and without on
 
 With --log it puts each act that the server took into a file, with its answer, and how the
 game stands behind it, before anybody is told; the file is made where there is none.
+Besides the page there are /board/G for a screen that shows game G, /boards for one that
+shows all, and /health with figures as Prometheus reads them. /live.pgn is the file of
+--live, read anew when it has changed.
 
 It goes on until it is ended: kill it, by any signal. Nothing is lost by that.
 
@@ -90,6 +93,8 @@ pub struct Serving<'a> {
     /// The names of hosts that are taken besides.
     pub hosts: Vec<&'a str>,
     pub log: Option<&'a str>,
+    /// The file of games that is served as `/live.pgn`.
+    pub live: Option<&'a str>,
 }
 
 /// Who is put into a players' file, and the address of the page for the link.
@@ -131,6 +136,12 @@ fn serve_command<'a>(alloc: Global) -> Result<Command<'a>, AllocError> {
         "A name by which browsers reach it; it may be given several times",
     )
     .action(ArgAction::Append);
+    let live = option(
+        alloc,
+        "live",
+        "FILE",
+        "A file of games that is served as /live.pgn, as it stands",
+    );
     let log = option(
         alloc,
         "log",
@@ -146,6 +157,7 @@ fn serve_command<'a>(alloc: Global) -> Result<Command<'a>, AllocError> {
         .arg(address)?
         .arg(page)?
         .arg(host)?
+        .arg(live)?
         .arg(log)
 }
 
@@ -233,6 +245,7 @@ fn serving_of<'a>(
         address: SocketAddr::new(address, values.get_one("port").unwrap_or(PORT)),
         page: values.get_str("page").unwrap_or("page"),
         hosts: Vec::from_slice(alloc, values.get_strs("host").unwrap_or(&[]))?,
+        live: values.get_str("live"),
         log: values.get_str("log"),
     }))
 }

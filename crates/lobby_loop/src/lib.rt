@@ -2,6 +2,7 @@
 #![tactic(auto)]
 
 mod act_log;
+mod counts;
 mod door;
 mod guest;
 mod hall;
@@ -13,6 +14,7 @@ mod pieces;
 mod talk;
 
 pub use act_log::{ActLog, Fault, NoActLog};
+pub use counts::{ACTS, BOUNDS, Counts};
 pub use door::{Entrance, Found, Listens, Welcomed, welcome};
 pub use hall::Hall;
 pub use law::{law_of_browsers, law_of_halls, law_of_lobbies};
