@@ -4,7 +4,7 @@ use crate::page::{is_loopback, site_of};
 use anyhow::{Context, Result};
 use lobby_commands::Serving;
 use lobby_desk::Player;
-use lobby_loop::{Entrance, Lobby};
+use lobby_loop::{Entrance, Lobby, NoActLog};
 use std::fs;
 use std::hash::RandomState;
 use std::net::{Net, SocketAddr};
@@ -70,7 +70,7 @@ fn take_turns<R: Clock + Eprint + Net>(
     };
     for _ in 0..u64::MAX {
         let at = moments.next();
-        let turned = lobby.turn(rt, at)?;
+        let turned = lobby.turn(rt, at, &mut NoActLog)?;
         telling.tell_server(lobby.has_server());
         telling.tell_turned_away(lobby.turned_away(), at);
         lobby.rest(turned)?;

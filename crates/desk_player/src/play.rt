@@ -1,7 +1,7 @@
 //! One line after another, and what comes of it.
 use crate::club::club;
 use anyhow::{Context, Result, bail};
-use lobby_desk::{Desk, Told};
+use lobby_desk::{Desk, Kind, Told};
 use std::alloc::Global;
 
 /// A desk, and the time that has passed.
@@ -28,9 +28,12 @@ fn push_marked(to: &mut String, mark: &str, text: &str) -> Result<()> {
     Ok(())
 }
 
-// A message, behind the numbers of those who are told it.
+// A message, behind the numbers of those who are told it, or behind `log`.
 fn push_told(alloc: Global, to: &mut String, one: &Told) -> Result<()> {
     let mut mark = String::new(alloc);
+    if one.kind == Kind::Log {
+        mark.push_str("log ")?;
+    }
     for browser in one.to.as_slice() {
         let number = format!(in alloc; "{browser} ")?;
         mark.push_str(number.as_str())?;

@@ -1,6 +1,8 @@
 //! Browsers and a server over streams that give and take little, or fail.
-use lobby_loop::{Found, Hall, Listens, Welcomed, welcome};
+use lobby_desk::Player;
+use lobby_loop::{ActLog, Fault, Found, Hall, Listens, NoActLog, Welcomed, welcome};
 use lobby_web::Site;
+use rec_codec::Name;
 use std::alloc::Global;
 use std::hash::RandomState;
 use std::io;
@@ -76,6 +78,25 @@ fn stream_of(alloc: Global, gives: &'static [Gives], takes: usize) -> Peer {
     }
 }
 
+// The SHA-256 of `t`.
+const SUM: [u8; 32] = [
+    227, 185, 138, 77, 163, 26, 18, 125, 75, 222, 110, 67, 3, 63, 102, 186, 39, 76, 171, 14, 183,
+    235, 28, 112, 236, 65, 64, 43, 246, 39, 61, 216,
+];
+
+// One player, whose token is `t`.
+fn players(rt: &impl Abort, alloc: Global) -> Vec<Player> {
+    let mut players = Vec::new(alloc);
+    let ann = Player {
+        name: Name::try_new("ann").expect(rt, "a name"),
+        full_name: String::from_str(alloc, "Ann").expect(rt, "memory"),
+        sum: SUM,
+        is_arbiter: false,
+    };
+    players.push(ann).expect(rt, "memory");
+    players
+}
+
 // A hall under the host `a:1`, with one browser that gives these, before a server that gives those.
 fn begun(
     rt: &impl Abort,
@@ -89,7 +110,7 @@ fn begun(
         .push(b"a:1".to_vec(alloc).expect(rt, "memory"))
         .expect(rt, "memory");
     let site = Site::new(hosts, Vec::new(alloc));
-    let mut hall = Hall::new(alloc, keys, site, Vec::new(alloc));
+    let mut hall = Hall::new(alloc, keys, site, players(rt, alloc));
     hall.server_came(server).expect(rt, "memory");
     hall.admit(browser, 2, 0);
     hall
@@ -98,7 +119,8 @@ fn begun(
 // So many turns with all sockets awake, so many milliseconds apart.
 fn turn(rt: &impl Abort, hall: &mut Hall<Peer>, turns: u64, apart: u64) {
     for turn in 0..turns {
-        hall.turn(turn.saturating_mul(apart)).expect(rt, "memory");
+        hall.turn(turn.saturating_mul(apart), &mut NoActLog)
+            .expect(rt, "memory");
         hall.wake(2);
         hall.wake_server();
     }
@@ -347,4 +369,102 @@ fn a_failed_accept_ends_the_turn_at_the_door(rt: HostRuntime) {
     assert!(rt; welcome(&mut door, &mut hall, 0) == Welcomed::Refused);
     assert!(rt; door.tries == 2);
     assert!(rt; welcome(&mut door, &mut hall, 0) == Welcomed::All);
+}
+
+/// A log that keeps what it is given, one text behind the other, or fails.
+#[derive(Drop)]
+struct Kept {
+    fails: bool,
+    text: String,
+}
+
+impl ActLog for Kept {
+    fn put(&mut self, texts: &[String]) -> io::Result<()> {
+        if self.fails {
+            return Err(Error::from(ErrorKind::StorageFull));
+        }
+        for text in texts {
+            self.text.push_str(text.as_str())?;
+        }
+        Ok(())
+    }
+}
+
+// A browser that shows its token and acts, before a server that accepts the act and tells how its game stands.
+const ACT: Script = Script {
+    browser: &[
+        Gives::Bytes(UPGRADE),
+        Gives::Bytes(b"\x81\x87\0\0\0\0login t\x81\x90\0\0\0\0open white 300 2"),
+        Gives::Nothing,
+    ],
+    server: &[
+        Gives::Nothing,
+        Gives::Nothing,
+        Gives::Nothing,
+        Gives::Nothing,
+        Gives::Nothing,
+        Gives::Nothing,
+        Gives::Nothing,
+        Gives::Nothing,
+        Gives::Bytes(b"ok name ann\nok open 1\n"),
+        Gives::Nothing,
+        Gives::Bytes(b"ok show 1 ann - 0 w 300000 300000 - * -\nok fen 1 FEN\n"),
+        Gives::Nothing,
+    ],
+    takes: 1_000,
+};
+
+// Takes turns until the log fails, 40 at most. It tells whether it did.
+fn turn_logged(hall: &mut Hall<Peer>, log: &mut Kept) -> bool {
+    for at in 0..40 {
+        match hall.turn(at, log) {
+            Ok(_) => {}
+            Err(fault) => return matches!(&fault, Fault::NoLog(_)),
+        }
+        hall.wake(2);
+        hall.wake_server();
+    }
+    false
+}
+
+// The hall of such a browser after these turns, and whether the log failed.
+fn acted(rt: &impl Abort, lab: &Lab, log: &mut Kept) -> (Hall<Peer>, bool) {
+    let browser = stream_of(lab.alloc, ACT.browser, ACT.takes);
+    let server = stream_of(lab.alloc, ACT.server, 1_000);
+    let mut hall = begun(rt, lab.alloc, lab.keys, browser, server);
+    let has_failed = turn_logged(&mut hall, log);
+    (hall, has_failed)
+}
+
+#[test]
+fn an_act_is_logged_and_told(rt: HostRuntime) {
+    let lab = Lab {
+        alloc: rt.alloc(),
+        keys: RandomState::new(&rt).expect(&rt, "keys"),
+    };
+    let mut log = Kept {
+        fails: false,
+        text: String::new(lab.alloc),
+    };
+    let (hall, has_failed) = acted(&rt, &lab, &mut log);
+    assert!(rt; !has_failed && is_told(&hall, b"\x81\x0aok open 1\n"));
+    assert!(rt;
+        log.text.as_str()
+            == "by ann open white 300 2\nok open 1\nok show 1 ann - 0 w 300000 300000 - * -\n"
+    );
+}
+
+#[test]
+fn where_the_log_fails_nobody_is_told(rt: HostRuntime) {
+    let lab = Lab {
+        alloc: rt.alloc(),
+        keys: RandomState::new(&rt).expect(&rt, "keys"),
+    };
+    let mut log = Kept {
+        fails: true,
+        text: String::new(lab.alloc),
+    };
+    let (hall, has_failed) = acted(&rt, &lab, &mut log);
+    assert!(rt; has_failed && is_told(&hall, b"\x81\x18ok login ann player Ann\n"));
+    assert!(rt; is_asked(&hall, b"name ann\nopen white 300 2\n"));
 }

@@ -8,3 +8,4 @@ pub mod PlayerRows
 pub mod Watched
 pub mod Steps
 pub mod Runs
+pub mod Logged

@@ -42,6 +42,10 @@ to_one_as c kind text = record { to = c ∷ []; kind = kind; text = text }
 abbrev pub to_one : ℕ → List ℕ → Telling
 to_one c text = to_one_as c kinds.Whole text
 
+-- a text for the log
+abbrev pub to_log : List ℕ → Telling
+to_log text = record { to = []; kind = kinds.Log; text = text }
+
 -- What the server's answer to a message is for: for the message itself, which changes nothing; for the positions of a game, whose
 -- `pgn` it is; for the table, and to be told of it from then on; for a game, to watch it; for this act of this player.
 pub data Ask : Type 0 where

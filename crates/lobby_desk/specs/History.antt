@@ -1,5 +1,5 @@
 -- What is promised of whatever came in and went out.
-use Rattle.std.specs.Prelude.{ℕ, ◌≡◌, ◌⊎◌, Bool, true, false, ◌&&◌, ◌||◌, ◌==◌, List, [], ◌∷◌, codes, Option, None, Some, if◌then◌else◌}
+use Rattle.std.specs.Prelude.{ℕ, ◌≡◌, ◌⊎◌, Bool, true, false, ◌&&◌, ◌||◌, ◌==◌, not, List, [], ◌∷◌, ◌++◌, codes, map, filter, Option, None, Some, if◌then◌else◌}
 use Rattle.std.specs.List.{AllByRecursion}
 use Rattle.lobby_words.specs.declared.words.Sort.{Sort}
 use Rattle.lobby_words.specs.declared.words.Sort.TheVariants as sorts
@@ -7,9 +7,10 @@ use Rattle.lobby_words.specs.declared.planning.Identity.{Identity}
 use Rattle.lobby_desk.specs.declared.players.Player.{Player}
 use Rattle.lobby_words.specs.Words.{rest_of, is_message, sort_of, is_act_sort, is_drop_sort, is_name_sort, is_login_sort, number_or_0}
 use Rattle.lobby_desk.specs.Players.{holder_of}
-use Rattle.lobby_words.specs.Answers.{IsSeated, IsFirstSeated, act_game, answer}
+use Rattle.lobby_words.specs.Answers.{IsSeated, IsFirstSeated, act_game, is_whole, answer}
 use Rattle.lobby_desk.specs.Lines.{name_line, game_line, notice_lines}
-use Rattle.lobby_desk.specs.Events.{Event, Opened, Closed, Said, Heard, Gone, Here, Telling, ForAct, Owed, Asker, Dropper}
+use Rattle.lobby_desk.specs.Events.{Event, Opened, Closed, Said, Heard, Gone, Here, Telling, ForAct, Owed, Asker, Dropper, Followers, act_told}
+use Rattle.lobby_desk.specs.Logging.{is_act_accepted, is_of_act, one_if, log_texts}
 use Rattle.lobby_desk.specs.Tellings.{Known, known_now, open_now, IsTold}
 use Rattle.lobby_desk.specs.Who.{View, BeginsView, IsStep, speaker}
 
@@ -190,3 +191,62 @@ AllTold players (s ∷ past) = IsTold s.event s.lines s.tells (open_in past) (kn
 abbrev pub IsRun : List Player → List Step → View → Type 0
 IsRun players [] now = BeginsView now
 IsRun players (s ∷ past) now = (before : View) × IsRun players past before × IsStep players before s.event s.lines s.tells now
+
+-- an act that the server accepted: whose it is, the message, and the server's whole answer
+pub record Accepted : Type 0 where
+  pub by : List ℕ
+  pub text : List ℕ
+  pub answer : List ℕ
+
+-- the act that the server accepts by an answer, by whose that is
+abbrev pub accepted_for : Owed → List ℕ → List Accepted
+accepted_for (Asker c (ForAct by text)) now = one_if (is_act_accepted now) (record { by = by; text = text; answer = now })
+accepted_for _ now = []
+
+abbrev pub accepted_next : List Owed → List ℕ → List Accepted
+accepted_next [] now = []
+accepted_next (o ∷ owed) now = accepted_for o now
+
+abbrev pub accepted_now : Event → Known → List Accepted
+accepted_now (Heard line) k = if is_whole k.left line then accepted_next k.owed (answer k.begun line) else []
+accepted_now _ k = []
+
+-- The acts that the server accepted, in the order of its answers. An act is among them once its answer has come, with all its lines:
+-- what the server accepted, but the connection broke before the answer came, is not.
+abbrev pub accepted_in : List Player → List Step → List Accepted
+accepted_in players [] = []
+accepted_in players (s ∷ past) = accepted_in players past ++ accepted_now s.event (known_in players past)
+
+-- What the log is to have of an answer, by whose it is: the act that the server accepts by it; or how the game of such an act stands,
+-- as the answer to `show` says, which stands before that to `fen`.
+abbrev pub entries_for : List ℕ → Owed → List ℕ → List (List ℕ)
+entries_for before (Asker c (ForAct by text)) now = one_if (is_act_accepted now) (act_told by text now)
+entries_for before (Followers game act is_table) now = one_if (not (is_of_act before)) before
+entries_for before _ now = []
+
+abbrev pub entries_next : List ℕ → List Owed → List ℕ → List (List ℕ)
+entries_next before [] now = []
+entries_next before (o ∷ owed) now = entries_for before o now
+
+abbrev pub entries_now : Event → Known → List (List ℕ)
+entries_now (Heard line) k = if is_whole k.left line then entries_next k.last k.owed (answer k.begun line) else []
+entries_now _ k = []
+
+abbrev pub entries_in : List Player → List Step → List (List ℕ)
+entries_in players [] = []
+entries_in players (s ∷ past) = entries_in players past ++ entries_now s.event (known_in players past)
+
+-- the texts that the log was told, in their order
+abbrev pub logged_in : List Step → List (List ℕ)
+logged_in [] = []
+logged_in (s ∷ past) = logged_in past ++ log_texts s.tells
+
+-- The log was told these, each once and in their order, and nothing else. Its texts of acts are those of all accepted acts: who did
+-- it, the act, and the server's whole answer.
+abbrev pub accepted_text : Accepted → List ℕ
+accepted_text act = act_told act.by act.text act.answer
+
+abbrev pub IsLogged : List Player → List Step → Type 0
+IsLogged players steps =
+    (logged_in steps ≡ entries_in players steps)
+    × (filter is_of_act (logged_in steps) ≡ map accepted_text (accepted_in players steps))

@@ -9,6 +9,7 @@ use Rattle.lobby_words.specs.Words.{rest_of, is_message, sort_of, is_leave_sort,
 use Rattle.lobby_words.specs.Answers.{left_after, is_whole, answer, is_accepted, is_over, act_game}
 use Rattle.lobby_desk.specs.Watching.{at_table, watch_if, sit_if, unwatched, none_watched, risen, followers}
 use Rattle.lobby_desk.specs.Events.{Event, Opened, Closed, Said, Hurried, Heard, Gone, Here, Telling, to_one, to_one_as, Ask, ForPositions, ForGame, ForTable, ForAct, Owed, Nobody, Asker, Dropper, Followers, owed_last, asker, follower}
+use Rattle.lobby_desk.specs.Logging.{logged_for, logged_standing}
 use Rattle.lobby_desk.specs.Waiting.{waiting_told, waiting_listed}
 
 -- What is known of the connections and of the server: for whom the next answers of the server are, the oldest first; how many
@@ -175,14 +176,15 @@ notice watches table game act is_table before now = record {
   text = codes "told " ++ decimal game ++ codes "\n" ++ act ++ before ++ now;
 }
 
--- what is told for an answer of the server, by whose it is
+-- What is told for an answer of the server, by whose it is. What goes to the log is told before the rest.
 abbrev pub IsToldFor : List ℕ → List Watch → List ℕ → Owed → List ℕ → List (List ℕ) → List Telling → Type 0
 IsToldFor before watches table Nobody now lines tells = (lines ≡ []) × (tells ≡ [])
-IsToldFor before watches table (Asker c ask) now lines tells = tells ≡ to_one_as c (kind_of ask before now) (made_of ask before now) ∷ []
+IsToldFor before watches table (Asker c ask) now lines tells =
+    tells ≡ logged_for ask now ++ to_one_as c (kind_of ask before now) (made_of ask before now) ∷ []
 IsToldFor before watches table (Dropper c by text) now [] tells = tells ≡ to_one c now ∷ []
 IsToldFor before watches table (Dropper c by text) now (line ∷ lines) tells = tells ≡ []
 IsToldFor before watches table (Followers game act is_table) now lines tells =
-    (lines ≡ []) × (tells ≡ notice watches table game act is_table before now ∷ [])
+    (lines ≡ []) × (tells ≡ logged_standing before ++ notice watches table game act is_table before now ∷ [])
 
 -- the same of the first that is owed; what nobody asked for is told to nobody
 abbrev pub IsToldNext : Known → List Owed → List ℕ → List (List ℕ) → List Telling → Type 0

@@ -1,5 +1,5 @@
 //! The lobby's desk: who is logged in, what is passed on to the server, whose answer comes next, and who is told what. It has
-//! no sockets: messages and lines go in, and lines to the server and messages to connections come out.
+//! no sockets: messages and lines go in, and lines to the server, messages to connections and texts for the log come out.
 #![tactic(auto)]
 
 mod answering;
@@ -15,6 +15,6 @@ mod waiting;
 mod watching;
 
 pub use desk::Desk;
-pub use law::{law_of_lines, law_of_tellings};
+pub use law::{law_of_lines, law_of_logs, law_of_tellings};
 pub use players::Player;
 pub use telling::{Kind, Told};

@@ -6,3 +6,4 @@ pub mod Serving
 pub mod Living
 pub mod Waking
 pub mod Speaking
+pub mod Logging

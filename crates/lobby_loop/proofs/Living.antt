@@ -15,6 +15,8 @@ use Rattle.lobby_desk.specs.Pace.{is_too_fast}
 use Rattle.lobby_desk.specs.Who.{IsStep, Steps, view, said_event, until_of}
 use Rattle.lobby_desk.specs.History.{Step, comes, has_come, IsRun}
 use Rattle.lobby_desk.proofs.Runs.{run_good}
+use Rattle.lobby_desk.proofs.Logged.{texts_both, are_logged}
+use Rattle.lobby_desk.specs.Logging.{log_texts}
 use Rattle.lobby_web.specs.declared.site.Site.{Site}
 use Rattle.lobby_web.specs.declared.socket.Heard.{Heard as HeardOf}
 use Rattle.lobby_web.specs.declared.socket.Heard.TheVariants as heards
@@ -26,9 +28,9 @@ use Rattle.lobby_loop.specs.declared.talk.Talk.{Talk}
 use Rattle.lobby_loop.specs.Talking.{Moves}
 use Rattle.lobby_loop.specs.Guests.{IsNewGuest, IsHeardAs, IsAsBefore, IsAttended, AreAttended, IsLookedAfter, AreTold, IsWritten}
 use Rattle.lobby_loop.specs.Lines.{bytes_of as bytes_before, AreHeard, HoldsNoLine, IsKept}
-use Rattle.lobby_loop.specs.Turning.{BeginsHall, Admits, ServerComes, IsServerAsBefore, AreDelivered, HearsServer, bytes_heard, PartsFromServer, TellsServer, IsClosedIf, AreClosed, HasTurned, AreAdmitted, IsReached, IsLobbyTurn}
+use Rattle.lobby_loop.specs.Turning.{BeginsHall, Admits, ServerComes, IsServerAsBefore, AreDelivered, HearsServer, bytes_heard, PartsFromServer, TellsServer, IsClosedIf, AreClosed, HasTurned, texts_put, AreAdmitted, IsReached, IsLobbyTurn}
 use Rattle.lobby_loop.specs.Doing.{Gave, Spot, spot, DoesAt, all_tells, IsServed, AreServed, WereServed}
-use Rattle.lobby_loop.specs.Living.{Happening, Came, Woke, ServerCame, Turned, IsWoken, IsLife, written_in, taken_in, lost_if, presences_in, kept, sent_in, line_more, lines_heard, presence_more, presences_told, IsHeld, IsOther, HasNone, IsOneOf, AreKnown, IsOwn, AreOwn, numbers, streams_in, NoLineWaits, IsRightLife, Passing, TurnAt, Rested, IsLobbyLife}
+use Rattle.lobby_loop.specs.Living.{Happening, Came, Woke, ServerCame, Turned, IsWoken, IsLife, written_in, taken_in, put_in, lost_if, presences_in, kept, sent_in, line_more, lines_heard, presence_more, presences_told, IsHeld, IsOther, HasNone, IsOneOf, AreKnown, IsOwn, AreOwn, numbers, streams_in, NoLineWaits, IsRightLife, Passing, TurnAt, Rested, IsLobbyLife}
 use Rattle.lobby_loop.proofs.Serving.{IsApart, ApartFrom, AreApart, served_before, served_read, served_looked, served_written, served_told, gave_nothing, gave_again, gave_early, gave_opened, gave_text, all_served_on, all_served_zip, all_served_filter, all_served_more, all_came, served_new, ClosedIf, AllClosed, closed_if_on, all_were_on, all_were_out, all_were_came, all_let_go}
 
 -- ---- the desk's steps
@@ -1018,19 +1020,24 @@ woken_held (Some link) after (next, is, stream, kept) rest held =
 
 -- ---- whatever happens
 
--- what was written to the server, the bytes that came of it, and that it is there or gone
+-- what was written to the server, the bytes that came of it, that it is there or gone, and what the log has
 pub record Outside : Type 0 where
   pub wrote : List ℕ
   pub taken : List ℕ
   pub presences : List Bool
+  pub put : List (List ℕ)
 
 abbrev outside_in : {S : Type 0} → List (Happening S) → Outside
-outside_in past = record { wrote = written_in past; taken = taken_in past; presences = presences_in past }
+outside_in past = record { wrote = written_in past; taken = taken_in past; presences = presences_in past; put = put_in past }
 
 -- behind a turn
-abbrev behind_turn : List ℕ → Bool → List ℕ → Outside → Outside
-behind_turn taken gone front o =
-    record { wrote = left gone o.wrote ++ front; taken = o.taken ++ taken; presences = lost_if gone o.presences }
+abbrev behind_turn : List ℕ → Bool → List (List ℕ) → List ℕ → Outside → Outside
+behind_turn taken gone put front o = record {
+  wrote = left gone o.wrote ++ front;
+  taken = o.taken ++ taken;
+  presences = lost_if gone o.presences;
+  put = o.put ++ put;
+}
 
 abbrev traffic_of : Outside → List (List ℕ) → Traffic
 traffic_of o heard = record { wrote = o.wrote; heard = heard; presences = o.presences }
@@ -1042,6 +1049,7 @@ pub record IsHallAt {S : Type 0} (remaining contents : S → Option (List ℕ)) 
   pub heard : List (List ℕ)
   pub cut : AreCut o.taken heard hall.server
   pub former : List (Guest S)
+  pub logged : o.put ≡ log_texts out
   pub talk : IsAt players (traffic_of o heard) out (AreKept remaining contents hall.site came former out hall.guests.items)
       hall.talk.desk hall.talk.wire.items (tellings hall.talk.told.items)
   pub own : AreOwn hall.talk.next (numbers (former ++ hall.guests.items))
@@ -1126,30 +1134,31 @@ module _ {S : Type 0} (remaining contents : S → Option (List ℕ)) (players : 
   -- from where browsers are attended on
   attended_on : (at : ℕ) (former : List (Guest S)) (base : Traffic) (out : List Telling) (old new : Hall S)
       (t : HasTurned remaining contents at old new) →
-      IsAt players base out (AreKept remaining contents old.site came former out old.guests.items) t.parted.desk t.parted.wire.items
-      (tellings t.parted.told.items) → AreOwn t.parted.next (numbers (former ++ old.guests.items)) →
-      IsTurnedTo (behind_front t.front base) (out ++ tellings t.said.told.items) old.site old new
+      IsAt players base out (AreKept remaining contents old.site came former out old.guests.items) t.takes.parted.desk t.takes.parted.wire.items
+      (tellings t.takes.parted.told.items) → AreOwn t.takes.parted.next (numbers (former ++ old.guests.items)) →
+      IsTurnedTo (behind_front t.hands.front base) (out ++ tellings t.between.talk.told.items) old.site old new
   attended_on at former base out old new t so_far own =
       let site = old.site in
-      let later = out ++ tellings t.said.told.items in
-      let wrote = behind_front t.front base in
-      let settled = t.parted_from.settled in
-      let apart = own_apart t.parted.next former old.guests.items own in
-      let two : IsTalkAt players base out (Two remaining contents site came players former base out [] old.guests.items) t.parted =
+      let later = out ++ tellings t.between.talk.told.items in
+      let wrote = behind_front t.hands.front base in
+      let settled = t.hands.parted_from.settled in
+      let writes = subst (λ (s : Site). AllZip (IsWritten contents s) t.hands.told t.hands.written) t.takes.site t.hands.writes in
+      let apart = own_apart t.takes.parted.next former old.guests.items own in
+      let two : IsTalkAt players base out (Two remaining contents site came players former base out [] old.guests.items) t.takes.parted =
       at_with players base out (AreKept remaining contents site came former out old.guests.items)
-      (Two remaining contents site came players former base out [] old.guests.items) t.parted.desk t.parted.wire.items
-      (tellings t.parted.told.items) (λ steps kept. record {
+      (Two remaining contents site came players former base out [] old.guests.items) t.takes.parted.desk t.takes.parted.wire.items
+      (tellings t.takes.parted.told.items) (λ steps kept. record {
         before = record { served = tt; were = kept.were };
         behind = kept.served;
         known = λ c come. elim (kept.known c come) [ inl gone ↦ inl gone | inr one ↦ inr (inr one) ];
       }) so_far in
-      let said = attended_all remaining contents site came players former base out at [] old.guests.items t.attended t.parted t.said
-      (tt, all_own_front t.parted.next (numbers former) (numbers old.guests.items) apart)
-      (own_back t.parted.next (numbers former) (numbers old.guests.items) apart) two t.attends in
-      let attended : IsAt players base out (AreKept remaining contents site came former out t.attended) t.said.desk
-      t.said.wire.items (tellings t.said.told.items) =
-      at_with players base out (Two remaining contents site came players former base out [] t.attended)
-      (AreKept remaining contents site came former out t.attended) t.said.desk t.said.wire.items (tellings t.said.told.items)
+      let said = attended_all remaining contents site came players former base out at [] old.guests.items t.takes.attended t.takes.parted t.between.talk
+      (tt, all_own_front t.takes.parted.next (numbers former) (numbers old.guests.items) apart)
+      (own_back t.takes.parted.next (numbers former) (numbers old.guests.items) apart) two t.takes.attends in
+      let attended : IsAt players base out (AreKept remaining contents site came former out t.takes.attended) t.between.talk.desk
+      t.between.talk.wire.items (tellings t.between.talk.told.items) =
+      at_with players base out (Two remaining contents site came players former base out [] t.takes.attended)
+      (AreKept remaining contents site came former out t.takes.attended) t.between.talk.desk t.between.talk.wire.items (tellings t.between.talk.told.items)
       (λ steps two. record {
         served = two.behind;
         were = two.before.were;
@@ -1158,93 +1167,94 @@ module _ {S : Type 0} (remaining contents : S → Option (List ℕ)) (players : 
           | inr others ↦ elim others [ inl none_such ↦ absurd none_such | inr one ↦ inr one ]
         ];
       }) said.0 in
-      let looked : IsAt players base out (AreKept remaining contents site came former out t.looked) t.said.desk
-      t.said.wire.items (tellings t.said.told.items) =
-      at_with players base out (AreKept remaining contents site came former out t.attended)
-      (AreKept remaining contents site came former out t.looked) t.said.desk t.said.wire.items (tellings t.said.told.items)
+      let looked : IsAt players base out (AreKept remaining contents site came former out t.between.guests.items) t.between.talk.desk
+      t.between.talk.wire.items (tellings t.between.talk.told.items) =
+      at_with players base out (AreKept remaining contents site came former out t.takes.attended)
+      (AreKept remaining contents site came former out t.between.guests.items) t.between.talk.desk t.between.talk.wire.items (tellings t.between.talk.told.items)
       (kept_same remaining contents site came former out IsLookedAfter
-      (λ steps x y one was. served_looked remaining contents site came steps out x y one was) (λ x y one. one.number) t.attended
-      t.looked t.looks) attended in
-      let told = gone_out site former out base t.front t.said t.rest.desk t.rest.wire.items t.looked t.told t.delivers
-      (written_on contents t.front t.server new.server t.said.wire.items t.rest.wire.items t.tells) t.desk looked in
-      let none : tellings t.rest.told.items ≡ [] = ap (λ (l : List Told). tellings l) t.none in
+      (λ steps x y one was. served_looked remaining contents site came steps out x y one was) (λ x y one. one.number) t.takes.attended
+      t.between.guests.items t.takes.looks) attended in
+      let told = gone_out site former out base t.hands.front t.between.talk t.hands.rest.desk t.hands.rest.wire.items t.between.guests.items t.hands.told t.hands.delivers
+      (written_on contents t.hands.front t.between.server new.server t.between.talk.wire.items t.hands.rest.wire.items t.hands.tells) t.hands.desk looked in
+      let none : tellings t.hands.rest.told.items ≡ [] = ap (λ (l : List Told). tellings l) t.hands.none in
       let at_settled : IsAt players wrote later (Closing remaining contents site came players former later settled (λ steps. Unit {0}))
-      t.rest.desk t.rest.wire.items (tellings t.rest.told.items) =
+      t.hands.rest.desk t.hands.rest.wire.items (tellings t.hands.rest.told.items) =
       subst (λ (l : List Telling). IsAt players wrote later
-      (Closing remaining contents site came players former later settled (λ steps. Unit {0})) t.rest.desk t.rest.wire.items l) (sym none)
-      (at_with players wrote later (AreKept remaining contents site came former later t.told)
-      (Closing remaining contents site came players former later settled (λ steps. Unit {0})) t.rest.desk t.rest.wire.items []
+      (Closing remaining contents site came players former later settled (λ steps. Unit {0})) t.hands.rest.desk t.hands.rest.wire.items l) (sym none)
+      (at_with players wrote later (AreKept remaining contents site came former later t.hands.told)
+      (Closing remaining contents site came players former later settled (λ steps. Unit {0})) t.hands.rest.desk t.hands.rest.wire.items []
       (λ steps kept. record {
         kept = kept_same remaining contents site came former later IsAsBefore
-            (λ steps x y one was. served_before remaining contents site came steps later x y one was) (λ x y one. one.number) t.written
-            settled t.parted_from.settles steps
+            (λ steps x y one was. served_before remaining contents site came steps later x y one was) (λ x y one. one.number) t.hands.written
+            settled t.hands.parted_from.settles steps
             (kept_same remaining contents site came former later (IsWritten contents site)
-            (λ steps x y one was. served_written remaining contents site came steps later x y one was) (λ x y one. one.number) t.told
-            t.written t.writes steps kept);
+            (λ steps x y one was. served_written remaining contents site came steps later x y one was) (λ x y one. one.number) t.hands.told
+            t.hands.written writes steps kept);
         more = tt;
       }) told) in
       let closed = closed_all remaining contents site came players former wrote later settled settled (λ steps. Unit {0})
-      (λ s steps was. tt) t.rest new.talk at_settled none t.parted_from.closes in
-      let same : numbers settled ≡ numbers t.attended =
-      same_numbers IsAsBefore (λ x y one. one.number) t.written settled t.parted_from.settles
-      ∙ (same_numbers (IsWritten contents site) (λ x y one. one.number) t.told t.written t.writes
-      ∙ (same_numbers (AreTold t.delivers.made) (λ x y one. told_number t.delivers.made x y one) t.looked t.told
-      t.delivers.are_told
-      ∙ same_numbers IsLookedAfter (λ x y one. one.number) t.attended t.looked t.looks)) in
-      let own_said : AreOwn t.said.next (numbers (former ++ t.attended)) =
-      own_attended t.parted.next t.said.next former old.guests.items t.attended own said.1 in
-      let own_settled : AreOwn t.said.next (numbers ((gone_of settled ++ former) ++ stay_of settled)) =
-      own_parted t.said.next former settled (own_as t.said.next former t.attended settled same own_said) in
+      (λ s steps was. tt) t.hands.rest new.talk at_settled none t.hands.parted_from.closes in
+      let same : numbers settled ≡ numbers t.takes.attended =
+      same_numbers IsAsBefore (λ x y one. one.number) t.hands.written settled t.hands.parted_from.settles
+      ∙ (same_numbers (IsWritten contents site) (λ x y one. one.number) t.hands.told t.hands.written writes
+      ∙ (same_numbers (AreTold t.hands.delivers.made) (λ x y one. told_number t.hands.delivers.made x y one) t.between.guests.items t.hands.told
+      t.hands.delivers.are_told
+      ∙ same_numbers IsLookedAfter (λ x y one. one.number) t.takes.attended t.between.guests.items t.takes.looks)) in
+      let own_said : AreOwn t.between.talk.next (numbers (former ++ t.takes.attended)) =
+      own_attended t.takes.parted.next t.between.talk.next former old.guests.items t.takes.attended own said.1 in
+      let own_settled : AreOwn t.between.talk.next (numbers ((gone_of settled ++ former) ++ stay_of settled)) =
+      own_parted t.between.talk.next former settled (own_as t.between.talk.next former t.takes.attended settled same own_said) in
       record {
         former = gone_of settled ++ former;
         talk = subst (λ (gs : List (Guest S)). IsAt players wrote later
             (AreKept remaining contents site came (gone_of settled ++ former) later gs) new.talk.desk new.talk.wire.items
-            (tellings new.talk.told.items)) (sym t.parted_from.stay_is)
+            (tellings new.talk.told.items)) (sym t.hands.parted_from.stay_is)
             (at_with players wrote later
             (Closing remaining contents site came players former later settled (λ steps. Unit {0} × AllClosed settled later steps))
             (AreKept remaining contents site came (gone_of settled ++ former) later (stay_of settled)) new.talk.desk
             new.talk.wire.items (tellings new.talk.told.items)
             (λ steps was. kept_parted remaining contents site came former later settled steps was.kept was.more.1) closed.0.0);
-        own = subst (λ (n : ℕ). AreOwn n (numbers ((gone_of settled ++ former) ++ new.guests.items))) (sym (closed.0.1 ∙ t.next))
-            (subst (λ (gs : List (Guest S)). AreOwn t.said.next (numbers ((gone_of settled ++ former) ++ gs)))
-            (sym t.parted_from.stay_is) own_settled);
+        own = subst (λ (n : ℕ). AreOwn n (numbers ((gone_of settled ++ former) ++ new.guests.items))) (sym (closed.0.1 ∙ t.hands.next))
+            (subst (λ (gs : List (Guest S)). AreOwn t.between.talk.next (numbers ((gone_of settled ++ former) ++ gs)))
+            (sym t.hands.parted_from.stay_is) own_settled);
       }
 
   turned_on : (o : Outside) (at : ℕ) (old new : Hall S) (t : HasTurned remaining contents at old new) →
       IsHallAt remaining contents players o came old →
       IsHallAt remaining contents players
-      (behind_turn (bytes_heard remaining old.server t.server_heard old.talk t.heard t.hears) t.is_gone t.front o) came new
+      (behind_turn (bytes_heard remaining old.server t.takes.server_heard old.talk t.takes.heard t.takes.hears) t.takes.is_gone (texts_put t) t.hands.front o) came new
   turned_on o at old new t so_far =
       let site = old.site in
       let out = so_far.out in
       let former = so_far.former in
       let traffic = traffic_of o so_far.heard in
-      let lines = lines_of_server remaining old.server t.server_heard old.talk t.heard t.hears in
-      let base = behind_loss t.is_gone (behind_lines lines traffic) in
-      let later = out ++ tellings t.said.told.items in
-      let heard = heard_server remaining contents site came players former traffic out old.guests.items old.server t.server_heard
-      old.talk t.heard so_far.talk t.hears in
-      let gone = parted remaining contents site came players former (behind_lines lines traffic) out old.guests.items t.is_gone
-      t.server_heard t.server t.heard t.parted heard.0 t.parts in
-      let own_then : AreOwn t.parted.next (numbers (former ++ old.guests.items)) =
+      let lines = lines_of_server remaining old.server t.takes.server_heard old.talk t.takes.heard t.takes.hears in
+      let base = behind_loss t.takes.is_gone (behind_lines lines traffic) in
+      let later = out ++ tellings t.between.talk.told.items in
+      let heard = heard_server remaining contents site came players former traffic out old.guests.items old.server t.takes.server_heard
+      old.talk t.takes.heard so_far.talk t.takes.hears in
+      let gone = parted remaining contents site came players former (behind_lines lines traffic) out old.guests.items t.takes.is_gone
+      t.takes.server_heard t.between.server t.takes.heard t.takes.parted heard.0 t.takes.parts in
+      let own_then : AreOwn t.takes.parted.next (numbers (former ++ old.guests.items)) =
       subst (λ (n : ℕ). AreOwn n (numbers (former ++ old.guests.items))) (sym (gone.1 ∙ heard.1)) so_far.own in
       let so = attended_on at former base out old new t gone.0 own_then in
       record {
         out = later;
         heard = lines ++ so_far.heard;
-        cut = cut_by (o.taken ++ bytes_heard remaining old.server t.server_heard old.talk t.heard t.hears) (lines ++ so_far.heard)
-            t.server_heard new.server
-            (λ rest held. told_held contents t.front t.server new.server t.said.wire.items t.rest.wire.items t.tells rest
-            (parted_held t.is_gone t.server_heard t.server t.heard t.parted t.parts rest held))
-            (heard_cut remaining o.taken so_far.heard old.server t.server_heard old.talk t.heard t.hears so_far.cut);
+        cut = cut_by (o.taken ++ bytes_heard remaining old.server t.takes.server_heard old.talk t.takes.heard t.takes.hears) (lines ++ so_far.heard)
+            t.takes.server_heard new.server
+            (λ rest held. told_held contents t.hands.front t.between.server new.server t.between.talk.wire.items t.hands.rest.wire.items t.hands.tells rest
+            (parted_held t.takes.is_gone t.takes.server_heard t.between.server t.takes.heard t.takes.parted t.takes.parts rest held))
+            (heard_cut remaining o.taken so_far.heard old.server t.takes.server_heard old.talk t.takes.heard t.takes.hears so_far.cut);
         former = so.former;
-        talk = subst (λ (w : Site). IsAt players (behind_front t.front base) later
+        logged = ap (λ (l : List (List ℕ)). l ++ texts_put t) so_far.logged ∙ sym (texts_both out (tellings t.between.talk.told.items));
+        talk = subst (λ (w : Site). IsAt players (behind_front t.hands.front base) later
             (AreKept remaining contents w came so.former later new.guests.items) new.talk.desk new.talk.wire.items
-            (tellings new.talk.told.items)) (sym t.site) so.talk;
+            (tellings new.talk.told.items)) (sym (t.hands.site ∙ t.takes.site)) so.talk;
         own = so.own;
-        whole = told_whole contents t.front t.server new.server t.said.wire.items t.rest.wire.items t.tells
-            (parted_whole t.is_gone t.server_heard t.server t.heard t.parted t.parts
-            (heard_whole remaining old.server t.server_heard old.talk t.heard t.hears so_far.whole));
+        whole = told_whole contents t.hands.front t.between.server new.server t.between.talk.wire.items t.hands.rest.wire.items t.hands.tells
+            (parted_whole t.takes.is_gone t.takes.server_heard t.between.server t.takes.heard t.takes.parted t.takes.parts
+            (heard_whole remaining old.server t.takes.server_heard old.talk t.takes.heard t.takes.hears so_far.whole));
       }
 
 module _ {S : Type 0} (remaining contents : S → Option (List ℕ)) (players : List Player) where
@@ -1303,6 +1313,7 @@ module _ {S : Type 0} (remaining contents : S → Option (List ℕ)) (players : 
         heard = so_far.heard;
         cut = subst (λ s. AreCut o.taken so_far.heard s) (sym admits.server) so_far.cut;
         former = former;
+        logged = so_far.logged;
         talk = with_guests (traffic_of o so_far.heard) came (stream ∷ came) former old new admits.talk admits.site out
             (λ steps kept. elim admits.guests [
               | inl same ↦ subst (λ (gs : List (Guest S)). AreKept remaining contents old.site (stream ∷ came) former out gs steps)
@@ -1328,6 +1339,7 @@ module _ {S : Type 0} (remaining contents : S → Option (List ℕ)) (players : 
         heard = so_far.heard;
         cut = cut_by o.taken so_far.heard old.server new.server (woken_held old.server new.server wakes.server) so_far.cut;
         former = former;
+        logged = so_far.logged;
         talk = with_guests (traffic_of o so_far.heard) came came former old new wakes.talk wakes.site out
             (λ steps kept. kept_same remaining contents old.site came former out IsAsBefore
             (λ steps x y one was. served_before remaining contents old.site came steps out x y one was) (λ x y one. one.number)
@@ -1344,7 +1356,7 @@ module _ {S : Type 0} (remaining contents : S → Option (List ℕ)) (players : 
 
   server_came : (o : Outside) (came : List S) (stream : S) (old new : Hall S) → ServerComes stream old new →
       IsHallAt remaining contents players o came old →
-      IsHallAt remaining contents players (record { wrote = []; taken = []; presences = true ∷ o.presences }) came new
+      IsHallAt remaining contents players (record { wrote = []; taken = []; presences = true ∷ o.presences; put = o.put }) came new
   server_came o came stream old new comes so_far =
       let same = ap (λ gs. gs.items) comes.guests in
       let traffic = traffic_of o so_far.heard in
@@ -1356,6 +1368,7 @@ module _ {S : Type 0} (remaining contents : S → Option (List ℕ)) (players : 
         heard = [];
         cut = record { rest = []; cut = refl; feeds = tt; held = subst (λ s. IsHeld s []) (sym comes.server) comes.held };
         former = former;
+        logged = so_far.logged;
         talk = subst (λ (w : Site). IsAt players (behind Here traffic) out
             (AreKept remaining contents w came former out new.guests.items) new.talk.desk new.talk.wire.items
             (tellings new.talk.told.items)) (sym comes.site)
@@ -1370,19 +1383,20 @@ module _ {S : Type 0} (remaining contents : S → Option (List ℕ)) (players : 
         whole = subst (λ s. NoLineWaits s) (sym comes.server) (begun_whole comes.link comes.held);
       }
 
-  turned_by : (past : List (Happening S)) (at : ℕ) (taken : List ℕ) (gone : Bool) (front : List ℕ) (now : Hall S) →
-      IsHallAt remaining contents players (behind_turn taken gone front (outside_in past)) (streams_in past) now →
-      IsHallAt remaining contents players (outside_in (Turned at taken gone front ∷ past)) (streams_in past) now
-  turned_by past at taken true front now so = so
-  turned_by past at taken false front now so = so
+  turned_by : (past : List (Happening S)) (at : ℕ) (taken : List ℕ) (gone : Bool) (put : List (List ℕ)) (front : List ℕ) (now : Hall S) →
+      IsHallAt remaining contents players (behind_turn taken gone put front (outside_in past)) (streams_in past) now →
+      IsHallAt remaining contents players (outside_in (Turned at taken gone put front ∷ past)) (streams_in past) now
+  turned_by past at taken true put front now so = so
+  turned_by past at taken false put front now so = so
 
   begun_at : (site : Site) (now : Hall S) → BeginsHall site players now →
-      IsHallAt remaining contents players (record { wrote = []; taken = []; presences = [] }) [] now
+      IsHallAt remaining contents players (record { wrote = []; taken = []; presences = []; put = [] }) [] now
   begun_at site now begins = record {
     out = [];
     heard = [];
     cut = record { rest = []; cut = refl; feeds = tt; held = subst (λ s. IsHeld s []) (sym begins.server) tt };
     former = [];
+    logged = refl;
     talk = record {
       steps = [];
       run = begins.talk.desk;
@@ -1407,15 +1421,16 @@ module _ {S : Type 0} (remaining contents : S → Option (List ℕ)) (players : 
       woken (outside_in past) (streams_in past) before now happens (life_at past before life)
   life_at (ServerCame stream ∷ past) now (before, life, happens) =
       server_came (outside_in past) (streams_in past) stream before now happens (life_at past before life)
-  life_at (Turned at taken gone front ∷ past) now (before, life, happens) =
+  life_at (Turned at taken gone put front ∷ past) now (before, life, happens) =
       let o = outside_in past in
       let came = streams_in past in
       let t = happens.turned in
-      turned_by past at taken gone front now
-      (subst (λ (f : List ℕ). IsHallAt remaining contents players (behind_turn taken gone f o) came now) happens.front_is
-      (subst (λ (g : Bool). IsHallAt remaining contents players (behind_turn taken g t.front o) came now) happens.gone
-      (subst (λ (bytes : List ℕ). IsHallAt remaining contents players (behind_turn bytes t.is_gone t.front o) came now)
-      happens.taken_is (turned_on remaining contents players came o at before now t (life_at past before life)))))
+      turned_by past at taken gone put front now
+      (subst (λ (f : List ℕ). IsHallAt remaining contents players (behind_turn taken gone put f o) came now) happens.front_is
+      (subst (λ (p : List (List ℕ)). IsHallAt remaining contents players (behind_turn taken gone p t.hands.front o) came now) happens.put_is
+      (subst (λ (g : Bool). IsHallAt remaining contents players (behind_turn taken g (texts_put t) t.hands.front o) came now) happens.gone
+      (subst (λ (bytes : List ℕ). IsHallAt remaining contents players (behind_turn bytes t.takes.is_gone (texts_put t) t.hands.front o) came now)
+      happens.taken_is (turned_on remaining contents players came o at before now t (life_at past before life))))))
 
   pub life_right : (past : List (Happening S)) (now : Hall S) → IsLife remaining contents players past now →
       IsRightLife remaining contents players past now
@@ -1436,6 +1451,8 @@ module _ {S : Type 0} (remaining contents : S → Option (List ℕ)) (players : 
         presences = at.talk.presences;
         out = at.out;
         told = at.talk.tells;
+        logs = are_logged players at.talk.steps good.told;
+        put = at.logged;
         gone = at.former;
         own = at.own;
         known = at.talk.holds.known;
@@ -1465,9 +1482,9 @@ module _ {S : Type 0} (remaining contents : S → Option (List ℕ)) (players : 
   turned_life at old new turn so_far =
       let so = welcomed_life turn.streams turn.reached turn.welcomed turn.welcomes
       (reached_life old turn.reached turn.reaches so_far) in (
-        Turned at (bytes_heard remaining turn.welcomed.server turn.turns.server_heard turn.welcomed.talk turn.turns.heard turn.turns.hears)
-            turn.turns.is_gone turn.turns.front ∷ so.0,
-        (turn.welcomed, so.1, record { turned = turn.turns; taken_is = refl; gone = refl; front_is = refl }),
+        Turned at (bytes_heard remaining turn.welcomed.server turn.turns.takes.server_heard turn.welcomed.talk turn.turns.takes.heard
+            turn.turns.takes.hears) turn.turns.takes.is_gone (texts_put turn.turns) turn.turns.hands.front ∷ so.0,
+        (turn.welcomed, so.1, record { turned = turn.turns; taken_is = refl; gone = refl; put_is = refl; front_is = refl }),
       )
 
   lobby_life : (passed : List Passing) (now : Hall S) → IsLobbyLife remaining contents players passed now → IsSomeLife now

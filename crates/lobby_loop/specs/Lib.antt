@@ -3,6 +3,7 @@ pub mod Making
 pub mod Talking
 pub mod Guests
 pub mod Lines
+pub mod Logging
 pub mod Turning
 pub mod Doing
 pub mod Speaking

@@ -5,24 +5,25 @@ use Rattle.session_lines.specs.Lines.{HasNoFeed}
 use Rattle.lobby_desk.specs.declared.players.Player.{Player}
 use Rattle.lobby_desk.specs.Events.{Event, Heard, Gone, Here, Telling, tellings}
 use Rattle.lobby_desk.specs.Lines.{bytes_of}
+use Rattle.lobby_desk.specs.Logging.{log_texts}
 use Rattle.lobby_desk.specs.Who.{view}
-use Rattle.lobby_desk.specs.History.{Step, has_come, IsRun, AllRight, AllTold}
+use Rattle.lobby_desk.specs.History.{Step, has_come, IsRun, AllRight, AllTold, IsLogged}
 use Rattle.lobby_web.specs.declared.site.Site.{Site}
 use Rattle.lobby_loop.specs.declared.guest.Guest.{Guest}
 use Rattle.lobby_loop.specs.declared.hall.Hall.{Hall}
 use Rattle.lobby_loop.specs.Guests.{IsAsBefore}
 use Rattle.lobby_loop.specs.declared.link.Link.{Link}
 use Rattle.lobby_loop.specs.Lines.{HoldsNoLine, bytes_of as bytes_before}
-use Rattle.lobby_loop.specs.Turning.{BeginsHall, Admits, IsServerAsBefore, ServerComes, HasTurned, bytes_heard, IsLobbyTurn}
+use Rattle.lobby_loop.specs.Turning.{BeginsHall, Admits, IsServerAsBefore, ServerComes, HasTurned, bytes_heard, texts_put, IsLobbyTurn}
 use Rattle.lobby_loop.specs.Doing.{all_tells, AreServed, WereServed}
 
 -- What happens to a hall: a browser comes, sockets may be ready, the server is there, a turn. In a turn bytes come of the server,
--- then the connection to it may be lost, and behind that bytes are written to it.
+-- then the connection to it may be lost; behind that the log has texts, and then bytes are written to the server.
 pub data Happening (S : Type 0) : Type 0 where
   Came : (stream : S) → Happening S
   Woke : Happening S
   ServerCame : (stream : S) → Happening S
-  Turned : (at : ℕ) → (taken : List ℕ) → (is_gone : Bool) → (front : List ℕ) → Happening S
+  Turned : (at : ℕ) → (taken : List ℕ) → (is_gone : Bool) → (put : List (List ℕ)) → (front : List ℕ) → Happening S
 
 -- Sockets may be ready, and nothing else happens.
 pub record IsWoken {S : Type 0} (old new : Hall S) : Type 0 where
@@ -31,19 +32,21 @@ pub record IsWoken {S : Type 0} (old new : Hall S) : Type 0 where
   pub server : IsServerAsBefore old.server new.server
   pub site : new.site ≡ old.site
 
--- a turn in which these bytes come of the server, the connection to it is lost or not, and these bytes are written to it
+-- a turn in which these bytes come of the server, the connection to it is lost or not, the log has these texts, and these bytes are
+-- written to the server
 pub record TurnsBy {S : Type 0} (remaining contents : S → Option (List ℕ)) (at : ℕ) (taken : List ℕ) (is_gone : Bool)
-    (front : List ℕ) (old new : Hall S) : Type 0 where
+    (put : List (List ℕ)) (front : List ℕ) (old new : Hall S) : Type 0 where
   pub turned : HasTurned remaining contents at old new
-  pub taken_is : bytes_heard remaining old.server turned.server_heard old.talk turned.heard turned.hears ≡ taken
-  pub gone : turned.is_gone ≡ is_gone
-  pub front_is : turned.front ≡ front
+  pub taken_is : bytes_heard remaining old.server turned.takes.server_heard old.talk turned.takes.heard turned.takes.hears ≡ taken
+  pub gone : turned.takes.is_gone ≡ is_gone
+  pub put_is : texts_put turned ≡ put
+  pub front_is : turned.hands.front ≡ front
 
 abbrev pub Happens : {S : Type 0} → (S → Option (List ℕ)) → (S → Option (List ℕ)) → Happening S → Hall S → Hall S → Type 0
 Happens remaining contents (Came stream) old new = Admits stream old new
 Happens remaining contents Woke old new = IsWoken old new
 Happens remaining contents (ServerCame stream) old new = ServerComes stream old new
-Happens remaining contents (Turned at taken is_gone front) old new = TurnsBy remaining contents at taken is_gone front old new
+Happens remaining contents (Turned at taken is_gone put front) old new = TurnsBy remaining contents at taken is_gone put front old new
 
 -- a hall that begins, and what happened to it, the newest first
 abbrev pub IsLife : {S : Type 0} → (S → Option (List ℕ)) → (S → Option (List ℕ)) → List Player → List (Happening S) → Hall S
@@ -58,8 +61,8 @@ written_in [] = []
 written_in (Came stream ∷ past) = written_in past
 written_in (Woke ∷ past) = written_in past
 written_in (ServerCame stream ∷ past) = []
-written_in (Turned at taken true front ∷ past) = front
-written_in (Turned at taken false front ∷ past) = written_in past ++ front
+written_in (Turned at taken true put front ∷ past) = front
+written_in (Turned at taken false put front ∷ past) = written_in past ++ front
 
 -- the bytes that came of the server since its connection began, also where that is lost by now
 abbrev pub taken_in : {S : Type 0} → List (Happening S) → List ℕ
@@ -67,7 +70,7 @@ taken_in [] = []
 taken_in (Came stream ∷ past) = taken_in past
 taken_in (Woke ∷ past) = taken_in past
 taken_in (ServerCame stream ∷ past) = []
-taken_in (Turned at taken is_gone front ∷ past) = taken_in past ++ taken
+taken_in (Turned at taken is_gone put front ∷ past) = taken_in past ++ taken
 
 -- that the server is there, and that its connection is lost, the newest first
 abbrev pub lost_if : Bool → List Bool → List Bool
@@ -79,7 +82,15 @@ presences_in [] = []
 presences_in (Came stream ∷ past) = presences_in past
 presences_in (Woke ∷ past) = presences_in past
 presences_in (ServerCame stream ∷ past) = true ∷ presences_in past
-presences_in (Turned at taken is_gone front ∷ past) = lost_if is_gone (presences_in past)
+presences_in (Turned at taken is_gone put front ∷ past) = lost_if is_gone (presences_in past)
+
+-- all texts that the log has, in their order
+abbrev pub put_in : {S : Type 0} → List (Happening S) → List (List ℕ)
+put_in [] = []
+put_in (Came stream ∷ past) = put_in past
+put_in (Woke ∷ past) = put_in past
+put_in (ServerCame stream ∷ past) = put_in past
+put_in (Turned at taken is_gone put front ∷ past) = put_in past ++ put
 
 -- the bytes of the lines that the desk had for the server since its connection began
 abbrev pub kept : Event → List ℕ → List ℕ
@@ -153,7 +164,7 @@ streams_in [] = []
 streams_in (Came stream ∷ past) = stream ∷ streams_in past
 streams_in (Woke ∷ past) = streams_in past
 streams_in (ServerCame stream ∷ past) = streams_in past
-streams_in (Turned at taken is_gone front ∷ past) = streams_in past
+streams_in (Turned at taken is_gone put front ∷ past) = streams_in past
 
 -- no whole line of the server is held back, where it is there
 abbrev pub NoLineWaits : {S : Type 0} → Option (Link S) → Type 0
@@ -164,7 +175,8 @@ NoLineWaits (Some link) = HoldsNoLine link
 -- a connection is right. What was written to the server since its connection began is a front of the bytes of these lines, and the
 -- rest of them is to go. The lines that the desk heard since then stand in front of all bytes that came of the server, and where its
 -- connection goes on no whole line of it waits; the desk was told that the server is there or gone just where it was. What the desk
--- told connections went out of its hands, and the rest of it is to go. Of all browsers that came, those that were let go too, no two
+-- told connections went out of its hands, and the rest of it is to go; of what went out the log has all texts for it, each once and in
+-- their order. Of all browsers that came, those that were let go too, no two
 -- have one connection's number, and the desk was told of no connection but theirs; the desk has, under its number, all that a browser
 -- said, and of what went out it was told all that is for its number.
 pub record IsRightLife {S : Type 0} (remaining contents : S → Option (List ℕ)) (players : List Player) (past : List (Happening S))
@@ -182,6 +194,8 @@ pub record IsRightLife {S : Type 0} (remaining contents : S → Option (List ℕ
   pub presences : presences_told steps ≡ presences_in past
   pub out : List Telling
   pub told : all_tells steps ≡ out ++ tellings now.talk.told.items
+  pub logs : IsLogged players steps
+  pub put : put_in past ≡ log_texts out
   pub gone : List (Guest S)
   pub own : AreOwn now.talk.next (numbers (gone ++ now.guests.items))
   pub known : AreKnown steps gone now.guests.items

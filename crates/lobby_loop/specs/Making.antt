@@ -9,7 +9,7 @@ use Rattle.lobby_moves.specs.Telling.{TellsMoves}
 use Rattle.lobby_positions.specs.Pgn.{TellsGame}
 use Rattle.lobby_positions.specs.Answer.{IsLineAnswer}
 use Rattle.lobby_desk.specs.declared.telling.Kind.{Kind}
-use Rattle.lobby_desk.specs.declared.telling.Kind.TheVariants.{Whole, Position as AtPosition, Line}
+use Rattle.lobby_desk.specs.declared.telling.Kind.TheVariants.{Whole, Position as AtPosition, Line, Log}
 use Rattle.lobby_desk.specs.declared.telling.Told.{Told}
 use Rattle.lobby_loop.specs.declared.made.Made.{Made}
 
@@ -60,6 +60,7 @@ abbrev pub IsFinished : Kind → List ℕ → List ℕ → Type 0
 IsFinished Whole text new = new ≡ text
 IsFinished AtPosition text new = IsWithMoves text new
 IsFinished Line text new = IsOfLine text new
+IsFinished Log text new = new ≡ text
 
 -- a message, as it goes out: to the same connections
 pub record IsMadeOf (told : Told) (made : Made) : Type 0 where

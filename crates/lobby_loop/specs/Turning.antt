@@ -3,7 +3,8 @@ use Rattle.std.specs.Prelude.{ℕ, ◌≡◌, ◌⊎◌, Bool, true, false, not,
 use Rattle.std.specs.List.{AllZip}
 use Rattle.lobby_desk.specs.declared.players.Player.{Player}
 use Rattle.lobby_desk.specs.declared.telling.Told.{Told}
-use Rattle.lobby_desk.specs.Events.{Closed, Gone, Here}
+use Rattle.lobby_desk.specs.Events.{Closed, Gone, Here, tellings}
+use Rattle.lobby_desk.specs.Logging.{log_texts}
 use Rattle.lobby_web.specs.declared.site.Site.{Site}
 use Rattle.lobby_loop.specs.declared.guest.Guest.{Guest}
 use Rattle.lobby_loop.specs.declared.hall.Hall.{Hall}
@@ -106,34 +107,46 @@ pub record ServerComes {S : Type 0} (stream : S) (old new : Hall S) : Type 0 whe
   pub guests : new.guests ≡ old.guests
   pub site : new.site ≡ old.site
 
--- A turn: the server is heard, and then each browser; what the desk told of all that is delivered, and what is to go is
--- written, to the server and to each browser; and the desk is told who is let go.
-pub record HasTurned {S : Type 0} (remaining contents : S → Option (List ℕ)) (at : ℕ) (old new : Hall S) : Type 0 where
+-- What comes is taken in: the server is heard, and the desk is told where its connection is lost; then each browser is.
+pub record TakesAllIn {S : Type 0} (remaining : S → Option (List ℕ)) (at : ℕ) (old new : Hall S) : Type 0 where
   pub server_heard : Option (Link S)
   pub heard : Talk
   pub hears : HearsServer remaining old.server server_heard old.talk heard
-  pub server : Option (Link S)
   pub parted : Talk
   pub is_gone : Bool
   pub gone_is : is_gone ≡ link_lost server_heard
-  pub parts : PartsFromServer is_gone server_heard server heard parted
+  pub parts : PartsFromServer is_gone server_heard new.server heard parted
   pub attended : List (Guest S)
-  pub said : Talk
-  pub attends : AreAttended remaining old.site at old.guests.items attended parted said
-  pub looked : List (Guest S)
-  pub looks : AllZip IsLookedAfter attended looked
+  pub attends : AreAttended remaining old.site at old.guests.items attended parted new.talk
+  pub looks : AllZip IsLookedAfter attended new.guests.items
+  pub site : new.site ≡ old.site
+
+-- What is to go is handed out: what the desk told is delivered, and what is to go is written, to the server and to each browser; and
+-- the desk is told who is let go.
+pub record HandsAllOut {S : Type 0} (contents : S → Option (List ℕ)) (old new : Hall S) : Type 0 where
   pub told : List (Guest S)
-  pub delivers : AreDelivered said.told.items looked told
+  pub delivers : AreDelivered old.talk.told.items old.guests.items told
   pub rest : Talk
-  pub desk : rest.desk ≡ said.desk
-  pub next : rest.next ≡ said.next
+  pub desk : rest.desk ≡ old.talk.desk
+  pub next : rest.next ≡ old.talk.next
   pub none : rest.told.items ≡ []
   pub front : List ℕ
-  pub tells : TellsServer contents front server new.server said.wire.items rest.wire.items
+  pub tells : TellsServer contents front old.server new.server old.talk.wire.items rest.wire.items
   pub written : List (Guest S)
   pub writes : AllZip (IsWritten contents old.site) told written
   pub parted_from : AreParted written new.guests.items rest new.talk
   pub site : new.site ≡ old.site
+
+-- A turn: all that comes is taken in, and then all that is to go is handed out. Between them the log has its texts.
+pub record HasTurned {S : Type 0} (remaining contents : S → Option (List ℕ)) (at : ℕ) (old new : Hall S) : Type 0 where
+  pub between : Hall S
+  pub takes : TakesAllIn remaining at old between
+  pub hands : HandsAllOut contents between new
+
+-- the texts that the log has in a turn: those for it among all that is to go then
+abbrev pub texts_put : {S : Type 0} → {remaining contents : S → Option (List ℕ)} → {at : ℕ} → {old new : Hall S} →
+    HasTurned remaining contents at old new → List (List ℕ)
+texts_put turned = log_texts (tellings turned.between.talk.told.items)
 
 -- Browsers come or are turned away, one after the other, the last first.
 abbrev pub AreAdmitted : {S : Type 0} → List S → Hall S → Hall S → Type 0

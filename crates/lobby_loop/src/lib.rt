@@ -1,6 +1,7 @@
-//! The lobby's loop: browsers' sockets, the one connection to the server, and the desk between them.
+//! The lobby's loop: browsers' sockets, the one connection to the server, the desk between them, and the log of acts.
 #![tactic(auto)]
 
+mod act_log;
 mod door;
 mod guest;
 mod hall;
@@ -11,7 +12,8 @@ mod made;
 mod pieces;
 mod talk;
 
+pub use act_log::{ActLog, Fault, NoActLog};
 pub use door::{Entrance, Found, Listens, Welcomed, welcome};
 pub use hall::Hall;
 pub use law::{law_of_browsers, law_of_halls, law_of_lobbies};
-pub use lobby::{Fault, Lobby, Turned};
+pub use lobby::{Lobby, Turned};

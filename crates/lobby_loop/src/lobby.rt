@@ -1,9 +1,11 @@
 //! The sockets of a lobby, and what wakes it.
 ghost use Rattle.std.specs.Prelude.{◌≡◌, List, None, IfOk, OnOk, is_some};
 ghost use Rattle.mio.specs.declared.net.stream.TcpStream.{TcpStream};
-ghost use Rattle.lobby_loop.specs.Turning.{BeginsHall, AreAdmitted, IsReached, IsLobbyTurn, unknown};
+ghost use Rattle.lobby_loop.specs.Turning.{BeginsHall, AreAdmitted, IsReached, IsLobbyTurn, texts_put, unknown};
 ghost use Rattle.lobby_loop.specs.Living.{IsWoken};
+ghost use Rattle.lobby_loop.specs.Logging.{Logs};
 
+use crate::act_log::{ActLog, Fault};
 use crate::door::{Entrance, Gate, Welcomed, welcome};
 use crate::hall::Hall;
 use lobby_desk::Player;
@@ -16,22 +18,6 @@ use std::io;
 use std::io::ErrorKind;
 use std::net::{Net, SocketAddr};
 use std::time::Duration;
-use thiserror::Error;
-
-/// Why a lobby ends.
-#[derive(Clone, Copy, Debug, PartialEq, Eq, Error)]
-pub enum Fault {
-    #[error("memory was refused")]
-    NoMemory,
-    #[error("the system does not tell any more which sockets are ready")]
-    NoEvents,
-}
-
-impl From<AllocError> for Fault {
-    fn from(_: AllocError) -> Fault {
-        Fault::NoMemory
-    }
-}
 
 /// What came of a turn.
 #[derive(Clone, Copy, Debug, PartialEq, Eq)]
@@ -261,13 +247,14 @@ impl Lobby {
         earlier(earlier(call, ask), self.hall.look_at())
     }
 
-    /// One turn at a moment, in milliseconds of a clock that does not go back. It waits for nothing.
-    pub fn turn(&mut self, net: &impl Net, at: u64) -> Result<Turned, Fault>
-        ensures { OnOk result (IsLobbyTurn unknown unknown at self.old.hall self.new.hall) }
+    /// One turn at a moment, in milliseconds of a clock that does not go back. It waits for nothing but the log.
+    pub fn turn<L: ActLog>(&mut self, net: &impl Net, at: u64, log: &mut L) -> Result<Turned, Fault>
+        ensures { OnOk result ((turn : IsLobbyTurn unknown unknown at self.old.hall self.new.hall)
+            × Logs (L.logged log.old) (L.logged log.new) (texts_put turn.turns)) }
     {
         let has_reached = self.reach_server(net, at)?;
         let has_welcomed = self.welcome(at);
-        let has_turned = self.hall.turn(at)?;
+        let has_turned = self.hall.turn(at, log)?;
         if has_reached | has_welcomed | has_turned {
             return Ok(Turned::Worked);
         }

@@ -110,7 +110,7 @@ fn finished(alloc: Global, kind: Kind, text: String) -> Result<String, AllocErro
     ensures { IfOk result (λ made. IsFinished kind (string_bytes text) (string_bytes made)) }
 {
     match kind {
-        Kind::Whole => Ok(text),
+        Kind::Whole | Kind::Log => Ok(text),
         Kind::Position => with_moves(alloc, text),
         Kind::Line => as_positions(alloc, text.as_str()),
     }
