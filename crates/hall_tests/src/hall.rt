@@ -1,6 +1,7 @@
 //! Browsers and a server over streams that give and take little, or fail.
+use bytes::Bytes;
 use lobby_loop::{Found, Hall, Listens, Welcomed, welcome};
-use lobby_web::Site;
+use lobby_web::{File, Kind, Site};
 use std::alloc::Global;
 use std::hash::RandomState;
 use std::io;
@@ -306,6 +307,80 @@ fn an_answer_that_breaks_off_is_lost(rt: HostRuntime) {
     };
     let hall = played(&rt, &lab, script, 90, 1);
     assert!(rt; !hall.has_server() && is_told(&hall, b"\x81\x05lost\n\x81\x0cserver gone\n"));
+}
+
+const LIVE: &[u8] = b"GET /live.pgn HTTP/1.1\r\nHost: a:1\r\n\r\n";
+
+#[test]
+fn a_file_changes_between_turns(rt: HostRuntime) {
+    let alloc = rt.alloc();
+    let keys = RandomState::new(&rt).expect(&rt, "keys");
+    let gives = &[
+        Gives::Bytes(LIVE),
+        Gives::Nothing,
+        Gives::Bytes(LIVE),
+        Gives::Nothing,
+        Gives::Bytes(LIVE),
+        Gives::Nothing,
+    ];
+    let browser = stream_of(alloc, gives, 1_000);
+    let mut hall = begun(
+        &rt,
+        alloc,
+        keys,
+        browser,
+        stream_of(alloc, &[Gives::Nothing], 1),
+    );
+    for bytes in [b"one".as_slice(), b"another"] {
+        let path = b"/live.pgn".to_vec(alloc).expect(&rt, "memory");
+        let bytes_now = Bytes::from_static(bytes);
+        let file = File {
+            path,
+            kind: Kind::Pgn,
+            bytes: bytes_now,
+        };
+        hall.put_file(file).expect(&rt, "memory");
+        turn(&rt, &mut hall, 2, 1);
+        assert!(rt; is_told(&hall, bytes));
+    }
+    hall.take_off_file(b"/live.pgn");
+    turn(&rt, &mut hall, 2, 1);
+    assert!(rt; is_told(&hall, b"There is no such page here."));
+}
+
+#[test]
+fn what_was_said_is_counted(rt: HostRuntime) {
+    let lab = Lab {
+        alloc: rt.alloc(),
+        keys: RandomState::new(&rt).expect(&rt, "keys"),
+    };
+    let script = Script {
+        browser: &[
+            Gives::Bytes(UPGRADE),
+            Gives::Bytes(b"\x81\x85\0\0\0\0fen 1\x81\x8b\0\0\0\0leave lobby\x81\x84\0\0\0\0list"),
+            Gives::Nothing,
+        ],
+        server: &[
+            Gives::Nothing,
+            Gives::Nothing,
+            Gives::Nothing,
+            Gives::Nothing,
+            Gives::Nothing,
+            Gives::Nothing,
+            Gives::Bytes(b"no 3 NoGame\n"),
+            Gives::Nothing,
+            Gives::Nothing,
+            Gives::Nothing,
+            Gives::Nothing,
+            Gives::Nothing,
+            Gives::End,
+        ],
+        takes: 1_000,
+    };
+    let hall = played(&rt, &lab, script, 90, 1);
+    let counts = hall.counts();
+    assert!(rt; counts.messages == 3 && counts.no == 1 && counts.ok == 1 && counts.lost == 1);
+    assert!(rt; counts.timed == 3 && counts.time > 0 && counts.within[11] == 3);
 }
 
 /// An entrance that finds these, one at a try.

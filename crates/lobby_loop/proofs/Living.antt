@@ -16,6 +16,7 @@ use Rattle.lobby_desk.specs.Who.{IsStep, Steps, view, said_event, until_of}
 use Rattle.lobby_desk.specs.History.{Step, comes, has_come, IsRun}
 use Rattle.lobby_desk.proofs.Runs.{run_good}
 use Rattle.lobby_web.specs.declared.site.Site.{Site}
+use Rattle.lobby_web.specs.declared.site.File.{File}
 use Rattle.lobby_web.specs.declared.socket.Heard.{Heard as HeardOf}
 use Rattle.lobby_web.specs.declared.socket.Heard.TheVariants as heards
 use Rattle.lobby_loop.specs.declared.guest.Guest.{Guest}
@@ -27,9 +28,9 @@ use Rattle.lobby_loop.specs.Talking.{Moves}
 use Rattle.lobby_loop.specs.Guests.{IsNewGuest, IsHeardAs, IsAsBefore, IsAttended, AreAttended, IsLookedAfter, AreTold, IsWritten}
 use Rattle.lobby_loop.specs.Lines.{bytes_of as bytes_before, AreHeard, HoldsNoLine, IsKept}
 use Rattle.lobby_loop.specs.Turning.{BeginsHall, Admits, ServerComes, IsServerAsBefore, AreDelivered, HearsServer, bytes_heard, PartsFromServer, TellsServer, IsClosedIf, AreClosed, HasTurned, AreAdmitted, IsReached, IsLobbyTurn}
-use Rattle.lobby_loop.specs.Doing.{Gave, Spot, spot, DoesAt, all_tells, IsServed, AreServed, WereServed}
-use Rattle.lobby_loop.specs.Living.{Happening, Came, Woke, ServerCame, Turned, IsWoken, IsLife, written_in, taken_in, lost_if, presences_in, kept, sent_in, line_more, lines_heard, presence_more, presences_told, IsHeld, IsOther, HasNone, IsOneOf, AreKnown, IsOwn, AreOwn, numbers, streams_in, NoLineWaits, IsRightLife, Passing, TurnAt, Rested, IsLobbyLife}
-use Rattle.lobby_loop.proofs.Serving.{IsApart, ApartFrom, AreApart, served_before, served_read, served_looked, served_written, served_told, gave_nothing, gave_again, gave_early, gave_opened, gave_text, all_served_on, all_served_zip, all_served_filter, all_served_more, all_came, served_new, ClosedIf, AllClosed, closed_if_on, all_were_on, all_were_out, all_were_came, all_let_go}
+use Rattle.lobby_loop.specs.Doing.{Gave, Spot, spot, DoesAt, all_tells, Before, IsServed, AreServed, WereServed}
+use Rattle.lobby_loop.specs.Living.{Happening, Came, Woke, ServerCame, Filed, Turned, IsWoken, Files, IsLife, written_in, taken_in, lost_if, presences_in, kept, sent_in, line_more, lines_heard, presence_more, presences_told, IsHeld, IsOther, HasNone, IsOneOf, AreKnown, IsOwn, AreOwn, numbers, streams_in, sites_in, before_in, NoLineWaits, IsRightLife, Passing, TurnAt, Changed, Rested, IsLobbyLife}
+use Rattle.lobby_loop.proofs.Serving.{came_more, site_more, IsApart, ApartFrom, AreApart, served_before, served_read, served_looked, served_written, served_told, gave_nothing, gave_again, gave_early, gave_opened, gave_text, all_served_on, all_served_zip, all_served_filter, all_served_more, all_came, all_filed, served_new, ClosedIf, AllClosed, closed_if_on, all_were_on, all_were_out, all_were_came, all_were_filed, all_let_go}
 
 -- ---- the desk's steps
 
@@ -214,13 +215,13 @@ known_opened P Q s steps d is more new known = λ c come.
     ]
 
 -- What is kept of browsers that are there and of those that were let go.
-pub record AreKept {S : Type 0} (remaining contents : S → Option (List ℕ)) (site : Site) (came : List S) (former : List (Guest S))
+pub record AreKept {S : Type 0} (remaining contents : S → Option (List ℕ)) (site : Site) (came : Before S) (former : List (Guest S))
     (out : List Telling) (guests : List (Guest S)) (steps : List Step) : Type 0 where
   pub served : AreServed remaining contents site came steps out guests
   pub were : WereServed remaining contents site came steps out former
   pub known : AreKnown steps former guests
 
-module _ {S : Type 0} (remaining contents : S → Option (List ℕ)) (site : Site) (came : List S) (players : List Player)
+module _ {S : Type 0} (remaining contents : S → Option (List ℕ)) (site : Site) (came : Before S) (players : List Player)
     (former : List (Guest S)) where
   abbrev Keeps : List Telling → List (Guest S) → List Step → Type 0
   Keeps out guests steps = AreKept remaining contents site came former out guests steps
@@ -509,7 +510,7 @@ none_such_number c e = false≢true (ap is_number e)
 
 -- ---- browsers that are attended
 
-module _ {S : Type 0} (remaining contents : S → Option (List ℕ)) (site : Site) (came : List S) (players : List Player)
+module _ {S : Type 0} (remaining contents : S → Option (List ℕ)) (site : Site) (came : Before S) (players : List Player)
     (former : List (Guest S)) (traffic : Traffic) (out : List Telling) where
   abbrev Served : Option ℕ → Spot S → List Step → Type 0
   Served n now steps = IsServed remaining contents site came steps out n now
@@ -557,7 +558,7 @@ module _ {S : Type 0} (remaining contents : S → Option (List ℕ)) (site : Sit
 
   heard_as : (done rest : List (Guest S)) (heard : Option HeardOf) (at : ℕ) (number after : Option ℕ) (a b : Spot S) (s t : Talk) →
       OwnBefore s.next done (number ∷ numbers rest) → IsOwn s.next number (numbers rest) → AreOwn s.next (numbers rest) →
-      IsTalkAt players traffic out (Three done rest number a) s → DoesAt remaining contents site (Gave heard) a b →
+      IsTalkAt players traffic out (Three done rest number a) s → DoesAt remaining contents (Gave heard) a b →
       IsHeardAs heard at number after s t →
       IsTalkAt players traffic out (Three done rest after b) t × Numbered s.next number after t.next
   heard_as done rest None at number after a b s t before own owns so_far does (same_number, same) =
@@ -1037,7 +1038,7 @@ traffic_of o heard = record { wrote = o.wrote; heard = heard; presences = o.pres
 
 -- what holds of a hall, where this was outside and browsers came by these streams
 pub record IsHallAt {S : Type 0} (remaining contents : S → Option (List ℕ)) (players : List Player) (o : Outside)
-    (came : List S) (hall : Hall S) : Type 0 where
+    (came : Before S) (hall : Hall S) : Type 0 where
   pub out : List Telling
   pub heard : List (List ℕ)
   pub cut : AreCut o.taken heard hall.server
@@ -1052,7 +1053,7 @@ written_on : {S : Type 0} (contents : S → Option (List ℕ)) (front : List ℕ
 written_on contents front None after old new (is, none, same) = sym same ∙ ap (λ (f : List ℕ). f ++ new) (sym none)
 written_on contents front (Some link) after old new (next, is, hands, kept) = hands.split
 
-module _ {S : Type 0} (remaining contents : S → Option (List ℕ)) (site : Site) (came : List S) (former : List (Guest S)) where
+module _ {S : Type 0} (remaining contents : S → Option (List ℕ)) (site : Site) (came : Before S) (former : List (Guest S)) where
   -- each is served on, and has the number that it had
   kept_zip : (out more : List Telling) (R : Guest S → Guest S → Type 0) →
       ((steps : List Step) (x y : Guest S) → R x y → IsServed remaining contents site came steps out x.number (spot x) →
@@ -1093,7 +1094,7 @@ module _ {S : Type 0} (remaining contents : S → Option (List ℕ)) (site : Sit
     known = λ c come. one_parted c former guests (kept.known c come);
   }
 
-module _ {S : Type 0} (remaining contents : S → Option (List ℕ)) (players : List Player) (came : List S) where
+module _ {S : Type 0} (remaining contents : S → Option (List ℕ)) (players : List Player) (came : Before S) where
   -- what went out is delivered, and a front of what is to go to the server is written
   gone_out : (site : Site) (former : List (Guest S)) (out : List Telling) (base : Traffic) (front : List ℕ) (said : Talk) (desk : Desk)
       (wire : List ℕ) (guests told : List (Guest S)) → AreDelivered said.told.items guests told → said.wire.items ≡ front ++ wire →
@@ -1249,7 +1250,7 @@ module _ {S : Type 0} (remaining contents : S → Option (List ℕ)) (players : 
 
 module _ {S : Type 0} (remaining contents : S → Option (List ℕ)) (players : List Player) where
   -- the same of a hall whose site and desk are as they were
-  with_guests : (traffic : Traffic) (came more : List S) (former : List (Guest S)) (old new : Hall S) → new.talk ≡ old.talk →
+  with_guests : (traffic : Traffic) (came more : Before S) (former : List (Guest S)) (old new : Hall S) → new.talk ≡ old.talk →
       new.site ≡ old.site → (out : List Telling) →
       ((steps : List Step) → AreKept remaining contents old.site came former out old.guests.items steps →
       AreKept remaining contents old.site more former out new.guests.items steps) →
@@ -1267,9 +1268,9 @@ module _ {S : Type 0} (remaining contents : S → Option (List ℕ)) (players : 
       (tellings old.talk.told.items) kept so_far))
 
   -- one more stream by which a browser came
-  kept_came : (site : Site) (came : List S) (stream : S) (former : List (Guest S)) (out : List Telling) (guests : List (Guest S))
+  kept_came : (site : Site) (came : Before S) (stream : S) (former : List (Guest S)) (out : List Telling) (guests : List (Guest S))
       (steps : List Step) → AreKept remaining contents site came former out guests steps →
-      AreKept remaining contents site (stream ∷ came) former out guests steps
+      AreKept remaining contents site (came_more stream came) former out guests steps
   kept_came site came stream former out guests steps kept = record {
     served = all_came remaining contents site came stream steps out guests kept.served;
     were = all_were_came remaining contents site came stream steps out former kept.were;
@@ -1277,14 +1278,14 @@ module _ {S : Type 0} (remaining contents : S → Option (List ℕ)) (players : 
   }
 
   -- and the browser that came by it
-  kept_more : (site : Site) (came : List S) (stream : S) (former : List (Guest S)) (out : List Telling) (guests : List (Guest S))
+  kept_more : (site : Site) (came : Before S) (stream : S) (former : List (Guest S)) (out : List Telling) (guests : List (Guest S))
       (guest : Guest S) (steps : List Step) → IsNewGuest stream guest →
       AreKept remaining contents site came former out guests steps →
-      AreKept remaining contents site (stream ∷ came) former out (guests ++ guest ∷ []) steps
+      AreKept remaining contents site (came_more stream came) former out (guests ++ guest ∷ []) steps
   kept_more site came stream former out guests guest steps new kept =
       let so = kept_came site came stream former out guests steps kept in
       record {
-        served = all_served_more remaining contents site (stream ∷ came) steps out guests guest so.served
+        served = all_served_more remaining contents site (came_more stream came) steps out guests guest so.served
             (served_new remaining contents site came stream steps out guest new);
         were = so.were;
         known = λ c come. elim (kept.known c come) [
@@ -1293,8 +1294,8 @@ module _ {S : Type 0} (remaining contents : S → Option (List ℕ)) (players : 
         ];
       }
 
-  admitted : (o : Outside) (came : List S) (stream : S) (old new : Hall S) → Admits stream old new →
-      IsHallAt remaining contents players o came old → IsHallAt remaining contents players o (stream ∷ came) new
+  admitted : (o : Outside) (came : Before S) (stream : S) (old new : Hall S) → Admits stream old new →
+      IsHallAt remaining contents players o came old → IsHallAt remaining contents players o (came_more stream came) new
   admitted o came stream old new admits so_far =
       let former = so_far.former in
       let out = so_far.out in
@@ -1303,11 +1304,11 @@ module _ {S : Type 0} (remaining contents : S → Option (List ℕ)) (players : 
         heard = so_far.heard;
         cut = subst (λ s. AreCut o.taken so_far.heard s) (sym admits.server) so_far.cut;
         former = former;
-        talk = with_guests (traffic_of o so_far.heard) came (stream ∷ came) former old new admits.talk admits.site out
+        talk = with_guests (traffic_of o so_far.heard) came (came_more stream came) former old new admits.talk admits.site out
             (λ steps kept. elim admits.guests [
-              | inl same ↦ subst (λ (gs : List (Guest S)). AreKept remaining contents old.site (stream ∷ came) former out gs steps)
+              | inl same ↦ subst (λ (gs : List (Guest S)). AreKept remaining contents old.site (came_more stream came) former out gs steps)
                   (sym same) (kept_came old.site came stream former out old.guests.items steps kept)
-              | inr more ↦ subst (λ (gs : List (Guest S)). AreKept remaining contents old.site (stream ∷ came) former out gs steps)
+              | inr more ↦ subst (λ (gs : List (Guest S)). AreKept remaining contents old.site (came_more stream came) former out gs steps)
                   (sym more.2) (kept_more old.site came stream former out old.guests.items more.0 steps more.1 kept)
             ]) so_far.talk;
         own = subst (λ (t : Talk). AreOwn t.next (numbers (former ++ new.guests.items))) (sym admits.talk) (elim admits.guests [
@@ -1318,7 +1319,7 @@ module _ {S : Type 0} (remaining contents : S → Option (List ℕ)) (players : 
         whole = subst (λ s. NoLineWaits s) (sym admits.server) so_far.whole;
       }
 
-  woken : (o : Outside) (came : List S) (old new : Hall S) → IsWoken old new →
+  woken : (o : Outside) (came : Before S) (old new : Hall S) → IsWoken old new →
       IsHallAt remaining contents players o came old → IsHallAt remaining contents players o came new
   woken o came old new wakes so_far =
       let former = so_far.former in
@@ -1338,11 +1339,41 @@ module _ {S : Type 0} (remaining contents : S → Option (List ℕ)) (players : 
         whole = woken_whole old.server new.server wakes.server so_far.whole;
       }
 
+  -- another file is served
+  filed : (o : Outside) (came : Before S) (path : List ℕ) (file : Option File) (old new : Hall S) → Files path file old new →
+      IsHallAt remaining contents players o came old → IsHallAt remaining contents players o (site_more old.site came) new
+  filed o came path file old new files so_far =
+      let former = so_far.former in
+      let out = so_far.out in
+      let traffic = traffic_of o so_far.heard in
+      let more = site_more old.site came in
+      let same = ap (λ gs. gs.items) files.guests in
+      record {
+        out = out;
+        heard = so_far.heard;
+        cut = subst (λ s. AreCut o.taken so_far.heard s) (sym files.server) so_far.cut;
+        former = former;
+        talk = subst (λ (gs : List (Guest S)). IsAt players traffic out (AreKept remaining contents new.site more former out gs)
+            new.talk.desk new.talk.wire.items (tellings new.talk.told.items)) (sym same)
+            (subst (λ (t : Talk). IsAt players traffic out (AreKept remaining contents new.site more former out old.guests.items)
+            t.desk t.wire.items (tellings t.told.items)) (sym files.talk)
+            (at_with players traffic out (AreKept remaining contents old.site came former out old.guests.items)
+            (AreKept remaining contents new.site more former out old.guests.items) old.talk.desk old.talk.wire.items
+            (tellings old.talk.told.items) (λ steps kept. record {
+              served = all_filed remaining contents old.site came new.site steps out old.guests.items kept.served;
+              were = all_were_filed remaining contents old.site came new.site steps out former kept.were;
+              known = kept.known;
+            }) so_far.talk));
+        own = subst (λ (t : Talk). AreOwn t.next (numbers (former ++ new.guests.items))) (sym files.talk)
+            (subst (λ (gs : List (Guest S)). AreOwn old.talk.next (numbers (former ++ gs))) (sym same) so_far.own);
+        whole = subst (λ s. NoLineWaits s) (sym files.server) so_far.whole;
+      }
+
   -- (no line is held of a connection that begins)
   begun_whole : (link : Link S) → link.held.items ≡ [] → HoldsNoLine link
   begun_whole link held = λ goes. subst (λ (l : List ℕ). HasNoFeed l) (sym held) (All-nil (λ b. is_feed b ≡ false))
 
-  server_came : (o : Outside) (came : List S) (stream : S) (old new : Hall S) → ServerComes stream old new →
+  server_came : (o : Outside) (came : Before S) (stream : S) (old new : Hall S) → ServerComes stream old new →
       IsHallAt remaining contents players o came old →
       IsHallAt remaining contents players (record { wrote = []; taken = []; presences = true ∷ o.presences }) came new
   server_came o came stream old new comes so_far =
@@ -1371,13 +1402,13 @@ module _ {S : Type 0} (remaining contents : S → Option (List ℕ)) (players : 
       }
 
   turned_by : (past : List (Happening S)) (at : ℕ) (taken : List ℕ) (gone : Bool) (front : List ℕ) (now : Hall S) →
-      IsHallAt remaining contents players (behind_turn taken gone front (outside_in past)) (streams_in past) now →
-      IsHallAt remaining contents players (outside_in (Turned at taken gone front ∷ past)) (streams_in past) now
+      IsHallAt remaining contents players (behind_turn taken gone front (outside_in past)) (before_in past) now →
+      IsHallAt remaining contents players (outside_in (Turned at taken gone front ∷ past)) (before_in past) now
   turned_by past at taken true front now so = so
   turned_by past at taken false front now so = so
 
   begun_at : (site : Site) (now : Hall S) → BeginsHall site players now →
-      IsHallAt remaining contents players (record { wrote = []; taken = []; presences = [] }) [] now
+      IsHallAt remaining contents players (record { wrote = []; taken = []; presences = [] }) (record { streams = []; sites = [] }) now
   begun_at site now begins = record {
     out = [];
     heard = [];
@@ -1391,7 +1422,7 @@ module _ {S : Type 0} (remaining contents : S → Option (List ℕ)) (players : 
       heard = refl;
       presences = refl;
       tells = sym (ap tellings begins.talk.told);
-      holds = subst (λ (gs : List (Guest S)). AreKept remaining contents now.site [] [] [] gs []) (sym begins.guests)
+      holds = subst (λ (gs : List (Guest S)). AreKept remaining contents now.site (record { streams = []; sites = [] }) [] [] gs []) (sym begins.guests)
           (record { served = tt; were = tt; known = λ c come. absurd (false≢true come) });
     };
     own = subst (λ (gs : List (Guest S)). AreOwn now.talk.next (numbers gs)) (sym begins.guests) tt;
@@ -1399,17 +1430,20 @@ module _ {S : Type 0} (remaining contents : S → Option (List ℕ)) (players : 
   }
 
   life_at : (past : List (Happening S)) (now : Hall S) → IsLife remaining contents players past now →
-      IsHallAt remaining contents players (outside_in past) (streams_in past) now
+      IsHallAt remaining contents players (outside_in past) (before_in past) now
   life_at [] now (site, begins) = begun_at site now begins
   life_at (Came stream ∷ past) now (before, life, happens) =
-      admitted (outside_in past) (streams_in past) stream before now happens (life_at past before life)
+      admitted (outside_in past) (before_in past) stream before now happens (life_at past before life)
   life_at (Woke ∷ past) now (before, life, happens) =
-      woken (outside_in past) (streams_in past) before now happens (life_at past before life)
+      woken (outside_in past) (before_in past) before now happens (life_at past before life)
+  life_at (Filed path file site ∷ past) now (before, life, (happens, is)) =
+      subst (λ (s : Site). IsHallAt remaining contents players (outside_in past) (site_more s (before_in past)) now) (sym is)
+      (filed (outside_in past) (before_in past) path file before now happens (life_at past before life))
   life_at (ServerCame stream ∷ past) now (before, life, happens) =
-      server_came (outside_in past) (streams_in past) stream before now happens (life_at past before life)
+      server_came (outside_in past) (before_in past) stream before now happens (life_at past before life)
   life_at (Turned at taken gone front ∷ past) now (before, life, happens) =
       let o = outside_in past in
-      let came = streams_in past in
+      let came = before_in past in
       let t = happens.turned in
       turned_by past at taken gone front now
       (subst (λ (f : List ℕ). IsHallAt remaining contents players (behind_turn taken gone f o) came now) happens.front_is
@@ -1473,6 +1507,9 @@ module _ {S : Type 0} (remaining contents : S → Option (List ℕ)) (players : 
   lobby_life : (passed : List Passing) (now : Hall S) → IsLobbyLife remaining contents players passed now → IsSomeLife now
   lobby_life [] now begins = ([], begins)
   lobby_life (TurnAt at ∷ passed) now (before, life, turn) = turned_life at before now turn (lobby_life passed before life)
+  lobby_life (Changed path file ∷ passed) now (before, life, files) =
+      let so = lobby_life passed before life in
+      (Filed path file before.site ∷ so.0, (before, so.1, (files, refl)))
   lobby_life (Rested ∷ passed) now (before, life, wakes) =
       let so = lobby_life passed before life in
       (Woke ∷ so.0, (before, so.1, wakes))

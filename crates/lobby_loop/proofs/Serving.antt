@@ -20,7 +20,7 @@ use Rattle.lobby_loop.specs.declared.made.Made.{Made}
 use Rattle.lobby_loop.specs.Making.{IsMadeOf}
 use Rattle.lobby_loop.specs.Guests.{IsNewGuest, IsAsBefore, IsRead, IsSaidIf, is_for, AreTold, IsWritten, IsLookedAfter}
 use Rattle.lobby_loop.specs.Living.{numbers}
-use Rattle.lobby_loop.specs.Doing.{Doing, Took, Tried, Gave, WasTold, Wrote, Spot, spot, DoesAt, has_opened, texts_more, texts_given, texts_told, AreLate, message_of, messages_of, IsSaidAs, IsSaidBy, all_tells, told_for, is_opening, before_opening, IsToldAs, IsToldOf, IsToldBy, IsServed, WasClosed, WereServed, AreServed}
+use Rattle.lobby_loop.specs.Doing.{Doing, Took, Tried, Gave, WasTold, Wrote, Spot, spot, DoesAt, IsAt, AllAt, AreAt, Before, has_opened, texts_more, texts_given, texts_told, AreLate, message_of, messages_of, IsSaidAs, IsSaidBy, all_tells, told_for, is_opening, before_opening, IsToldAs, IsToldOf, IsToldBy, IsServed, WasClosed, WereServed, AreServed}
 
 -- ---- events of other connections
 
@@ -115,14 +115,14 @@ record IsQuiet (d : Doing) (past : List Doing) : Type 0 where
 -- nothing came before its socket was open
 no_texts : (past : List Doing) → has_opened past ≡ false → texts_given past ≡ []
 no_texts [] closed = refl
-no_texts (Took bytes ∷ past) closed = no_texts past closed
+no_texts (Took site bytes ∷ past) closed = no_texts past closed
 no_texts (Tried ∷ past) closed = no_texts past closed
 no_texts (Gave None ∷ past) closed = no_texts past closed
 no_texts (Gave (Some heards.Opened) ∷ past) closed = absurd (false≢true (sym closed))
 no_texts (Gave (Some (heards.Text text)) ∷ past) closed =
     ap (λ (b : Bool). texts_more (Some (heards.Text text)) b (texts_given past)) closed ∙ no_texts past closed
 no_texts (WasTold content answer ∷ past) closed = no_texts past closed
-no_texts (Wrote bytes ∷ past) closed = no_texts past closed
+no_texts (Wrote site bytes ∷ past) closed = no_texts past closed
 
 -- ---- messages for a connection
 
@@ -195,20 +195,40 @@ pub closed_if_on : (lost : Bool) (s : Step) (steps : List Step) (until : List Te
 closed_if_on false s steps until n was = tt
 closed_if_on true s steps until n was = closed_on s steps until n was
 
+-- ---- the sites that were served
+
+at_more : (site : Site) (older : List Site) (d : Doing) (past : List Doing) → IsAt site d → AreAt site older past →
+    AreAt site older (d ∷ past)
+at_more site [] d past one all = (one, all)
+at_more site (before ∷ older) d past one (later, earlier, split, all, rest) =
+    (d ∷ later, earlier, ap (λ (l : List Doing). d ∷ l) split, (one, all), rest)
+
+at_none : (site : Site) (older : List Site) → AreAt site older []
+at_none site [] = tt
+at_none site (before ∷ older) = ([], [], refl, tt, at_none before older)
+
+-- one more stream by which a browser came, and one more site that was served
+abbrev pub came_more : {S : Type 0} → S → Before S → Before S
+came_more stream came = record { streams = stream ∷ came.streams; sites = came.sites }
+
+abbrev pub site_more : {S : Type 0} → Site → Before S → Before S
+site_more site came = record { streams = came.streams; sites = site ∷ came.sites }
+
 -- ---- a browser that is connected
 
-module _ {S : Type 0} (remaining contents : S → Option (List ℕ)) (site : Site) (came : List S) where
+module _ {S : Type 0} (remaining contents : S → Option (List ℕ)) (site : Site) (came : Before S) where
   abbrev Served : List Step → List Telling → Option ℕ → Spot S → Type 0
   Served steps out number now = IsServed remaining contents site came steps out number now
 
   done_more : (steps : List Step) (out : List Telling) (n : Option ℕ) (d : Doing) (a b : Spot S) →
-      ((past : List Doing) → IsQuiet d past) → DoesAt remaining contents site d a b → Served steps out n a → Served steps out n b
-  done_more steps out n d a b quiet does was = record {
+      ((past : List Doing) → IsQuiet d past) → IsAt site d → DoesAt remaining contents d a b → Served steps out n a → Served steps out n b
+  done_more steps out n d a b quiet at does was = record {
     first = was.first;
     new = was.new;
     among = was.among;
     past = d ∷ was.past;
     done = (a, was.done, does);
+    sites = at_more site came.sites d was.past at was.sites;
     late = (quiet was.past).late was.late;
     said = said_same n steps was.past (d ∷ was.past) (quiet was.past).opened (quiet was.past).given was.said;
     told = told_same n steps out was.past (d ∷ was.past) (quiet was.past).told was.told;
@@ -232,13 +252,13 @@ module _ {S : Type 0} (remaining contents : S → Option (List ℕ)) (site : Sit
   served_read steps out old new reads was =
       subst (λ (n : Option ℕ). Served steps out n (spot new)) (sym reads.number) (elim reads.takes [
         | inl none ↦ done_more steps out old.number Tried (spot old) (spot new)
-            (λ past. record { opened = refl; given = refl; told = refl; late = λ so_far. so_far }) (
+            (λ past. record { opened = refl; given = refl; told = refl; late = λ so_far. so_far }) tt (
               ap (λ (b : Browser). b.stage) none.0,
               inl (subst (λ (l : List ℕ). Consumes (remaining old.stream) (remaining new.stream) l)
                   none.1 reads.consumed),
             ) was
-        | inr takes ↦ done_more steps out old.number (Took reads.taken) (spot old) (spot new)
-            (λ past. record { opened = refl; given = refl; told = refl; late = λ so_far. so_far }) (reads.consumed, takes.0, takes.1) was
+        | inr takes ↦ done_more steps out old.number (Took site reads.taken) (spot old) (spot new)
+            (λ past. record { opened = refl; given = refl; told = refl; late = λ so_far. so_far }) refl (reads.consumed, takes.0, takes.1) was
       ])
 
   pub served_looked : (steps : List Step) (out : List Telling) (old new : Guest S) → IsLookedAfter old new →
@@ -247,7 +267,7 @@ module _ {S : Type 0} (remaining contents : S → Option (List ℕ)) (site : Sit
       subst (λ (n : Option ℕ). Served steps out n (spot new)) (sym looks.number) (elim looks.said [
         | inl same ↦ stays_at steps out old.number old new same looks.stream was
         | inr pings ↦ done_more steps out old.number (WasTold (Ping []) pings.0) (spot old) (spot new)
-            (λ past. record { opened = refl; given = refl; told = append-nil (texts_told past); late = λ so_far. (inl refl, so_far) }) (looks.stream, refl, pings.1) was
+            (λ past. record { opened = refl; given = refl; told = append-nil (texts_told past); late = λ so_far. (inl refl, so_far) }) tt (looks.stream, refl, pings.1) was
       ])
 
   pub served_written : (steps : List Step) (out : List Telling) (old new : Guest S) → IsWritten contents site old new →
@@ -255,49 +275,51 @@ module _ {S : Type 0} (remaining contents : S → Option (List ℕ)) (site : Sit
   served_written steps out old new written was =
       subst (λ (n : Option ℕ). Served steps out n (spot new)) (sym written.number) (elim written.goes [
         | inl none ↦ done_more steps out old.number Tried (spot old) (spot new)
-            (λ past. record { opened = refl; given = refl; told = refl; late = λ so_far. so_far }) (
+            (λ past. record { opened = refl; given = refl; told = refl; late = λ so_far. so_far }) tt (
               ap (λ (b : Browser). b.stage) none.0,
               inr (subst (λ (k : ℕ). Appends (contents old.stream) (contents new.stream) (take k (pending old.browser.stage))) none.1 written.written),
             ) was
-        | inr writes ↦ done_more steps out old.number (Wrote (take written.count (pending old.browser.stage))) (spot old) (spot new)
-            (λ past. record { opened = refl; given = refl; told = refl; late = λ so_far. so_far })
+        | inr writes ↦ done_more steps out old.number (Wrote site (take written.count (pending old.browser.stage))) (spot old) (spot new)
+            (λ past. record { opened = refl; given = refl; told = refl; late = λ so_far. so_far }) refl
             (written.count, written.within, refl, written.written, writes) was
       ])
 
   -- what it gave next, and what the desk was told of that
   pub gave_nothing : (steps : List Step) (out : List Telling) (n : Option ℕ) (a b : Spot S) →
-      DoesAt remaining contents site (Gave None) a b → Served steps out n a → Served steps out n b
+      DoesAt remaining contents (Gave None) a b → Served steps out n a → Served steps out n b
   gave_nothing steps out n a b does was =
-      done_more steps out n (Gave None) a b (λ past. record { opened = refl; given = refl; told = refl; late = λ so_far. so_far }) does was
+      done_more steps out n (Gave None) a b (λ past. record { opened = refl; given = refl; told = refl; late = λ so_far. so_far }) tt does was
 
   pub gave_again : (steps : List Step) (out : List Telling) (c : ℕ) (a b : Spot S) →
-      DoesAt remaining contents site (Gave (Some heards.Opened)) a b → Served steps out (Some c) a → Served steps out (Some c) b
+      DoesAt remaining contents (Gave (Some heards.Opened)) a b → Served steps out (Some c) a → Served steps out (Some c) b
   gave_again steps out c a b does was = record {
     first = was.first;
     new = was.new;
     among = was.among;
     past = Gave (Some heards.Opened) ∷ was.past;
     done = (a, was.done, does);
+    sites = at_more site came.sites (Gave (Some heards.Opened)) was.past tt was.sites;
     late = was.late;
     said = (refl, was.said.1);
     told = told_same (Some c) steps out was.past (Gave (Some heards.Opened) ∷ was.past) refl was.told;
   }
 
   pub gave_early : (steps : List Step) (out : List Telling) (text : Vec ℕ Global) (a b : Spot S) →
-      DoesAt remaining contents site (Gave (Some (heards.Text text))) a b → Served steps out None a → Served steps out None b
+      DoesAt remaining contents (Gave (Some (heards.Text text))) a b → Served steps out None a → Served steps out None b
   gave_early steps out text a b does was = record {
     first = was.first;
     new = was.new;
     among = was.among;
     past = Gave (Some (heards.Text text)) ∷ was.past;
     done = (a, was.done, does);
+    sites = at_more site came.sites (Gave (Some (heards.Text text))) was.past tt was.sites;
     late = was.late;
     said = was.said;
     told = was.told;
   }
 
   pub gave_opened : (steps : List Step) (s : Step) (out t : List Telling) (c : ℕ) (a b : Spot S) → s.event ≡ Opened c →
-      all_tells steps ≡ out ++ t → DoesAt remaining contents site (Gave (Some heards.Opened)) a b → Served steps out None a →
+      all_tells steps ≡ out ++ t → DoesAt remaining contents (Gave (Some heards.Opened)) a b → Served steps out None a →
       Served (s ∷ steps) out (Some c) b
   gave_opened steps s out t c a b is tells does was =
       let own : is_opening c s.event ≡ true = ap (is_opening c) is ∙ is_same c in
@@ -311,6 +333,7 @@ module _ {S : Type 0} (remaining contents : S → Option (List ℕ)) (site : Sit
         among = was.among;
         past = Gave (Some heards.Opened) ∷ was.past;
         done = (a, was.done, does);
+        sites = at_more site came.sites (Gave (Some heards.Opened)) was.past tt was.sites;
         late = was.late;
         said = (
           refl,
@@ -341,7 +364,7 @@ module _ {S : Type 0} (remaining contents : S → Option (List ℕ)) (site : Sit
 
   pub gave_text : (steps : List Step) (s : Step) (out : List Telling) (c : ℕ) (hurried : Bool) (text : Vec ℕ Global) (shown : List ℕ)
       (a b : Spot S) → s.event ≡ said_event hurried c shown → (IsUtf8 text.items → shown ≡ text.items) →
-      (¬ IsUtf8 text.items → shown ≡ []) → DoesAt remaining contents site (Gave (Some (heards.Text text))) a b →
+      (¬ IsUtf8 text.items → shown ≡ []) → DoesAt remaining contents (Gave (Some (heards.Text text))) a b →
       Served steps out (Some c) a → Served (s ∷ steps) out (Some c) b
   gave_text steps s out c hurried text shown a b is text_is text_is_not does was =
       let (opened, said) = was.said in
@@ -352,6 +375,7 @@ module _ {S : Type 0} (remaining contents : S → Option (List ℕ)) (site : Sit
         among = was.among;
         past = Gave (Some (heards.Text text)) ∷ was.past;
         done = (a, was.done, does);
+        sites = at_more site came.sites (Gave (Some (heards.Text text))) was.past tt was.sites;
         late = was.late;
         said = (
           opened,
@@ -383,6 +407,7 @@ module _ {S : Type 0} (remaining contents : S → Option (List ℕ)) (site : Sit
         among = so.among;
         past = so.past;
         done = so.done;
+        sites = so.sites;
         late = so.late;
         said = so.said;
         told = so.told;
@@ -398,6 +423,7 @@ module _ {S : Type 0} (remaining contents : S → Option (List ℕ)) (site : Sit
               among = was.among;
               past = WasTold (Text (string_bytes made.text)) answer ∷ was.past;
               done = (spot old, was.done, (stream, refl, says));
+              sites = at_more site came.sites (WasTold (Text (string_bytes made.text)) answer) was.past tt was.sites;
               late = (inr was.said.0, was.late);
               said = was.said;
               told = told_further steps out c (telling told) (string_bytes made.text ∷ []) was.past
@@ -413,6 +439,7 @@ module _ {S : Type 0} (remaining contents : S → Option (List ℕ)) (site : Sit
               among = so.among;
               past = so.past;
               done = so.done;
+              sites = so.sites;
               late = so.late;
               said = so.said;
               told = told_further steps out c (telling told) [] so.past so.past (sym (append-nil (texts_told so.past)))
@@ -448,6 +475,7 @@ module _ {S : Type 0} (remaining contents : S → Option (List ℕ)) (site : Sit
     among = was.among;
     past = was.past;
     done = was.done;
+    sites = was.sites;
     late = was.late;
     said = said_on n s steps was.past apart was.said;
     told = told_on n s steps out was.past apart was.told;
@@ -477,7 +505,7 @@ module _ {S : Type 0} (remaining contents : S → Option (List ℕ)) (site : Sit
   all_served_more steps out [] guest none one = (one, tt)
   all_served_more steps out (x ∷ xs) guest (was, were) one = (was, all_served_more steps out xs guest were one)
 
-module _ {S : Type 0} (remaining contents : S → Option (List ℕ)) (site : Site) (came : List S) where
+module _ {S : Type 0} (remaining contents : S → Option (List ℕ)) (site : Site) (came : Before S) where
   pub all_served_on : (s : Step) (steps : List Step) (out : List Telling) (guests : List (Guest S)) →
       AreApart (numbers guests) s.event → AreServed remaining contents site came steps out guests →
       AreServed remaining contents site came (s ∷ steps) out guests
@@ -487,33 +515,56 @@ module _ {S : Type 0} (remaining contents : S → Option (List ℕ)) (site : Sit
 
   -- one more stream by which a browser came
   served_came : (stream : S) (steps : List Step) (out : List Telling) (n : Option ℕ) (now : Spot S) →
-      IsServed remaining contents site came steps out n now → IsServed remaining contents site (stream ∷ came) steps out n now
+      IsServed remaining contents site came steps out n now → IsServed remaining contents site (came_more stream came) steps out n now
   served_came stream steps out n now was = record {
     first = was.first;
     new = was.new;
     among = inr was.among;
     past = was.past;
     done = was.done;
+    sites = was.sites;
     late = was.late;
     said = was.said;
     told = was.told;
   }
 
   pub all_came : (stream : S) (steps : List Step) (out : List Telling) (guests : List (Guest S)) →
-      AreServed remaining contents site came steps out guests → AreServed remaining contents site (stream ∷ came) steps out guests
+      AreServed remaining contents site came steps out guests → AreServed remaining contents site (came_more stream came) steps out guests
   all_came stream steps out [] were = tt
   all_came stream steps out (x ∷ xs) (was, were) =
       (served_came stream steps out x.number (spot x) was, all_came stream steps out xs were)
 
+  -- another site is served
+  served_filed : (new : Site) (steps : List Step) (out : List Telling) (n : Option ℕ) (now : Spot S) →
+      IsServed remaining contents site came steps out n now → IsServed remaining contents new (site_more site came) steps out n now
+  served_filed new steps out n now was = record {
+    first = was.first;
+    new = was.new;
+    among = was.among;
+    past = was.past;
+    done = was.done;
+    sites = ([], was.past, refl, tt, was.sites);
+    late = was.late;
+    said = was.said;
+    told = was.told;
+  }
+
+  pub all_filed : (new : Site) (steps : List Step) (out : List Telling) (guests : List (Guest S)) →
+      AreServed remaining contents site came steps out guests → AreServed remaining contents new (site_more site came) steps out guests
+  all_filed new steps out [] were = tt
+  all_filed new steps out (x ∷ xs) (was, were) =
+      (served_filed new steps out x.number (spot x) was, all_filed new steps out xs were)
+
   pub served_new : (stream : S) (steps : List Step) (out : List Telling) (guest : Guest S) → IsNewGuest stream guest →
-      IsServed remaining contents site (stream ∷ came) steps out guest.number (spot guest)
+      IsServed remaining contents site (came_more stream came) steps out guest.number (spot guest)
   served_new stream steps out guest is =
-      subst (λ (n : Option ℕ). IsServed remaining contents site (stream ∷ came) steps out n (spot guest)) (sym is.number) (record {
+      subst (λ (n : Option ℕ). IsServed remaining contents site (came_more stream came) steps out n (spot guest)) (sym is.number) (record {
         first = spot guest;
         new = is.new;
         among = inl is.stream_is;
         past = [];
         done = refl;
+        sites = at_none site came.sites;
         late = tt;
         said = refl;
         told = refl;
@@ -553,7 +604,7 @@ module _ {S : Type 0} (remaining contents : S → Option (List ℕ)) (site : Sit
 
   pub all_were_came : (stream : S) (steps : List Step) (out : List Telling) (guests : List (Guest S)) →
       WereServed remaining contents site came steps out guests →
-      WereServed remaining contents site (stream ∷ came) steps out guests
+      WereServed remaining contents site (came_more stream came) steps out guests
   all_were_came stream steps out [] were = tt
   all_were_came stream steps out (x ∷ xs) (was, were) = (
     record {
@@ -564,6 +615,21 @@ module _ {S : Type 0} (remaining contents : S → Option (List ℕ)) (site : Sit
       closed = was.closed;
     },
     all_were_came stream steps out xs were,
+  )
+
+  pub all_were_filed : (new : Site) (steps : List Step) (out : List Telling) (guests : List (Guest S)) →
+      WereServed remaining contents site came steps out guests →
+      WereServed remaining contents new (site_more site came) steps out guests
+  all_were_filed new steps out [] were = tt
+  all_were_filed new steps out (x ∷ xs) (was, were) = (
+    record {
+      until = was.until;
+      after = was.after;
+      split = was.split;
+      served = served_filed new steps was.until x.number (spot x) was.served;
+      closed = was.closed;
+    },
+    all_were_filed new steps out xs were,
   )
 
   -- who is let go, in front of those who were

@@ -26,8 +26,8 @@ use Rattle.lobby_web.proofs.SayingLemmas.{uttered}
 use Rattle.lobby_web.proofs.ShutLemmas.{stays-shut, unsaid-shut}
 use Rattle.lobby_desk.specs.Events.{Telling}
 use Rattle.lobby_desk.specs.History.{Step}
-use Rattle.lobby_loop.specs.Doing.{Doing, Took, Tried, Gave, WasTold, Wrote, Spot, HasDone, has_opened, texts_more, texts_given, texts_told, IsLate, AreLate, IsServed as IsGuestServed}
-use Rattle.lobby_loop.specs.Speaking.{bytes_came, bytes_written, texts_said, in_order, IsSilent, IsByHttp, IsSwitched, Speaks}
+use Rattle.lobby_loop.specs.Doing.{Doing, Took, Tried, Gave, WasTold, Wrote, Spot, HasDone, Before, has_opened, texts_more, texts_given, texts_told, IsLate, AreLate, IsServed as IsGuestServed}
+use Rattle.lobby_loop.specs.Speaking.{bytes_came, bytes_written, texts_said, in_order, AreAnsweredBy, IsSiteIn, IsSilent, IsByHttp, IsSwitched, Speaks}
 
 -- ---- one event more at a socket's end
 
@@ -65,6 +65,41 @@ texts_said_more (x ∷ xs) e =
 
 -- ---- what is kept of a socket
 
+-- what HTTP answered stays so, whatever is done later
+answered_later : (d : Doing) (past : List Doing) (calls : List Call) → AreAnsweredBy past calls → AreAnsweredBy (d ∷ past) calls
+answered_later (Took site bytes) past calls so = (calls, [], sym (append-nil calls), so, tt)
+answered_later Tried past calls so = so
+answered_later (Gave heard) past calls so = so
+answered_later (WasTold content answer) past calls so = so
+answered_later (Wrote site bytes) past calls so = (calls, [], sym (append-nil calls), so, tt)
+
+site_later : (d : Doing) (past : List Doing) (site : Site) → IsSiteIn site past → IsSiteIn site (d ∷ past)
+site_later (Took other bytes) past site is = inr is
+site_later Tried past site is = is
+site_later (Gave heard) past site is = is
+site_later (WasTold content answer) past site is = is
+site_later (Wrote other bytes) past site is = inr is
+
+http_later : (d : Doing) (past : List Doing) (came written : List ℕ) (h : History) → IsByHttp past came written h →
+    IsByHttp (d ∷ past) came written h
+http_later d past came written h by = record {
+  served = by.served;
+  answered = answered_later d past h.calls by.answered;
+  received = by.received;
+  sent = by.sent;
+}
+
+switched_later : (d : Doing) (past : List Doing) (h : History) → IsSwitched past h → IsSwitched (d ∷ past) h
+switched_later d past h by = record {
+  before = by.before;
+  last = by.last;
+  calls = by.calls;
+  status = by.status;
+  site = by.site;
+  among = site_later d past by.site by.among;
+  granted = by.granted;
+}
+
 -- what it was to be told and was not
 record Misses (past : List Doing) (socket : Socket) : Type 0 where
   missed : List (List ℕ)
@@ -72,13 +107,13 @@ record Misses (past : List Doing) (socket : Socket) : Type 0 where
   while_open : (missed ≡ []) ⊎ (may_say socket ≡ false)
 
 -- a socket behind HTTP's history, and what happened to it since
-record OnSocket (site : Site) (past : List Doing) (socket : Socket) : Type 0 where
+record OnSocket (past : List Doing) (socket : Socket) : Type 0 where
   last : History
   first : Socket
   front : List ℕ
   front_written : List ℕ
-  http : IsByHttp site front front_written last
-  switched : IsSwitched site last
+  http : IsByHttp past front front_written last
+  switched : IsSwitched past last
   fresh : IsFresh first
   input : first.input.items ≡ last.unread
   output : first.output.items ≡ last.pending
@@ -92,11 +127,11 @@ record OnSocket (site : Site) (past : List Doing) (socket : Socket) : Type 0 whe
   untold : has_opened past ≡ false → socket.is_told ≡ false
   misses : Misses past socket
 
-abbrev Stands : Site → List Doing → Stage → Type 0
-Stands site past (At.Http connection) =
-    (config_of connection ≡ web_config) × IsByHttp site (bytes_came past) (bytes_written past) (history connection) × IsSilent past
-Stands site past (At.Socket socket) = OnSocket site past socket
-Stands site past At.Over = IsSilent past
+abbrev Stands : List Doing → Stage → Type 0
+Stands past (At.Http connection) =
+    (config_of connection ≡ web_config) × IsByHttp past (bytes_came past) (bytes_written past) (history connection) × IsSilent past
+Stands past (At.Socket socket) = OnSocket past socket
+Stands past At.Over = IsSilent past
 
 -- how what was done and what happened agree
 record Agrees (past : List Doing) (d : Doing) (e : Event) : Type 0 where
@@ -110,16 +145,16 @@ more_behind : {A : Type 0} (all front before one new : List A) → all ≡ front
 more_behind all front before one new is more =
     ap (λ l. l ++ one) is ∙ (append_assoc front before one ∙ ap (λ l. front ++ l) (sym more))
 
-on_more : (site : Site) (past : List Doing) (d : Doing) (e : Event) (old new : Socket) → KeepsOpen e → Does e old new →
-    Agrees past d e → (has_opened (d ∷ past) ≡ false → new.is_told ≡ false) → Misses (d ∷ past) new → OnSocket site past old →
-    OnSocket site (d ∷ past) new
-on_more site past d e old new keeps does agrees untold misses was = record {
+on_more : (past : List Doing) (d : Doing) (e : Event) (old new : Socket) → KeepsOpen e → Does e old new →
+    Agrees past d e → (has_opened (d ∷ past) ≡ false → new.is_told ≡ false) → Misses (d ∷ past) new → OnSocket past old →
+    OnSocket (d ∷ past) new
+on_more past d e old new keeps does agrees untold misses was = record {
   last = was.last;
   first = was.first;
   front = was.front;
   front_written = was.front_written;
-  http = was.http;
-  switched = was.switched;
+  http = http_later d past was.front was.front_written was.last was.http;
+  switched = switched_later d past was.last was.switched;
   fresh = was.fresh;
   input = was.input;
   output = was.output;
@@ -169,277 +204,283 @@ misses_unsaid past content old new why does was = record {
 
 -- ---- a socket that begins
 
-answered_more : (site : Site) (a b : List Call) → AreAnswered site a → AreAnswered site b → AreAnswered site (a ++ b)
-answered_more site [] b none more = more
-answered_more site (x ∷ a) b (one, all) more = (one, answered_more site a b all more)
+-- what HTTP answered of these bytes
+http_on : (config : Config) (q : List Doing) (old new : History) (front gone : List ℕ) (site : Site) → config ≡ web_config →
+    ((calls : List Call) → new.calls ≡ old.calls ++ calls → AreAnswered site calls → AreAnsweredBy q new.calls) →
+    old.received ≡ front → old.sent ≡ gone → Serves config site old new → IsByHttp q front gone new
+http_on config q old new front gone site is joins received sent serves = record {
+  served = inr (subst (λ (c : Config). ∥ IsServed c new ∥₁) is serves.served);
+  answered = joins serves.calls serves.called serves.answered;
+  received = serves.received.0 ∙ received;
+  sent = serves.received.1 ∙ sent;
+}
 
-module _ (site : Site) where
-  -- what HTTP answered of these bytes
-  http_on : (config : Config) (old new : History) (front gone : List ℕ) → config ≡ web_config → AreAnswered site old.calls →
-      old.received ≡ front → old.sent ≡ gone → Serves config site old new → IsByHttp site front gone new
-  http_on config old new front gone is answered received sent serves = record {
-    served = inr (subst (λ (c : Config). ∥ IsServed c new ∥₁) is serves.served);
-    answered = subst (λ (l : List Call). AreAnswered site l) (sym serves.called)
-        (answered_more site old.calls serves.calls answered serves.answered);
-    received = serves.received.0 ∙ received;
-    sent = serves.received.1 ∙ sent;
-  }
+answers_on : (site : Site) (q : List Doing) (c : Connection) (old : History) (b : Stage) → config_of c ≡ web_config →
+    ((new calls : List Call) → new ≡ old.calls ++ calls → AreAnswered site calls → AreAnsweredBy q new) → IsSiteIn site q →
+    old.received ≡ bytes_came q → old.sent ≡ bytes_written q → IsSilent q → Answers (config_of c) site old b → Stands q b
+answers_on site q c old (At.Http next) is joins among received sent silent (config, serves, not_switched) = (
+  config ∙ is,
+  http_on (config_of c) q old (history next) (bytes_came q) (bytes_written q) site is (joins (history next).calls) received sent serves,
+  silent,
+)
+answers_on site q c old (At.Socket socket) is joins among received sent silent hands = record {
+  last = hands.last;
+  first = socket;
+  front = bytes_came q;
+  front_written = bytes_written q;
+  http = http_on (config_of c) q old hands.last (bytes_came q) (bytes_written q) site is (joins hands.last.calls) received sent hands.serves;
+  switched = record {
+    before = hands.granted.0;
+    last = hands.granted.1;
+    calls = hands.granted.2;
+    status = hands.granted.3;
+    site = site;
+    among = among;
+    granted = hands.granted.4;
+  };
+  fresh = hands.fresh;
+  input = hands.input;
+  output = hands.output;
+  events = [];
+  keeps = tt;
+  happen = refl;
+  came_is = sym (append-nil (bytes_came q));
+  written_is = sym (append-nil (bytes_written q));
+  given_is = ap in_order (sym silent.given);
+  said_is = sym silent.said;
+  untold = λ closed. hands.fresh.untold;
+  misses = record { missed = []; told = silent.told ∙ ap (λ (l : List (List ℕ)). l ++ []) (sym silent.said); while_open = inl refl };
+}
+answers_on site q c old At.Over is joins among received sent silent any = silent
 
-  answers_on : (q : List Doing) (c : Connection) (old : History) (b : Stage) → config_of c ≡ web_config → AreAnswered site old.calls →
-      old.received ≡ bytes_came q → old.sent ≡ bytes_written q → IsSilent q → Answers (config_of c) site old b → Stands site q b
-  answers_on q c old (At.Http next) is answered received sent silent (config, serves, not_switched) =
-      (config ∙ is, http_on (config_of c) old (history next) (bytes_came q) (bytes_written q) is answered received sent serves, silent)
-  answers_on q c old (At.Socket socket) is answered received sent silent hands = record {
-    last = hands.last;
-    first = socket;
-    front = bytes_came q;
-    front_written = bytes_written q;
-    http = http_on (config_of c) old hands.last (bytes_came q) (bytes_written q) is answered received sent hands.serves;
-    switched = record {
-      before = hands.granted.0;
-      last = hands.granted.1;
-      calls = hands.granted.2;
-      status = hands.granted.3;
-      granted = hands.granted.4;
-    };
-    fresh = hands.fresh;
-    input = hands.input;
-    output = hands.output;
-    events = [];
-    keeps = tt;
-    happen = refl;
-    came_is = sym (append-nil (bytes_came q));
-    written_is = sym (append-nil (bytes_written q));
-    given_is = ap in_order (sym silent.given);
-    said_is = sym silent.said;
-    untold = λ closed. hands.fresh.untold;
-    misses = record { missed = []; told = silent.told ∙ ap (λ (l : List (List ℕ)). l ++ []) (sym silent.said); while_open = inl refl };
-  }
-  answers_on q c old At.Over is answered received sent silent any = silent
+-- ---- one thing more that was done
 
-  -- ---- one thing more that was done
+took_on : (site : Site) (bytes : List ℕ) (past : List Doing) (a b : Stage) → TakesBytes site bytes a b → Stands past a →
+    Stands (Took site bytes ∷ past) b
+took_on site bytes past (At.Http c) b takes (is, http, silent) =
+    answers_on site (Took site bytes ∷ past) c (after_read (history c) bytes) b is
+    (λ new calls so more. ((history c).calls, calls, so, http.answered, more)) (inl refl)
+    (ap (λ (l : List ℕ). l ++ bytes) http.received) http.sent
+    (record { closed = silent.closed; given = silent.given; told = silent.told; said = silent.said }) takes
+took_on site bytes past (At.Socket old) b (new, is, takes) was =
+    subst (λ (s : Stage). Stands (Took site bytes ∷ past) s) (sym is)
+    (on_more past (Took site bytes) (came bytes) old new tt takes (record {
+      comes = refl;
+      writes = sym (append-nil (bytes_written past));
+      gives = sym (append-nil (in_order (texts_given past)));
+      says = sym (append-nil (texts_said past));
+    }) (λ closed. takes.2 ∙ was.untold closed) (misses_on past (Took site bytes) (came bytes) old new takes refl refl was.misses) was)
+took_on site bytes past At.Over b takes was = absurd takes
 
-  took_on : (bytes : List ℕ) (past : List Doing) (a b : Stage) → TakesBytes site bytes a b → Stands site past a →
-      Stands site (Took bytes ∷ past) b
-  took_on bytes past (At.Http c) b takes (is, http, silent) =
-      answers_on (Took bytes ∷ past) c (after_read (history c) bytes) b is http.answered
-      (ap (λ (l : List ℕ). l ++ bytes) http.received) http.sent
-      (record { closed = silent.closed; given = silent.given; told = silent.told; said = silent.said }) takes
-  took_on bytes past (At.Socket old) b (new, is, takes) was =
-      subst (λ (s : Stage). Stands site (Took bytes ∷ past) s) (sym is)
-      (on_more site past (Took bytes) (came bytes) old new tt takes (record {
-        comes = refl;
-        writes = sym (append-nil (bytes_written past));
-        gives = sym (append-nil (in_order (texts_given past)));
-        says = sym (append-nil (texts_said past));
-      }) (λ closed. takes.2 ∙ was.untold closed) (misses_on past (Took bytes) (came bytes) old new takes refl refl was.misses) was)
-  took_on bytes past At.Over b takes was = absurd takes
+wrote_on : (site : Site) (count : ℕ) (past : List Doing) (a b : Stage) → Writes site count a b → Stands past a →
+    Stands (Wrote site (take count (pending a)) ∷ past) b
+wrote_on site count past (At.Http c) b writes (is, http, silent) =
+    answers_on site (Wrote site (take count (history c).pending) ∷ past) c (after_sent (history c) count) b is
+    (λ new calls so more. ((history c).calls, calls, so, http.answered, more)) (inl refl)
+    http.received (ap (λ (l : List ℕ). l ++ take count (history c).pending) http.sent)
+    (record { closed = silent.closed; given = silent.given; told = silent.told; said = silent.said }) writes
+wrote_on site count past (At.Socket old) b (new, is, output, keeps) was =
+    let bytes = take count old.output.items in
+    let does : Does (wrote bytes) old new =
+    (sym (take-append-drop count old.output.items) ∙ ap (λ (l : List ℕ). bytes ++ l) (sym output), keeps) in
+    subst (λ (s : Stage). Stands (Wrote site bytes ∷ past) s) (sym is)
+    (on_more past (Wrote site bytes) (wrote bytes) old new tt does (record {
+      comes = sym (append-nil (bytes_came past));
+      writes = refl;
+      gives = sym (append-nil (in_order (texts_given past)));
+      says = sym (append-nil (texts_said past));
+    }) (λ closed. keeps.3 ∙ was.untold closed) (misses_on past (Wrote site bytes) (wrote bytes) old new does refl refl was.misses) was)
+wrote_on site count past At.Over b writes was =
+    subst (λ (s : Stage). Stands (Wrote site (take count []) ∷ past) s) (sym writes)
+    (record { closed = was.closed; given = was.given; told = was.told; said = was.said })
 
-  wrote_on : (count : ℕ) (past : List Doing) (a b : Stage) → Writes site count a b → Stands site past a →
-      Stands site (Wrote (take count (pending a)) ∷ past) b
-  wrote_on count past (At.Http c) b writes (is, http, silent) =
-      answers_on (Wrote (take count (history c).pending) ∷ past) c (after_sent (history c) count) b is http.answered
-      http.received (ap (λ (l : List ℕ). l ++ take count (history c).pending) http.sent)
-      (record { closed = silent.closed; given = silent.given; told = silent.told; said = silent.said }) writes
-  wrote_on count past (At.Socket old) b (new, is, output, keeps) was =
-      let bytes = take count old.output.items in
-      let does : Does (wrote bytes) old new =
-      (sym (take-append-drop count old.output.items) ∙ ap (λ (l : List ℕ). bytes ++ l) (sym output), keeps) in
-      subst (λ (s : Stage). Stands site (Wrote bytes ∷ past) s) (sym is)
-      (on_more site past (Wrote bytes) (wrote bytes) old new tt does (record {
-        comes = sym (append-nil (bytes_came past));
-        writes = refl;
-        gives = sym (append-nil (in_order (texts_given past)));
-        says = sym (append-nil (texts_said past));
-      }) (λ closed. keeps.3 ∙ was.untold closed) (misses_on past (Wrote bytes) (wrote bytes) old new does refl refl was.misses) was)
-  wrote_on count past At.Over b writes was =
-      subst (λ (s : Stage). Stands site (Wrote (take count []) ∷ past) s) (sym writes)
-      (record { closed = was.closed; given = was.given; told = was.told; said = was.said })
+-- the texts that a socket gave behind that it was told to be open
+text_given : (past : List Doing) (text : Vec ℕ Global) (opened : Bool) → opened ≡ true →
+    in_order (texts_more (Some (heards.Text text)) opened (texts_given past)) ≡ in_order (texts_given past) ++ text.items ∷ []
+text_given past text true is = refl
+text_given past text false is = absurd (false≢true is)
 
-  -- the texts that a socket gave behind that it was told to be open
-  text_given : (past : List Doing) (text : Vec ℕ Global) (opened : Bool) → opened ≡ true →
-      in_order (texts_more (Some (heards.Text text)) opened (texts_given past)) ≡ in_order (texts_given past) ++ text.items ∷ []
-  text_given past text true is = refl
-  text_given past text false is = absurd (false≢true is)
+was_opened : (past : List Doing) (told : Bool) → told ≡ true → (has_opened past ≡ false → told ≡ false) → has_opened past ≡ true
+was_opened past told is untold = elim (cases_Bool (has_opened past)) [
+  | inl opened ↦ opened
+  | inr closed ↦ absurd (false≢true (sym (untold closed) ∙ is))
+]
 
-  was_opened : (past : List Doing) (told : Bool) → told ≡ true → (has_opened past ≡ false → told ≡ false) → has_opened past ≡ true
-  was_opened past told is untold = elim (cases_Bool (has_opened past)) [
-    | inl opened ↦ opened
-    | inr closed ↦ absurd (false≢true (sym (untold closed) ∙ is))
-  ]
+heard_on : (heard : Option Heard) (past : List Doing) (old new : Socket) → Hears old new heard →
+    OnSocket past old → OnSocket (Gave heard ∷ past) new
+heard_on None past old new hears was =
+    let opened = was_opened past old.is_told hears.0 was.untold in
+    on_more past (Gave None) (asked None) old new tt hears (record {
+      comes = sym (append-nil (bytes_came past));
+      writes = sym (append-nil (bytes_written past));
+      gives = sym (append-nil (in_order (texts_given past)));
+      says = sym (append-nil (texts_said past));
+    }) (λ closed. absurd (false≢true (sym closed ∙ opened))) (misses_on past (Gave None) (asked None) old new hears refl refl was.misses) was
+heard_on (Some heards.Opened) past old new hears was =
+    on_more past (Gave (Some heards.Opened)) (asked (Some heards.Opened)) old new tt hears (record {
+      comes = sym (append-nil (bytes_came past));
+      writes = sym (append-nil (bytes_written past));
+      gives = sym (append-nil (in_order (texts_given past)));
+      says = sym (append-nil (texts_said past));
+    }) (λ closed. absurd (false≢true (sym closed)))
+    (misses_on past (Gave (Some heards.Opened)) (asked (Some heards.Opened)) old new hears refl refl was.misses) was
+heard_on (Some (heards.Text text)) past old new hears was =
+    let opened = was_opened past old.is_told hears.0 was.untold in
+    on_more past (Gave (Some (heards.Text text))) (asked (Some (heards.Text text))) old new tt hears (record {
+      comes = sym (append-nil (bytes_came past));
+      writes = sym (append-nil (bytes_written past));
+      gives = text_given past text (has_opened past) opened;
+      says = sym (append-nil (texts_said past));
+    }) (λ closed. absurd (false≢true (sym closed ∙ opened)))
+    (misses_on past (Gave (Some (heards.Text text))) (asked (Some (heards.Text text))) old new hears refl refl was.misses) was
 
-  heard_on : (heard : Option Heard) (past : List Doing) (old new : Socket) → Hears old new heard →
-      OnSocket site past old → OnSocket site (Gave heard ∷ past) new
-  heard_on None past old new hears was =
-      let opened = was_opened past old.is_told hears.0 was.untold in
-      on_more site past (Gave None) (asked None) old new tt hears (record {
-        comes = sym (append-nil (bytes_came past));
-        writes = sym (append-nil (bytes_written past));
-        gives = sym (append-nil (in_order (texts_given past)));
-        says = sym (append-nil (texts_said past));
-      }) (λ closed. absurd (false≢true (sym closed ∙ opened))) (misses_on past (Gave None) (asked None) old new hears refl refl was.misses) was
-  heard_on (Some heards.Opened) past old new hears was =
-      on_more site past (Gave (Some heards.Opened)) (asked (Some heards.Opened)) old new tt hears (record {
-        comes = sym (append-nil (bytes_came past));
-        writes = sym (append-nil (bytes_written past));
-        gives = sym (append-nil (in_order (texts_given past)));
-        says = sym (append-nil (texts_said past));
-      }) (λ closed. absurd (false≢true (sym closed)))
-      (misses_on past (Gave (Some heards.Opened)) (asked (Some heards.Opened)) old new hears refl refl was.misses) was
-  heard_on (Some (heards.Text text)) past old new hears was =
-      let opened = was_opened past old.is_told hears.0 was.untold in
-      on_more site past (Gave (Some (heards.Text text))) (asked (Some (heards.Text text))) old new tt hears (record {
-        comes = sym (append-nil (bytes_came past));
-        writes = sym (append-nil (bytes_written past));
-        gives = text_given past text (has_opened past) opened;
-        says = sym (append-nil (texts_said past));
-      }) (λ closed. absurd (false≢true (sym closed ∙ opened)))
-      (misses_on past (Gave (Some (heards.Text text))) (asked (Some (heards.Text text))) old new hears refl refl was.misses) was
+gave_on : (heard : Option Heard) (past : List Doing) (a b : Stage) → HearsNext a b heard → Stands past a →
+    Stands (Gave heard ∷ past) b
+gave_on heard past (At.Http c) b (none, same) (is, http, silent) =
+    subst (λ (s : Stage). Stands (Gave heard ∷ past) s) (sym same)
+    (subst (λ (h : Option Heard). Stands (Gave h ∷ past) (At.Http c)) (sym none)
+    (is, http_later (Gave None) past (bytes_came past) (bytes_written past) (history c) http, record { closed = silent.closed; given = silent.given; told = silent.told; said = silent.said }))
+gave_on heard past (At.Socket old) b (new, is, hears) was =
+    subst (λ (s : Stage). Stands (Gave heard ∷ past) s) (sym is) (heard_on heard past old new hears was)
+gave_on heard past At.Over b (none, same) silent =
+    subst (λ (s : Stage). Stands (Gave heard ∷ past) s) (sym same)
+    (subst (λ (h : Option Heard). Stands (Gave h ∷ past) At.Over) (sym none)
+    (record { closed = silent.closed; given = silent.given; told = silent.told; said = silent.said }))
 
-  gave_on : (heard : Option Heard) (past : List Doing) (a b : Stage) → HearsNext a b heard → Stands site past a →
-      Stands site (Gave heard ∷ past) b
-  gave_on heard past (At.Http c) b (none, same) (is, http, silent) =
-      subst (λ (s : Stage). Stands site (Gave heard ∷ past) s) (sym same)
-      (subst (λ (h : Option Heard). Stands site (Gave h ∷ past) (At.Http c)) (sym none)
-      (is, http, record { closed = silent.closed; given = silent.given; told = silent.told; said = silent.said }))
-  gave_on heard past (At.Socket old) b (new, is, hears) was =
-      subst (λ (s : Stage). Stands site (Gave heard ∷ past) s) (sym is) (heard_on heard past old new hears was)
-  gave_on heard past At.Over b (none, same) silent =
-      subst (λ (s : Stage). Stands site (Gave heard ∷ past) s) (sym same)
-      (subst (λ (h : Option Heard). Stands site (Gave h ∷ past) At.Over) (sym none)
-      (record { closed = silent.closed; given = silent.given; told = silent.told; said = silent.said }))
+-- what was to be told before the socket was open is no text
+silent_told : (content : Content) (past : List Doing) → IsLate content (has_opened past) → IsSilent past →
+    IsSilent (WasTold content (Err NotOpen) ∷ past)
+silent_told content past late silent =
+    let none : text_of content ≡ [] = elim late [ inl none ↦ none | inr opened ↦ absurd (false≢true (sym silent.closed ∙ opened)) ] in
+    record {
+      closed = silent.closed;
+      given = silent.given;
+      told = ap (λ (l : List (List ℕ)). l ++ text_of content) silent.told ∙ none;
+      said = append-nil (texts_said past) ∙ silent.said;
+    }
 
-  -- what was to be told before the socket was open is no text
-  silent_told : (content : Content) (past : List Doing) → IsLate content (has_opened past) → IsSilent past →
-      IsSilent (WasTold content (Err NotOpen) ∷ past)
-  silent_told content past late silent =
-      let none : text_of content ≡ [] = elim late [ inl none ↦ none | inr opened ↦ absurd (false≢true (sym silent.closed ∙ opened)) ] in
-      record {
-        closed = silent.closed;
-        given = silent.given;
-        told = ap (λ (l : List (List ℕ)). l ++ text_of content) silent.told ∙ none;
-        said = append-nil (texts_said past) ∙ silent.said;
-      }
+told_misses : (content : Content) (answer : Result (Unit {0}) Unsaid) (past : List Doing) (old new : Socket) →
+    Says content old new answer → Misses past old → Misses (WasTold content answer ∷ past) new
+told_misses content (Ok x) past old new says was = misses_said past content old new x says was
+told_misses content (Err why) past old new says was = misses_unsaid past content old new why says was
 
-  told_misses : (content : Content) (answer : Result (Unit {0}) Unsaid) (past : List Doing) (old new : Socket) →
-      Says content old new answer → Misses past old → Misses (WasTold content answer ∷ past) new
-  told_misses content (Ok x) past old new says was = misses_said past content old new x says was
-  told_misses content (Err why) past old new says was = misses_unsaid past content old new why says was
+still_told : (content : Content) (answer : Result (Unit {0}) Unsaid) (old new : Socket) → Says content old new answer →
+    new.is_told ≡ old.is_told
+still_told content (Ok x) old new says = says.4
+still_told content (Err NotOpen) old new says = says.2
+still_told content (Err NotText) old new says = absurd says
+still_told content (Err Slow) old new says = says.4
+still_told content (Err Memory) old new says = says.3
 
-  still_told : (content : Content) (answer : Result (Unit {0}) Unsaid) (old new : Socket) → Says content old new answer →
-      new.is_told ≡ old.is_told
-  still_told content (Ok x) old new says = says.4
-  still_told content (Err NotOpen) old new says = says.2
-  still_told content (Err NotText) old new says = absurd says
-  still_told content (Err Slow) old new says = says.4
-  still_told content (Err Memory) old new says = says.3
+told_on : (content : Content) (answer : Result (Unit {0}) Unsaid) (past : List Doing) (a b : Stage) → is_close content ≡ false →
+    IsLate content (has_opened past) → SaysTo content a b answer → Stands past a → Stands (WasTold content answer ∷ past) b
+told_on content answer past (At.Http c) b keeps late (not_open, same) (is, http, silent) =
+    subst (λ (s : Stage). Stands (WasTold content answer ∷ past) s) (sym same)
+    (subst (λ (r : Result (Unit {0}) Unsaid). Stands (WasTold content r ∷ past) (At.Http c)) (sym not_open) (
+      is,
+      http_later (WasTold content (Err NotOpen)) past (bytes_came past) (bytes_written past) (history c) http,
+      silent_told content past late silent,
+    ))
+told_on content answer past (At.Socket old) b keeps late (new, is, says) was =
+    subst (λ (s : Stage). Stands (WasTold content answer ∷ past) s) (sym is)
+    (on_more past (WasTold content answer) (said content answer) old new keeps says (record {
+      comes = sym (append-nil (bytes_came past));
+      writes = sym (append-nil (bytes_written past));
+      gives = sym (append-nil (in_order (texts_given past)));
+      says = refl;
+    }) (λ closed. still_told content answer old new says ∙ was.untold closed) (told_misses content answer past old new says was.misses) was)
+told_on content answer past At.Over b keeps late (not_open, same) silent =
+    subst (λ (s : Stage). Stands (WasTold content answer ∷ past) s) (sym same)
+    (subst (λ (r : Result (Unit {0}) Unsaid). Stands (WasTold content r ∷ past) At.Over) (sym not_open)
+    (silent_told content past late silent))
 
-  told_on : (content : Content) (answer : Result (Unit {0}) Unsaid) (past : List Doing) (a b : Stage) → is_close content ≡ false →
-      IsLate content (has_opened past) → SaysTo content a b answer → Stands site past a → Stands site (WasTold content answer ∷ past) b
-  told_on content answer past (At.Http c) b keeps late (not_open, same) (is, http, silent) =
-      subst (λ (s : Stage). Stands site (WasTold content answer ∷ past) s) (sym same)
-      (subst (λ (r : Result (Unit {0}) Unsaid). Stands site (WasTold content r ∷ past) (At.Http c)) (sym not_open)
-      (is, http, silent_told content past late silent))
-  told_on content answer past (At.Socket old) b keeps late (new, is, says) was =
-      subst (λ (s : Stage). Stands site (WasTold content answer ∷ past) s) (sym is)
-      (on_more site past (WasTold content answer) (said content answer) old new keeps says (record {
-        comes = sym (append-nil (bytes_came past));
-        writes = sym (append-nil (bytes_written past));
-        gives = sym (append-nil (in_order (texts_given past)));
-        says = refl;
-      }) (λ closed. still_told content answer old new says ∙ was.untold closed) (told_misses content answer past old new says was.misses) was)
-  told_on content answer past At.Over b keeps late (not_open, same) silent =
-      subst (λ (s : Stage). Stands site (WasTold content answer ∷ past) s) (sym same)
-      (subst (λ (r : Result (Unit {0}) Unsaid). Stands site (WasTold content r ∷ past) At.Over) (sym not_open)
-      (silent_told content past late silent))
+-- a socket that was tried for nothing
+tried_on : (past : List Doing) (a : Stage) → Stands past a → Stands (Tried ∷ past) a
+tried_on past (At.Http c) (is, http, silent) =
+    (is, http_later Tried past (bytes_came past) (bytes_written past) (history c) http, record { closed = silent.closed; given = silent.given; told = silent.told; said = silent.said })
+tried_on past (At.Socket socket) was = record {
+  last = was.last;
+  first = was.first;
+  front = was.front;
+  front_written = was.front_written;
+  http = http_later Tried past was.front was.front_written was.last was.http;
+  switched = switched_later Tried past was.last was.switched;
+  fresh = was.fresh;
+  input = was.input;
+  output = was.output;
+  events = was.events;
+  keeps = was.keeps;
+  happen = was.happen;
+  came_is = was.came_is;
+  written_is = was.written_is;
+  given_is = was.given_is;
+  said_is = was.said_is;
+  untold = was.untold;
+  misses = record { missed = was.misses.missed; told = was.misses.told; while_open = was.misses.while_open };
+}
+tried_on past At.Over silent = record { closed = silent.closed; given = silent.given; told = silent.told; said = silent.said }
 
-  -- a socket that was tried for nothing
-  tried_on : (past : List Doing) (a : Stage) → Stands site past a → Stands site (Tried ∷ past) a
-  tried_on past (At.Http c) (is, http, silent) =
-      (is, http, record { closed = silent.closed; given = silent.given; told = silent.told; said = silent.said })
-  tried_on past (At.Socket socket) was = record {
-    last = was.last;
-    first = was.first;
-    front = was.front;
-    front_written = was.front_written;
-    http = was.http;
-    switched = was.switched;
-    fresh = was.fresh;
-    input = was.input;
-    output = was.output;
-    events = was.events;
-    keeps = was.keeps;
-    happen = was.happen;
-    came_is = was.came_is;
-    written_is = was.written_is;
-    given_is = was.given_is;
-    said_is = was.said_is;
-    untold = was.untold;
-    misses = record { missed = was.misses.missed; told = was.misses.told; while_open = was.misses.while_open };
-  }
-  tried_on past At.Over silent = record { closed = silent.closed; given = silent.given; told = silent.told; said = silent.said }
+-- a connection that begins
+begins_at : (a : Stage) → IsNew a → Stands [] a
+begins_at (At.Http c) (config, new) = (
+  config,
+  subst (λ (h : History). IsByHttp [] [] [] h) (sym new) (record { served = inl refl; answered = refl; received = refl; sent = refl }),
+  record { closed = refl; given = refl; told = refl; said = refl },
+)
+begins_at (At.Socket socket) never = absurd never
+begins_at At.Over never = absurd never
 
-  -- a connection that begins
-  begins_at : (a : Stage) → IsNew a → Stands site [] a
-  begins_at (At.Http c) (config, new) = (
-    config,
-    subst (λ (h : History). IsByHttp site [] [] h) (sym new) (record { served = inl refl; answered = tt; received = refl; sent = refl }),
-    record { closed = refl; given = refl; told = refl; said = refl },
-  )
-  begins_at (At.Socket socket) never = absurd never
-  begins_at At.Over never = absurd never
+-- ---- all that was done
 
-  -- ---- all that was done
+module _ {S : Type 0} (remaining contents : S → Option (List ℕ)) (first : Spot S) (new : IsNew first.stage) where
+  stands_at : (past : List Doing) (now : Spot S) → HasDone remaining contents first past now → AreLate past →
+      Stands past now.stage
+  stands_at [] now same late = subst (λ (s : Spot S). Stands [] s.stage) (sym same) (begins_at first.stage new)
+  stands_at (Took site bytes ∷ past) now (before, done, (consumed, wants, takes)) late =
+      took_on site bytes past before.stage now.stage (takes.wanted wants) (stands_at past before done late)
+  stands_at (Tried ∷ past) now (before, done, (same, nothing)) late =
+      subst (λ (s : Stage). Stands (Tried ∷ past) s) (sym same) (tried_on past before.stage (stands_at past before done late))
+  stands_at (Gave heard ∷ past) now (before, done, (same, hears)) late =
+      gave_on heard past before.stage now.stage hears (stands_at past before done late)
+  stands_at (WasTold content answer ∷ past) now (before, done, (same, keeps, says)) (one, late) =
+      told_on content answer past before.stage now.stage keeps one says (stands_at past before done late)
+  stands_at (Wrote site bytes ∷ past) now (before, done, (count, within, is, appended, writes)) late =
+      subst (λ (l : List ℕ). Stands (Wrote site l ∷ past) now.stage) (sym is)
+      (wrote_on site count past before.stage now.stage writes (stands_at past before done late))
 
-  module _ {S : Type 0} (remaining contents : S → Option (List ℕ)) (first : Spot S) (new : IsNew first.stage) where
-    stands_at : (past : List Doing) (now : Spot S) → HasDone remaining contents site first past now → AreLate past →
-        Stands site past now.stage
-    stands_at [] now same late = subst (λ (s : Spot S). Stands site [] s.stage) (sym same) (begins_at first.stage new)
-    stands_at (Took bytes ∷ past) now (before, done, (consumed, wants, takes)) late =
-        took_on bytes past before.stage now.stage (takes.wanted wants) (stands_at past before done late)
-    stands_at (Tried ∷ past) now (before, done, (same, nothing)) late =
-        subst (λ (s : Stage). Stands site (Tried ∷ past) s) (sym same) (tried_on past before.stage (stands_at past before done late))
-    stands_at (Gave heard ∷ past) now (before, done, (same, hears)) late =
-        gave_on heard past before.stage now.stage hears (stands_at past before done late)
-    stands_at (WasTold content answer ∷ past) now (before, done, (same, keeps, says)) (one, late) =
-        told_on content answer past before.stage now.stage keeps one says (stands_at past before done late)
-    stands_at (Wrote bytes ∷ past) now (before, done, (count, within, is, appended, writes)) late =
-        subst (λ (l : List ℕ). Stands site (Wrote l ∷ past) now.stage) (sym is)
-        (wrote_on count past before.stage now.stage writes (stands_at past before done late))
-
-  -- what that says
-  speaks_at : (past : List Doing) (a : Stage) → Stands site past a → Speaks site past a
-  speaks_at past (At.Http c) stands = stands
-  speaks_at past (At.Socket socket) was =
-      let heeds = heeded was.events was.first socket was.keeps was.happen in
-      let utters = uttered was.events was.first socket was.happen in
-      record {
-        last = was.last;
-        first = was.first;
-        came = was.front;
-        later = life.all_bytes was.events;
-        came_is = was.came_is;
-        written = was.front_written;
-        wrote = life.all_written was.events;
-        written_is = was.written_is;
-        http = was.http;
-        switched = was.switched;
-        fresh = was.fresh;
-        heeds = subst (λ (l : List (List ℕ)). Heeds was.first.context (was.last.unread ++ life.all_bytes was.events) l socket) was.given_is
-            (subst (λ (l : List ℕ). Heeds was.first.context (l ++ life.all_bytes was.events) (life.all_texts was.events) socket)
-            was.input heeds);
-        outs = utters.frames;
-        goes = utters.bytes ∙ ap (λ (l : List ℕ). l ++ frames_bytes utters.frames) was.output;
-        texts = utters.texts ∙ was.said_is;
-        missed = was.misses.missed;
-        told = was.misses.told;
-        while_open = was.misses.while_open;
-      }
-  speaks_at past At.Over stands = stands
+-- what that says
+speaks_at : (past : List Doing) (a : Stage) → Stands past a → Speaks past a
+speaks_at past (At.Http c) stands = stands
+speaks_at past (At.Socket socket) was =
+    let heeds = heeded was.events was.first socket was.keeps was.happen in
+    let utters = uttered was.events was.first socket was.happen in
+    record {
+      last = was.last;
+      first = was.first;
+      came = was.front;
+      later = life.all_bytes was.events;
+      came_is = was.came_is;
+      written = was.front_written;
+      wrote = life.all_written was.events;
+      written_is = was.written_is;
+      http = was.http;
+      switched = was.switched;
+      fresh = was.fresh;
+      heeds = subst (λ (l : List (List ℕ)). Heeds was.first.context (was.last.unread ++ life.all_bytes was.events) l socket) was.given_is
+          (subst (λ (l : List ℕ). Heeds was.first.context (l ++ life.all_bytes was.events) (life.all_texts was.events) socket)
+          was.input heeds);
+      outs = utters.frames;
+      goes = utters.bytes ∙ ap (λ (l : List ℕ). l ++ frames_bytes utters.frames) was.output;
+      texts = utters.texts ∙ was.said_is;
+      missed = was.misses.missed;
+      told = was.misses.told;
+      while_open = was.misses.while_open;
+    }
+speaks_at past At.Over stands = stands
 
 module _ {S : Type 0} (remaining contents : S → Option (List ℕ)) (site : Site) where
-  pub served_speaks : (streams : List S) (steps : List Step) (out : List Telling) (number : Option ℕ) (now : Spot S)
-      (served : IsGuestServed remaining contents site streams steps out number now) → Speaks site served.past now.stage
-  served_speaks streams steps out number now served =
-      speaks_at site served.past now.stage
-      (stands_at site remaining contents served.first served.new served.past now served.done served.late)
+  pub served_speaks : (came : Before S) (steps : List Step) (out : List Telling) (number : Option ℕ) (now : Spot S)
+      (served : IsGuestServed remaining contents site came steps out number now) → Speaks served.past now.stage
+  served_speaks came steps out number now served =
+      speaks_at served.past now.stage
+      (stands_at remaining contents served.first served.new served.past now served.done served.late)

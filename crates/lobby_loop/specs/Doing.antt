@@ -17,13 +17,14 @@ use Rattle.lobby_loop.specs.declared.guest.Guest.{Guest}
 use Rattle.lobby_loop.specs.Making.{IsFinished}
 
 -- Bytes came of its socket, none where it is told that no more come; the socket was tried for nothing; it was asked what came
--- next, and gave this; it was to be told this, and that became of it; these bytes were written.
+-- next, and gave this; it was to be told this, and that became of it; these bytes were written. Where bytes came or were written,
+-- this site was served.
 pub data Doing : Type 0 where
-  Took : (bytes : List ℕ) → Doing
+  Took : (site : Site) → (bytes : List ℕ) → Doing
   Tried : Doing
   Gave : (heard : Option Heard) → Doing
   WasTold : (content : Content) → (answer : Result (Unit {0}) Unsaid) → Doing
-  Wrote : (bytes : List ℕ) → Doing
+  Wrote : (site : Site) → (bytes : List ℕ) → Doing
 
 -- where its connection stands, and its socket
 pub record Spot (S : Type 0) : Type 0 where
@@ -35,24 +36,40 @@ spot guest = record { stage = guest.browser.stage; stream = guest.stream }
 
 -- The bytes that its socket gave, where they are wanted, are taken by its connection, and what is written stood in front of what
 -- waits there. The lobby does not begin to close it.
-abbrev pub DoesAt : {S : Type 0} → (S → Option (List ℕ)) → (S → Option (List ℕ)) → Site → Doing → Spot S → Spot S → Type 0
-DoesAt remaining contents site (Took bytes) old new =
+abbrev pub DoesAt : {S : Type 0} → (S → Option (List ℕ)) → (S → Option (List ℕ)) → Doing → Spot S → Spot S → Type 0
+DoesAt remaining contents (Took site bytes) old new =
     Consumes (remaining old.stream) (remaining new.stream) bytes × WantsBytes old.stage × Takes site bytes old.stage new.stage
-DoesAt remaining contents site Tried old new =
+DoesAt remaining contents Tried old new =
     (new.stage ≡ old.stage)
     × (Consumes (remaining old.stream) (remaining new.stream) [] ⊎ Appends (contents old.stream) (contents new.stream) [])
-DoesAt remaining contents site (Gave heard) old new = (new.stream ≡ old.stream) × HearsNext old.stage new.stage heard
-DoesAt remaining contents site (WasTold content answer) old new =
+DoesAt remaining contents (Gave heard) old new = (new.stream ≡ old.stream) × HearsNext old.stage new.stage heard
+DoesAt remaining contents (WasTold content answer) old new =
     (new.stream ≡ old.stream) × (is_close content ≡ false) × SaysTo content old.stage new.stage answer
-DoesAt remaining contents site (Wrote bytes) old new =
+DoesAt remaining contents (Wrote site bytes) old new =
     (count : ℕ) × (count ≤ length (pending old.stage)) × (bytes ≡ take count (pending old.stage))
     × Appends (contents old.stream) (contents new.stream) bytes × Writes site count old.stage new.stage
 
 -- all that was done, the newest first
-abbrev pub HasDone : {S : Type 0} → (S → Option (List ℕ)) → (S → Option (List ℕ)) → Site → Spot S → List Doing → Spot S → Type 0
-HasDone remaining contents site first [] now = now ≡ first
-HasDone {S} remaining contents site first (d ∷ past) now =
-    (before : Spot S) × HasDone remaining contents site first past before × DoesAt remaining contents site d before now
+abbrev pub HasDone : {S : Type 0} → (S → Option (List ℕ)) → (S → Option (List ℕ)) → Spot S → List Doing → Spot S → Type 0
+HasDone remaining contents first [] now = now ≡ first
+HasDone {S} remaining contents first (d ∷ past) now =
+    (before : Spot S) × HasDone remaining contents first past before × DoesAt remaining contents d before now
+
+-- It was done while this site was served.
+abbrev pub IsAt : Site → Doing → Type 0
+IsAt site (Took one bytes) = one ≡ site
+IsAt site (Wrote one bytes) = one ≡ site
+IsAt site _ = Unit {0}
+
+abbrev pub AllAt : Site → List Doing → Type 0
+AllAt site [] = Unit {0}
+AllAt site (d ∷ past) = IsAt site d × AllAt site past
+
+-- All was done while this site was served, or one of those before it, the newest first; and in their order.
+abbrev pub AreAt : Site → List Site → List Doing → Type 0
+AreAt site [] past = AllAt site past
+AreAt site (before ∷ older) past =
+    (later : List Doing) × (earlier : List Doing) × (past ≡ later ++ earlier) × AllAt site later × AreAt before older earlier
 
 -- whether its socket was open, and the texts that came of it since, the newest first
 abbrev pub opens : Option Heard → Bool → Bool
@@ -62,11 +79,11 @@ opens (Some (heards.Text text)) before = before
 
 abbrev pub has_opened : List Doing → Bool
 has_opened [] = false
-has_opened (Took bytes ∷ past) = has_opened past
+has_opened (Took site bytes ∷ past) = has_opened past
 has_opened (Tried ∷ past) = has_opened past
 has_opened (Gave heard ∷ past) = opens heard (has_opened past)
 has_opened (WasTold content answer ∷ past) = has_opened past
-has_opened (Wrote bytes ∷ past) = has_opened past
+has_opened (Wrote site bytes ∷ past) = has_opened past
 
 abbrev pub texts_more : Option Heard → Bool → List (List ℕ) → List (List ℕ)
 texts_more None opened texts = texts
@@ -76,20 +93,20 @@ texts_more (Some (heards.Text text)) false texts = texts
 
 abbrev pub texts_given : List Doing → List (List ℕ)
 texts_given [] = []
-texts_given (Took bytes ∷ past) = texts_given past
+texts_given (Took site bytes ∷ past) = texts_given past
 texts_given (Tried ∷ past) = texts_given past
 texts_given (Gave heard ∷ past) = texts_more heard (has_opened past) (texts_given past)
 texts_given (WasTold content answer ∷ past) = texts_given past
-texts_given (Wrote bytes ∷ past) = texts_given past
+texts_given (Wrote site bytes ∷ past) = texts_given past
 
 -- the texts that it was to be told, in their order
 abbrev pub texts_told : List Doing → List (List ℕ)
 texts_told [] = []
-texts_told (Took bytes ∷ past) = texts_told past
+texts_told (Took site bytes ∷ past) = texts_told past
 texts_told (Tried ∷ past) = texts_told past
 texts_told (Gave heard ∷ past) = texts_told past
 texts_told (WasTold content answer ∷ past) = texts_told past ++ text_of content
-texts_told (Wrote bytes ∷ past) = texts_told past
+texts_told (Wrote site bytes ∷ past) = texts_told past
 
 -- It was to be told texts only behind that its socket was open.
 abbrev pub IsLate : Content → Bool → Type 0
@@ -97,11 +114,11 @@ IsLate content opened = (text_of content ≡ []) ⊎ (opened ≡ true)
 
 abbrev pub AreLate : List Doing → Type 0
 AreLate [] = Unit {0}
-AreLate (Took bytes ∷ past) = AreLate past
+AreLate (Took site bytes ∷ past) = AreLate past
 AreLate (Tried ∷ past) = AreLate past
 AreLate (Gave heard ∷ past) = AreLate past
 AreLate (WasTold content answer ∷ past) = IsLate content (has_opened past) × AreLate past
-AreLate (Wrote bytes ∷ past) = AreLate past
+AreLate (Wrote site bytes ∷ past) = AreLate past
 
 -- ---- what the desk has of it
 
@@ -170,20 +187,26 @@ abbrev pub IsAmong : {S : Type 0} → S → List S → Type 0
 IsAmong one [] = ⊥
 IsAmong one (other ∷ others) = (one ≡ other) ⊎ IsAmong one others
 
--- A browser with this number, at this place: it came by one of these streams, with nothing done; and of all that was done since
--- the desk has what it said, and it was told what went out for it.
-pub record IsServed {S : Type 0} (remaining contents : S → Option (List ℕ)) (site : Site) (came : List S) (steps : List Step)
+-- the streams by which browsers came, and the sites that were served before the one that is served now; the newest first
+pub record Before (S : Type 0) : Type 0 where
+  pub streams : List S
+  pub sites : List Site
+
+-- A browser with this number, at this place: it came by one of these streams, with nothing done; and of all that was done since,
+-- while these sites were served, the desk has what it said, and it was told what went out for it.
+pub record IsServed {S : Type 0} (remaining contents : S → Option (List ℕ)) (site : Site) (came : Before S) (steps : List Step)
     (out : List Telling) (number : Option ℕ) (now : Spot S) : Type 0 where
   pub first : Spot S
   pub new : IsNew first.stage
-  pub among : IsAmong first.stream came
+  pub among : IsAmong first.stream came.streams
   pub past : List Doing
-  pub done : HasDone remaining contents site first past now
+  pub done : HasDone remaining contents first past now
+  pub sites : AreAt site came.sites past
   pub late : AreLate past
   pub said : IsSaidBy steps number past
   pub told : IsToldBy steps out number past
 
-abbrev pub AreServed : {S : Type 0} → (S → Option (List ℕ)) → (S → Option (List ℕ)) → Site → List S → List Step → List Telling
+abbrev pub AreServed : {S : Type 0} → (S → Option (List ℕ)) → (S → Option (List ℕ)) → Site → Before S → List Step → List Telling
     → List (Guest S) → Type 0
 AreServed remaining contents site came steps out [] = Unit {0}
 AreServed remaining contents site came steps out (guest ∷ guests) =
@@ -207,7 +230,7 @@ WasClosed steps until (Some c) = IsClosedBehind steps until c
 
 -- A browser that had this number and stood at this place when it was let go. Until then it was served: it was told what had gone
 -- out for it; and all that the desk has of its number it has said.
-pub record WasServed {S : Type 0} (remaining contents : S → Option (List ℕ)) (site : Site) (came : List S) (steps : List Step)
+pub record WasServed {S : Type 0} (remaining contents : S → Option (List ℕ)) (site : Site) (came : Before S) (steps : List Step)
     (out : List Telling) (number : Option ℕ) (last : Spot S) : Type 0 where
   pub until : List Telling
   pub after : List Telling
@@ -215,7 +238,7 @@ pub record WasServed {S : Type 0} (remaining contents : S → Option (List ℕ))
   pub served : IsServed remaining contents site came steps until number last
   pub closed : WasClosed steps until number
 
-abbrev pub WereServed : {S : Type 0} → (S → Option (List ℕ)) → (S → Option (List ℕ)) → Site → List S → List Step → List Telling
+abbrev pub WereServed : {S : Type 0} → (S → Option (List ℕ)) → (S → Option (List ℕ)) → Site → Before S → List Step → List Telling
     → List (Guest S) → Type 0
 WereServed remaining contents site came steps out [] = Unit {0}
 WereServed remaining contents site came steps out (guest ∷ guests) =

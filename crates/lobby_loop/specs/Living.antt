@@ -8,20 +8,24 @@ use Rattle.lobby_desk.specs.Lines.{bytes_of}
 use Rattle.lobby_desk.specs.Who.{view}
 use Rattle.lobby_desk.specs.History.{Step, has_come, IsRun, AllRight, AllTold}
 use Rattle.lobby_web.specs.declared.site.Site.{Site}
+use Rattle.lobby_web.specs.declared.site.File.{File}
+use Rattle.lobby_web.specs.Pages.{Changes, IsSame}
 use Rattle.lobby_loop.specs.declared.guest.Guest.{Guest}
 use Rattle.lobby_loop.specs.declared.hall.Hall.{Hall}
 use Rattle.lobby_loop.specs.Guests.{IsAsBefore}
 use Rattle.lobby_loop.specs.declared.link.Link.{Link}
 use Rattle.lobby_loop.specs.Lines.{HoldsNoLine, bytes_of as bytes_before}
 use Rattle.lobby_loop.specs.Turning.{BeginsHall, Admits, IsServerAsBefore, ServerComes, HasTurned, bytes_heard, IsLobbyTurn}
-use Rattle.lobby_loop.specs.Doing.{all_tells, AreServed, WereServed}
+use Rattle.lobby_loop.specs.Doing.{all_tells, Before, AreServed, WereServed}
 
--- What happens to a hall: a browser comes, sockets may be ready, the server is there, a turn. In a turn bytes come of the server,
+-- What happens to a hall: a browser comes, sockets may be ready, the server is there, at a path another file is served from now on,
+-- or none, in the place of what this site had, a turn. In a turn bytes come of the server,
 -- then the connection to it may be lost, and behind that bytes are written to it.
 pub data Happening (S : Type 0) : Type 0 where
   Came : (stream : S) → Happening S
   Woke : Happening S
   ServerCame : (stream : S) → Happening S
+  Filed : (path : List ℕ) → (file : Option File) → (before : Site) → Happening S
   Turned : (at : ℕ) → (taken : List ℕ) → (is_gone : Bool) → (front : List ℕ) → Happening S
 
 -- Sockets may be ready, and nothing else happens.
@@ -30,6 +34,20 @@ pub record IsWoken {S : Type 0} (old new : Hall S) : Type 0 where
   pub talk : new.talk ≡ old.talk
   pub server : IsServerAsBefore old.server new.server
   pub site : new.site ≡ old.site
+
+-- At this path this file is served from now on, or none, and nothing else happens.
+pub record Files {S : Type 0} (path : List ℕ) (file : Option File) (old new : Hall S) : Type 0 where
+  pub guests : new.guests ≡ old.guests
+  pub talk : new.talk ≡ old.talk
+  pub server : new.server ≡ old.server
+  pub site : Changes path file old.site new.site
+
+-- The same files are served, and nothing happens.
+pub record KeepsFiles {S : Type 0} (old new : Hall S) : Type 0 where
+  pub guests : new.guests ≡ old.guests
+  pub talk : new.talk ≡ old.talk
+  pub server : new.server ≡ old.server
+  pub site : IsSame old.site new.site
 
 -- a turn in which these bytes come of the server, the connection to it is lost or not, and these bytes are written to it
 pub record TurnsBy {S : Type 0} (remaining contents : S → Option (List ℕ)) (at : ℕ) (taken : List ℕ) (is_gone : Bool)
@@ -43,6 +61,7 @@ abbrev pub Happens : {S : Type 0} → (S → Option (List ℕ)) → (S → Optio
 Happens remaining contents (Came stream) old new = Admits stream old new
 Happens remaining contents Woke old new = IsWoken old new
 Happens remaining contents (ServerCame stream) old new = ServerComes stream old new
+Happens remaining contents (Filed path file before) old new = Files path file old new × (before ≡ old.site)
 Happens remaining contents (Turned at taken is_gone front) old new = TurnsBy remaining contents at taken is_gone front old new
 
 -- a hall that begins, and what happened to it, the newest first
@@ -57,6 +76,7 @@ abbrev pub written_in : {S : Type 0} → List (Happening S) → List ℕ
 written_in [] = []
 written_in (Came stream ∷ past) = written_in past
 written_in (Woke ∷ past) = written_in past
+written_in (Filed path file before ∷ past) = written_in past
 written_in (ServerCame stream ∷ past) = []
 written_in (Turned at taken true front ∷ past) = front
 written_in (Turned at taken false front ∷ past) = written_in past ++ front
@@ -66,6 +86,7 @@ abbrev pub taken_in : {S : Type 0} → List (Happening S) → List ℕ
 taken_in [] = []
 taken_in (Came stream ∷ past) = taken_in past
 taken_in (Woke ∷ past) = taken_in past
+taken_in (Filed path file before ∷ past) = taken_in past
 taken_in (ServerCame stream ∷ past) = []
 taken_in (Turned at taken is_gone front ∷ past) = taken_in past ++ taken
 
@@ -78,6 +99,7 @@ abbrev pub presences_in : {S : Type 0} → List (Happening S) → List Bool
 presences_in [] = []
 presences_in (Came stream ∷ past) = presences_in past
 presences_in (Woke ∷ past) = presences_in past
+presences_in (Filed path file before ∷ past) = presences_in past
 presences_in (ServerCame stream ∷ past) = true ∷ presences_in past
 presences_in (Turned at taken is_gone front ∷ past) = lost_if is_gone (presences_in past)
 
@@ -152,8 +174,21 @@ abbrev pub streams_in : {S : Type 0} → List (Happening S) → List S
 streams_in [] = []
 streams_in (Came stream ∷ past) = stream ∷ streams_in past
 streams_in (Woke ∷ past) = streams_in past
+streams_in (Filed path file before ∷ past) = streams_in past
 streams_in (ServerCame stream ∷ past) = streams_in past
 streams_in (Turned at taken is_gone front ∷ past) = streams_in past
+
+-- the sites that were served before
+abbrev pub sites_in : {S : Type 0} → List (Happening S) → List Site
+sites_in [] = []
+sites_in (Came stream ∷ past) = sites_in past
+sites_in (Woke ∷ past) = sites_in past
+sites_in (Filed path file before ∷ past) = before ∷ sites_in past
+sites_in (ServerCame stream ∷ past) = sites_in past
+sites_in (Turned at taken is_gone front ∷ past) = sites_in past
+
+abbrev pub before_in : {S : Type 0} → List (Happening S) → Before S
+before_in past = record { streams = streams_in past; sites = sites_in past }
 
 -- no whole line of the server is held back, where it is there
 abbrev pub NoLineWaits : {S : Type 0} → Option (Link S) → Type 0
@@ -166,7 +201,7 @@ NoLineWaits (Some link) = HoldsNoLine link
 -- connection goes on no whole line of it waits; the desk was told that the server is there or gone just where it was. What the desk
 -- told connections went out of its hands, and the rest of it is to go. Of all browsers that came, those that were let go too, no two
 -- have one connection's number, and the desk was told of no connection but theirs; the desk has, under its number, all that a browser
--- said, and of what went out it was told all that is for its number.
+-- said, and of what went out it was told all that is for its number. Its requests have the answers of the sites that were served.
 pub record IsRightLife {S : Type 0} (remaining contents : S → Option (List ℕ)) (players : List Player) (past : List (Happening S))
     (now : Hall S) : Type 0 where
   pub steps : List Step
@@ -185,12 +220,14 @@ pub record IsRightLife {S : Type 0} (remaining contents : S → Option (List ℕ
   pub gone : List (Guest S)
   pub own : AreOwn now.talk.next (numbers (gone ++ now.guests.items))
   pub known : AreKnown steps gone now.guests.items
-  pub served : AreServed remaining contents now.site (streams_in past) steps out now.guests.items
-  pub were : WereServed remaining contents now.site (streams_in past) steps out gone
+  pub served : AreServed remaining contents now.site (before_in past) steps out now.guests.items
+  pub were : WereServed remaining contents now.site (before_in past) steps out gone
 
--- Turns of a lobby, at these moments, and rests between them, in which sockets may become ready.
+-- Turns of a lobby, at these moments, and between them rests, in which sockets may become ready, and files that are served from then
+-- on, or no more.
 pub data Passing : Type 0 where
   TurnAt : (at : ℕ) → Passing
+  Changed : (path : List ℕ) → (file : Option File) → Passing
   Rested : Passing
 
 -- a lobby that begins, and what passed, the newest first
@@ -201,3 +238,5 @@ IsLobbyLife {S} remaining contents players (TurnAt at ∷ past) now =
     (before : Hall S) × IsLobbyLife remaining contents players past before × IsLobbyTurn remaining contents at before now
 IsLobbyLife {S} remaining contents players (Rested ∷ past) now =
     (before : Hall S) × IsLobbyLife remaining contents players past before × IsWoken before now
+IsLobbyLife {S} remaining contents players (Changed path file ∷ past) now =
+    (before : Hall S) × IsLobbyLife remaining contents players past before × Files path file before now

@@ -4,6 +4,7 @@ ghost use Rattle.std.specs.String.{string_bytes};
 ghost use Rattle.lobby_desk.specs.Who.{IsReady, at_table};
 ghost use Rattle.lobby_loop.specs.Guests.{IsNewGuest, IsAsBefore, IsRead, IsAsked, IsHeard, IsTextSaid, IsSaid, IsTold, AreTold, IsWritten, IsLookedAfter};
 
+use crate::counts::{Asked, Counts};
 use crate::made::Made;
 use crate::pieces::{Came, Gone, PIECE_ROOM, read_piece, write_piece};
 use crate::talk::Talk;
@@ -42,6 +43,8 @@ pub struct Guest<S> {
     heard_at: u64,
     /// Whether it was asked since whether it is there.
     is_asked: bool,
+    /// When its messages were taken that are not answered.
+    asked: Asked,
 }
 
 // Whether a connection is among these.
@@ -68,6 +71,7 @@ impl<S> Guest<S> {
             came_at: at,
             heard_at: at,
             is_asked: false,
+            asked: Asked::new(),
         }
     }
 
@@ -134,7 +138,13 @@ impl<S> Guest<S> {
     }
 
     // Its next message is said to the desk.
-    fn listen(&mut self, number: u64, talk: &mut Talk, at: u64) -> Result<bool, AllocError>
+    fn listen(
+        &mut self,
+        number: u64,
+        talk: &mut Talk,
+        at: u64,
+        counts: &mut Counts,
+    ) -> Result<bool, AllocError>
         requires number { self.old.number ≡ Some number }
         requires ready { IsReady talk.old.desk number }
         ensures { OnOk result (IsAsked at self.old self.new talk.old talk.new) }
@@ -151,6 +161,8 @@ impl<S> Guest<S> {
             }
             Some(Heard::Text(text)) => {
                 say_to_desk(text.as_slice(), number, talk, at)?;
+                counts.said();
+                self.asked.push(at);
                 Ok(true)
             }
         }
@@ -158,7 +170,12 @@ impl<S> Guest<S> {
 
     /// What came next of it is said to the desk: that its socket is open, or a message, once the one before it is answered.
     /// It tells whether there was any.
-    pub fn hear(&mut self, talk: &mut Talk, at: u64) -> Result<bool, AllocError>
+    pub fn hear(
+        &mut self,
+        talk: &mut Talk,
+        at: u64,
+        counts: &mut Counts,
+    ) -> Result<bool, AllocError>
         ensures { OnOk result (IsHeard at self.old self.new talk.old talk.new) }
     {
         if !self.has_more || self.is_lost {
@@ -168,7 +185,7 @@ impl<S> Guest<S> {
             None => self.welcome(talk, at),
             Some(number) => {
                 if talk.is_ready(number) {
-                    self.listen(number, talk, at)
+                    self.listen(number, talk, at, counts)
                 } else {
                     Ok(false)
                 }
@@ -190,7 +207,7 @@ impl<S> Guest<S> {
     }
 
     // It is told a message, if that goes to it.
-    fn be_told(&mut self, made: &Made)
+    fn be_told(&mut self, made: &Made, counts: &mut Counts)
         ensures { IsTold made.now self.old self.new }
     {
         match self.number {
@@ -198,17 +215,18 @@ impl<S> Guest<S> {
             Some(number) => {
                 if is_among(made.to.as_slice(), number) {
                     self.be_told_text(made.text.as_str());
+                    counts.told(made.text.as_str(), &mut self.asked);
                 }
             }
         }
     }
 
     /// It is told those of these messages that go to it, in their order.
-    pub fn be_told_all(&mut self, made: &[Made])
+    pub fn be_told_all(&mut self, made: &[Made], counts: &mut Counts)
         ensures { AreTold made.now self.old self.new }
     {
         for one in made {
-            self.be_told(one);
+            self.be_told(one, counts);
         }
     }
 

@@ -5,7 +5,7 @@ ghost use Rattle.lobby_desk.specs.Events.{Telling};
 ghost use Rattle.lobby_desk.specs.History.{Step};
 ghost use Rattle.lobby_web.specs.declared.site.Site.{Site};
 ghost use Rattle.lobby_loop.specs.declared.hall.Hall.{Hall};
-ghost use Rattle.lobby_loop.specs.Doing.{Spot, IsServed};
+ghost use Rattle.lobby_loop.specs.Doing.{Spot, Before, IsServed};
 ghost use Rattle.lobby_loop.specs.Living.{Happening, IsLife, IsRightLife, Passing, IsLobbyLife};
 ghost use Rattle.lobby_loop.specs.Speaking.{Speaks};
 
@@ -33,7 +33,7 @@ pub fn law_of_lobbies<S>()
 /// that it was told are those of the frames among the bytes that were written to it and wait, in their order, all of them while
 /// its socket is open. Before that HTTP answers what came, and nothing is said.
 pub fn law_of_browsers<S>()
-    ensures { (remaining contents : S → Option (List ℕ)) (site : Site) (came : List S) (steps : List Step) (out : List Telling)
+    ensures { (remaining contents : S → Option (List ℕ)) (site : Site) (came : Before S) (steps : List Step) (out : List Telling)
         (number : Option ℕ) (now : Spot S) → (served : IsServed remaining contents site came steps out number now) →
-        Speaks site served.past now.stage }
+        Speaks served.past now.stage }
 {}

@@ -1,13 +1,14 @@
 //! The sockets of a lobby, and what wakes it.
-ghost use Rattle.std.specs.Prelude.{◌≡◌, List, None, IfOk, OnOk, is_some};
+ghost use Rattle.std.specs.Prelude.{◌≡◌, List, None, Some, IfOk, OnOk, OnErr, is_some};
 ghost use Rattle.mio.specs.declared.net.stream.TcpStream.{TcpStream};
 ghost use Rattle.lobby_loop.specs.Turning.{BeginsHall, AreAdmitted, IsReached, IsLobbyTurn, unknown};
-ghost use Rattle.lobby_loop.specs.Living.{IsWoken};
+ghost use Rattle.lobby_loop.specs.Living.{IsWoken, Files, KeepsFiles};
 
+use crate::counts::Counts;
 use crate::door::{Entrance, Gate, Welcomed, welcome};
 use crate::hall::Hall;
 use lobby_desk::Player;
-use lobby_web::Site;
+use lobby_web::{File, Site};
 use mio::net::TcpStream;
 use mio::{Events, Interest, Poll, Token};
 use std::alloc::{AllocError, Global};
@@ -165,6 +166,31 @@ impl Lobby {
     /// How many connections were turned away since it began; at most 2^64 - 1.
     pub fn turned_away(&self) -> u64 {
         self.hall.turned_away()
+    }
+
+    /// How many browsers are connected.
+    pub fn connections(&self) -> usize {
+        self.hall.len()
+    }
+
+    /// What was counted since it began.
+    pub fn counts(&self) -> &Counts {
+        self.hall.counts()
+    }
+
+    /// From now on this file is served at its path, in the place of the one that was there, if any.
+    pub fn put_file(&mut self, file: File) -> Result<(), AllocError>
+        ensures put { OnOk result (Files file.path.items (Some file) self.old.hall self.new.hall) }
+        ensures err { OnErr result (KeepsFiles self.old.hall self.new.hall) }
+    {
+        self.hall.put_file(file)
+    }
+
+    /// From now on nothing is served at this path.
+    pub fn take_off_file(&mut self, path: &[u8])
+        ensures { Files path.now None self.old.hall self.new.hall }
+    {
+        self.hall.take_off_file(path);
     }
 
     // Accepts who waits at the entrance, and tells whether more may.

@@ -1,0 +1,149 @@
+//! What is counted for who looks after a lobby. No law speaks of it, and nothing else goes by it.
+
+/// The acts: the second words of their answers.
+pub const ACTS: [&str; 10] = [
+    "open", "join", "move", "offer", "accept", "decline", "resign", "claim", "flag", "drop",
+];
+
+/// The bounds of answers' times, in milliseconds.
+pub const BOUNDS: [u64; 12] = [1, 2, 5, 10, 20, 50, 100, 200, 500, 1_000, 2_000, 5_000];
+
+/// What was counted since a lobby began. No number goes beyond 2^64 - 1.
+#[derive(Clone, Copy, Debug)]
+pub struct Counts {
+    /// The moment of the turn.
+    pub at: u64,
+    /// Messages that were taken.
+    pub messages: u64,
+    /// Answers by their first words: `ok`, `no`, `fallen` and `lost`.
+    pub ok: u64,
+    pub no: u64,
+    pub fallen: u64,
+    pub lost: u64,
+    /// Acts that were accepted by `ok`, as `ACTS` has them.
+    pub acts: [u64; 10],
+    /// Answers whose time is known, their times together, and how many of them are within each of `BOUNDS`.
+    pub timed: u64,
+    pub time: u64,
+    pub within: [u64; 12],
+}
+
+// One more.
+fn count(number: &mut u64) {
+    *number = number.saturating_add(1);
+}
+
+// The word in front of a text.
+fn first_word(text: &str) -> &str {
+    match text.split_once(' ') {
+        Some((word, _)) => word,
+        None => text.trim_end(),
+    }
+}
+
+// The word behind that.
+fn second_word(text: &str) -> &str {
+    match text.split_once(' ') {
+        Some((_, rest)) => first_word(rest),
+        None => "",
+    }
+}
+
+impl Counts {
+    /// Nothing was counted.
+    pub fn new() -> Counts {
+        Counts {
+            at: 0,
+            messages: 0,
+            ok: 0,
+            no: 0,
+            fallen: 0,
+            lost: 0,
+            acts: [0; 10],
+            timed: 0,
+            time: 0,
+            within: [0; 12],
+        }
+    }
+
+    /// A message was taken.
+    pub fn said(&mut self) {
+        count(&mut self.messages);
+    }
+
+    // An act was accepted, if it is one.
+    fn acted(&mut self, word: &str) {
+        for (act, number) in ACTS.iter().zip(self.acts.iter_mut()) {
+            if *act == word {
+                count(number);
+            }
+        }
+    }
+
+    // An answer came so many milliseconds behind its message.
+    fn took(&mut self, time: u64) {
+        count(&mut self.timed);
+        self.time = self.time.saturating_add(time);
+        for (bound, number) in BOUNDS.iter().zip(self.within.iter_mut()) {
+            if time <= *bound {
+                count(number);
+            }
+        }
+    }
+
+    // An answer goes out to the earliest message that has none, where that is known.
+    fn answered(&mut self, asked: &mut Asked) {
+        if let Some(asked_at) = asked.take() {
+            self.took(self.at.saturating_sub(asked_at));
+        }
+    }
+
+    /// A browser that asked at these moments is told a text: an answer, or a notice, which is not counted.
+    pub fn told(&mut self, text: &str, asked: &mut Asked) {
+        match first_word(text) {
+            "ok" => {
+                count(&mut self.ok);
+                self.acted(second_word(text));
+            }
+            "no" => count(&mut self.no),
+            "fallen" => count(&mut self.fallen),
+            "lost" => count(&mut self.lost),
+            _ => return,
+        }
+        self.answered(asked);
+    }
+}
+
+/// When the messages were taken that are not answered yet: one whose answer is on its way, and one behind it.
+#[derive(Clone, Copy, Debug)]
+pub struct Asked {
+    first: Option<u64>,
+    second: Option<u64>,
+}
+
+impl Asked {
+    /// Nothing was asked.
+    pub fn new() -> Asked {
+        Asked {
+            first: None,
+            second: None,
+        }
+    }
+
+    /// A message was taken at a moment.
+    pub fn push(&mut self, at: u64) {
+        if self.first.is_none() {
+            self.first = Some(at);
+        } else {
+            self.second = Some(at);
+        }
+    }
+
+    /// The moment of the earliest that is not answered: it is now.
+    pub fn take(&mut self) -> Option<u64> {
+        let asked_at = self.first;
+        self.first = self.second;
+        self.second = None;
+        asked_at
+    }
+}
