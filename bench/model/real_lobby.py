@@ -143,10 +143,10 @@ class Relay:
 
 
 class Programs:
-    """Server, relay and lobby, over a players' file with lines `NAME ROLE TOKEN FULL NAME`."""
+    """Server, relay and lobby, over a players' file with lines `NAME ROLE TOKEN FULL NAME`; the lobby with more words."""
 
-    def __init__(self, folder, players, has_relay=True):
-        self.folder, self.port = folder, 0
+    def __init__(self, folder, players, has_relay=True, more=()):
+        self.folder, self.port, self.more = folder, 0, more
         self.club = os.path.join(folder, 'club.players')
         with open(players) as file, open(self.club, 'w') as club:
             for row in file.read().splitlines():
@@ -161,7 +161,7 @@ class Programs:
         self.process = subprocess.Popen(
             [self.program, 'serve', '--players', self.club,
              '--server', '127.0.0.1:%d' % (self.relay or self.server).port,
-             '--port', str(self.port), '--page', os.path.join(TOP, 'page')],
+             '--port', str(self.port), '--page', os.path.join(TOP, 'page'), *self.more],
             stdout=subprocess.PIPE, stderr=subprocess.DEVNULL, text=True)
         self.address = self.process.stdout.readline().strip()
         self.port = int(self.address.rstrip('/').rsplit(':', 1)[1])

@@ -3,6 +3,8 @@
 
 mod adding;
 mod clock;
+mod health;
+mod live;
 mod page;
 mod serving;
 

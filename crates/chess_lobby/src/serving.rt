@@ -1,5 +1,7 @@
 //! The word that serves browsers.
 use crate::clock::Moments;
+use crate::health::Health;
+use crate::live::Live;
 use crate::page::{is_loopback, site_of};
 use anyhow::{Context, Result};
 use lobby_commands::Serving;
@@ -55,21 +57,26 @@ impl<R: Eprint> Telling<'_, R> {
 }
 
 // Takes turns until something is at fault.
-fn take_turns<R: Clock + Eprint + Net>(
-    rt: &R,
-    server: SocketAddr,
-    lobby: &mut Lobby,
-) -> Result<()> {
+fn take_turns<R>(rt: &R, serving: &Serving<'_>, lobby: &mut Lobby) -> Result<()>
+where
+    R: Files + AllocGlobal + Clone + Drop + Clock + Eprint + Net,
+{
     let mut moments = Moments::new(rt)?;
     let mut telling = Telling {
         rt,
-        server,
+        server: serving.server,
         is_here: false,
         turned_away: 0,
         next_at: 0,
     };
+    let mut health = Health::new(rt.alloc());
+    let mut live = serving.live.map(|file| Live::new(rt, file));
     for _ in 0..u64::MAX {
         let at = moments.next();
+        health.look(lobby, at)?;
+        if let Some(live) = &mut live {
+            live.look(lobby, at)?;
+        }
         let turned = lobby.turn(rt, at)?;
         telling.tell_server(lobby.has_server());
         telling.tell_turned_away(lobby.turned_away(), at);
@@ -104,5 +111,5 @@ where
     if !is_loopback(address) {
         eprintln!(rt; "the line is not encrypted: whoever is on the way reads along, links too")?;
     }
-    take_turns(rt, serving.server, &mut lobby)
+    take_turns(rt, serving, &mut lobby)
 }

@@ -15,6 +15,10 @@ waits for it, and browsers are told; it may be ended and started again at any ti
 A browser is served where it names a host that is taken: 127.0.0.1, localhost and the
 address, each with the port, and what --host names, with the port and without one.
 
+Besides the page there are /board/G for a screen that shows game G, /boards for one that
+shows all, and /health with figures as Prometheus reads them. /live.pgn is the file of
+--live, read anew when it has changed.
+
 It goes on until it is ended: kill it, by any signal. Nothing is lost by that.
 
 The line is not encrypted. On an address other than 127.0.0.1 whoever is on the way reads
@@ -66,6 +70,8 @@ pub struct Serving<'a> {
     pub page: &'a str,
     /// The names of hosts that are taken besides.
     pub hosts: Vec<&'a str>,
+    /// The file of games that is served as `/live.pgn`.
+    pub live: Option<&'a str>,
 }
 
 /// Who is put into a players' file, and the address of the page for the link.
@@ -120,6 +126,12 @@ fn serve_command<'a>(alloc: Global) -> Result<Command<'a>, AllocError> {
         "A name by which browsers reach it; it may be given several times",
     )
     .action(ArgAction::Append);
+    let live = option(
+        alloc,
+        "live",
+        "FILE",
+        "A file of games that is served as /live.pgn, as it stands",
+    );
     Command::new(alloc, "serve")
         .about("Serves the page and its players, over a game server")
         .after_help(HELP_OF_SERVE)
@@ -128,7 +140,8 @@ fn serve_command<'a>(alloc: Global) -> Result<Command<'a>, AllocError> {
         .arg(port)?
         .arg(address)?
         .arg(page)?
-        .arg(host)
+        .arg(host)?
+        .arg(live)
 }
 
 fn player_command<'a>(alloc: Global) -> Result<Command<'a>, AllocError> {
@@ -202,6 +215,7 @@ fn serving_of<'a>(
         address: SocketAddr::new(address, values.get_one("port").unwrap_or(PORT)),
         page: values.get_str("page").unwrap_or("page"),
         hosts: Vec::from_slice(alloc, values.get_strs("host").unwrap_or(&[]))?,
+        live: values.get_str("live"),
     }))
 }
 

@@ -1,0 +1,212 @@
+//! What is told of a lobby to who looks after it, as Prometheus reads it.
+use bytes::Bytes;
+use lobby_loop::{ACTS, BOUNDS, Counts, Lobby};
+use lobby_web::{File, Kind};
+use std::alloc::{AllocError, Global};
+
+/// The path at which it is served.
+const PATH: &[u8] = b"/health";
+
+/// So many milliseconds lie at least between two texts.
+const REST: u64 = 1_000;
+
+// The lines in front of a figure: what it tells, and of what kind it is.
+fn put_head(
+    text: &mut String,
+    alloc: Global,
+    name: &str,
+    kind: &str,
+    help: &str,
+) -> Result<(), AllocError> {
+    let head = format!(in alloc;
+        "# HELP chess_lobby_{name} {help}\n# TYPE chess_lobby_{name} {kind}\n"
+    )?;
+    text.push_str(head.as_str())
+}
+
+// A figure that is one number.
+fn put_number(
+    text: &mut String,
+    alloc: Global,
+    name: &str,
+    kind: &str,
+    help: &str,
+    number: u64,
+) -> Result<(), AllocError> {
+    put_head(text, alloc, name, kind, help)?;
+    let line = format!(in alloc; "chess_lobby_{name} {number}\n")?;
+    text.push_str(line.as_str())
+}
+
+// A number of a figure that has several, by what they are told apart.
+fn put_labelled(
+    text: &mut String,
+    alloc: Global,
+    name: &str,
+    label: &str,
+    value: &str,
+    number: u64,
+) -> Result<(), AllocError> {
+    let line = format!(in alloc; "chess_lobby_{name}{{{label}=\"{value}\"}} {number}\n")?;
+    text.push_str(line.as_str())
+}
+
+// Milliseconds as seconds.
+fn seconds(alloc: Global, milliseconds: u64) -> Result<String, AllocError> {
+    let whole = milliseconds / 1_000;
+    let rest = milliseconds % 1_000;
+    format!(in alloc; "{whole}.{rest:03}")
+}
+
+// Whether the server is there, and who is.
+fn put_connections(text: &mut String, alloc: Global, lobby: &Lobby) -> Result<(), AllocError> {
+    put_number(
+        text,
+        alloc,
+        "server_up",
+        "gauge",
+        "Whether the lobby has its connection to the game server: 1, else 0.",
+        u64::from(lobby.has_server()),
+    )?;
+    put_number(
+        text,
+        alloc,
+        "connections",
+        "gauge",
+        "Browsers that are connected now, the one that asks too.",
+        lobby.connections() as u64,
+    )?;
+    put_number(
+        text,
+        alloc,
+        "turned_away_total",
+        "counter",
+        "Connections that were turned away since the lobby began.",
+        lobby.turned_away(),
+    )
+}
+
+// What was said, and what was answered.
+fn put_answers(text: &mut String, alloc: Global, counts: &Counts) -> Result<(), AllocError> {
+    put_number(
+        text,
+        alloc,
+        "messages_total",
+        "counter",
+        "Messages that were taken of browsers.",
+        counts.messages,
+    )?;
+    put_head(
+        text,
+        alloc,
+        "answers_total",
+        "counter",
+        "Answers to them, by their first word.",
+    )?;
+    put_labelled(text, alloc, "answers_total", "word", "ok", counts.ok)?;
+    put_labelled(text, alloc, "answers_total", "word", "no", counts.no)?;
+    put_labelled(
+        text,
+        alloc,
+        "answers_total",
+        "word",
+        "fallen",
+        counts.fallen,
+    )?;
+    put_labelled(text, alloc, "answers_total", "word", "lost", counts.lost)?;
+    put_head(
+        text,
+        alloc,
+        "acts_total",
+        "counter",
+        "Acts that were accepted, by the word behind ok.",
+    )?;
+    for (act, number) in ACTS.iter().zip(counts.acts.iter()) {
+        put_labelled(text, alloc, "acts_total", "act", act, *number)?;
+    }
+    Ok(())
+}
+
+// How long answers took.
+fn put_times(text: &mut String, alloc: Global, counts: &Counts) -> Result<(), AllocError> {
+    let name = "answer_seconds";
+    put_head(
+        text,
+        alloc,
+        name,
+        "histogram",
+        "Time from the turn that takes a message to the turn that sends its answer, in whole milliseconds.",
+    )?;
+    for (bound, number) in BOUNDS.iter().zip(counts.within.iter()) {
+        let bound = seconds(alloc, *bound)?;
+        put_labelled(
+            text,
+            alloc,
+            "answer_seconds_bucket",
+            "le",
+            bound.as_str(),
+            *number,
+        )?;
+    }
+    put_labelled(
+        text,
+        alloc,
+        "answer_seconds_bucket",
+        "le",
+        "+Inf",
+        counts.timed,
+    )?;
+    let sum = seconds(alloc, counts.time)?;
+    let count = counts.timed;
+    let lines = format!(in alloc;
+        "chess_lobby_{name}_sum {sum}\nchess_lobby_{name}_count {count}\n"
+    )?;
+    text.push_str(lines.as_str())
+}
+
+// All of it, at a moment.
+fn health_text(alloc: Global, lobby: &Lobby, at: u64) -> Result<String, AllocError> {
+    let mut text = String::new(alloc);
+    put_head(
+        &mut text,
+        alloc,
+        "up_seconds",
+        "gauge",
+        "Seconds since the lobby began.",
+    )?;
+    let up = seconds(alloc, at)?;
+    let line = format!(in alloc; "chess_lobby_up_seconds {up}\n")?;
+    text.push_str(line.as_str())?;
+    put_connections(&mut text, alloc, lobby)?;
+    put_answers(&mut text, alloc, lobby.counts())?;
+    put_times(&mut text, alloc, lobby.counts())?;
+    Ok(text)
+}
+
+/// The text that is served, and from when on another is made.
+#[derive(Drop)]
+pub struct Health {
+    alloc: Global,
+    next_at: u64,
+}
+
+impl Health {
+    /// None was made.
+    pub fn new(alloc: Global) -> Health {
+        Health { alloc, next_at: 0 }
+    }
+
+    /// The text is made anew, where the one that is served is older than a second.
+    pub fn look(&mut self, lobby: &mut Lobby, at: u64) -> Result<(), AllocError> {
+        if at < self.next_at {
+            return Ok(());
+        }
+        self.next_at = at.saturating_add(REST);
+        let text = health_text(self.alloc, lobby, at)?;
+        lobby.put_file(File {
+            path: PATH.to_vec(self.alloc)?,
+            kind: Kind::Figures,
+            bytes: Bytes::from_vec(text.into_bytes())?,
+        })
+    }
+}

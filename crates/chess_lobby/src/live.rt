@@ -1,0 +1,91 @@
+//! The games that are served as they stand in a file.
+use bytes::Bytes;
+use lobby_loop::Lobby;
+use lobby_web::{File, Kind};
+use std::alloc::AllocError;
+use std::fs;
+use std::os::unix::fs::MetadataExt;
+use std::rt::Files;
+
+/// The path at which they are served.
+const PATH: &[u8] = b"/live.pgn";
+
+/// So many milliseconds lie at least between two looks at the file.
+const REST: u64 = 1_000;
+
+/// By what it is seen that a file has changed: which file it is, how long it is, and when it was written.
+#[derive(Clone, Copy, PartialEq, Eq)]
+struct Mark {
+    node: u64,
+    size: u64,
+    seconds: i64,
+    nanoseconds: i64,
+}
+
+/// The file, and what was seen of it last.
+#[derive(Drop)]
+pub struct Live<'a, R> {
+    rt: &'a R,
+    file: &'a str,
+    seen: Option<Mark>,
+    next_at: u64,
+}
+
+impl<'a, R: Files + AllocGlobal + Clone + Drop> Live<'a, R> {
+    /// It was not looked at.
+    pub fn new(rt: &'a R, file: &'a str) -> Self {
+        Live {
+            rt,
+            file,
+            seen: None,
+            next_at: 0,
+        }
+    }
+
+    // How the file stands; none where it is not there.
+    fn mark(&self) -> Option<Mark> {
+        match fs::metadata(self.rt, self.file) {
+            Ok(found) => Some(Mark {
+                node: found.ino(),
+                size: found.size(),
+                seconds: found.mtime(),
+                nanoseconds: found.mtime_nsec(),
+            }),
+            Err(_) => None,
+        }
+    }
+
+    // What the file has is served from now on; nothing where it cannot be read.
+    fn read(&mut self, lobby: &mut Lobby) -> Result<(), AllocError> {
+        match fs::read(self.rt, self.file) {
+            Ok(bytes) => lobby.put_file(File {
+                path: PATH.to_vec(self.rt.alloc())?,
+                kind: Kind::Pgn,
+                bytes: Bytes::from_vec(bytes)?,
+            }),
+            Err(_) => {
+                self.seen = None;
+                lobby.take_off_file(PATH);
+                Ok(())
+            }
+        }
+    }
+
+    /// Looks at the file, where the last look was a second ago, and reads it where it has changed.
+    pub fn look(&mut self, lobby: &mut Lobby, at: u64) -> Result<(), AllocError> {
+        if at < self.next_at {
+            return Ok(());
+        }
+        self.next_at = at.saturating_add(REST);
+        let found = self.mark();
+        if found == self.seen {
+            return Ok(());
+        }
+        self.seen = found;
+        if found.is_none() {
+            lobby.take_off_file(PATH);
+            return Ok(());
+        }
+        self.read(lobby)
+    }
+}
