@@ -521,7 +521,7 @@ module _ {S : Type 0} (remaining contents : S → Option (List ℕ)) (site : Sit
   All guests steps = AreServed remaining contents site came steps out guests
 
   -- those that were attended, and those that were let go
-  record Before (done : List (Guest S)) (steps : List Step) : Type 0 where
+  record WasDone (done : List (Guest S)) (steps : List Step) : Type 0 where
     served : All done steps
     were : WereServed remaining contents site came steps out former
 
@@ -529,7 +529,7 @@ module _ {S : Type 0} (remaining contents : S → Option (List ℕ)) (site : Sit
   OwnBefore next done others = AllOwn next (numbers done) others × AllOwn next (numbers former) others
 
   before_on : (done : List (Guest S)) (s : Step) (steps : List Step) → AreApart (numbers done) s.event →
-      AreApart (numbers former) s.event → Before done steps → Before done (s ∷ steps)
+      AreApart (numbers former) s.event → WasDone done steps → WasDone done (s ∷ steps)
   before_on done s steps apart from_former was = record {
     served = all_served_on remaining contents site came s steps out done apart was.served;
     were = all_were_on remaining contents site came s steps out former from_former was.were;
@@ -541,7 +541,7 @@ module _ {S : Type 0} (remaining contents : S → Option (List ℕ)) (site : Sit
 
   -- one that is attended, those before it and those behind it
   record Three (done rest : List (Guest S)) (n : Option ℕ) (now : Spot S) (steps : List Step) : Type 0 where
-    before : Before done steps
+    before : WasDone done steps
     one : Served n now steps
     behind : All rest steps
     known : KnowsBy (IsIn done (n ∷ numbers rest)) steps
@@ -629,7 +629,7 @@ module _ {S : Type 0} (remaining contents : S → Option (List ℕ)) (site : Sit
 
   -- those that were attended, and those that are to be
   record Two (done rest : List (Guest S)) (steps : List Step) : Type 0 where
-    before : Before done steps
+    before : WasDone done steps
     behind : All rest steps
     known : KnowsBy (IsIn done (numbers rest)) steps
 

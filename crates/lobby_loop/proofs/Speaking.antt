@@ -80,9 +80,9 @@ site_later (Gave heard) past site is = is
 site_later (WasTold content answer) past site is = is
 site_later (Wrote other bytes) past site is = inr is
 
-http_later : (d : Doing) (past : List Doing) (came written : List ℕ) (h : History) → IsByHttp past came written h →
-    IsByHttp (d ∷ past) came written h
-http_later d past came written h by = record {
+http_later : (d : Doing) (past : List Doing) (arrived written : List ℕ) (h : History) → IsByHttp past arrived written h →
+    IsByHttp (d ∷ past) arrived written h
+http_later d past arrived written h by = record {
   served = by.served;
   answered = answered_later d past h.calls by.answered;
   received = by.received;
@@ -479,8 +479,8 @@ speaks_at past (At.Socket socket) was =
 speaks_at past At.Over stands = stands
 
 module _ {S : Type 0} (remaining contents : S → Option (List ℕ)) (site : Site) where
-  pub served_speaks : (came : Before S) (steps : List Step) (out : List Telling) (number : Option ℕ) (now : Spot S)
-      (served : IsGuestServed remaining contents site came steps out number now) → Speaks served.past now.stage
-  served_speaks came steps out number now served =
+  pub served_speaks : (older : Before S) (steps : List Step) (out : List Telling) (number : Option ℕ) (now : Spot S)
+      (served : IsGuestServed remaining contents site older steps out number now) → Speaks served.past now.stage
+  served_speaks older steps out number now served =
       speaks_at served.past now.stage
       (stands_at remaining contents served.first served.new served.past now served.done served.late)
