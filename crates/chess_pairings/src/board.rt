@@ -1,6 +1,6 @@
 //! The game of one board: it is opened, noted, joined and noted.
 use crate::round_file::RoundFile;
-use crate::table::{has_times, rows_of, shown};
+use crate::table::{has_times, rows_of, show_game};
 use anyhow::Result;
 use pairing_texts::{
     Game, Note, Pairing, Stage, Step, Times, candidates, step_of_games, step_of_seats, times_text,
@@ -101,7 +101,7 @@ impl Board {
         match note.stage {
             Stage::Opening => Ok(step_of_games(self.games(link, note.number)?.as_slice())),
             Stage::Opened | Stage::Joined => {
-                let seats = shown(self.alloc, link, note.number)?.map(|shown| shown.seats);
+                let seats = show_game(self.alloc, link, note.number)?.map(|shown| shown.seats);
                 let (white, black) = (self.pairing.white, self.game.black);
                 Ok(step_of_seats(note.number, &white, &black, seats))
             }

@@ -1,6 +1,6 @@
 //! What came of games: in the archive, and on the table.
 use crate::command_line::Source;
-use crate::table::shown;
+use crate::table::show_game;
 use anyhow::{Context, Result};
 use archive_file::{game_of, pgn_of};
 use pairing_texts::Pairing;
@@ -111,7 +111,7 @@ impl Outcomes {
         let Some(link) = &mut self.link else {
             return Ok(None);
         };
-        let Some(shown) = shown(alloc, link, game)? else {
+        let Some(shown) = show_game(alloc, link, game)? else {
             return Ok(None);
         };
         let black = pairing.game.map(|game| game.black);

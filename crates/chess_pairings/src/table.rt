@@ -72,7 +72,7 @@ fn shown_of(alloc: Global, first: &str) -> Result<Option<Shown>> {
 }
 
 /// How a game stands; none where it is not on the table.
-pub fn shown(alloc: Global, link: &mut Link, game: u32) -> Result<Option<Shown>> {
+pub fn show_game(alloc: Global, link: &mut Link, game: u32) -> Result<Option<Shown>> {
     let line = format!(in alloc; "show {game}")?;
     let answer = link.ask(line.as_str(), "ok show all ")?;
     let first = answer.first.as_str();
