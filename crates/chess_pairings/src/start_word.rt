@@ -15,10 +15,9 @@ use std::time::{Duration, SystemTime};
 // How often it is looked for the server, and for boards whose start has come: the milliseconds between.
 const PAUSE: u64 = 500;
 
-/// The boards of a round, and what became of those that were gone on with.
+/// What became of the boards of a round.
 #[derive(Drop)]
 struct Rounds {
-    boards: Vec<Board>,
     file: RoundFile,
     // The boards, by their numbers, of which the arbiter is asked.
     asks: Vec<u32>,
@@ -43,10 +42,6 @@ impl Rounds {
             None => true,
         };
         !is_late || self.asks.contains(&number) || self.done.contains(&number)
-    }
-
-    fn is_over(&self) -> bool {
-        self.asks.len().saturating_add(self.done.len()) >= self.boards.len()
     }
 
     // Goes on with a board over a connection, which is made where there is none.
@@ -84,19 +79,18 @@ impl Rounds {
 
     // Goes on with each board whose start has come. It tells the first of the failures, after which a board may be gone on
     // with again.
-    fn go_on<R>(&mut self, rt: &R, server: SocketAddr) -> Result<()>
+    fn go_on<R>(&mut self, rt: &R, server: SocketAddr, boards: &[Board]) -> Result<()>
     where
         R: Net<Stream = TcpStream> + AllocGlobal + Print + Eprint + Clock,
     {
         let now = moment(rt)?;
         let mut link = None;
         let mut first = Ok(());
-        for at in 0..self.boards.len() {
-            let board = self.boards[at];
-            if self.rests(&board, now) {
+        for board in boards {
+            if self.rests(board, now) {
                 continue;
             }
-            let done = self.go_on_with(rt, server, &mut link, &board);
+            let done = self.go_on_with(rt, server, &mut link, board);
             if self.file.has_failed() {
                 return done;
             }
@@ -160,13 +154,13 @@ fn boards_of<R: AllocGlobal>(rt: &R, pairings: &[Pairing]) -> Result<Vec<Board>>
 }
 
 // Goes round the boards until each has its game or is the arbiter's. Where the server is gone it is tried again.
-fn go_round<R>(rt: &R, rounds: &mut Rounds, server: SocketAddr) -> Result<()>
+fn go_round<R>(rt: &R, rounds: &mut Rounds, server: SocketAddr, boards: &[Board]) -> Result<()>
 where
     R: Net<Stream = TcpStream> + AllocGlobal + Print + Eprint + Clock,
 {
     let mut is_told = false;
     for _ in 0..u64::MAX {
-        match rounds.go_on(rt, server) {
+        match rounds.go_on(rt, server, boards) {
             Ok(()) => is_told = false,
             Err(error) if rounds.file.has_failed() => return Err(error),
             Err(error) => {
@@ -176,7 +170,7 @@ where
                 is_told = true;
             }
         }
-        if rounds.is_over() {
+        if rounds.asks.len().saturating_add(rounds.done.len()) >= boards.len() {
             return Ok(());
         }
         thread::sleep(rt, Duration::from_millis(PAUSE));
@@ -195,13 +189,12 @@ where
     check_notes(starting.round.games, file.notes(), pairings.as_slice())?;
     take_words(&mut file, boards.as_slice(), starting)?;
     let mut rounds = Rounds {
-        boards,
         file,
         asks: Vec::new(rt.alloc()),
         done: Vec::new(rt.alloc()),
     };
-    go_round(rt, &mut rounds, starting.server)?;
-    let (boards, games) = (rounds.boards.len(), rounds.done.len());
+    go_round(rt, &mut rounds, starting.server, boards.as_slice())?;
+    let (boards, games) = (boards.len(), rounds.done.len());
     println!(rt; "boards {boards}, games {games}")?;
     if games < boards {
         anyhow::bail!("the arbiter is to say which games the others have");
