@@ -12,7 +12,8 @@ const WITH_A_PRESS = 500;            // milliseconds: a click so soon behind a p
 const STEPS = { ArrowLeft: [0, -1], ArrowRight: [0, 1], ArrowUp: [-1, 0], ArrowDown: [1, 0] };
 
 export function pictureOf(letter) {
-  return `${letter === letter.toUpperCase() ? 'white' : 'black'}-${KINDS[letter.toLowerCase()]}.svg`;
+  const name = `${letter === letter.toUpperCase() ? 'white' : 'black'}-${KINDS[letter.toLowerCase()]}.svg`;
+  return new URL(name, import.meta.url).pathname;
 }
 
 /** What stands still: a board that is only looked at. */

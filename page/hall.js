@@ -92,6 +92,11 @@ export class HallView {
     this.list.dataset.count = String(this.cards.size);
   }
 
+  /** Where a board leads. */
+  linkOf(number) {
+    return `#/hall/${number}`;
+  }
+
   add(number) {
     const board = new Picture(`Game ${number}`), card = { board, clocks: {}, names: {} };
     const player = (side) => {
@@ -102,7 +107,7 @@ export class HallView {
         make('span', { class: 'disc', 'aria-hidden': 'true' }), card.names[side], clock);
     };
     card.last = make('p', { class: 'card-last' });
-    card.root = make('a', { class: 'card', href: `#/hall/${number}` }, board.root, player('b'), card.last, player('w'));
+    card.root = make('a', { class: 'card', href: this.linkOf(number) }, board.root, player('b'), card.last, player('w'));
     this.cards.set(number, card);
     this.list.append(card.root);
     this.ask(number);
@@ -125,14 +130,20 @@ export class HallView {
   async ask(number) {
     const answer = await this.app.watch(number);
     const standing = answer[0].startsWith('ok ') && readStanding(answer.slice(1));
-    if (!standing) return;
+    if (!standing) {
+      if (answer[0].startsWith('no ')) this.refused(number);
+      return;
+    }
     this.draw(number, standing, '', '');
-    const line = await this.app.wire.say(`line ${number}`, true), card = this.cards.get(number);
-    const last = line[0].startsWith('ok ') && readLine(line.slice(1)).pop();
+    const told = await this.app.wire.say(`line ${number}`, true), card = this.cards.get(number);
+    const line = told[0].startsWith('ok ') ? readLine(told.slice(1)) : [], last = line[line.length - 1];
     if (!last || !card || !card.standing || card.standing.fen !== last.fen) return;
-    Object.assign(card, { move: last, san: last.san });
+    Object.assign(card, { line, move: last, san: last.san });
     this.draw(number, card.standing, '', '', card.at);
   }
+
+  /** The lobby does not let a game be watched. */
+  refused() {}
 
   notice(number, sent, answer, standing) {
     if (this.root.hidden) return;
@@ -150,6 +161,7 @@ export class HallView {
     const runs = !standing.article, moved = /^ok (?:move \d+|claim \d+ wrong) \d+ (\S+)/.exec(answer);
     if (standing.article && !card.overAt) card.overAt = performance.now();
     if (moved) Object.assign(card, { move: squaresOf(sent.split(' ').pop()), san: moved[1] });
+    if (moved && card.line) card.line.push({ san: moved[1] });
     card.board.show({ fen: standing.fen, last: card.move, check: standing.check });
     for (const side of ['w', 'b']) {
       const name = this.app.nameWords(side === 'w' ? standing.white : standing.black);

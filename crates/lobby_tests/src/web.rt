@@ -245,6 +245,116 @@ fn a_request_is_answered_or_refused(rt: HostRuntime) {
     }
 }
 
+// From now on a path has these bytes.
+fn put(rt: &impl Abort, lab: &mut Lab, path: &[u8], kind: Kind, bytes: &'static [u8]) {
+    let file = File {
+        path: path.to_vec(lab.alloc).expect(rt, "memory"),
+        kind,
+        bytes: Bytes::from_static(bytes),
+    };
+    lab.site.put(file).expect(rt, "memory");
+}
+
+// Whether the answer to this request ends so.
+fn ends(rt: &impl Abort, lab: &Lab, request: &[u8], end: &[u8]) -> bool {
+    whole(rt, lab, request).written.as_slice().ends_with(end)
+}
+
+#[test]
+fn files_come_and_go(rt: HostRuntime) {
+    let mut lab = lab_of(&rt, rt.alloc(), RandomState::new(&rt).expect(&rt, "keys"));
+    let games = b"GET /live.pgn HTTP/1.1\r\nHost: a:1\r\n\r\n";
+    let figures = b"GET /health HTTP/1.1\r\nHost: a:1\r\n\r\n";
+    assert!(rt; brings(&rt, &lab, games, b"", b"HTTP/1.1 404 ", false));
+    for bytes in [b"one".as_slice(), b"two", b""] {
+        put(&rt, &mut lab, b"/live.pgn", Kind::Pgn, bytes);
+        put(&rt, &mut lab, b"/health", Kind::Figures, bytes);
+        assert!(rt;
+            brings(
+                &rt,
+                &lab,
+                games,
+                b"",
+                b"HTTP/1.1 200 OK\r\ncontent-type: application/x-chess-pgn; charset=utf-8\r\n",
+                false
+            )
+        );
+        assert!(rt;
+            brings(
+                &rt,
+                &lab,
+                figures,
+                b"",
+                b"HTTP/1.1 200 OK\r\ncontent-type: text/plain; version=0.0.4; charset=utf-8\r\n",
+                false
+            )
+        );
+        assert!(rt; ends(&rt, &lab, games, bytes) && ends(&rt, &lab, figures, bytes));
+    }
+    assert!(rt;
+        ends(
+            &rt,
+            &lab,
+            games,
+            b"\r\naccess-control-allow-origin: *\r\ncontent-length: 0\r\n\r\n"
+        )
+    );
+    assert!(rt;
+        ends(
+            &rt,
+            &lab,
+            figures,
+            b"\r\ncache-control: no-cache\r\ncontent-length: 0\r\n\r\n"
+        )
+    );
+    assert!(rt;
+        ends(
+            &rt,
+            &lab,
+            b"GET / HTTP/1.1\r\nHost: a:1\r\n\r\n",
+            b"the page"
+        )
+    );
+    lab.site.take_off(b"/live.pgn");
+    assert!(rt; brings(&rt, &lab, games, b"", b"HTTP/1.1 404 ", false));
+    assert!(rt; brings(&rt, &lab, figures, b"", b"HTTP/1.1 200 OK\r\n", false));
+}
+
+#[test]
+fn boards_have_one_page(rt: HostRuntime) {
+    let mut lab = lab_of(&rt, rt.alloc(), RandomState::new(&rt).expect(&rt, "keys"));
+    put(&rt, &mut lab, b"/board.html", Kind::Html, b"a board");
+    let cases: [(&[u8], &[u8]); 9] = [
+        (b"GET /board/7 HTTP/1.1\r\nHost: a:1\r\n\r\n", b"a board"),
+        (
+            b"GET /board/4294967296 HTTP/1.1\r\nHost: a:1\r\n\r\n",
+            b"a board",
+        ),
+        (b"GET /boards HTTP/1.1\r\nHost: a:1\r\n\r\n", b"a board"),
+        (b"GET /board.html HTTP/1.1\r\nHost: a:1\r\n\r\n", b"a board"),
+        (b"GET /board/7?x HTTP/1.1\r\nHost: a:1\r\n\r\n", b"a board"),
+        (
+            b"GET /board/ HTTP/1.1\r\nHost: a:1\r\n\r\n",
+            b"There is no such page here.",
+        ),
+        (
+            b"GET /board/7a HTTP/1.1\r\nHost: a:1\r\n\r\n",
+            b"There is no such page here.",
+        ),
+        (
+            b"GET /board/7/ HTTP/1.1\r\nHost: a:1\r\n\r\n",
+            b"There is no such page here.",
+        ),
+        (
+            b"GET /board HTTP/1.1\r\nHost: a:1\r\n\r\n",
+            b"There is no such page here.",
+        ),
+    ];
+    for (request, end) in cases {
+        assert!(rt; ends(&rt, &lab, request, end));
+    }
+}
+
 // A request whose part behind this front is so long.
 fn long(rt: &impl Abort, lab: &Lab, front: &[u8], count: usize) -> Vec<u8> {
     let mut request = front.to_vec(lab.alloc).expect(rt, "memory");

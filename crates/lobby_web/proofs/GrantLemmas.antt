@@ -7,7 +7,7 @@ use Rattle.websocket.specs.Handshake.{AnswersKey}
 use Rattle.lobby_web.specs.declared.site.Site.{Site}
 use Rattle.lobby_web.specs.declared.site.File.{File}
 use Rattle.lobby_web.specs.Pages.{file_at}
-use Rattle.lobby_web.specs.Requests.{field, path_of, is_taken, is_from_page, asks_socket, asks_upgrade, only_reads}
+use Rattle.lobby_web.specs.Requests.{field, path_of, is_taken, is_from_page, asks_socket, asks_upgrade, only_reads, served_path}
 use Rattle.lobby_web.specs.Answering.{IsAnswer, IsSocketAnswer, IsPageAnswer, IsKeyAnswer, IsFileAnswer, IsOtherMethodAnswer, IsTold, IsSwitch, IsGranted}
 
 matched : (b : Bool) (P Q : Type 0) → MatchBool b P Q → ((b ≡ true) × P) ⊎ ((b ≡ false) × Q)
@@ -25,8 +25,8 @@ granted site r response answer switch =
       | inl taken ↦
           elim (matched (asks_socket r) (IsSocketAnswer r response) (IsPageAnswer site r response) taken.1) [
             | inr page ↦
-                elim (matched (only_reads r) (IsFileAnswer (file_at site (path_of r)) response) (IsOtherMethodAnswer response) page.1) [
-                  | inl file ↦ absurd (file-status (file_at site (path_of r)) response file.1 switch)
+                elim (matched (only_reads r) (IsFileAnswer (file_at site (served_path (path_of r))) response) (IsOtherMethodAnswer response) page.1) [
+                  | inl file ↦ absurd (file-status (file_at site (served_path (path_of r))) response file.1 switch)
                   | inr method ↦ absurd (omega (arith, method.1.status, switch))
                 ]
             | inl socket ↦
@@ -64,3 +64,12 @@ asked (Err e) r response page asks answer = tt
 asked (Ok x) r response page asks answer =
     subst (λ (b : Bool). MatchBool b (MatchBool (asks_upgrade r) (IsKeyAnswer (field r (codes "sec-websocket-key")) response) (IsTold 400 (codes "Here is a WebSocket of version 13.") response)) (IsTold 403 (codes "Only this site's own page opens this socket.") response)) (sym page)
     (subst (λ (b : Bool). MatchBool b (IsKeyAnswer (field r (codes "sec-websocket-key")) response) (IsTold 400 (codes "Here is a WebSocket of version 13.") response)) (sym asks) answer)
+
+-- a page's file, for who only reads
+pub paged : {E : Type 0} (result : Result (Unit {0}) E) (site : Site) (r : Request (List ℕ)) (file : Option File) (response : Response)
+    → only_reads r ≡ true → file ≡ file_at site (served_path (path_of r)) → OnOk result (IsFileAnswer file response)
+    → OnOk result (IsPageAnswer site r response)
+paged (Err e) site r file response reads is answer = tt
+paged (Ok x) site r file response reads is answer =
+    subst (λ (b : Bool). MatchBool b (IsFileAnswer (file_at site (served_path (path_of r))) response) (IsOtherMethodAnswer response)) (sym reads)
+    (subst (λ (f : Option File). IsFileAnswer f response) is answer)

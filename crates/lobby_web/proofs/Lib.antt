@@ -14,3 +14,4 @@ pub mod SayingLemmas
 pub mod RoomLemmas
 pub mod HoldingLemmas
 pub mod ShutLemmas
+pub mod PutLemmas

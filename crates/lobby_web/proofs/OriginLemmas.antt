@@ -11,7 +11,7 @@ drop-front : (front back : List ℕ) → drop (length front) (front ++ back) ≡
 drop-front [] back = refl
 drop-front (byte ∷ front) back = drop-front front back
 
-false-unless : (b : Bool) → (b ≡ true → ⊥) → b ≡ false
+pub false-unless : (b : Bool) → (b ≡ true → ⊥) → b ≡ false
 false-unless true never = absurd (never refl)
 false-unless false never = refl
 

@@ -7,9 +7,11 @@ use Rattle.http_server.specs.Response.{IsResponse}
 use Rattle.websocket.specs.Handshake.{IsValidKey, accept_key_of}
 use Rattle.lobby_web.specs.declared.site.Site.{Site}
 use Rattle.lobby_web.specs.declared.site.File.{File}
+use Rattle.lobby_web.specs.declared.site.Kind.{Kind}
+use Rattle.lobby_web.specs.declared.site.Kind.TheVariants.{Pgn}
 use Rattle.lobby_web.specs.Media.{media_type}
 use Rattle.lobby_web.specs.Pages.{file_at}
-use Rattle.lobby_web.specs.Requests.{field, path_of, is_taken, is_from_page, asks_socket, asks_upgrade, only_reads}
+use Rattle.lobby_web.specs.Requests.{field, path_of, is_taken, is_from_page, asks_socket, asks_upgrade, only_reads, served_path}
 
 -- The browser runs and loads only what is of the page's own host, frames it nowhere, and sends no form.
 abbrev pub policy : List ℕ
@@ -29,10 +31,15 @@ plain_text = codes "text/plain; charset=utf-8"
 abbrev pub IsTold : ℕ → List ℕ → Response → Type 0
 IsTold status words = IsResponse status (guarded plain_text) words
 
+-- Pages of other hosts may read games, and nothing else.
+abbrev pub file_fields : Kind → List Header
+file_fields Pgn = guarded (media_type Pgn) ++ (codes "access-control-allow-origin", codes "*") ∷ []
+file_fields kind = guarded (media_type kind)
+
 -- 200 with the file, or 404
 abbrev pub IsFileAnswer : Option File → Response → Type 0
 IsFileAnswer None = IsTold 404 (codes "There is no such page here.")
-IsFileAnswer (Some file) = IsResponse 200 (guarded (media_type file.kind)) file.bytes
+IsFileAnswer (Some file) = IsResponse 200 (file_fields file.kind) file.bytes
 
 -- 405 with the methods that are answered
 abbrev pub IsOtherMethodAnswer : Response → Type 0
@@ -64,7 +71,7 @@ IsSocketAnswer r response =
 -- A page's answer: its file, or that only reading is answered.
 abbrev pub IsPageAnswer : Site → Request (List ℕ) → Response → Type 0
 IsPageAnswer site r response =
-    MatchBool (only_reads r) (IsFileAnswer (file_at site (path_of r)) response) (IsOtherMethodAnswer response)
+    MatchBool (only_reads r) (IsFileAnswer (file_at site (served_path (path_of r))) response) (IsOtherMethodAnswer response)
 
 -- What a site answers: 403 for a host that is not taken; else the socket at `/ws`, and everywhere else the page's files.
 abbrev pub IsAnswer : Site → Request (List ℕ) → Response → Type 0

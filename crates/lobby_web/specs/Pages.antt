@@ -1,6 +1,6 @@
 -- What a site has: its hosts and its files.
-use Rattle.std.specs.Prelude.{ℕ, Bool, List, Option, bytes_eq, find}
-use Rattle.std.specs.List.{list_any}
+use Rattle.std.specs.Prelude.{ℕ, ◌≡◌, ◌≢◌, Bool, List, Option, bytes_eq, find}
+use Rattle.std.specs.List.{list_any, position}
 use Rattle.lobby_web.specs.declared.site.Site.{Site}
 use Rattle.lobby_web.specs.declared.site.File.{File}
 
@@ -11,3 +11,17 @@ has_host site host = list_any (λ taken. bytes_eq taken.items host) site.hosts.i
 -- the first file of this path
 abbrev pub file_at : Site → List ℕ → Option File
 file_at site path = find (λ file. bytes_eq file.path.items path) site.files.items
+
+-- where that file stands
+abbrev pub place_of : Site → List ℕ → Option ℕ
+place_of site path = position (λ file. bytes_eq file.path.items path) site.files.items
+
+-- The path has this file, or none, and every other path what it had. The hosts are the same.
+pub record Changes (path : List ℕ) (file : Option File) (old new : Site) : Type 0 where
+  pub hosts : new.hosts ≡ old.hosts
+  pub there : file_at new path ≡ file
+  pub others : (other : List ℕ) → other ≢ path → file_at new other ≡ file_at old other
+
+-- Hosts and files are the same.
+abbrev pub IsSame : Site → Site → Type 0
+IsSame old new = (new.hosts ≡ old.hosts) × (new.files.items ≡ old.files.items)

@@ -1,5 +1,7 @@
 -- What is read from a request.
-use Rattle.std.specs.Prelude.{ℕ, Bool, not, ◌&&◌, ◌||◌, List, [], ◌∷◌, ◌++◌, Option, None, Some, is_some, bytes_eq, codes}
+use Rattle.std.specs.Prelude.{ℕ, Bool, not, ◌&&◌, ◌||◌, List, [], ◌∷◌, ◌++◌, Option, None, Some, is_some, bytes_eq, codes, length, take, drop, nat_lt, if◌then◌else◌}
+use Rattle.std.specs.List.{list_all}
+use Rattle.std.specs.Char.{is_ascii_digit}
 use Rattle.http.specs.declared.request.Request.{Request}
 use Rattle.http.specs.Request.{head_of}
 use Rattle.http_header.specs.FieldValue.{FieldValue}
@@ -50,3 +52,19 @@ only_reads r = bytes_eq (head_of r).method (codes "GET") || bytes_eq (head_of r)
 -- It is for the page's socket.
 abbrev pub asks_socket : Request (List ℕ) → Bool
 asks_socket r = bytes_eq (path_of r) (codes "/ws")
+
+-- the digits of a number
+abbrev pub is_number : List ℕ → Bool
+is_number text = nat_lt 0 (length text) && list_all is_ascii_digit text
+
+-- `/board/` and the digits of a number name a game's board.
+abbrev pub names_game : List ℕ → Bool
+names_game path = bytes_eq (take 7 path) (codes "/board/") && is_number (drop 7 path)
+
+-- a game's board, or the wall of all boards
+abbrev pub is_board : List ℕ → Bool
+is_board path = bytes_eq path (codes "/boards") || names_game path
+
+-- the path of the file that is served at a path
+abbrev pub served_path : List ℕ → List ℕ
+served_path path = if is_board path then codes "/board.html" else path

@@ -1,12 +1,14 @@
 //! What a request is answered.
 ghost use Rattle.std.specs.Prelude.{◌≡◌, ◌++◌, [], false, OnOk, bytes_eq};
 ghost use Rattle.std.specs.Option.{option_copied};
+ghost use Rattle.std.specs.Char.{is_ascii_digit};
+ghost use Rattle.std.specs.List.{list_all};
 ghost use Rattle.http_header.specs.Token.{lowercase};
 ghost use Rattle.http_header.specs.FieldValue.{plain_value};
 ghost use Rattle.http_server.specs.Response.{IsBlank, IsResponse};
 ghost use Rattle.lobby_web.specs.Media.{media_type};
-ghost use Rattle.lobby_web.specs.Requests.{field, is_from_page, lists_upgrade, asks_upgrade, only_reads};
-ghost use Rattle.lobby_web.specs.Answering.{guarded, IsTold, IsFileAnswer, IsOtherMethodAnswer, IsSwitch, IsKeyAnswer, IsSocketAnswer, IsAnswer};
+ghost use Rattle.lobby_web.specs.Requests.{field, path_of, is_from_page, lists_upgrade, asks_upgrade, only_reads, is_number, names_game, is_board, served_path};
+ghost use Rattle.lobby_web.specs.Answering.{guarded, file_fields, IsTold, IsFileAnswer, IsOtherMethodAnswer, IsSwitch, IsKeyAnswer, IsSocketAnswer, IsPageAnswer, IsAnswer};
 
 use crate::site::{File, Kind, Site};
 use bytes::{BufMut, Bytes};
@@ -25,6 +27,13 @@ fn field<'a>(request: &'a Request<Bytes>, name: &str) -> &'a [u8]
         Some(value) => value.as_bytes(),
         None => &[],
     }
+}
+
+// The path that is asked for.
+fn path_of(request: &Request<Bytes>) -> &[u8]
+    ensures { result.now ≡ path_of request.now }
+{
+    request.uri().path().as_bytes()
 }
 
 // Whether an origin is this scheme, `http://` or `https://`, and this host.
@@ -81,6 +90,8 @@ fn media_type(kind: Kind) -> HeaderValue
         Kind::Css => HeaderValue::from_static("text/css; charset=utf-8"),
         Kind::Script => HeaderValue::from_static("text/javascript; charset=utf-8"),
         Kind::Svg => HeaderValue::from_static("image/svg+xml"),
+        Kind::Pgn => HeaderValue::from_static("application/x-chess-pgn; charset=utf-8"),
+        Kind::Figures => HeaderValue::from_static("text/plain; version=0.0.4; charset=utf-8"),
     }
 }
 
@@ -126,12 +137,27 @@ fn tell(response: &mut Response, status: StatusCode, words: &str) -> Result<(), 
     response.body.put_slice(words.as_bytes())
 }
 
+// The status and the fields of the answer that is a file of this kind: pages of other hosts may read games, and nothing else.
+fn begin_file(response: &mut Response, kind: Kind) -> Result<(), AllocError>
+    requires { IsBlank response.old }
+    ensures { OnOk result (IsResponse 200 (file_fields kind) [] response.new) }
+{
+    begin(response, StatusCode::OK, media_type(kind))?;
+    match kind {
+        Kind::Pgn => response.add_header(
+            HeaderName::from_static("access-control-allow-origin"),
+            HeaderValue::from_static("*"),
+        ),
+        _ => Ok(()),
+    }
+}
+
 // A file, with its media type.
 fn send(response: &mut Response, file: &File) -> Result<(), AllocError>
     requires { IsBlank response.old }
-    ensures { OnOk result (IsResponse 200 (guarded (media_type file.now.kind)) file.now.bytes response.new) }
+    ensures { OnOk result (IsResponse 200 (file_fields file.now.kind) file.now.bytes response.new) }
 {
-    begin(response, StatusCode::OK, media_type(file.kind))?;
+    begin_file(response, file.kind)?;
     response.body.push(file.bytes.clone()?)
 }
 
@@ -148,6 +174,44 @@ fn send_file(response: &mut Response, file: Option<&File>) -> Result<(), AllocEr
             "There is no such page here.",
         ),
     }
+}
+
+// Whether all these bytes are digits.
+fn are_digits(text: &[u8]) -> bool
+    ensures { result ≡ list_all is_ascii_digit text.now }
+{
+    text.iter().all(|byte| byte.is_ascii_digit())
+}
+
+// Whether a text is the digits of a number.
+fn is_number(text: &[u8]) -> bool
+    ensures { result ≡ is_number text.now }
+{
+    !text.is_empty() && are_digits(text)
+}
+
+// Whether a path names a game's board: `/board/` and the digits of a number.
+fn names_game(path: &[u8]) -> bool
+    ensures { result ≡ names_game path.now }
+{
+    match path.strip_prefix(b"/board/") {
+        Some(number) => is_number(number),
+        None => false,
+    }
+}
+
+// Whether a path names a game's board, or the wall of all boards.
+fn is_board(path: &[u8]) -> bool
+    ensures { result ≡ is_board path.now }
+{
+    path == b"/boards".as_slice() || names_game(path)
+}
+
+// The path of the file that is served at a path.
+fn served_path(path: &[u8]) -> &[u8]
+    ensures { result.now ≡ served_path path.now }
+{
+    if is_board(path) { b"/board.html" } else { path }
 }
 
 // That only reading is answered.
@@ -227,6 +291,21 @@ fn open_socket(
     accept(alloc, field(request, "sec-websocket-key"), response)
 }
 
+// The file of the path that is asked for, or that only reading is answered.
+fn send_page(
+    site: &Site,
+    request: &Request<Bytes>,
+    response: &mut Response,
+) -> Result<(), AllocError>
+    requires { IsBlank response.old }
+    ensures { OnOk result (IsPageAnswer site.now request.now response.new) }
+{
+    if !only_reads(request) {
+        return refuse_method(response);
+    }
+    send_file(response, site.file_at(served_path(path_of(request))))
+}
+
 // What is answered.
 fn answer(
     alloc: Global,
@@ -244,14 +323,10 @@ fn answer(
             "This host is not served here.",
         );
     }
-    let path = request.uri().path().as_bytes();
-    if path == b"/ws".as_slice() {
+    if path_of(request) == b"/ws".as_slice() {
         return open_socket(alloc, request, response);
     }
-    if !only_reads(request) {
-        return refuse_method(response);
-    }
-    send_file(response, site.file_at(path))
+    send_page(site, request, response)
 }
 
 /// The site, as it answers the requests of one connection, and whether the last answer was an upgrade.

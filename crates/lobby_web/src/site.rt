@@ -1,9 +1,9 @@
 //! What is served: the files of the page, under the hosts that are taken.
-ghost use Rattle.std.specs.Prelude.{◌≡◌};
+ghost use Rattle.std.specs.Prelude.{◌≡◌, Some, None, OnOk, OnErr};
 ghost use Rattle.std.specs.Option.{option_copied};
 
 use bytes::Bytes;
-use std::alloc::Global;
+use std::alloc::{AllocError, Global};
 
 /// What a file is, by which its media type goes.
 #[derive(Clone, Copy, Debug, PartialEq, Eq)]
@@ -12,6 +12,10 @@ pub enum Kind {
     Css,
     Script,
     Svg,
+    /// Games, which pages of other hosts read too.
+    Pgn,
+    /// Figures, as Prometheus reads them.
+    Figures,
 }
 
 impl Kind {
@@ -51,7 +55,7 @@ pub struct Site {
 }
 
 impl Site {
-    ghost use Rattle.lobby_web.specs.Pages.{has_host, file_at};
+    ghost use Rattle.lobby_web.specs.Pages.{has_host, file_at, place_of, Changes, IsSame};
 
     /// A site of these files. A host is what `Host` has to say, byte for byte and with its port, as `127.0.0.1:8080`. Of two
     /// files with one path the first is served.
@@ -74,5 +78,35 @@ impl Site {
         ensures { option_copied result ≡ file_at self.now path.now }
     {
         self.files.iter().find(|file| file.path.as_slice() == path)
+    }
+
+    // The place of the file of a path.
+    fn place_of(&self, path: &[u8]) -> Option<usize>
+        ensures { result ≡ place_of self.now path.now }
+    {
+        self.files
+            .iter()
+            .position(|file| file.path.as_slice() == path)
+    }
+
+    /// From now on this file is served at its path, in the place of the one that was there, if any.
+    pub fn put(&mut self, file: File) -> Result<(), AllocError>
+        ensures put { OnOk result (Changes file.path.items (Some file) self.old self.new) }
+        ensures err { OnErr result (IsSame self.old self.new) }
+    {
+        match self.place_of(file.path.as_slice()) {
+            Some(place) => {
+                self.files[place] = file;
+                Ok(())
+            }
+            None => Ok(self.files.push(file)?),
+        }
+    }
+
+    /// From now on nothing is served at this path.
+    pub fn take_off(&mut self, path: &[u8])
+        ensures { Changes path.now None self.old self.new }
+    {
+        self.files.retain(|file| file.path.as_slice() != path);
     }
 }

@@ -1,0 +1,168 @@
+// A page for a screen that nobody touches: `/board/G` shows one game as large as the screen allows, `/boards` all that run.
+
+import { HallView } from './hall.js';
+import { readLine, readPlayers, readRows, readStanding, sideOf } from './lines.js';
+import { byId, make, setText } from './make.js';
+import { Wire } from './wire.js';
+import { resultWords } from './words.js';
+
+const MOST_SHOWN = 6;                // so many of the last moves, of both sides together
+
+/** All running games, in pages that turn by themselves. */
+class Wall extends HallView {
+  linkOf(number) {
+    return `/board/${number}`;
+  }
+}
+
+/** One game, and nothing else. Where it is not there it is asked for again. */
+class OneBoard extends HallView {
+  constructor(app, number) {
+    super(app, () => new Map());
+    this.number = number;
+    this.root.classList.add('one-board');
+    byId('hall-many').closest('label').hidden = true;
+  }
+
+  linkOf() {
+    return '/boards';
+  }
+
+  fill() {
+    const card = this.cards.get(this.number);
+    if (!card) this.add(this.number);
+    else if (!card.standing) this.ask(this.number);
+  }
+
+  add(number) {
+    super.add(number);
+    const card = this.cards.get(number);
+    card.moves = make('ol', { class: 'screen-moves', 'aria-label': 'The last moves' });
+    card.outcome = make('p', { class: 'screen-outcome' });
+    card.last.after(card.moves, card.outcome);
+    this.list.dataset.count = '1';
+  }
+
+  /** Taken off the table: the next game of this number may come. */
+  remove(number) {
+    super.remove(number);
+    this.told(`Game ${number} is not on the table.`);
+  }
+
+  told(words) {
+    byId('hall-none').hidden = !words;
+    setText(byId('hall-none'), words);
+  }
+
+  refused(number) {
+    this.told(`Game ${number} is not on the table.`);
+  }
+
+  draw(number, standing, sent, answer, at = performance.now()) {
+    super.draw(number, standing, sent, answer, at);
+    const card = this.cards.get(number);
+    this.told('');
+    const known = card.line && card.line.length === standing.ply + 1 && card.move && card.move.from;
+    if (sent && standing.ply && !known) this.recall(number);
+    const words = resultWords(standing.result, standing.article);
+    setText(card.outcome, standing.article ? `${words.score} ${words.reason}` : '');
+    card.root.classList.toggle('waits', !standing.white || !standing.black);
+    this.drawMoves(card);
+    this.app.titled(`${this.app.nameWords(standing.white) || '…'} – ${this.app.nameWords(standing.black) || '…'}`);
+  }
+
+  /** The moves are asked for again, where one was missed, or was told by its name alone. */
+  async recall(number) {
+    const line = await this.app.wire.say(`line ${number}`, true), card = this.cards.get(number);
+    if (!card || !line[0].startsWith('ok ')) return;
+    const steps = readLine(line.slice(1)), last = steps[steps.length - 1];
+    if (last.fen !== card.standing.fen) return;
+    Object.assign(card, { line: steps, move: last, san: last.san });
+    this.draw(number, card.standing, '', '', card.at);
+  }
+
+  drawMoves(card) {
+    if (!card.line || !card.line[0]) return;
+    const shift = sideOf(card.line[0].fen) === 'b' ? 1 : 0, first = Number(card.line[0].fen.split(' ')[5] || 1);
+    const rows = new Map();
+    card.line.slice(1).forEach(({ san }, ply) => {
+      const place = ply + shift, number = first + Math.floor(place / 2);
+      if (!rows.has(number)) rows.set(number, ['', '']);
+      rows.get(number)[place % 2] = san;
+    });
+    const shown = [...rows].slice(-MOST_SHOWN / 2);
+    card.moves.replaceChildren(...shown.map(([number, sans]) => make('li', {},
+      make('span', { class: 'number' }, `${number}.`), make('span', {}, sans[0] || '…'), make('span', {}, sans[1]))));
+  }
+}
+
+class Screen {
+  constructor() {
+    this.players = new Map();
+    this.rows = new Map();
+    const found = /^\/board\/(\d{1,10})$/.exec(location.pathname);
+    this.view = found ? new OneBoard(this, Number(found[1])) : new Wall(this, () => this.rows);
+    const address = new URL('/ws', location.href);
+    address.protocol = address.protocol === 'https:' ? 'wss:' : 'ws:';
+    address.hash = '';
+    this.wire = new Wire(address.href, {
+      opened: (server) => this.opened(server), notice: (lines) => this.notice(lines), changed: () => this.changed(),
+    });
+    this.view.open();
+  }
+
+  // ---- what the view asks for
+
+  nameWords(name) {
+    const known = this.players.get(name);
+    return known ? known.full : name;
+  }
+
+  titled(text) {
+    document.title = `${text} · Chess club`;
+  }
+
+  watch(number) {
+    return this.wire.say(`watch ${number}`);
+  }
+
+  leaveLater() {
+    for (const number of this.left || []) {
+      if (!this.view.cards.has(number)) this.wire.say(`leave ${number}`, true);
+    }
+    this.left = this.view.needs();
+  }
+
+  // ---- the connection
+
+  /** The lobby has answered: who is who, and what is shown, once more. */
+  async opened(server) {
+    if (server !== 'here') return;
+    const players = await this.wire.say('players');
+    if (players[0].startsWith('ok players')) this.players = readPlayers(players.slice(1));
+    if (!(this.view instanceof OneBoard)) {
+      const answer = await this.wire.say('lobby');
+      if (answer[0] !== 'ok lobby') return;
+      this.rows = new Map(readRows(answer.slice(2)).map((row) => [row.number, row]));
+    }
+    this.view.again();
+  }
+
+  notice(lines) {
+    const number = Number(lines[0].split(' ')[1]), found = /^by (\S+) (.*)$/.exec(lines[1] || '');
+    if (!found) return;
+    const standing = readStanding(lines.slice(3));
+    if (standing) this.rows.set(number, standing);
+    else this.rows.delete(number);
+    this.view.notice(number, found[2], lines[2], standing);
+  }
+
+  changed() {
+    if (!this.wire) return;
+    const { open, server, retryAt, ever } = this.wire.state;
+    byId('lost').hidden = open || !ever && !retryAt;
+    byId('no-server').hidden = !(open && server === 'gone');
+  }
+}
+
+new Screen();
