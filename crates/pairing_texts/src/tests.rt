@@ -71,6 +71,14 @@ fn notes(rt: HostRuntime) -> Result<(), Fail> {
     Ok(())
 }
 
+fn row(game: u32, white: Option<Name>, black: Option<Name>) -> Row {
+    Row { game, white, black }
+}
+
+fn seats(white: Option<Name>, black: Option<Name>) -> Option<Seats> {
+    Some(Seats { white, black })
+}
+
 #[test]
 fn boards(rt: HostRuntime) -> Result<(), Fail> {
     let (white, black) = (Name::try_new("ann"), Name::try_new("bob"));
@@ -78,17 +86,20 @@ fn boards(rt: HostRuntime) -> Result<(), Fail> {
         assert!(rt; false);
         return Ok(());
     };
-    let row = |game: u32, black: Option<Name>| Row { game, white, black };
-    let rows = [row(16, None), row(17, None), row(18, white), row(19, black)];
+    let rows = [
+        row(16, white, None),
+        row(17, white, None),
+        row(18, white, white),
+        row(19, white, black),
+    ];
     let games = candidates(rt.alloc(), 16, &ann, &bob, &rows)?;
     assert!(rt; games.as_slice() == [17, 19].as_slice());
     assert!(rt; step_of_games(&[]) == Step::Open);
     assert!(rt; step_of_games(&[17]) == Step::Take(17));
     assert!(rt; step_of_games(&[17, 19]) == Step::Ask);
-    let seats = |black: Option<Name>| Some(Seats { white, black });
-    assert!(rt; step_of_seats(17, &ann, &bob, seats(None)) == Step::Join(17));
-    assert!(rt; step_of_seats(17, &ann, &bob, seats(black)) == Step::Note(17));
-    assert!(rt; step_of_seats(17, &ann, &bob, seats(white)) == Step::Ask);
+    assert!(rt; step_of_seats(17, &ann, &bob, seats(white, None)) == Step::Join(17));
+    assert!(rt; step_of_seats(17, &ann, &bob, seats(white, black)) == Step::Note(17));
+    assert!(rt; step_of_seats(17, &ann, &bob, seats(white, white)) == Step::Ask);
     assert!(rt; step_of_seats(17, &ann, &bob, None) == Step::Ask);
     Ok(())
 }
