@@ -1,6 +1,6 @@
 //! What came of games: in the archive, and on the table.
 use crate::command_line::Source;
-use crate::table::show_game;
+use crate::table::{Shown, show_game};
 use anyhow::{Context, Result};
 use archive_file::{game_of, pgn_of};
 use pairing_texts::Pairing;
@@ -114,22 +114,28 @@ impl Outcomes {
         let Some(shown) = show_game(alloc, link, game)? else {
             return Ok(None);
         };
+        let Shown {
+            seats,
+            plies,
+            result,
+            article,
+        } = shown;
         let black = pairing.game.map(|game| game.black);
-        if shown.seats.white != Some(pairing.white) || shown.seats.black != black {
+        if seats.white != Some(pairing.white) || seats.black != black {
             let board = pairing.board;
             anyhow::bail!(
                 "game {game} of the server is not that of board {board}: it has other players"
             );
         }
-        let article = if shown.article.as_str() == "-" {
+        let article = if article.as_str() == "-" {
             String::new(alloc)
         } else {
-            shown.article
+            article
         };
         Ok(Some(Ended {
-            result: shown.result,
+            result,
             article,
-            plies: shown.plies,
+            plies,
         }))
     }
 
