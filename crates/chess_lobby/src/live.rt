@@ -24,18 +24,16 @@ struct Mark {
 
 /// The file, and what was seen of it last.
 #[derive(Drop)]
-pub struct Live<'a, R> {
-    rt: &'a R,
+pub struct Live<'a> {
     file: &'a str,
     seen: Option<Mark>,
     next_at: u64,
 }
 
-impl<'a, R: Files + AllocGlobal + Clone + Drop> Live<'a, R> {
+impl<'a> Live<'a> {
     /// It was not looked at.
-    pub fn new(rt: &'a R, file: &'a str) -> Self {
+    pub fn new(file: &'a str) -> Self {
         Live {
-            rt,
             file,
             seen: None,
             next_at: 0,
@@ -43,8 +41,8 @@ impl<'a, R: Files + AllocGlobal + Clone + Drop> Live<'a, R> {
     }
 
     // How the file stands; none where it is not there.
-    fn mark(&self) -> Option<Mark> {
-        match fs::metadata(self.rt, self.file) {
+    fn mark<R: Files + AllocGlobal + Clone + Drop>(&self, rt: &R) -> Option<Mark> {
+        match fs::metadata(rt, self.file) {
             Ok(found) => Some(Mark {
                 node: found.ino(),
                 size: found.size(),
@@ -56,10 +54,14 @@ impl<'a, R: Files + AllocGlobal + Clone + Drop> Live<'a, R> {
     }
 
     // What the file has is served from now on; nothing where it cannot be read.
-    fn read(&mut self, lobby: &mut Lobby) -> Result<(), AllocError> {
-        match fs::read(self.rt, self.file) {
+    fn read<R: Files + AllocGlobal + Clone + Drop>(
+        &mut self,
+        rt: &R,
+        lobby: &mut Lobby,
+    ) -> Result<(), AllocError> {
+        match fs::read(rt, self.file) {
             Ok(bytes) => lobby.put_file(File {
-                path: PATH.to_vec(self.rt.alloc())?,
+                path: PATH.to_vec(rt.alloc())?,
                 kind: Kind::Pgn,
                 bytes: Bytes::from_vec(bytes)?,
             }),
@@ -72,12 +74,17 @@ impl<'a, R: Files + AllocGlobal + Clone + Drop> Live<'a, R> {
     }
 
     /// Looks at the file, where the last look was a second ago, and reads it where it has changed.
-    pub fn look(&mut self, lobby: &mut Lobby, at: u64) -> Result<(), AllocError> {
+    pub fn look<R: Files + AllocGlobal + Clone + Drop>(
+        &mut self,
+        rt: &R,
+        lobby: &mut Lobby,
+        at: u64,
+    ) -> Result<(), AllocError> {
         if at < self.next_at {
             return Ok(());
         }
         self.next_at = at.saturating_add(REST);
-        let found = self.mark();
+        let found = self.mark(rt);
         if found == self.seen {
             return Ok(());
         }
@@ -86,6 +93,6 @@ impl<'a, R: Files + AllocGlobal + Clone + Drop> Live<'a, R> {
             lobby.take_off_file(PATH);
             return Ok(());
         }
-        self.read(lobby)
+        self.read(rt, lobby)
     }
 }

@@ -70,12 +70,15 @@ where
         next_at: 0,
     };
     let mut health = Health::new(rt.alloc());
-    let mut live = serving.live.map(|file| Live::new(rt, file));
+    let mut live = match serving.live {
+        Some(file) => Some(Live::new(file)),
+        None => None,
+    };
     for _ in 0..u64::MAX {
         let at = moments.next();
         health.look(lobby, at)?;
         if let Some(live) = &mut live {
-            live.look(lobby, at)?;
+            live.look(rt, lobby, at)?;
         }
         let turned = lobby.turn(rt, at, log)?;
         telling.tell_server(lobby.has_server());
