@@ -1,6 +1,7 @@
 //! The words of the command line.
 use clap::error::ErrorKind;
-use server_words::{Copying, Formatting, Serving, VERSION, Word, read_words};
+use command_words::VERSION;
+use server_words::{Copying, Formatting, Serving, Word, read_words};
 use std::alloc::Global;
 use std::process::Abort;
 
