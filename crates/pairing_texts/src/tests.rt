@@ -71,35 +71,42 @@ fn notes(rt: HostRuntime) -> Result<(), Fail> {
     Ok(())
 }
 
-fn row(game: u32, white: Option<Name>, black: Option<Name>) -> Row {
-    Row { game, white, black }
+// A row of the table, by the players' names; no player where a name is empty.
+fn row(game: u32, white: &str, black: &str) -> Row {
+    Row {
+        game,
+        white: Name::try_new(white),
+        black: Name::try_new(black),
+    }
 }
 
-fn seats(white: Option<Name>, black: Option<Name>) -> Option<Seats> {
-    Some(Seats { white, black })
+fn seats(white: &str, black: &str) -> Option<Seats> {
+    Some(Seats {
+        white: Name::try_new(white),
+        black: Name::try_new(black),
+    })
 }
 
 #[test]
 fn boards(rt: HostRuntime) -> Result<(), Fail> {
-    let (white, black) = (Name::try_new("ann"), Name::try_new("bob"));
-    let (Some(ann), Some(bob)) = (white, black) else {
+    let (Some(ann), Some(bob)) = (Name::try_new("ann"), Name::try_new("bob")) else {
         assert!(rt; false);
         return Ok(());
     };
     let rows = [
-        row(16, white, None),
-        row(17, white, None),
-        row(18, white, white),
-        row(19, white, black),
+        row(16, "ann", ""),
+        row(17, "ann", ""),
+        row(18, "ann", "ann"),
+        row(19, "ann", "bob"),
     ];
     let games = candidates(rt.alloc(), 16, &ann, &bob, &rows)?;
     assert!(rt; games.as_slice() == [17, 19].as_slice());
     assert!(rt; step_of_games(&[]) == Step::Open);
     assert!(rt; step_of_games(&[17]) == Step::Take(17));
     assert!(rt; step_of_games(&[17, 19]) == Step::Ask);
-    assert!(rt; step_of_seats(17, &ann, &bob, seats(white, None)) == Step::Join(17));
-    assert!(rt; step_of_seats(17, &ann, &bob, seats(white, black)) == Step::Note(17));
-    assert!(rt; step_of_seats(17, &ann, &bob, seats(white, white)) == Step::Ask);
+    assert!(rt; step_of_seats(17, &ann, &bob, seats("ann", "")) == Step::Join(17));
+    assert!(rt; step_of_seats(17, &ann, &bob, seats("ann", "bob")) == Step::Note(17));
+    assert!(rt; step_of_seats(17, &ann, &bob, seats("ann", "ann")) == Step::Ask);
     assert!(rt; step_of_seats(17, &ann, &bob, None) == Step::Ask);
     Ok(())
 }
