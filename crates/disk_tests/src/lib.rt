@@ -13,3 +13,5 @@ mod memory_device;
 mod names;
 #[cfg(test)]
 mod once_device;
+#[cfg(test)]
+mod sectors;

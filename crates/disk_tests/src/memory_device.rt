@@ -1,45 +1,15 @@
 //! Crashes, limited calls and want of memory, as a caller of the traits sees them.
 
-use sector_dev::{CrashDevice, Device, DeviceFault, Fate, Got, MemoryDevice};
+use crate::sectors::{NOTHING, byte_at, fill};
+use sector_dev::{CrashDevice, Device, DeviceFault, Fate, MemoryDevice};
 use std::alloc::{AllocError, Global};
 use std::process::Abort;
 
 // What each of three sectors is filled with.
 type Bytes = [u8; 3];
 
-// What a sector that is unreadable counts as. No test fills a sector with it.
-const NOTHING: u8 = 254;
-
 // Distinct, and no byte that a test writes over them.
 const STABLE: Bytes = [101, 102, 103];
-
-// Fills a sector with a byte.
-fn fill<D: Device>(device: &mut D, at: u32, byte: u8) -> Result<(), DeviceFault> {
-    if at >= device.sectors() {
-        return Err(DeviceFault);
-    }
-    device.write(at, &[byte; 512])
-}
-
-// The byte that a sector is filled with.
-fn byte_at<D: Device>(rt: &impl Abort, device: &mut D, at: u32) -> Result<u8, DeviceFault> {
-    if at >= device.sectors() {
-        return Err(DeviceFault);
-    }
-    let mut sector = [255; 512];
-    let got = device.read(at, &mut sector)?;
-    Ok(filling(rt, got, &sector))
-}
-
-fn filling(rt: &impl Abort, got: Got, sector: &[u8; 512]) -> u8 {
-    let byte = sector[0];
-    assert!(rt; *sector == [byte; 512]);
-    if got == Got::Whole {
-        return byte;
-    }
-    assert!(rt; byte == 0);
-    NOTHING
-}
 
 // What the first three sectors are filled with.
 fn bytes<D: Device>(rt: &impl Abort, device: &mut D) -> Bytes {

@@ -1,23 +1,7 @@
 //! One call that fails.
-use sector_dev::{CrashDevice, Device, DeviceFault, Got, MemoryDevice, OnceDevice};
+use crate::sectors::{byte_at, fill};
+use sector_dev::{CrashDevice, Device, DeviceFault, MemoryDevice, OnceDevice};
 use std::process::Abort;
-
-fn fill<D: Device>(device: &mut D, at: u32, byte: u8) -> Result<(), DeviceFault> {
-    if at >= device.sectors() {
-        return Err(DeviceFault);
-    }
-    device.write(at, &[byte; 512])
-}
-
-fn byte_at<D: Device>(rt: &impl Abort, device: &mut D, at: u32) -> Result<u8, DeviceFault> {
-    if at >= device.sectors() {
-        return Err(DeviceFault);
-    }
-    let mut sector = [255; 512];
-    let got = device.read(at, &mut sector)?;
-    assert!(rt; got == Got::Whole);
-    Ok(sector[0])
-}
 
 fn bytes<D: Device>(rt: &impl Abort, device: &mut D) -> Result<[u8; 2], DeviceFault> {
     Ok([byte_at(rt, device, 0)?, byte_at(rt, device, 1)?])

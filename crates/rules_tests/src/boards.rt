@@ -26,6 +26,28 @@ fn man_of(letter: u8) -> Option<(Colour, Kind)> {
 /// A diagram, from rank 8 to rank 1.
 pub type Diagram = [u8; 64];
 
+/// 1r5k/P7/6K1/8/8/8/8/8 w - - 0 1: the pawn takes on b8.
+pub const PAWN_TAKES: Diagram = *b"\
+    .r.....k\
+    P.......\
+    ......K.\
+    ........\
+    ........\
+    ........\
+    ........\
+    ........";
+
+/// 4k3/8/8/8/8/8/1r6/R3K3 w Q - 0 1, or with other rights.
+pub const ROOK_ATTACKS_B1: Diagram = *b"\
+    ....k...\
+    ........\
+    ........\
+    ........\
+    ........\
+    ........\
+    .r......\
+    R...K...";
+
 /// Its parts, with this side to move at the first move of a game, and nobody may castle.
 pub fn parts_of(diagram: Diagram, side: Colour) -> Parts {
     let mut men = [None; 64];

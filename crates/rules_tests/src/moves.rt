@@ -1,5 +1,7 @@
 //! Legal moves of known positions.
-use crate::boards::{Diagram, board_of, board_with, move_of, parts_of};
+use crate::boards::{
+    Diagram, PAWN_TAKES, ROOK_ATTACKS_B1, board_of, board_with, move_of, parts_of,
+};
 use chess_bits::Colour::White;
 use chess_bits::{Kind, Square};
 use chess_board::{Board, CastlingRights, Parts};
@@ -129,17 +131,6 @@ fn en_passant_does_not_uncover_the_king(rt: HostRuntime) {
     assert!(rt; legal_moves(&board).len() == 5);
 }
 
-// 4k3/8/8/8/8/8/1r6/R3K3 w Q - 0 1, or with other rights.
-const ROOK_ATTACKS_B1: Diagram = *b"\
-    ....k...\
-    ........\
-    ........\
-    ........\
-    ........\
-    ........\
-    .r......\
-    R...K...";
-
 // An attack on b1 does not prevent castling.
 #[test]
 fn castles_past_an_attack_on_b1(rt: HostRuntime) {
@@ -154,17 +145,6 @@ fn castles_past_an_attack_on_b1(rt: HostRuntime) {
         assert!(rt; legal(&board, castles) == may_castle);
     }
 }
-
-// 1r5k/P7/6K1/8/8/8/8/8 w - - 0 1: the pawn takes on b8.
-const PAWN_TAKES: Diagram = *b"\
-    .r.....k\
-    P.......\
-    ......K.\
-    ........\
-    ........\
-    ........\
-    ........\
-    ........";
 
 #[test]
 fn pawn_on_the_last_rank_becomes_a_piece(rt: HostRuntime) {

@@ -1,6 +1,8 @@
 //! Texts of moves as the PGN Standard and played games give them.
 
-use crate::boards::{Diagram, board_of, board_with, move_of, parts_of};
+use crate::boards::{
+    Diagram, PAWN_TAKES, ROOK_ATTACKS_B1, board_of, board_with, move_of, parts_of,
+};
 use chess_bits::{Colour, Kind, Square};
 use chess_board::{Board, CastlingRights, Move, Parts};
 use chess_moves::legal;
@@ -82,16 +84,7 @@ fn fools_mate(rt: HostRuntime) {
 
 #[test]
 fn a_pawn_takes_and_mates_as_a_queen(rt: HostRuntime) {
-    let diagram = *b"\
-        .r.....k\
-        P.......\
-        ......K.\
-        ........\
-        ........\
-        ........\
-        ........\
-        ........";
-    let board = board_of(&rt, diagram, Colour::White);
+    let board = board_of(&rt, PAWN_TAKES, Colour::White);
     let a7 = Square::at(1, 7);
     let takes = move_of(a7, Square::at(2, 8), Some(Kind::Queen));
     expect_text(&rt, &board, &takes, "axb8=Q#");
@@ -104,18 +97,9 @@ fn a_pawn_takes_and_mates_as_a_queen(rt: HostRuntime) {
 
 #[test]
 fn castling_to_the_queens_wing(rt: HostRuntime) {
-    let diagram = *b"\
-        ....k...\
-        ........\
-        ........\
-        ........\
-        ........\
-        ........\
-        .r......\
-        R...K...";
     let parts = Parts {
         rights: CastlingRights::of(false, true, false, false),
-        ..parts_of(diagram, Colour::White)
+        ..parts_of(ROOK_ATTACKS_B1, Colour::White)
     };
     let board = board_with(&rt, parts);
     let mv = move_of(Square::at(5, 1), Square::at(3, 1), None);

@@ -4,8 +4,8 @@ ghost use Rattle.chess_entry.specs.Bounds.{IsStart};
 ghost use Rattle.chess_game.specs.Turn.{IsRunningAt, IsInTime, IsPlayable, IsJudgeable};
 
 use chess_bits::Colour::{Black, White};
-use chess_bits::{Colour, Kind, Square};
-use chess_board::{Board, CastlingRights, Move, Parts};
+use chess_bits::{Colour, Square};
+use chess_board::{Board, Move};
 use chess_clock::is_time_control;
 use chess_end::{Article, Ending, GameResult};
 use chess_game::{Game, is_finished};
@@ -38,48 +38,6 @@ fn is_playable(game: &Game, mv: &Move) -> bool
     ensures { IsTrue result → IsPlayable game.now mv.now }
 {
     legal(game.board(), *mv) && game.ply() < 20_000
-}
-
-// The man of a letter of a diagram.
-fn man_of(letter: u8) -> Option<(Colour, Kind)> {
-    let colour = if letter.is_ascii_uppercase() {
-        White
-    } else {
-        Black
-    };
-    let kind = match letter.to_ascii_lowercase() {
-        b'p' => Kind::Pawn,
-        b'n' => Kind::Knight,
-        b'b' => Kind::Bishop,
-        b'r' => Kind::Rook,
-        b'q' => Kind::Queen,
-        b'k' => Kind::King,
-        _ => return None,
-    };
-    Some((colour, kind))
-}
-
-// The board of a diagram, without castling rights.
-pub fn board_of(
-    rt: &impl Abort,
-    side: Colour,
-    diagram: [&[u8; 8]; 8],
-    halfmove: u16,
-    fullmove: u16,
-) -> Board {
-    let mut men = [None; 64];
-    for i in 0..64 {
-        men[56 - i / 8 * 8 + i % 8] = man_of(diagram[i / 8][i % 8]);
-    }
-    let parts = Parts {
-        men,
-        side,
-        rights: CastlingRights::of(false, false, false, false),
-        target: None,
-        halfmove,
-        fullmove,
-    };
-    Board::try_new(parts).expect(rt, "a board")
 }
 
 // A game that ann opens as White with 300 s and this increment, from the initial position, and bob joins at 1,000.

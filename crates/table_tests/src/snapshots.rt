@@ -1,7 +1,8 @@
 //! Games that a snapshot names, by heads and moves that were made by hand.
-use crate::game::{board_of, move_of};
+use crate::game::move_of;
 use chess_bits::Colour::{Black, White};
 use chess_board::{Board, Move};
+use chess_fen::fen_read;
 use chess_game::Game;
 use rec_codec::{Ending, GameNumber, Head, Name, Seat};
 use std::alloc::Global;
@@ -55,21 +56,10 @@ fn over(rt: &impl Abort, moves: u32, ending: Ending) -> Head {
     }
 }
 
-// Black to move, with White's queen on its seventh rank: 7k/Q7/6K1/8/8/8/8/8, or 7k/6Q1/6K1/8/8/8/8/8, which is mate.
-fn king_and_queen(rt: &impl Abort, queen: &[u8; 8], fullmove: u16) -> Head {
-    let empty = b"........";
-    let diagram = [
-        b".......k",
-        queen,
-        b"......K.",
-        empty,
-        empty,
-        empty,
-        empty,
-        empty,
-    ];
+// That game from the position of a FEN.
+fn started(rt: &impl Abort, fen: &str) -> Head {
     Head {
-        start: board_of(rt, Black, diagram, 0, fullmove),
+        start: fen_read(fen).expect(rt, "a FEN"),
         ..joined(rt, 0)
     }
 }
@@ -251,10 +241,10 @@ fn heads_of_no_game(rt: HostRuntime) {
 #[test]
 fn starts_of_games(rt: HostRuntime) {
     let alloc = rt.alloc();
-    let last = king_and_queen(&rt, b"Q.......", 9_999);
+    let last = started(&rt, "7k/Q7/6K1/8/8/8/8/8 b - - 0 9999");
     assert!(rt; told(&rt, alloc, &last, &[]) == Some([0, 5_000, 300_000, 300_000]));
-    let beyond = king_and_queen(&rt, b"Q.......", 10_000);
-    let mated = king_and_queen(&rt, b"......Q.", 1);
+    let beyond = started(&rt, "7k/Q7/6K1/8/8/8/8/8 b - - 0 10000");
+    let mated = started(&rt, "7k/6Q1/6K1/8/8/8/8/8 b - - 0 1");
     refused(&rt, alloc, &[beyond, mated], &[]);
 }
 
