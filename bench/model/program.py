@@ -52,14 +52,15 @@ def server_path():
     return os.path.join(TOP, 'crates/chess_server/out/chess_server')
 
 
-def take_programs(folder):
-    """The programs under test are those of this folder, by the names that ./build gives or those of an archive."""
-    for variable, name in (('CHESS_SERVER', 'chess_server'), ('CHESS_LOBBY', 'chess_lobby')):
+def take_programs(folder, *more):
+    """The programs under test, the server, the lobby and these, are those of this folder, by the names that ./build gives or
+    those of an archive."""
+    for name in ('chess_server', 'chess_lobby', *more):
         found = [path for path in (os.path.join(folder, name), os.path.join(folder, name.replace('_', '-')))
                  if os.path.isfile(path)]
         if not found:
             sys.exit('there is no %s in %s' % (name, folder))
-        os.environ[variable] = os.path.realpath(found[0])
+        os.environ[name.upper()] = os.path.realpath(found[0])
 
 
 def build_shim(folder):

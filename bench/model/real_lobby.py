@@ -144,19 +144,24 @@ class Relay:
 
 
 class Programs:
-    """Server, relay and lobby, over a players' file with lines `NAME ROLE TOKEN FULL NAME`; `more` are options of the lobby."""
+    """Server, relay and lobby, over a players' file with lines `NAME ROLE TOKEN FULL NAME`, or over the `club.players` that
+    is in the folder; `more` are options of the lobby."""
 
-    def __init__(self, folder, players, has_relay=True, more=()):
+    def __init__(self, folder, players=None, has_relay=True, more=()):
         self.folder, self.port, self.more = folder, 0, more
         self.club = os.path.join(folder, 'club.players')
-        with open(players) as file, open(self.club, 'w') as club:
-            for row in file.read().splitlines():
-                name, role, token, full = row.split(' ', 3)
-                club.write('%s %s %s %s\n' % (name, role, hashlib.sha256(token.encode()).hexdigest(), full))
+        if players:
+            self.add_players(players)
         self.program = lobby_path()
         self.server = GameServer(folder)
         self.relay = Relay(self.server) if has_relay else None
         self.start()
+
+    def add_players(self, players):
+        with open(players) as file, open(self.club, 'w') as club:
+            for row in file.read().splitlines():
+                name, role, token, full = row.split(' ', 3)
+                club.write('%s %s %s %s\n' % (name, role, hashlib.sha256(token.encode()).hexdigest(), full))
 
     def start(self):
         self.process = subprocess.Popen(

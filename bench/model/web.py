@@ -1,0 +1,206 @@
+"""What benches say to a lobby over HTTP and its WebSocket: by blocking calls (Line), in an asyncio program (Browser), one
+request (fetch), and the figures of /health."""
+
+import asyncio
+import base64
+import os
+import re
+import socket
+
+TEXT, CLOSE, PING, PONG = 1, 8, 9, 10
+
+
+class Gone(Exception):
+    """The connection is gone, or the lobby's to the server."""
+
+
+def handshake(host):
+    """What opens a WebSocket."""
+    key = base64.b64encode(os.urandom(16)).decode()
+    return ('GET /ws HTTP/1.1\r\nHost: %s\r\nOrigin: http://%s\r\nConnection: Upgrade\r\nUpgrade: websocket\r\n'
+            'Sec-WebSocket-Version: 13\r\nSec-WebSocket-Key: %s\r\n\r\n' % (host, host, key)).encode()
+
+
+def frame(kind, payload):
+    """A frame of a client, of at most 125 bytes, or of at most 65,535 where it is a text."""
+    mask = os.urandom(4)
+    body = bytes(byte ^ mask[place & 3] for place, byte in enumerate(payload))
+    size = bytes((128 | len(payload),)) if len(payload) < 126 else bytes((254,)) + len(payload).to_bytes(2, 'big')
+    return bytes((128 | kind,)) + size + mask + body
+
+
+def taken_frame(data):
+    """Takes the first frame out of what has come: its kind and its payload; none where it is not all there."""
+    if len(data) < 2:
+        return None
+    size, at = data[1], 2
+    if size == 126:
+        size, at = int.from_bytes(data[2:4], 'big'), 4
+    elif size == 127:
+        size, at = int.from_bytes(data[2:10], 'big'), 10
+    if len(data) < at + size:
+        return None
+    kind, payload = data[0] & 15, bytes(data[at:at + size])
+    del data[:at + size]
+    return kind, payload
+
+
+class Line:
+    """A browser's socket, by blocking calls."""
+
+    def __init__(self, port, timeout=None):
+        self.data = bytearray()
+        self.socket = socket.create_connection(('127.0.0.1', port), timeout=timeout)
+        self.socket.sendall(handshake('127.0.0.1:%d' % port))
+        while b'\r\n\r\n' not in self.data:
+            self.more()
+        del self.data[:self.data.index(b'\r\n\r\n') + 4]
+
+    def close(self):
+        self.socket.close()
+
+    def more(self):
+        some = self.socket.recv(65536)
+        if not some:
+            raise Gone
+        self.data += some
+
+    def hear(self):
+        """The next message of text."""
+        while True:
+            while (taken := taken_frame(self.data)) is None:
+                self.more()
+            kind, payload = taken
+            if kind == TEXT:
+                return payload.decode()
+            if kind == CLOSE:
+                raise Gone
+            if kind == PING:
+                self.socket.sendall(frame(PONG, payload))
+
+    def send(self, line):
+        self.socket.sendall(frame(TEXT, line.encode()))
+
+
+class Browser(asyncio.Protocol):
+    """One browser's connection in an asyncio program. `opened` is done at the lobby's first message; answers stand in a
+    queue, behind them None once the connection is gone; `told` and `server` are called with notices, where they are set."""
+
+    def __init__(self, host):
+        self.host, self.data, self.is_open = host, bytearray(), False
+        self.opened = asyncio.get_running_loop().create_future()
+        self.answers = asyncio.Queue()
+        self.is_gone, self.told, self.server, self.gone = False, None, None, None
+
+    def connection_made(self, transport):
+        self.transport = transport
+        transport.write(handshake(self.host))
+
+    def data_received(self, data):
+        self.data += data
+        if not self.is_open:
+            end = self.data.find(b'\r\n\r\n')
+            if end < 0:
+                return
+            assert self.data.startswith(b'HTTP/1.1 101'), self.data[:60]
+            del self.data[:end + 4]
+            self.is_open = True
+        while (taken := taken_frame(self.data)) is not None:
+            kind, payload = taken
+            if kind == PING:
+                self.transport.write(frame(PONG, payload))
+            elif kind == TEXT:
+                self.hear(payload.decode())
+
+    def connection_lost(self, why):
+        self.is_gone = True
+        if not self.opened.done():
+            self.opened.set_exception(ConnectionError('not let in'))
+        self.answers.put_nowait(None)
+        if self.gone:
+            self.gone()
+
+    def hear(self, text):
+        if text.startswith('server '):
+            if self.server:
+                self.server(text)
+            if not self.opened.done():
+                self.opened.set_result(None)
+        elif text.startswith('told '):
+            if self.told:
+                self.told(text)
+        else:
+            self.answers.put_nowait(text)
+
+    def say(self, line):
+        self.transport.write(frame(TEXT, line.encode()))
+
+    async def ask(self, line):
+        if self.is_gone:
+            raise Gone
+        self.say(line)
+        answer = await self.answers.get()
+        if answer is None:
+            raise Gone
+        return answer
+
+
+def fetch(port, path, method='GET'):
+    """The status, the fields in small letters, and the body."""
+    with socket.create_connection(('127.0.0.1', port)) as line:
+        line.sendall(('%s %s HTTP/1.1\r\nHost: 127.0.0.1:%d\r\nConnection: close\r\n\r\n' % (method, path, port)).encode())
+        data = b''
+        while some := line.recv(65536):
+            data += some
+    head, _, body = data.partition(b'\r\n\r\n')
+    first, *rows = head.decode().split('\r\n')
+    fields = {}
+    for row in rows:
+        name, _, value = row.partition(': ')
+        fields.setdefault(name.lower(), []).append(value)
+    return int(first.split()[1]), fields, body
+
+
+NAME = r'[a-zA-Z_:][a-zA-Z0-9_:]*'
+SAMPLE = re.compile(r'^(%s)(?:\{(.*)\})? (\S+)$' % NAME)
+LABEL = re.compile(r'([a-zA-Z_][a-zA-Z0-9_]*)="((?:[^"\\\n]|\\["\\n])*)"(?:,|$)')
+
+
+def figures(text):
+    """The samples of a text in Prometheus' format, by name and labels, and the kinds of the figures. What breaks the
+    description raises ValueError: each figure has one HELP and one TYPE in front of its samples, which stand together; each
+    sample is a figure's, or of a histogram one of its `_bucket`, `_sum` and `_count`; no two are the same."""
+    if not text.endswith('\n'):
+        raise ValueError('the last line has no end')
+    samples, kinds, helped, current = {}, {}, set(), None
+    for row in text[:-1].split('\n'):
+        if row.startswith('# HELP '):
+            current = row.split(' ', 3)[2]
+            if current in helped:
+                raise ValueError('two HELP of ' + current)
+            helped.add(current)
+        elif row.startswith('# TYPE '):
+            name, kind = row.split(' ')[2:]
+            if name != current or name in kinds or kind not in ('counter', 'gauge', 'histogram', 'summary', 'untyped'):
+                raise ValueError(row)
+            kinds[name] = kind
+        else:
+            found = SAMPLE.match(row)
+            if not found:
+                raise ValueError(row)
+            name, labels, value = found.groups()
+            own = [current + end for end in ('_bucket', '_sum', '_count')] if kinds[current] == 'histogram' else [current]
+            if name not in own:
+                raise ValueError(row)
+            pairs = tuple(LABEL.findall(labels or ''))
+            if ''.join('%s="%s",' % pair for pair in pairs).rstrip(',') != (labels or ''):
+                raise ValueError(row)
+            if (name, pairs) in samples:
+                raise ValueError('twice: ' + row)
+            samples[name, pairs] = float(value.replace('+Inf', 'inf'))
+    return samples, kinds
+
+
+def of(samples, name, **labels):
+    """A lobby's figure; -1 where it is not told."""
+    return samples.get(('chess_lobby_' + name, tuple(labels.items())), -1)
