@@ -1,18 +1,22 @@
--- A line that was made is read as it was meant.
-use Rattle.std.proofs.Common.{ℕ, ◌≡◌, ◌<◌, ◌^◌, List, [], ◌∷◌, ◌++◌, drop, Some, decimal, false, ap, ◌∙◌, arith}
+-- A line that was made is read as it was meant, and no other line is read so.
+use Rattle.std.proofs.Common.{ℕ, ◌≡◌, ◌<◌, ◌^◌, Bool, true, false, ◌&&◌, List, [], ◌∷◌, ◌++◌, drop, Option, Some, None, decimal, refl, sym, ap, ◌∙◌, arith}
+use Rattle.std.specs.Prelude.{if◌then◌else◌}
+use Rattle.std.specs.Str.{bytes_eq}
+use Rattle.std.proofs.lemmas.Bool.{false≢true}
+use Rattle.std.proofs.lemmas.Slice.Eq.{bytes_eq-Decides}
 use Rattle.json_text.specs.Strings.{escaped, unescaped_from}
 use Rattle.json_text.proofs.Cuts.{before_at, after_at, decimal_lacks}
 use Rattle.json_text.proofs.Texts.{back}
 use Rattle.lobby_words.specs.Words.{number_in}
 use Rattle.lobby_words.proofs.Numbers.{number_spelled}
-use Rattle.archive_file.specs.Line.{front, line_of, game_in, pgn_in}
+use Rattle.archive_file.specs.Line.{front, line_of, is_text, number_at, pgn_in, is_line_of, if_spelled, game_in}
 
 -- what is behind the first comma of a line
 abbrev tail_of : List ℕ → List ℕ
 tail_of pgn = 34 ∷ 112 ∷ 103 ∷ 110 ∷ 34 ∷ 58 ∷ 34 ∷ (escaped pgn ++ (34 ∷ 125 ∷ []))
 
-pub game_read : (game : ℕ) (pgn : List ℕ) → game < 2 ^ 32 → game_in (line_of game pgn) ≡ Some game
-game_read game pgn small =
+number_read : (game : ℕ) (pgn : List ℕ) → game < 2 ^ 32 → number_at (line_of game pgn) ≡ Some game
+number_read game pgn small =
     ap number_in (before_at 44 (decimal game) (tail_of pgn) (decimal_lacks game (omega arith))) ∙ number_spelled game small
 
 pub pgn_read : (game : ℕ) (pgn : List ℕ) → game < 2 ^ 32 → pgn_in (line_of game pgn) ≡ pgn
@@ -20,3 +24,59 @@ pgn_read game pgn small =
     ap (λ text. unescaped_from false (drop 7 text))
     (after_at 44 (front ++ (58 ∷ decimal game)) (tail_of pgn) (decimal_lacks game (omega arith)))
     ∙ back pgn (125 ∷ [])
+
+and_both : (a b : Bool) → a ≡ true → b ≡ true → (a && b) ≡ true
+and_both true b h k = k
+and_both false b h k = h
+
+and_first : (a b : Bool) → (a && b) ≡ true → a ≡ true
+and_first true b h = refl
+and_first false b h = h
+
+and_second : (a b : Bool) → (a && b) ≡ true → b ≡ true
+and_second true b h = h
+and_second false b h = absurd (false≢true h)
+
+is_made : (game : ℕ) (pgn : List ℕ) → game < 2 ^ 32 → is_text pgn ≡ true → is_line_of (line_of game pgn) game ≡ true
+is_made game pgn small h =
+    ap (λ xs. is_text xs && bytes_eq (line_of game xs) (line_of game pgn)) (pgn_read game pgn small)
+    ∙ and_both (is_text pgn) (bytes_eq (line_of game pgn) (line_of game pgn)) h
+    ((bytes_eq-Decides (line_of game pgn) (line_of game pgn)).1 refl)
+
+pub game_read : (game : ℕ) (pgn : List ℕ) → game < 2 ^ 32 → is_text pgn ≡ true → game_in (line_of game pgn) ≡ Some game
+game_read game pgn small h =
+    ap (if_spelled (line_of game pgn)) (number_read game pgn small)
+    ∙ ap (λ (b : Bool). if b then Some game else None) (is_made game pgn small h)
+
+-- a game that is found is one
+abbrev or_this : Option ℕ → ℕ → ℕ
+or_this None d = d
+or_this (Some n) d = n
+
+abbrev is_there : Option ℕ → Bool
+is_there None = false
+is_there (Some n) = true
+
+some_same : (m n : ℕ) → Some m ≡ Some n → m ≡ n
+some_same m n h = ap (λ o. or_this o n) h
+
+none_some : (n : ℕ) → None ≡ Some n → ⊥
+none_some n h = false≢true (ap is_there h)
+
+found_by : (line : List ℕ) (m n : ℕ) (t : Bool) → is_line_of line m ≡ t → (if t then Some m else None) ≡ Some n →
+    is_line_of line n ≡ true
+found_by line m n true is h = ap (is_line_of line) (sym (some_same m n h)) ∙ is
+found_by line m n false is h = absurd (none_some n h)
+
+found : (line : List ℕ) (o : Option ℕ) (game : ℕ) → if_spelled line o ≡ Some game → is_line_of line game ≡ true
+found line None game h = absurd (none_some game h)
+found line (Some m) game h = found_by line m game (is_line_of line m) refl h
+
+pub only : (game : ℕ) (line : List ℕ) → game_in line ≡ Some game → line ≡ line_of game (pgn_in line)
+only game line h =
+    sym ((bytes_eq-Decides (line_of game (pgn_in line)) line).0
+    (and_second (is_text (pgn_in line)) (bytes_eq (line_of game (pgn_in line)) line) (found line (number_at line) game h)))
+
+pub only_text : (game : ℕ) (line : List ℕ) → game_in line ≡ Some game → is_text (pgn_in line) ≡ true
+only_text game line h =
+    and_first (is_text (pgn_in line)) (bytes_eq (line_of game (pgn_in line)) line) (found line (number_at line) game h)

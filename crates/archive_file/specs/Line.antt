@@ -1,6 +1,6 @@
 -- A game's line in the archive, which is an object of JSON.
-use Rattle.std.specs.Prelude.{ℕ, false, ◌==◌, List, [], ◌∷◌, ◌++◌, codes, decimal, Option, None, drop, if◌then◌else◌}
-use Rattle.std.specs.List.{before_first, after_first}
+use Rattle.std.specs.Prelude.{ℕ, Bool, false, ◌==◌, ◌||◌, ◌&&◌, nat_le, List, [], ◌∷◌, ◌++◌, codes, decimal, Option, Some, None, drop, if◌then◌else◌}
+use Rattle.std.specs.List.{list_all, before_first, after_first}
 use Rattle.std.specs.Str.{bytes_eq}
 use Rattle.json_text.specs.Strings.{escaped, unescaped_from}
 use Rattle.lobby_words.specs.Words.{number_in}
@@ -17,12 +17,19 @@ middle = 44 ∷ 34 ∷ (codes "pgn" ++ (34 ∷ 58 ∷ 34 ∷ []))
 abbrev pub line_of : ℕ → List ℕ → List ℕ
 line_of game pgn = front ++ (58 ∷ (decimal game ++ (middle ++ (escaped pgn ++ (34 ∷ 125 ∷ [])))))
 
+-- a line feed, or no control character of ASCII: these alone have an escape here, or need none in JSON
+abbrev pub is_text_byte : ℕ → Bool
+is_text_byte b = b == 10 || nat_le 32 b
+
+abbrev pub is_text : List ℕ → Bool
+is_text pgn = list_all is_text_byte pgn
+
 abbrev pub before_comma : List ℕ → List ℕ
 before_comma text = before_first (λ b. b == 44) text
 
--- the game that a line names; none where it is no game's
-abbrev pub game_in : List ℕ → Option ℕ
-game_in line =
+-- the number behind the front of a line, whatever stands behind it
+abbrev pub number_at : List ℕ → Option ℕ
+number_at line =
     if bytes_eq (before_first (λ b. b == 58) line) front
     then number_in (before_comma (after_first (λ b. b == 58) line))
     else None
@@ -37,3 +44,15 @@ behind_name text = drop 7 text
 -- the PGN in a line
 abbrev pub pgn_in : List ℕ → List ℕ
 pgn_in line = unescaped_from false (behind_name (behind_comma line))
+
+-- whether a line is the one that is made for a game with the PGN in it
+abbrev pub is_line_of : List ℕ → ℕ → Bool
+is_line_of line game = is_text (pgn_in line) && bytes_eq (line_of game (pgn_in line)) line
+
+abbrev pub if_spelled : List ℕ → Option ℕ → Option ℕ
+if_spelled line None = None
+if_spelled line (Some game) = if is_line_of line game then Some game else None
+
+-- the game of a line, which is spelled as it would be made; none where it is no game's
+abbrev pub game_in : List ℕ → Option ℕ
+game_in line = if_spelled line (number_at line)

@@ -5,12 +5,11 @@ mod archive;
 mod faults;
 mod law;
 mod line;
+mod reading;
 #[cfg(test)]
 mod tests;
-mod unescaping;
 
 pub use archive::{Archive, Step};
 pub use faults::Fault;
 pub use law::law_of_lines;
-pub use line::game_of;
-pub use unescaping::pgn_of;
+pub use reading::{game_of, pgn_of};

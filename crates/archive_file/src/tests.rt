@@ -1,6 +1,6 @@
 //! Nights on a file in memory, with every kill.
-use crate::{Archive, Step, game_of, pgn_of};
-use night_files::{Fate, MemoryFile};
+use crate::{Archive, Fault, Step, game_of, pgn_of};
+use night_files::{AppendedFile, Fate, MemoryFile};
 use std::alloc::Global;
 use std::test::Fail;
 
@@ -85,11 +85,59 @@ fn tells_what_is_to_be_done(rt: HostRuntime) -> Result<(), Fail> {
 #[test]
 fn reads_lines(rt: HostRuntime) -> Result<(), Fail> {
     let line = "{\"game\":12,\"pgn\":\"[A \\\"b\\\\\\\\\\\"]\\n*\\n\"}";
-    assert!(rt; game_of(line) == Some(12));
+    assert!(rt; game_of(rt.alloc(), line)? == Some(12));
     let pgn = pgn_of(rt.alloc(), line)?;
     assert!(rt; pgn.as_slice() == b"[A \"b\\\\\"]\n*\n".as_slice());
-    assert!(rt; game_of("{\"game\":012,").is_none());
-    assert!(rt; game_of("{\"act\":1,").is_none());
-    assert!(rt; game_of("").is_none());
+    assert!(rt; game_of(rt.alloc(), "{\"game\":7,\"pgn\":\"\u{fc}\"}")? == Some(7));
+    Ok(())
+}
+
+// What is no line of an archive, though a game's number stands in some.
+const OTHERS: [&str; 17] = [
+    "",
+    "{\"act\":1,\"pgn\":\"*\"}",
+    "{\"game\":7",
+    "{\"game\":7,",
+    "{\"game\":7,\"pgn\":\"1. e4",
+    "{\"game\":7,\"pgn\":\"*\"",
+    "{\"game\":7,\"pgn\":\"*\"} ",
+    "{\"game\":7,\"pgn\":\"*\",\"game\":8}",
+    "{\"game\":7,\"moves\":3,\"pgn\":\"*\"}",
+    "{\"game\":7,\"pgn\":\"\\u00fc\"}",
+    "{\"game\":7,\"pgn\":\"\\t\"}",
+    "{\"game\":7,\"pgn\":\"\\/\"}",
+    "{\"game\":7,\"pgn\":\"\t\"}",
+    "{\"game\":07,\"pgn\":\"*\"}",
+    "{\"game\": 7,\"pgn\":\"*\"}",
+    "{\"game\":4294967296,\"pgn\":\"*\"}",
+    "{\"pgn\":\"*\",\"game\":7}",
+];
+
+#[test]
+fn refuses_other_lines(rt: HostRuntime) -> Result<(), Fail> {
+    let alloc = rt.alloc();
+    for line in &OTHERS {
+        assert!(rt; game_of(alloc, line)?.is_none());
+        let mut file = MemoryFile::new(alloc, None);
+        file.append(b"{\"game\":1,\"pgn\":\"\"}\n")?;
+        file.append(line.as_bytes())?;
+        file.append(b"\n")?;
+        assert!(rt; matches!(Archive::open(alloc, file), Err(Fault::NotAGame(2))));
+    }
+    Ok(())
+}
+
+#[test]
+fn refuses_control_characters(rt: HostRuntime) -> Result<(), Fail> {
+    let alloc = rt.alloc();
+    let Ok(mut archive) = Archive::open(alloc, MemoryFile::new(alloc, None)) else {
+        assert!(rt; false);
+        return Ok(());
+    };
+    for pgn in &["a\tb\n", "*\r\n", "\0", "\u{1b}"] {
+        assert!(rt; matches!(archive.keep(alloc, 7, pgn.as_bytes()), Err(Fault::Control)));
+    }
+    assert!(rt; matches!(archive.keep(alloc, 7, b"\xff"), Err(Fault::NotText)));
+    assert!(rt; matches!(archive.keep(alloc, 7, b"\x7f*\n"), Ok(true)));
     Ok(())
 }

@@ -56,8 +56,9 @@ fn is_same(alloc: Global, one: &[u8], other: &[u8]) -> Result<bool, AllocError> 
 
 /// Whether a text of an archive's lines has this game with this PGN, whatever its event, site, date, round and clocks.
 pub fn has_game(alloc: Global, text: &str, game: u32, pgn: &[u8]) -> Result<bool, AllocError> {
+    let front = format!(in alloc; "{{\"game\":{game},")?;
     for line in parts(alloc, text, '\n')?.as_slice() {
-        if game_of(line) == Some(game) {
+        if line.starts_with(front.as_str()) && game_of(alloc, line)? == Some(game) {
             let kept = pgn_of(alloc, line)?;
             return is_same(alloc, kept.as_slice(), pgn);
         }

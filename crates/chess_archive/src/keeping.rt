@@ -2,7 +2,7 @@
 use crate::asking::{Knowledge, pgn_of};
 use crate::command_line::Keeping;
 use crate::compared::has_game;
-use crate::lines::lines_of;
+use crate::lines::{end_last_line, lines_of};
 use act_log::read;
 use anyhow::{Context, Result};
 use archive_file::{Archive, Step};
@@ -123,7 +123,8 @@ where
     if fs::exists(rt, path)? {
         lines_of(rt, path)?;
     }
-    let file = NamedFile::open(rt, path).context(format_args!("opening {path}"))?;
+    let mut file = NamedFile::open(rt, path).context(format_args!("opening {path}"))?;
+    end_last_line(rt, path, &mut file).context(format_args!("opening {path}"))?;
     let archive = Archive::open(rt.alloc(), file).context(format_args!("opening {path}"))?;
     let lines = lines_of(rt, path)?;
     let server = keeping.server;

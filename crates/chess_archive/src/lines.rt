@@ -2,7 +2,8 @@
 //! is refused before.
 use anyhow::{Context, Result, bail};
 use archive_file::game_of;
-use night_files::whole_length;
+use night_files::{AppendedFile, NamedFile, whole_length};
+use std::alloc::Global;
 use std::fs;
 use std::rt::Files;
 use text_parts::parts;
@@ -14,34 +15,67 @@ const FRONT: &[u8] = b"{\"game\":";
 const MOST_BEHIND: usize = 4_194_304;
 
 // Whether what stands behind the lines may be the front of one that was being written: its bytes, or zeros.
-fn may_be_a_front(bytes: &[u8], from: usize) -> bool {
-    for at in from..bytes.len() {
-        match FRONT.get(at - from) {
-            Some(wanted) if bytes[at] == 0 || bytes[at] == *wanted => {}
-            Some(_) => return false,
-            None => return true,
-        }
-    }
-    true
+fn may_be_a_front(behind: &[u8]) -> bool {
+    behind
+        .iter()
+        .zip(FRONT.iter())
+        .all(|(byte, wanted)| *byte == *wanted || *byte == 0)
 }
 
-/// The lines of an archive's file that have ended. It fails where one is no game's, or where what stands behind them is no
-/// front of such a line.
-pub fn lines_of<R: Files + AllocGlobal>(rt: &R, file: &str) -> Result<String> {
-    let mut bytes = fs::read(rt, file).context(format_args!("reading {file}"))?;
+// What stands behind the lines of an archive's bytes.
+fn behind_lines(bytes: &[u8]) -> &[u8] {
+    bytes.get(whole_length(bytes)..).unwrap_or(&[])
+}
+
+// Whether what stands behind the lines is a game's line that lacks only its line feed.
+fn lacks_feed(alloc: Global, bytes: &[u8]) -> Result<bool> {
+    match str::from_utf8(behind_lines(bytes)) {
+        Ok(line) => Ok(game_of(alloc, line)?.is_some()),
+        Err(_) => Ok(false),
+    }
+}
+
+// Leaves the whole lines of an archive's bytes, each with its line feed. It fails where what stands behind them is no front of such
+// a line.
+fn leave_lines(alloc: Global, bytes: &mut Vec<u8>, file: &str) -> Result<()> {
     let kept = whole_length(bytes.as_slice());
-    let behind = bytes.len().saturating_sub(kept);
-    if behind > MOST_BEHIND || !may_be_a_front(bytes.as_slice(), kept) {
+    let behind = behind_lines(bytes.as_slice());
+    if lacks_feed(alloc, bytes.as_slice())? {
+        bytes.push(b'\n')?;
+    } else if behind.len() > MOST_BEHIND || !may_be_a_front(behind) {
         bail!(
             "{file} is no archive: what stands behind its lines is no game's line that was cut off"
         );
+    } else {
+        bytes.truncate(kept);
     }
-    bytes.truncate(kept);
+    Ok(())
+}
+
+/// The lines of an archive's file; the last one may lack its line feed. It fails where one is no game's, or where what stands behind
+/// them is no front of such a line.
+pub fn lines_of<R: Files + AllocGlobal>(rt: &R, file: &str) -> Result<String> {
+    let mut bytes = fs::read(rt, file).context(format_args!("reading {file}"))?;
+    leave_lines(rt.alloc(), &mut bytes, file)?;
     let text = String::from_utf8(bytes).context(format_args!("{file}"))?;
-    for line in parts(rt.alloc(), text.as_str(), '\n')?.as_slice() {
-        if game_of(line).is_none() {
-            bail!("{file} is no archive: it has a line that is no game's: {line:?}");
+    for (at, line) in parts(rt.alloc(), text.as_str(), '\n')?.iter().enumerate() {
+        if game_of(rt.alloc(), line)?.is_none() {
+            let number = at.saturating_add(1);
+            bail!("{file} is no archive: line {number} is no game's");
         }
     }
     Ok(text)
+}
+
+/// Ends the last line of an archive's file where it lacks only its line feed: opening the archive would cut it off.
+pub fn end_last_line<R: Files + AllocGlobal>(
+    rt: &R,
+    path: &str,
+    file: &mut NamedFile,
+) -> Result<()> {
+    let bytes = fs::read(rt, path)?;
+    if lacks_feed(rt.alloc(), bytes.as_slice())? {
+        file.append(b"\n")?;
+    }
+    Ok(())
 }

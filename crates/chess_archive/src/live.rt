@@ -132,7 +132,7 @@ where
         }
         let text = lines_of(self.rt, path)?;
         for line in parts(alloc, text.as_str(), '\n')?.as_slice() {
-            let Some(game) = game_of(line) else {
+            let Some(game) = game_of(alloc, line)? else {
                 continue;
             };
             let pgn = pgn_in(alloc, line)?;

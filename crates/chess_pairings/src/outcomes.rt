@@ -94,8 +94,9 @@ impl Outcomes {
 
     // What the archive has of a game.
     fn archived(&self, game: u32) -> Result<Option<Ended>> {
+        let front = format!(in self.alloc; "{{\"game\":{game},")?;
         for line in parts(self.alloc, self.lines.as_str(), '\n')?.as_slice() {
-            if game_of(line) == Some(game) {
+            if line.starts_with(front.as_str()) && game_of(self.alloc, line)? == Some(game) {
                 let pgn = String::from_utf8(pgn_of(self.alloc, line)?).context(format_args!(
                     "game {game}"
                 ))?;
