@@ -2,6 +2,7 @@
 use crate::asking::{Knowledge, pgn_of};
 use crate::command_line::Living;
 use crate::lines::lines_of;
+use crate::telling::Telling;
 use act_log::Record;
 use anyhow::{Context, Result, bail};
 use archive_file::{game_of, pgn_of as pgn_in};
@@ -35,8 +36,6 @@ struct Writer<'a, R> {
     log_length: u64,
     // What the file has, where that is known.
     written: Option<Vec<u8>>,
-    // What was told last on standard error.
-    told: String,
 }
 
 // Whether both seats of a game are taken.
@@ -170,24 +169,6 @@ where
         }
         Ok(())
     }
-
-    // Tells what came of writing, where that is something else than the last time.
-    fn tell(&mut self, done: Result<()>) -> Result<()> {
-        let alloc = self.rt.alloc();
-        let text = match done {
-            Ok(()) => String::new(alloc),
-            Err(error) => format!(in alloc; "chess-archive: {error:#}")?,
-        };
-        if text != self.told {
-            let _ = if text.is_empty() {
-                eprintln!(self.rt; "chess-archive: the file is written again")
-            } else {
-                eprintln!(self.rt; "{text}")
-            };
-            self.told = text;
-        }
-        Ok(())
-    }
 }
 
 /// Writes all games that are played on the server's table, those that are over, and those of the archive to a file: once, or
@@ -208,14 +189,14 @@ where
         records: Vec::new(rt.alloc()),
         log_length: 0,
         written: fs::read(rt, living.file).ok(),
-        told: String::new(rt.alloc()),
     };
     let Some(every) = living.every else {
         return writer.write();
     };
+    let mut telling = Telling::new(rt, "the file is written again");
     for _ in 0..u64::MAX {
         let done = writer.write();
-        writer.tell(done)?;
+        telling.tell(done)?;
         thread::sleep(rt, Duration::from_secs(u64::from(every)));
     }
     Ok(())
