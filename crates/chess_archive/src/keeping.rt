@@ -246,7 +246,7 @@ where
     let Some(every) = keeping.every else {
         return keep_and_tell(rt, keeping, players.as_slice(), true);
     };
-    let mut telling = Telling::new(rt, "games are kept again");
+    let mut telling = Telling::new(rt, "all is well again");
     for _ in 0..u64::MAX {
         let done = keep_and_tell(rt, keeping, players.as_slice(), false);
         telling.tell(done)?;
