@@ -86,7 +86,9 @@ impl Coming {
                 Next::Again
             }
             Event::End(_) => Next::Done,
-            Event::Paused | Event::Upgraded | Event::Closed => bail!("it answers otherwise than asked"),
+            Event::Paused | Event::Upgraded | Event::Closed => bail!(
+                "it answers otherwise than asked"
+            ),
         };
         if self.body.len() > MOST {
             bail!("it has more than {MOST} bytes of figures");

@@ -163,18 +163,25 @@ fn records_for<R: Files + AllocGlobal>(
     }
 }
 
-// Keeps the games that are over now, and drops them where that is asked.
-fn keep_now<R>(rt: &R, keeping: &Keeping<'_>, players: &[Player]) -> Result<(Counts, Result<()>)>
+// The archive of a file, and its lines when it was opened.
+fn archive_of<R>(rt: &R, path: &str) -> Result<(Archive<NamedFile>, String)>
 where
-    R: Files<File = File> + Net<Stream = TcpStream> + AllocGlobal + Clock,
+    R: Files<File = File> + AllocGlobal,
 {
-    let path = keeping.archive;
     if fs::exists(rt, path)? {
         lines_of(rt, path)?;
     }
     let file = NamedFile::open(rt, path).context(format_args!("opening {path}"))?;
     let archive = Archive::open(rt.alloc(), file).context(format_args!("opening {path}"))?;
-    let lines = lines_of(rt, path)?;
+    Ok((archive, lines_of(rt, path)?))
+}
+
+// Keeps the games that are over now, and drops them where that is asked.
+fn keep_now<R>(rt: &R, keeping: &Keeping<'_>, players: &[Player]) -> Result<(Counts, Result<()>)>
+where
+    R: Files<File = File> + Net<Stream = TcpStream> + AllocGlobal + Clock,
+{
+    let (archive, lines) = archive_of(rt, keeping.archive)?;
     let server = keeping.server;
     let mut link = Link::open(rt, server).context(format_args!("the server at {server}"))?;
     let list = link.ask("list", "ok list ")?;
@@ -218,12 +225,7 @@ fn tell_counts<R: Print + AllocGlobal>(rt: &R, counts: Counts) -> Result<()> {
 }
 
 // Keeps the games that are over now, and tells of it where there were any, or where it is done once.
-fn keep_and_tell<R>(
-    rt: &R,
-    keeping: &Keeping<'_>,
-    players: &[Player],
-    is_once: bool,
-) -> Result<()>
+fn keep_and_tell<R>(rt: &R, keeping: &Keeping<'_>, players: &[Player], is_once: bool) -> Result<()>
 where
     R: Files<File = File> + Net<Stream = TcpStream> + AllocGlobal + Print + Clock,
 {

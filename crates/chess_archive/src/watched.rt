@@ -39,7 +39,9 @@ pub fn games_in(alloc: Global, figures: &str) -> Result<Vec<u32>> {
     }
     match seconds {
         Some(seconds) if is_told && seconds >= RETURN => Ok(games),
-        Some(_) if is_told => bail!("it began less than {RETURN} seconds ago, and browsers may not be back"),
+        Some(_) if is_told => bail!(
+            "it began less than {RETURN} seconds ago, and browsers may not be back"
+        ),
         _ => bail!("it does not tell which games are watched"),
     }
 }

@@ -36,6 +36,7 @@ fn told(error: io::Error) -> anyhow::Error {
         ErrorKind::WouldBlock | ErrorKind::TimedOut => {
             anyhow!("the server does not answer: nothing came of it for {PATIENCE} seconds")
         }
+        ErrorKind::BrokenPipe | ErrorKind::ConnectionReset => anyhow!("the server is gone"),
         _ => anyhow::Error::from(error),
     }
 }
@@ -67,7 +68,10 @@ impl Link {
 
     /// Asks a line. Where the answer begins with `front`, a number behind that says how many lines follow.
     pub fn ask(&mut self, line: &str, front: &str) -> Result<Answer> {
-        self.stream.get_mut().write_all(line.as_bytes()).map_err(told)?;
+        self.stream
+            .get_mut()
+            .write_all(line.as_bytes())
+            .map_err(told)?;
         self.stream.get_mut().write_all(b"\n").map_err(told)?;
         let mut first = String::new(self.alloc);
         self.read_line(&mut first)?;
