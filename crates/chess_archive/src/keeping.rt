@@ -4,21 +4,21 @@ use crate::command_line::Keeping;
 use crate::compared::has_game;
 use crate::figures::watched_games;
 use crate::lines::lines_of;
+use crate::log_reader::LogReader;
+use crate::rows::{first_of, rows_of};
 use crate::telling::Telling;
-use act_log::Record;
 use anyhow::{Context, Result, anyhow};
 use archive_file::{Archive, Step};
 use lobby_desk::Player;
 use night_files::NamedFile;
 use players_file::players_of;
-use server_link::{Link, Row, row_of};
+use server_link::{Link, Row};
 use std::alloc::Global;
 use std::fs::{self, File};
 use std::net::{Net, TcpStream};
 use std::rt::{Clock, Files};
 use std::thread;
 use std::time::Duration;
-use text_parts::parts;
 
 /// How many games were kept and dropped, and how many are in the archive.
 #[derive(Clone, Copy)]
@@ -134,32 +134,16 @@ where
         }
         Ok(())
     }
-}
 
-// The games of the server's list.
-fn rows_of(alloc: Global, list: &str) -> Result<Vec<Row<'_>>> {
-    let mut rows = Vec::new(alloc);
-    for line in parts(alloc, list, '\n')?.as_slice() {
-        match row_of(line) {
-            Some(row) => rows.push(row)?,
-            None => anyhow::bail!("the server's list has a row of another form: {line:?}"),
-        }
-    }
-    Ok(rows)
-}
-
-// What the log has, where there is a game that is to be kept. It is read behind the list, so that it has what is told of the
-// games that are over in it.
-fn records_for<R: Files + AllocGlobal>(
-    rt: &R,
-    keeping: &Keeping<'_>,
-    archive: &Archive<NamedFile>,
-    rows: &[Row<'_>],
-) -> Result<Vec<Record>> {
-    let is_asked = rows.iter().any(|row| row.is_over && !archive.has(row.game));
-    match keeping.log {
-        Some(file) if is_asked => act_log::read(rt, file).context(format_args!("reading {file}")),
-        _ => Ok(Vec::new(rt.alloc())),
+    // What came of it.
+    fn end(self) -> (Counts, Result<()>) {
+        let mut counts = self.counts;
+        counts.all = self.archive.games().len();
+        let done = match self.fault {
+            Some(fault) => Err(fault),
+            None => Ok(()),
+        };
+        (counts, done)
     }
 }
 
@@ -176,45 +160,71 @@ where
     Ok((archive, lines_of(rt, path)?))
 }
 
-// Keeps the games that are over now, and drops them where that is asked.
-fn keep_now<R>(rt: &R, keeping: &Keeping<'_>, players: &[Player]) -> Result<(Counts, Result<()>)>
+// What `keep` has of one look to the next.
+#[derive(Drop)]
+struct Looking<'a, R> {
+    rt: &'a R,
+    keeping: &'a Keeping<'a>,
+    players: Vec<Player>,
+    log: LogReader<'a>,
+}
+
+impl<R> Looking<'_, R>
 where
-    R: Files<File = File> + Net<Stream = TcpStream> + AllocGlobal + Clock,
+    R: Files<File = File> + Net<Stream = TcpStream> + AllocGlobal + Print + Clock,
 {
-    let (archive, lines) = archive_of(rt, keeping.archive)?;
-    let server = keeping.server;
-    let mut link = Link::open(rt, server).context(format_args!("the server at {server}"))?;
-    let list = link.ask("list", "ok list ")?;
-    let rows = rows_of(rt.alloc(), list.behind.as_str())?;
-    let records = records_for(rt, keeping, &archive, rows.as_slice())?;
-    let mut keeper = Keeper {
-        rt,
-        keeping,
-        link,
-        archive,
-        lines,
-        known: Knowledge {
-            players,
-            heading: keeping.heading,
-            records: records.as_slice(),
-        },
-        drops: keeping.drops,
-        counts: Counts {
-            kept: 0,
-            dropped: 0,
-            all: 0,
-        },
-        fault: None,
-    };
-    for row in rows.as_slice() {
-        keeper.look_at(*row)?;
+    // Reads the log on where there is a game that is to be kept: behind the list, so that it has what is told of the games that
+    // are over in it.
+    fn read_log(&mut self, archive: &Archive<NamedFile>, rows: &[Row<'_>]) -> Result<()> {
+        let is_asked = rows.iter().any(|row| row.is_over && !archive.has(row.game));
+        if is_asked {
+            self.log.read_on(self.rt, first_of(rows))?;
+        }
+        Ok(())
     }
-    keeper.counts.all = keeper.archive.games().len();
-    let done = match keeper.fault {
-        Some(fault) => Err(fault),
-        None => Ok(()),
-    };
-    Ok((keeper.counts, done))
+
+    // Keeps the games that are over now, and drops them where that is asked. What went wrong though the work went on comes beside
+    // the counts.
+    fn look(&mut self) -> Result<(Counts, Result<()>)> {
+        let (archive, lines) = archive_of(self.rt, self.keeping.archive)?;
+        let server = self.keeping.server;
+        let mut link = Link::open(self.rt, server).context(format_args!("the server at {server}"))?;
+        let list = link.ask("list", "ok list ")?;
+        let rows = rows_of(self.rt.alloc(), list.behind.as_str())?;
+        self.read_log(&archive, rows.as_slice())?;
+        let mut keeper = Keeper {
+            rt: self.rt,
+            keeping: self.keeping,
+            link,
+            archive,
+            lines,
+            known: Knowledge {
+                players: self.players.as_slice(),
+                heading: self.keeping.heading,
+                records: self.log.records(),
+            },
+            drops: self.keeping.drops,
+            counts: Counts {
+                kept: 0,
+                dropped: 0,
+                all: 0,
+            },
+            fault: None,
+        };
+        for row in rows.as_slice() {
+            keeper.look_at(*row)?;
+        }
+        Ok(keeper.end())
+    }
+
+    // Looks once, and tells of it where games were kept or dropped, or where that is all.
+    fn look_and_tell(&mut self, is_once: bool) -> Result<()> {
+        let (counts, done) = self.look()?;
+        if is_once || counts.kept > 0 || counts.dropped > 0 {
+            tell_counts(self.rt, counts)?;
+        }
+        done
+    }
 }
 
 // Tells how many games were kept.
@@ -222,18 +232,6 @@ fn tell_counts<R: Print + AllocGlobal>(rt: &R, counts: Counts) -> Result<()> {
     let Counts { kept, dropped, all } = counts;
     println!(rt; "kept {kept}, dropped {dropped}, in the archive {all}")?;
     Ok(())
-}
-
-// Keeps the games that are over now, and tells of it where there were any, or where it is done once.
-fn keep_and_tell<R>(rt: &R, keeping: &Keeping<'_>, players: &[Player], is_once: bool) -> Result<()>
-where
-    R: Files<File = File> + Net<Stream = TcpStream> + AllocGlobal + Print + Clock,
-{
-    let (counts, done) = keep_now(rt, keeping, players)?;
-    if is_once || counts.kept > 0 || counts.dropped > 0 {
-        tell_counts(rt, counts)?;
-    }
-    done
 }
 
 /// Keeps the games of a server that are over, and drops them where that is asked: once, or again and again until it is killed.
@@ -245,12 +243,18 @@ where
         Some(file) => players_of(rt, file)?,
         None => Vec::new(rt.alloc()),
     };
+    let mut looking = Looking {
+        rt,
+        keeping,
+        players,
+        log: LogReader::new(rt.alloc(), keeping.log),
+    };
     let Some(every) = keeping.every else {
-        return keep_and_tell(rt, keeping, players.as_slice(), true);
+        return looking.look_and_tell(true);
     };
     let mut telling = Telling::new(rt, "all is well again");
     for _ in 0..u64::MAX {
-        let done = keep_and_tell(rt, keeping, players.as_slice(), false);
+        let done = looking.look_and_tell(false);
         telling.tell(done)?;
         thread::sleep(rt, Duration::from_secs(u64::from(every)));
     }

@@ -9,6 +9,8 @@ mod figures;
 mod keeping;
 mod lines;
 mod live;
+mod log_reader;
+mod rows;
 mod telling;
 mod watched;
 
