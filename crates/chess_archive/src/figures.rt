@@ -82,7 +82,9 @@ impl Coming {
                 Next::Again
             }
             Event::Data(span) => {
-                self.body.extend_from_slice(span.of(self.input.as_slice()))?;
+                if let Some(piece) = self.input.get(span.start..span.end) {
+                    self.body.extend_from_slice(piece)?;
+                }
                 Next::Again
             }
             Event::End(_) => Next::Done,
@@ -93,7 +95,8 @@ impl Coming {
         if self.body.len() > MOST {
             bail!("it has more than {MOST} bytes of figures");
         }
-        self.input.drain(..progress.consumed);
+        let taken = progress.consumed.min(self.input.len());
+        self.input.drain(..taken);
         Ok(next)
     }
 

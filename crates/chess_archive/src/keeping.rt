@@ -28,6 +28,12 @@ struct Counts {
     all: usize,
 }
 
+const NOTHING: Counts = Counts {
+    kept: 0,
+    dropped: 0,
+    all: 0,
+};
+
 /// An archive that is filled from a server.
 #[derive(Drop)]
 struct Keeper<'a, R> {
@@ -167,6 +173,8 @@ struct Looking<'a, R> {
     keeping: &'a Keeping<'a>,
     players: Vec<Player>,
     log: LogReader<'a>,
+    // Whether the archive was opened: then it is left alone while no game is over.
+    has_looked: bool,
 }
 
 impl<R> Looking<'_, R>
@@ -186,11 +194,15 @@ where
     // Keeps the games that are over now, and drops them where that is asked. What went wrong though the work went on comes beside
     // the counts.
     fn look(&mut self) -> Result<(Counts, Result<()>)> {
-        let (archive, lines) = archive_of(self.rt, self.keeping.archive)?;
         let server = self.keeping.server;
         let mut link = Link::open(self.rt, server).context(format_args!("the server at {server}"))?;
         let list = link.ask("list", "ok list ")?;
         let rows = rows_of(self.rt.alloc(), list.behind.as_str())?;
+        if self.has_looked && !rows.iter().any(|row| row.is_over) {
+            return Ok((NOTHING, Ok(())));
+        }
+        let (archive, lines) = archive_of(self.rt, self.keeping.archive)?;
+        self.has_looked = true;
         self.read_log(&archive, rows.as_slice())?;
         let mut keeper = Keeper {
             rt: self.rt,
@@ -204,11 +216,7 @@ where
                 records: self.log.records(),
             },
             drops: self.keeping.drops,
-            counts: Counts {
-                kept: 0,
-                dropped: 0,
-                all: 0,
-            },
+            counts: NOTHING,
             fault: None,
         };
         for row in rows.as_slice() {
@@ -248,6 +256,7 @@ where
         keeping,
         players,
         log: LogReader::new(rt.alloc(), keeping.log),
+        has_looked: false,
     };
     let Some(every) = keeping.every else {
         return looking.look_and_tell(true);
