@@ -11,9 +11,13 @@ const HELP_OF_KEEP: &str = "\
 It asks the game server at --server for its games, and keeps each one that is over in the
 archive, which it makes where there is none: a line a game, each game once, on the disk
 before the next is asked for. With --drop it then drops the game from the server's table.
-With --log each move has its player's clock behind it where the lobby's log knows it.
-It ends once all games of the table were looked at, and may be killed at any moment and
-given again, as often as is wished.
+With --lobby it drops no game that somebody watches there, and none where that lobby cannot
+be asked, or began less than 20 seconds ago. With --log each move has its player's clock
+behind it where the lobby's log knows it.
+
+It ends once all games of the table were looked at; with --every it goes on until it is
+killed, and comes back to a server that was away. It may be killed at any moment and given
+again, as often as is wished.
 
 An archive is of one journal: games have other numbers in another.
 
@@ -71,6 +75,10 @@ pub struct Keeping<'a> {
     /// What the tags are to say; of White and Black nothing yet.
     pub heading: Heading<'a>,
     pub drops: bool,
+    /// The lobby whose browsers are asked about before a game is dropped.
+    pub lobby: Option<SocketAddr>,
+    /// After how many seconds it is done again.
+    pub every: Option<u32>,
 }
 
 /// What is written where others fetch it.
@@ -95,6 +103,10 @@ fn archive_option<'a>(alloc: Global) -> Arg<'a> {
 
 fn server_option<'a>(alloc: Global) -> Arg<'a> {
     option(alloc, "server", "A:P", "Where the game server listens").required(true)
+}
+
+fn every_option<'a>(alloc: Global, help: &'static str) -> Arg<'a> {
+    option(alloc, "every", "SECONDS", help).value_parser(ValueParser::Unsigned(1, 3_600))
 }
 
 // What the tags are to say, who the players are, and what the log has.
@@ -124,7 +136,18 @@ fn keep_command<'a>(alloc: Global) -> Result<Command<'a>, AllocError> {
         .after_help(HELP_OF_KEEP)
         .arg(server_option(alloc))?
         .arg(archive_option(alloc))?;
-    with_knowledge(alloc, command)?.arg(drop)
+    with_knowledge(alloc, command)?
+        .arg(drop)?
+        .arg(option(
+            alloc,
+            "lobby",
+            "A:P",
+            "Where the lobby listens: with --drop, no game is dropped that is watched there",
+        ))?
+        .arg(every_option(
+            alloc,
+            "After how many seconds it is done again, 1 to 3600; once without it",
+        ))
 }
 
 fn live_command<'a>(alloc: Global) -> Result<Command<'a>, AllocError> {
@@ -135,13 +158,10 @@ fn live_command<'a>(alloc: Global) -> Result<Command<'a>, AllocError> {
         "FILE",
         "An archive whose games are written too; with --date those of this date",
     );
-    let every = option(
+    let every = every_option(
         alloc,
-        "every",
-        "SECONDS",
         "After how many seconds it is written again, 1 to 3600; once without it",
-    )
-    .value_parser(ValueParser::Unsigned(1, 3_600));
+    );
     let command = Command::new(alloc, "live")
         .about("Writes the games that are played to a file that others fetch")
         .after_help(HELP_OF_LIVE)
@@ -186,7 +206,7 @@ pub fn read_words<'a>(alloc: Global, words: &'a [String]) -> Result<Word<'a>, Er
         Some(word) => Ok(word),
         None => Err(command.error(
             ErrorKind::InvalidValue,
-            "an address is none, or a tag's value has a control character",
+            "an address is none, a tag's value has a control character, or --lobby stands without --drop",
         )?),
     }
 }
@@ -203,15 +223,27 @@ fn heading_of<'a>(values: &ArgMatches<'a>) -> Option<Heading<'a>> {
     })
 }
 
-// What `keep` asks for; none where the address is none, or a value cannot stand in a tag.
+// The lobby that is asked; none where its address is none, or no game is dropped.
+fn lobby_of(values: &ArgMatches<'_>, drops: bool) -> Option<Option<SocketAddr>> {
+    match values.get_str("lobby") {
+        None => Some(None),
+        Some(address) if drops => Some(Some(address.parse().ok()?)),
+        Some(_) => None,
+    }
+}
+
+// What `keep` asks for; none where an address is none, a value cannot stand in a tag, or a lobby is asked for nothing.
 fn keeping_of<'a>(values: &ArgMatches<'a>) -> Option<Keeping<'a>> {
+    let drops = values.get_flag("drop");
     Some(Keeping {
         server: values.get_str("server")?.parse().ok()?,
         archive: values.get_str("archive")?,
         players: values.get_str("players"),
         log: values.get_str("log"),
         heading: heading_of(values)?,
-        drops: values.get_flag("drop"),
+        drops,
+        lobby: lobby_of(values, drops)?,
+        every: values.get_one("every"),
     })
 }
 

@@ -2,12 +2,14 @@
 use crate::asking::{Knowledge, pgn_of};
 use crate::command_line::Living;
 use crate::lines::lines_of;
-use act_log::Record;
-use anyhow::{Context, Result, bail};
+use crate::log_reader::LogReader;
+use crate::rows::{first_of, rows_of};
+use crate::telling::Telling;
+use anyhow::{Context, Result};
 use archive_file::{game_of, pgn_of as pgn_in};
 use lobby_desk::Player;
 use players_file::players_of;
-use server_link::{Link, Row, row_of};
+use server_link::{Link, Row};
 use std::alloc::Global;
 use std::fs::{self, File};
 use std::net::{Net, TcpStream};
@@ -30,13 +32,12 @@ struct Writer<'a, R> {
     living: &'a Living<'a>,
     players: Vec<Player>,
     link: Option<Link>,
-    // The log's records, and how long it was when they were read.
-    records: Vec<Record>,
-    log_length: u64,
+    log: LogReader<'a>,
+    // The games of the archive that are written, and how long it was when they were read.
+    archived: Vec<Board>,
+    archive_length: u64,
     // What the file has, where that is known.
     written: Option<Vec<u8>>,
-    // What was told last on standard error.
-    told: String,
 }
 
 // Whether both seats of a game are taken.
@@ -63,8 +64,17 @@ fn has_game(boards: &[Board], game: u32) -> bool {
     boards.iter().any(|board| board.game == game)
 }
 
-// The PGNs of all boards, by their numbers.
-fn text_of(alloc: Global, boards: &mut Vec<Board>) -> Result<Vec<u8>> {
+// The PGNs of the table's boards, and of those of the archive that are not there any more, by their numbers.
+fn text_of(alloc: Global, table: &[Board], archived: &[Board]) -> Result<Vec<u8>> {
+    let mut boards: Vec<&Board> = Vec::new(alloc);
+    for board in table {
+        boards.push(board)?;
+    }
+    for board in archived {
+        if !has_game(table, board.game) {
+            boards.push(board)?;
+        }
+    }
     boards.sort_by_key(|board| board.game)?;
     let mut text = Vec::new(alloc);
     for board in boards.as_slice() {
@@ -77,21 +87,6 @@ impl<R> Writer<'_, R>
 where
     R: Files<File = File> + Net<Stream = TcpStream> + AllocGlobal + Print + Eprint + Clock,
 {
-    // Reads the log anew where it has grown.
-    fn read_log(&mut self) -> Result<()> {
-        let Some(path) = self.living.log else {
-            return Ok(());
-        };
-        let length = fs::metadata(self.rt, path)
-            .context(format_args!("reading {path}"))?
-            .len();
-        if length != self.log_length {
-            self.records = act_log::read(self.rt, path).context(format_args!("reading {path}"))?;
-            self.log_length = length;
-        }
-        Ok(())
-    }
-
     // The games of the server's table that are played or over.
     fn push_table(&mut self, boards: &mut Vec<Board>) -> Result<()> {
         let alloc = self.rt.alloc();
@@ -100,18 +95,17 @@ where
             Some(link) => link,
             None => Link::open(self.rt, server).context(format_args!("the server at {server}"))?,
         };
+        let answer = link.ask("list", "ok list ")?;
+        let rows = rows_of(alloc, answer.behind.as_str())?;
+        self.log.read_on(self.rt, first_of(rows.as_slice()))?;
         let known = Knowledge {
             players: self.players.as_slice(),
             heading: self.living.heading,
-            records: self.records.as_slice(),
+            records: self.log.records(),
         };
-        let answer = link.ask("list", "ok list ")?;
-        for line in parts(alloc, answer.behind.as_str(), '\n')?.as_slice() {
-            let Some(row) = row_of(line) else {
-                bail!("the server's list has a row of another form: {line:?}");
-            };
-            if is_played(row)
-                && let Some(pgn) = pgn_of(alloc, &mut link, &known, row)?
+        for row in rows.as_slice() {
+            if is_played(*row)
+                && let Some(pgn) = pgn_of(alloc, &mut link, &known, *row)?
             {
                 let game = row.game;
                 boards.push(Board { game, pgn })?;
@@ -121,17 +115,11 @@ where
         Ok(())
     }
 
-    // The archive's games that are not on the table any more, of this night alone where its date is given.
-    fn push_archived(&self, boards: &mut Vec<Board>) -> Result<()> {
+    // The games of the archive that are written: those of this night alone where its date is given.
+    fn boards_of(&self, text: &str) -> Result<Vec<Board>> {
         let alloc = self.rt.alloc();
-        let Some(path) = self.living.archive else {
-            return Ok(());
-        };
-        if !fs::exists(self.rt, path)? {
-            return Ok(());
-        }
-        let text = lines_of(self.rt, path)?;
-        for line in parts(alloc, text.as_str(), '\n')?.as_slice() {
+        let mut boards = Vec::new(alloc);
+        for line in parts(alloc, text, '\n')?.as_slice() {
             let Some(game) = game_of(alloc, line)? else {
                 continue;
             };
@@ -140,10 +128,31 @@ where
                 Some(date) => is_of_date(alloc, pgn.as_slice(), date)?,
                 None => true,
             };
-            if is_here && !has_game(boards.as_slice(), game) {
+            if is_here {
                 boards.push(Board { game, pgn })?;
             }
         }
+        Ok(boards)
+    }
+
+    // Reads the archive anew where it is another.
+    fn read_archive(&mut self) -> Result<()> {
+        let Some(path) = self.living.archive else {
+            return Ok(());
+        };
+        let length = if fs::exists(self.rt, path)? {
+            fs::metadata(self.rt, path)
+                .context(format_args!("reading {path}"))?
+                .len()
+        } else {
+            0
+        };
+        if length == self.archive_length {
+            return Ok(());
+        }
+        let text = lines_of(self.rt, path)?;
+        self.archived = self.boards_of(text.as_str())?;
+        self.archive_length = length;
         Ok(())
     }
 
@@ -159,32 +168,13 @@ where
     // Writes the file where it has changed.
     fn write(&mut self) -> Result<()> {
         let alloc = self.rt.alloc();
-        self.read_log()?;
         let mut boards = Vec::new(alloc);
         self.push_table(&mut boards)?;
-        self.push_archived(&mut boards)?;
-        let text = text_of(alloc, &mut boards)?;
+        self.read_archive()?;
+        let text = text_of(alloc, boards.as_slice(), self.archived.as_slice())?;
         if self.written.as_ref() != Some(&text) {
             self.put(text.as_slice())?;
             self.written = Some(text);
-        }
-        Ok(())
-    }
-
-    // Tells what came of writing, where that is something else than the last time.
-    fn tell(&mut self, done: Result<()>) -> Result<()> {
-        let alloc = self.rt.alloc();
-        let text = match done {
-            Ok(()) => String::new(alloc),
-            Err(error) => format!(in alloc; "chess-archive: {error:#}")?,
-        };
-        if text != self.told {
-            let _ = if text.is_empty() {
-                eprintln!(self.rt; "chess-archive: the file is written again")
-            } else {
-                eprintln!(self.rt; "{text}")
-            };
-            self.told = text;
         }
         Ok(())
     }
@@ -205,17 +195,18 @@ where
         living,
         players,
         link: None,
-        records: Vec::new(rt.alloc()),
-        log_length: 0,
+        log: LogReader::new(rt.alloc(), living.log),
+        archived: Vec::new(rt.alloc()),
+        archive_length: 0,
         written: fs::read(rt, living.file).ok(),
-        told: String::new(rt.alloc()),
     };
     let Some(every) = living.every else {
         return writer.write();
     };
+    let mut telling = Telling::new(rt, "the file is written again");
     for _ in 0..u64::MAX {
         let done = writer.write();
-        writer.tell(done)?;
+        telling.tell(done)?;
         thread::sleep(rt, Duration::from_secs(u64::from(every)));
     }
     Ok(())

@@ -5,9 +5,14 @@ mod asking;
 mod command_line;
 mod compared;
 mod export;
+mod figures;
 mod keeping;
 mod lines;
 mod live;
+mod log_reader;
+mod rows;
+mod telling;
+mod watched;
 
 use command_line::{Word, command, read_words};
 use command_words::{NotDone, end_of, words_given};

@@ -3,6 +3,7 @@ use bytes::Bytes;
 use lobby_loop::{ACTS, BOUNDS, Counts, Lobby};
 use lobby_web::{File, Kind};
 use std::alloc::{AllocError, Global};
+use std::collections::BTreeMap;
 
 /// The path at which it is served.
 const PATH: &[u8] = b"/health";
@@ -127,6 +128,27 @@ fn put_answers(text: &mut String, alloc: Global, counts: &Counts) -> Result<(), 
     Ok(())
 }
 
+// Which games are watched, by how many connections each.
+fn put_watchers(text: &mut String, alloc: Global, games: &[u32]) -> Result<(), AllocError> {
+    put_head(
+        text,
+        alloc,
+        "watchers",
+        "gauge",
+        "Connections that watch a game, for each game that is watched.",
+    )?;
+    let mut counts: BTreeMap<u32, u64> = BTreeMap::new(alloc);
+    for game in games {
+        let before = counts.get(game).copied().unwrap_or(0);
+        counts.insert(*game, before.saturating_add(1))?;
+    }
+    for (game, count) in counts.iter() {
+        let game = format!(in alloc; "{game}")?;
+        put_labelled(text, alloc, "watchers", "game", game.as_str(), *count)?;
+    }
+    Ok(())
+}
+
 // How long answers took.
 fn put_times(text: &mut String, alloc: Global, counts: &Counts) -> Result<(), AllocError> {
     let name = "answer_seconds";
@@ -178,6 +200,8 @@ fn health_text(alloc: Global, lobby: &Lobby, at: u64) -> Result<String, AllocErr
     let line = format!(in alloc; "chess_lobby_up_seconds {up}\n")?;
     text.push_str(line.as_str())?;
     put_connections(&mut text, alloc, lobby)?;
+    let games = lobby.watched_games()?;
+    put_watchers(&mut text, alloc, games.as_slice())?;
     put_answers(&mut text, alloc, lobby.counts())?;
     put_times(&mut text, alloc, lobby.counts())?;
     Ok(text)

@@ -14,6 +14,10 @@ watched watches c game = list_any (is_watch c game) watches
 abbrev pub at_table : List ℕ → ℕ → Bool
 at_table table c = list_any (λ one. one == c) table
 
+-- the games that are watched, each once for each connection that watches it
+abbrev pub games_of : List Watch → List ℕ
+games_of watches = map (λ (w : Watch). w.game) watches
+
 -- whether a connection watches as many games as may be, and this is another
 abbrev pub is_full : List Watch → ℕ → Option ℕ → Bool
 is_full watches c None = false

@@ -18,7 +18,7 @@ use Rattle.lobby_desk.specs.Players.{holder_of, login_text, players_text}
 use Rattle.lobby_words.specs.Plans.{refusal_text, plan_of}
 use Rattle.lobby_desk.specs.Lines.{bytes_of, lines_of, act_lines, said_after, notice_lines, IsNamed}
 use Rattle.lobby_words.specs.Answers.{IsSeated, IsFirstSeated, IsSeatless, act_game, is_whole, answer}
-use Rattle.lobby_desk.specs.Watching.{unwatched, risen, is_full}
+use Rattle.lobby_desk.specs.Watching.{games_of, unwatched, risen, is_full}
 use Rattle.lobby_desk.specs.Waiting.{is_crowded}
 pub use Rattle.lobby_desk.specs.Watching.{at_table}
 use Rattle.lobby_desk.specs.Events.{Event, Opened, Closed, Said, Hurried, Heard, Gone, Here, Telling, to_one, ForAct, Owed, Asker, Dropper, owed_of, owed_last, plan_asker, follower}
@@ -30,6 +30,10 @@ who_in visitors c = option_and_then (λ (v : Visitor). v.who) (get nat_cmp visit
 
 abbrev pub who_of : Desk → ℕ → Option Identity
 who_of desk c = who_in desk.visitors c
+
+-- the games that connections watch, each once for each of them
+abbrev pub watched_games : Desk → List ℕ
+watched_games desk = games_of desk.watches.items
 
 -- until when the time of a connection is taken
 abbrev pub until_at : Option Visitor → ℕ

@@ -1,6 +1,6 @@
 //! Who is told of what.
 ghost use Rattle.std.specs.Prelude.{◌≡◌, ◌==◌, nat_le, length, filter, ◌++◌, [], ◌∷◌, OnOk, IfOk, if◌then◌else◌};
-ghost use Rattle.lobby_desk.specs.Watching.{is_watch, watched, at_table, watch_if, sit_if, unwatched, none_watched, risen, followers};
+ghost use Rattle.lobby_desk.specs.Watching.{is_watch, watched, games_of, at_table, watch_if, sit_if, unwatched, none_watched, risen, followers};
 
 use std::alloc::{AllocError, Global};
 
@@ -28,6 +28,17 @@ pub fn is_watched(watches: &[Watch], by: u64, game: u32) -> bool
     watches
         .iter()
         .any(|watch| watch.by == by && watch.game == game)
+}
+
+/// The games that are watched, each once for each connection that watches it.
+pub fn games_of(alloc: Global, watches: &[Watch]) -> Result<Vec<u32>, AllocError>
+    ensures { IfOk result (λ games. games.items ≡ games_of watches.now) }
+{
+    let mut games = Vec::new(alloc);
+    for watch in watches {
+        games.push(watch.game)?;
+    }
+    Ok(games)
 }
 
 /// Whether a connection may watch no game but those that it watches.

@@ -1,6 +1,7 @@
 //! The sockets of a lobby, and what wakes it.
 ghost use Rattle.std.specs.Prelude.{◌≡◌, List, None, Some, IfOk, OnOk, OnErr, is_some};
 ghost use Rattle.mio.specs.declared.net.stream.TcpStream.{TcpStream};
+ghost use Rattle.lobby_desk.specs.Who.{watched_games};
 ghost use Rattle.lobby_loop.specs.Turning.{BeginsHall, AreAdmitted, IsReached, IsLobbyTurn, texts_put, unknown};
 ghost use Rattle.lobby_loop.specs.Living.{IsWoken, Files, KeepsFiles};
 ghost use Rattle.lobby_loop.specs.Logging.{Logs};
@@ -162,6 +163,13 @@ impl Lobby {
     /// What was counted since it began.
     pub fn counts(&self) -> &Counts {
         self.hall.counts()
+    }
+
+    /// The games that connections watch, each once for each connection that watches it.
+    pub fn watched_games(&self) -> Result<Vec<u32>, AllocError>
+        ensures { IfOk result (λ games. games.items ≡ watched_games self.now.hall.talk.desk) }
+    {
+        self.hall.watched_games()
     }
 
     /// From now on this file is served at its path, in the place of the one that was there, if any.

@@ -1,8 +1,12 @@
 //! A connection to the server.
-use anyhow::{Context, Result};
+use anyhow::{Result, anyhow};
 use std::alloc::Global;
-use std::io::{BufRead, BufReader, Write};
+use std::io::{self, BufRead, BufReader, ErrorKind, Write};
 use std::net::{Net, SocketAddr, TcpStream};
+use std::time::Duration;
+
+/// So many seconds the server may take to answer, or a connection to be made.
+const PATIENCE: u64 = 10;
 
 /// A connection, by which one line is asked at a time.
 #[derive(Drop)]
@@ -26,13 +30,27 @@ fn lines_behind(first: &str, front: &str) -> u32 {
     }
 }
 
+// What is told of a call of the system that failed.
+fn told(error: io::Error) -> anyhow::Error {
+    match error.kind() {
+        ErrorKind::WouldBlock | ErrorKind::TimedOut => {
+            anyhow!("the server does not answer: nothing came of it for {PATIENCE} seconds")
+        }
+        ErrorKind::BrokenPipe | ErrorKind::ConnectionReset => anyhow!("the server is gone"),
+        _ => anyhow::Error::from(error),
+    }
+}
+
 impl Link {
-    /// Connects to the server.
+    /// Connects to the server. It fails where the server does not answer within ten seconds, as each call below does.
     pub fn open<R: Net<Stream = TcpStream> + AllocGlobal>(
         rt: &R,
         server: SocketAddr,
     ) -> Result<Link> {
-        let stream = TcpStream::connect(rt, server)?;
+        let patience = Duration::from_secs(PATIENCE);
+        let stream = TcpStream::connect_timeout(rt, &server, patience).map_err(told)?;
+        stream.set_read_timeout(Some(patience))?;
+        stream.set_write_timeout(Some(patience))?;
         Ok(Link {
             alloc: rt.alloc(),
             stream: BufReader::new(rt.alloc(), stream)?,
@@ -41,7 +59,7 @@ impl Link {
 
     // Puts a line of the server behind a text, and tells where it was whole.
     fn read_line(&mut self, into: &mut String) -> Result<()> {
-        self.stream.read_line(into)?;
+        self.stream.read_line(into).map_err(told)?;
         if !into.ends_with('\n') {
             anyhow::bail!("the server is gone");
         }
@@ -50,8 +68,11 @@ impl Link {
 
     /// Asks a line. Where the answer begins with `front`, a number behind that says how many lines follow.
     pub fn ask(&mut self, line: &str, front: &str) -> Result<Answer> {
-        self.stream.get_mut().write_all(line.as_bytes())?;
-        self.stream.get_mut().write_all(b"\n")?;
+        self.stream
+            .get_mut()
+            .write_all(line.as_bytes())
+            .map_err(told)?;
+        self.stream.get_mut().write_all(b"\n").map_err(told)?;
         let mut first = String::new(self.alloc);
         self.read_line(&mut first)?;
         first.pop();
