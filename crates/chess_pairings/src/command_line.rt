@@ -24,7 +24,7 @@ not know.
 Example:
   chess-pairings start --pairings round1.csv --round-file round1.games --server 127.0.0.1:5001
 prints
-  board 1: game 17, ann afterst bob
+  board 1: game 17, ann against bob
   boards 2, games 2";
 
 const HELP_OF_RESULTS: &str = "\
