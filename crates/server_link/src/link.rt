@@ -50,8 +50,9 @@ impl Link {
 
     /// Asks a line. Where the answer begins with `front`, a number behind that says how many lines follow.
     pub fn ask(&mut self, line: &str, front: &str) -> Result<Answer> {
-        self.stream.get_mut().write_all(line.as_bytes())?;
-        self.stream.get_mut().write_all(b"\n")?;
+        // (in one write: a second one would wait for the system's word on the first)
+        let text = format!(in self.alloc; "{line}\n")?;
+        self.stream.get_mut().write_all(text.as_bytes())?;
         let mut first = String::new(self.alloc);
         self.read_line(&mut first)?;
         first.pop();
