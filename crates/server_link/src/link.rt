@@ -1,5 +1,5 @@
 //! A connection to the server.
-use anyhow::{Context, Result};
+use anyhow::{Context, Error, Result, anyhow};
 use std::alloc::Global;
 use std::io::{BufRead, BufReader, Write};
 use std::net::{Net, SocketAddr, TcpStream};
@@ -23,6 +23,15 @@ fn lines_behind(first: &str, front: &str) -> u32 {
     match first.strip_prefix(front) {
         Some(count) => count.parse::<u32>().unwrap_or(0),
         None => 0,
+    }
+}
+
+/// What is wrong where the server gives this answer to a line, and no such answer was asked for.
+pub fn refused(line: &str, first: &str) -> Error {
+    if first.starts_with("HTTP/") {
+        anyhow!("no game server listens there, but a web server: it answers {first:?}")
+    } else {
+        anyhow!("the server answers {first:?} to {line:?}")
     }
 }
 
@@ -61,6 +70,25 @@ impl Link {
             self.read_line(&mut behind)?;
         }
         Ok(Answer { first, behind })
+    }
+
+    /// The rows of the server's list, a line each. It fails where the server does not tell them.
+    pub fn list(&mut self) -> Result<String> {
+        let answer = self.ask("list", "ok list ")?;
+        if !answer.first.starts_with("ok list ") {
+            return Err(refused("list", answer.first.as_str()));
+        }
+        Ok(answer.behind)
+    }
+
+    /// What is asked from now on is asked under this name. It fails where the server does not take it.
+    pub fn take_name(&mut self, name: &str) -> Result<()> {
+        let line = format!(in self.alloc; "name {name}")?;
+        let answer = self.ask(line.as_str(), "ok name ")?;
+        if !answer.first.starts_with("ok name ") {
+            return Err(refused(line.as_str(), answer.first.as_str()));
+        }
+        Ok(())
     }
 
     /// Asks a line, of which the answer is one line; whether it begins with `ok`.
