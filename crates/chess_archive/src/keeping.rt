@@ -2,10 +2,10 @@
 use crate::asking::{Knowledge, pgn_of};
 use crate::command_line::Keeping;
 use crate::compared::has_game;
-use crate::lines::lines_of;
 use act_log::read;
 use anyhow::{Context, Result};
 use archive_file::{Archive, Step};
+use archive_lines::lines_of;
 use night_files::NamedFile;
 use players_file::players_of;
 use server_link::{Link, Row, row_of};
@@ -128,7 +128,7 @@ where
     let lines = lines_of(rt, path)?;
     let server = keeping.server;
     let mut link = Link::open(rt, server).context(format_args!("the server at {server}"))?;
-    let list = link.ask("list", "ok list ")?;
+    let list = link.list()?;
     // Behind the list, so that the log has what is told of the games that are over in it.
     let records = match keeping.log {
         Some(file) => read(rt, file).context(format_args!("reading {file}"))?,
@@ -150,7 +150,7 @@ where
             dropped: 0,
         },
     };
-    keeper.look_at_all(list.behind.as_str())?;
+    keeper.look_at_all(list.as_str())?;
     let Counts { kept, dropped } = keeper.counts;
     let all = keeper.archive.games().len();
     println!(rt; "kept {kept}, dropped {dropped}, in the archive {all}")?;

@@ -1,10 +1,10 @@
 //! The word that writes the games of a night where others fetch them.
 use crate::asking::{Knowledge, pgn_of};
 use crate::command_line::Living;
-use crate::lines::lines_of;
 use act_log::Record;
 use anyhow::{Context, Result, bail};
 use archive_file::{game_of, pgn_of as pgn_in};
+use archive_lines::lines_of;
 use lobby_desk::Player;
 use players_file::players_of;
 use server_link::{Link, Row, row_of};
@@ -105,8 +105,8 @@ where
             heading: self.living.heading,
             records: self.records.as_slice(),
         };
-        let answer = link.ask("list", "ok list ")?;
-        for line in parts(alloc, answer.behind.as_str(), '\n')?.as_slice() {
+        let list = link.list()?;
+        for line in parts(alloc, list.as_str(), '\n')?.as_slice() {
             let Some(row) = row_of(line) else {
                 bail!("the server's list has a row of another form: {line:?}");
             };

@@ -6,7 +6,6 @@ mod command_line;
 mod compared;
 mod export;
 mod keeping;
-mod lines;
 mod live;
 
 use command_line::{Word, command, read_words};
