@@ -10,7 +10,8 @@ const HELP_OF_START: &str = "\
 It opens and joins the game of each board of --pairings on the game server at --server, at
 the board's start, and notes in --round-file which game is which board's; it makes that file
 where there is none. It ends once each board has its game, and may be killed at any moment
-and given again: no board gets a second game. While the server is not there it waits for it.
+and given again: no board gets a second game, but in two cases, of which docs/NIGHT.md tells.
+While the server is not there it waits for it.
 
 Where it cannot know which game is a board's, or whether it has one, it says so, leaves that
 board alone, and ends with status 1. Look at the games then, and give it again with --take for the

@@ -5,8 +5,8 @@ use Rattle.trf_texts.specs.declared.columns.Fault.TheVariants as faults
 
 -- the columns have room for so many players and rounds: a starting number has four digits
 pub record HasRoom (players rounds : ℕ) : Type 0 where
-  pub players : players ≤ 9999
-  pub rounds : rounds ≤ 99
+  pub numbers : players ≤ 9999
+  pub columns : rounds ≤ 99
 
 abbrev pub IsFault : ℕ → ℕ → Fault → Type 0
 IsFault players rounds faults.TooManyPlayers = 9999 < players
