@@ -144,6 +144,14 @@ fn seat_text(seat: &Option<Name>) -> &str {
     }
 }
 
+// Whether a game was found that is not over.
+fn goes_on(ended: &Option<Ended>) -> bool {
+    match ended {
+        Some(ended) => ended.result.as_str() == "*",
+        None => false,
+    }
+}
+
 impl<'a> Outcomes<'a> {
     /// Reads the archive, and connects to the server, where these are named. In the archive players stand by their full
     /// names, or by those of the protocol.
@@ -268,6 +276,13 @@ impl<'a> Outcomes<'a> {
         })
     }
 
+    // Has it told later why nothing came of a board's game.
+    fn put_word(&mut self, file: &str, board: u32, why: &str) -> Result<()> {
+        let word = format!(in self.alloc; "{file}, board {board}: {why}")?;
+        self.words.push(word)?;
+        Ok(())
+    }
+
     /// What came of the game of a board, in the round of this file; none where that is not known. Of a game that goes on or
     /// is not known there is a word to be told.
     pub fn of(
@@ -276,30 +291,20 @@ impl<'a> Outcomes<'a> {
         pairing: &Pairing,
         game: Option<u32>,
     ) -> Result<Option<Ended>> {
+        let board = pairing.board;
         let Some(paired) = pairing.game else {
             return Ok(None);
         };
-        let (white, black) = (pairing.white, paired.black);
-        let found = match game {
-            Some(game) => self.found(&white, &black, game)?,
-            None => Found {
-                ended: None,
-                why: Some(String::from_str(self.alloc, "no game was opened for it")?),
-            },
+        let Some(game) = game else {
+            self.put_word(file, board, "no game was opened for it")?;
+            return Ok(None);
         };
-        let is_open = match &found.ended {
-            Some(ended) => ended.result.as_str() == "*",
-            None => false,
-        };
-        let why = match &found.why {
-            Some(why) => why.as_str(),
-            None if is_open => "its game goes on",
-            None => "",
-        };
-        if !why.is_empty() {
-            let board = pairing.board;
-            let word = format!(in self.alloc; "{file}, board {board}: {why}")?;
-            self.words.push(word)?;
+        let found = self.found(&pairing.white, &paired.black, game)?;
+        if let Some(why) = &found.why {
+            self.put_word(file, board, why.as_str())?;
+        }
+        if goes_on(&found.ended) {
+            self.put_word(file, board, "its game goes on")?;
         }
         Ok(found.ended)
     }
