@@ -1,7 +1,7 @@
 //! The word that writes the games of an archive.
-use crate::lines::lines_of;
 use anyhow::Result;
 use archive_file::pgn_of;
+use archive_lines::lines_of;
 use std::io::{self, Write};
 use std::rt::Files;
 use text_parts::parts;

@@ -3,12 +3,12 @@ use crate::asking::{Knowledge, pgn_of};
 use crate::command_line::Keeping;
 use crate::compared::has_game;
 use crate::figures::watched_games;
-use crate::lines::{end_last_line, lines_of};
 use crate::log_reader::LogReader;
 use crate::rows::{first_of, rows_of};
 use crate::telling::Telling;
 use anyhow::{Context, Result, anyhow};
 use archive_file::{Archive, Step};
+use archive_lines::{end_last_line, lines_of};
 use lobby_desk::Player;
 use night_files::NamedFile;
 use players_file::players_of;
@@ -197,8 +197,8 @@ where
     fn look(&mut self) -> Result<(Counts, Result<()>)> {
         let server = self.keeping.server;
         let mut link = Link::open(self.rt, server).context(format_args!("the server at {server}"))?;
-        let list = link.ask("list", "ok list ")?;
-        let rows = rows_of(self.rt.alloc(), list.behind.as_str())?;
+        let list = link.list()?;
+        let rows = rows_of(self.rt.alloc(), list.as_str())?;
         if self.has_looked && !rows.iter().any(|row| row.is_over) {
             return Ok((NOTHING, Ok(())));
         }

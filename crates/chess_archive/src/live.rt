@@ -1,12 +1,12 @@
 //! The word that writes the games of a night where others fetch them.
 use crate::asking::{Knowledge, pgn_of};
 use crate::command_line::Living;
-use crate::lines::lines_of;
 use crate::log_reader::LogReader;
 use crate::rows::{first_of, rows_of};
 use crate::telling::Telling;
 use anyhow::{Context, Result};
 use archive_file::{game_of, pgn_of as pgn_in};
+use archive_lines::lines_of;
 use lobby_desk::Player;
 use players_file::players_of;
 use server_link::{Link, Row};
@@ -95,8 +95,8 @@ where
             Some(link) => link,
             None => Link::open(self.rt, server).context(format_args!("the server at {server}"))?,
         };
-        let answer = link.ask("list", "ok list ")?;
-        let rows = rows_of(alloc, answer.behind.as_str())?;
+        let list = link.list()?;
+        let rows = rows_of(alloc, list.as_str())?;
         self.log.read_on(self.rt, first_of(rows.as_slice()))?;
         let known = Knowledge {
             players: self.players.as_slice(),

@@ -7,7 +7,6 @@ mod compared;
 mod export;
 mod figures;
 mod keeping;
-mod lines;
 mod live;
 mod log_reader;
 mod rows;

@@ -74,7 +74,7 @@ fn put_connections(text: &mut String, alloc: Global, lobby: &Lobby) -> Result<()
         alloc,
         "connections",
         "gauge",
-        "Browsers that are connected now, the one that asks too.",
+        "Browsers that were connected when these figures were made.",
         lobby.connections() as u64,
     )?;
     put_number(

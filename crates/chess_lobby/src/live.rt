@@ -40,16 +40,16 @@ impl<'a> Live<'a> {
         }
     }
 
-    // How the file stands; none where it is not there.
+    // How the file stands; none where it is not there, or is no regular file: to read of a pipe may last for ever.
     fn mark<R: Files + AllocGlobal + Clone + Drop>(&self, rt: &R) -> Option<Mark> {
         match fs::metadata(rt, self.file) {
-            Ok(found) => Some(Mark {
+            Ok(found) if found.is_file() => Some(Mark {
                 node: found.ino(),
                 size: found.size(),
                 seconds: found.mtime(),
                 nanoseconds: found.mtime_nsec(),
             }),
-            Err(_) => None,
+            _ => None,
         }
     }
 

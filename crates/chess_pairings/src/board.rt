@@ -23,6 +23,8 @@ pub struct Board {
     pub alloc: Global,
     pub pairing: Pairing,
     pub game: Game,
+    /// The game that the arbiter said is its.
+    pub taken: Option<u32>,
 }
 
 impl Board {
@@ -54,8 +56,7 @@ impl Board {
                 format!(in self.alloc; "open white {moves}/{initial}:{seconds} {increment}")?
             }
         };
-        let name = format!(in self.alloc; "name {white}")?;
-        link.is_done(name.as_str())?;
+        link.take_name(white)?;
         let answer = link.ask(line.as_str(), "ok open all ")?;
         let first = answer.first.as_str();
         let Some(game) = first.strip_prefix("ok open ") else {
@@ -72,9 +73,8 @@ impl Board {
     fn join(&self, link: &mut Link, game: u32) -> Result<()> {
         let black = self.game.black;
         let black = black.as_str();
-        let name = format!(in self.alloc; "name {black}")?;
         let join = format!(in self.alloc; "join {game}")?;
-        link.is_done(name.as_str())?;
+        link.take_name(black)?;
         link.is_done(join.as_str())?;
         Ok(())
     }
@@ -84,9 +84,9 @@ impl Board {
         // What an earlier connection sent is taken by the time that this one has an answer: so the second list shows it.
         rows_of(self.alloc, link)?;
         let rows = rows_of(self.alloc, link)?;
-        let (white, black) = (self.pairing.white, self.game.black);
+        let white = self.pairing.white;
         let times = times_text(self.alloc, self.game.times)?;
-        let found = candidates(self.alloc, after, &white, &black, rows.as_slice())?;
+        let found = candidates(self.alloc, after, &white, rows.as_slice())?;
         let mut games = Vec::new(self.alloc);
         for game in found.as_slice() {
             if has_times(self.alloc, link, *game, times.as_str())? {
@@ -102,6 +102,10 @@ impl Board {
             Stage::Opening => Ok(step_of_games(self.games(link, note.number)?.as_slice())),
             Stage::Opened | Stage::Joined => {
                 let seats = show_game(self.alloc, link, note.number)?.map(|shown| shown.seats);
+                // (of a game that has left the table the arbiter's word is all there is)
+                if seats.is_none() && self.taken == Some(note.number) {
+                    return Ok(Step::Note(note.number));
+                }
                 let (white, black) = (self.pairing.white, self.game.black);
                 Ok(step_of_seats(note.number, &white, &black, seats))
             }

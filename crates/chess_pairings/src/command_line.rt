@@ -10,13 +10,15 @@ const HELP_OF_START: &str = "\
 It opens and joins the game of each board of --pairings on the game server at --server, at
 the board's start, and notes in --round-file which game is which board's; it makes that file
 where there is none. It ends once each board has its game, and may be killed at any moment
-and given again: no board gets a second game. While the server is not there it waits for it.
+and given again: no board gets a second game, but in two cases, of which docs/NIGHT.md tells.
+While the server is not there it waits for it.
 
 Where it cannot know which game is a board's, or whether it has one, it says so, leaves that
 board alone, and ends with status 1. Look at the games then, and give it again with --take for the
 game that is the board's, or with --after where none up to a game is: it is opened then.
 
-A row of --pairings with a board and White alone is a bye: nothing is opened for it.
+A row of --pairings with a board and White alone is a bye: nothing is opened for it. By
+--players a name that is not in that file is refused before anything is opened.
 
 Exit status: 0; 1 with what is wrong on standard error; 2 for words that the program does
 not know.
@@ -24,19 +26,22 @@ not know.
 Example:
   chess-pairings start --pairings round1.csv --round-file round1.games --server 127.0.0.1:5001
 prints
-  board 1: game 17, ann afterst bob
+  board 1: game 17, ann against bob
   boards 2, games 2";
 
 const HELP_OF_RESULTS: &str = "\
 It writes a line for each board, as CSV: the board, White, Black, the result (* while the
 game goes on), the article of the Laws by which it ended, and the game. Asked are the
-archive, where --archive names one, and then the server, where --server does.
+archive, where --archive names one, and then the server, where --server does. In the archive
+a game is the board's where it has the names of its players, or by --players their full
+names. Of each game that goes on or was not found it says so on standard error.
 
 Exit status: 0; 1 with what is wrong on standard error; 2 for words that the program does
 not know.
 
 Example:
-  chess-pairings results --pairings round1.csv --round-file round1.games --archive night.jsonl
+  chess-pairings results --pairings round1.csv --round-file round1.games \\
+      --archive night.jsonl --players club.players
 prints
   board,white,black,result,article,game
   1,ann,bob,1-0,5.1.1,17";
@@ -76,6 +81,8 @@ pub struct Round<'a> {
 pub struct Starting<'a> {
     pub round: Round<'a>,
     pub server: SocketAddr,
+    /// The players' file, in which all players are to be.
+    pub players: Option<&'a str>,
     /// Boards, and the games that are theirs.
     pub takes: Vec<(u32, u32)>,
     /// Boards, and games up to which none is theirs.
@@ -94,6 +101,8 @@ pub struct Source<'a> {
 pub struct Asking<'a> {
     pub round: Round<'a>,
     pub source: Source<'a>,
+    /// The players' file, by which the archive's full names are known.
+    pub players: Option<&'a str>,
 }
 
 /// The tournament whose report is written.
@@ -131,6 +140,12 @@ fn with_source<'a>(alloc: Global, command: Command<'a>) -> Result<Command<'a>, A
 
 fn start_command<'a>(alloc: Global) -> Result<Command<'a>, AllocError> {
     let server = option(alloc, "server", "A:P", "Where the game server listens");
+    let players = option(
+        alloc,
+        "players",
+        "FILE",
+        "The players' file: nothing is opened where a player is not in it",
+    );
     let take = option(
         alloc,
         "take",
@@ -150,6 +165,7 @@ fn start_command<'a>(alloc: Global) -> Result<Command<'a>, AllocError> {
             .after_help(HELP_OF_START),
     )?
     .arg(server.required(true))?
+    .arg(players)?
     .arg(take.action(ArgAction::Append))?
     .arg(after.action(ArgAction::Append))
 }
@@ -158,7 +174,13 @@ fn results_command<'a>(alloc: Global) -> Result<Command<'a>, AllocError> {
     let command = Command::new(alloc, "results")
         .about("Writes the results of a round as CSV")
         .after_help(HELP_OF_RESULTS);
-    with_source(alloc, with_round(alloc, command)?)
+    let players = option(
+        alloc,
+        "players",
+        "FILE",
+        "The players' file, with the full names that the archive has",
+    );
+    with_source(alloc, with_round(alloc, command)?.arg(players)?)
 }
 
 fn text<'a>(alloc: Global, name: &'static str, help: &'static str) -> Arg<'a> {
@@ -248,6 +270,7 @@ fn asking_of<'a>(values: &ArgMatches<'a>) -> Option<Asking<'a>> {
     Some(Asking {
         round: round_of(values)?,
         source: source_of(values)?,
+        players: values.get_str("players"),
     })
 }
 
@@ -291,6 +314,7 @@ fn starting_of<'a>(
         (Some(round), Some(server), Some(takes), Some(afters)) => Ok(Some(Starting {
             round,
             server,
+            players: values.get_str("players"),
             takes,
             afters,
         })),

@@ -2,7 +2,7 @@
 use crate::command_line::{Reporting, Round};
 use crate::files::{check_notes, notes_of, pairings_of};
 use crate::outcomes::{Ended, Outcomes};
-use crate::results_word::{ended_of, game_of};
+use crate::results_word::game_of;
 use anyhow::{Context, Result};
 use lobby_desk::Player;
 use pairing_texts::Pairing;
@@ -23,7 +23,9 @@ fn number_of(players: &[&Player], name: &Name) -> Result<u32> {
         }
     }
     let name = name.as_str();
-    anyhow::bail!("{name} is paired, and not in the players' file")
+    anyhow::bail!(
+        "{name} is paired, and is not in the players' file, or is an arbiter there: only players have numbers"
+    )
 }
 
 // What a result is in the report.
@@ -72,7 +74,7 @@ fn meetings_of<R: Files + AllocGlobal>(
     rt: &R,
     round: Round<'_>,
     players: &[&Player],
-    outcomes: &mut Outcomes,
+    outcomes: &mut Outcomes<'_>,
 ) -> Result<Vec<Meeting>> {
     let pairings = pairings_of(rt, round.pairings)?;
     let notes = notes_of(rt, round.games)?;
@@ -80,7 +82,7 @@ fn meetings_of<R: Files + AllocGlobal>(
     let mut meetings = Vec::new(rt.alloc());
     for pairing in pairings.as_slice() {
         let game = game_of(notes.as_slice(), pairing.board);
-        let ended = ended_of(outcomes, pairing, game)?;
+        let ended = outcomes.of(round.pairings, pairing, game)?;
         let board = pairing.board;
         let meeting = meeting_of(players, pairing, &ended).context(format_args!("board {board}"))?;
         meetings.push(meeting)?;
@@ -91,7 +93,7 @@ fn meetings_of<R: Files + AllocGlobal>(
 /// Writes the report of a tournament.
 pub fn write_report<R>(rt: &R, reporting: &Reporting<'_>) -> Result<()>
 where
-    R: Files + Net<Stream = TcpStream> + AllocGlobal + Print,
+    R: Files + Net<Stream = TcpStream> + AllocGlobal + Print + Eprint,
 {
     let all = players_of(rt, reporting.players)?;
     let mut players = Vec::new(rt.alloc());
@@ -102,7 +104,7 @@ where
             names.push(player.full_name.as_str())?;
         }
     }
-    let mut outcomes = Outcomes::open(rt, reporting.source)?;
+    let mut outcomes = Outcomes::open(rt, reporting.source, all.as_slice())?;
     let mut rounds = Vec::new(rt.alloc());
     for round in reporting.rounds.as_slice() {
         let files = round.pairings;
@@ -115,6 +117,7 @@ where
         names.as_slice(),
         rounds.as_slice(),
     )?;
+    outcomes.tell(rt)?;
     io::writer(rt).write_all(text.as_slice())?;
     Ok(())
 }

@@ -4,7 +4,10 @@ use crate::command_line::Starting;
 use crate::files::{check_notes, pairings_of};
 use crate::round_file::RoundFile;
 use anyhow::{Context, Result};
+use lobby_desk::Player;
 use pairing_texts::{Pairing, Stage};
+use players_file::players_of;
+use rec_codec::Name;
 use server_link::Link;
 use std::fs::File;
 use std::net::{Net, SocketAddr, TcpStream};
@@ -23,6 +26,8 @@ struct Rounds {
     asks: Vec<u32>,
     // Those that have their games and were told.
     done: Vec<u32>,
+    // Whether nobody could be told.
+    is_unheard: bool,
 }
 
 // The moment, in milliseconds from 1970 on.
@@ -34,6 +39,37 @@ fn moment<R: Clock>(rt: &R) -> Result<i64> {
 }
 
 impl Rounds {
+    // Whether it cannot go on.
+    fn has_failed(&self) -> bool {
+        self.is_unheard || self.file.has_failed()
+    }
+
+    // Tells what became of a board.
+    fn tell<R: AllocGlobal + Print + Eprint>(
+        &mut self,
+        rt: &R,
+        board: &Board,
+        became: Became,
+    ) -> Result<()> {
+        let number = board.pairing.board;
+        self.is_unheard = true;
+        match became {
+            Became::Has(game) => {
+                let (white, black) = (board.pairing.white, board.game.black);
+                let (white, black) = (white.as_str(), black.as_str());
+                println!(rt; "board {number}: game {game}, {white} against {black}")?;
+                self.done.push(number)?;
+            }
+            Became::Asks => {
+                let question = board.question(&self.file)?;
+                eprintln!(rt; "chess-pairings: {question}")?;
+                self.asks.push(number)?;
+            }
+        }
+        self.is_unheard = false;
+        Ok(())
+    }
+
     // Whether nothing is to be done about a board now.
     fn rests(&self, board: &Board, now: i64) -> bool {
         let number = board.pairing.board;
@@ -60,19 +96,10 @@ impl Rounds {
             None => Link::open(rt, server).context(format_args!("the server at {server}"))?,
         };
         let number = board.pairing.board;
-        match board.go_on(&mut held, &mut self.file)? {
-            Became::Has(game) => {
-                let (white, black) = (board.pairing.white, board.game.black);
-                let (white, black) = (white.as_str(), black.as_str());
-                println!(rt; "board {number}: game {game}, {white} against {black}")?;
-                self.done.push(number)?;
-            }
-            Became::Asks => {
-                let question = board.question(&self.file)?;
-                eprintln!(rt; "chess-pairings: {question}")?;
-                self.asks.push(number)?;
-            }
-        }
+        let became = board
+            .go_on(&mut held, &mut self.file)
+            .context(format_args!("board {number}, by the server at {server}"))?;
+        self.tell(rt, board, became)?;
         *link = Some(held);
         Ok(())
     }
@@ -91,7 +118,7 @@ impl Rounds {
                 continue;
             }
             let done = self.go_on_with(rt, server, &mut link, board);
-            if self.file.has_failed() {
+            if self.has_failed() {
                 return done;
             }
             if first.is_ok() {
@@ -138,8 +165,49 @@ fn take_words(file: &mut RoundFile, boards: &[Board], starting: &Starting<'_>) -
     Ok(())
 }
 
+// The game that the arbiter said is a board's.
+fn taken_of(takes: &[(u32, u32)], number: u32) -> Option<u32> {
+    let mut taken = None;
+    for (board, game) in takes {
+        if *board == number {
+            taken = Some(*game);
+        }
+    }
+    taken
+}
+
+// Whether a player of a row is in the players' file. It fails where that is not so.
+fn check_player(players: &[Player], row: usize, name: &Name) -> Result<()> {
+    if players
+        .iter()
+        .any(|player| player.name.as_str() == name.as_str())
+    {
+        return Ok(());
+    }
+    let name = name.as_str();
+    anyhow::bail!("row {row}: {name} is not in the players' file")
+}
+
+// Whether all players of pairings are in the players' file. It fails at the first row where one is not.
+fn check_players(players: &[Player], pairings: &[Pairing]) -> Result<()> {
+    // (row 1 is the header)
+    let mut row: usize = 1;
+    for pairing in pairings {
+        row = row.saturating_add(1);
+        check_player(players, row, &pairing.white)?;
+        if let Some(game) = pairing.game {
+            check_player(players, row, &game.black)?;
+        }
+    }
+    Ok(())
+}
+
 // The boards of pairings that have a game.
-fn boards_of<R: AllocGlobal>(rt: &R, pairings: &[Pairing]) -> Result<Vec<Board>> {
+fn boards_of<R: AllocGlobal>(
+    rt: &R,
+    pairings: &[Pairing],
+    takes: &[(u32, u32)],
+) -> Result<Vec<Board>> {
     let mut boards = Vec::new(rt.alloc());
     for pairing in pairings {
         if let Some(game) = pairing.game {
@@ -147,6 +215,7 @@ fn boards_of<R: AllocGlobal>(rt: &R, pairings: &[Pairing]) -> Result<Vec<Board>>
                 alloc: rt.alloc(),
                 pairing: *pairing,
                 game,
+                taken: taken_of(takes, pairing.board),
             })?;
         }
     }
@@ -158,16 +227,17 @@ fn go_round<R>(rt: &R, rounds: &mut Rounds, server: SocketAddr, boards: &[Board]
 where
     R: Net<Stream = TcpStream> + AllocGlobal + Print + Eprint + Clock,
 {
-    let mut is_told = false;
+    let mut told = String::new(rt.alloc());
     for _ in 0..u64::MAX {
         match rounds.go_on(rt, server, boards) {
-            Ok(()) => is_told = false,
-            Err(error) if rounds.file.has_failed() => return Err(error),
+            Ok(()) => told.clear(),
+            Err(error) if rounds.has_failed() => return Err(error),
             Err(error) => {
-                if !is_told {
-                    eprintln!(rt; "chess-pairings: {error:#}; it is tried again")?;
+                let text = format!(in rt.alloc(); "{error:#}")?;
+                if text != told {
+                    eprintln!(rt; "chess-pairings: {text}; it is tried again")?;
+                    told = text;
                 }
-                is_told = true;
             }
         }
         if rounds.asks.len().saturating_add(rounds.done.len()) >= boards.len() {
@@ -183,8 +253,13 @@ pub fn start<R>(rt: &R, starting: &Starting<'_>) -> Result<()>
 where
     R: Files<File = File> + Net<Stream = TcpStream> + AllocGlobal + Print + Eprint + Clock,
 {
-    let pairings = pairings_of(rt, starting.round.pairings)?;
-    let boards = boards_of(rt, pairings.as_slice())?;
+    let rows = starting.round.pairings;
+    let pairings = pairings_of(rt, rows)?;
+    if let Some(file) = starting.players {
+        let players = players_of(rt, file)?;
+        check_players(players.as_slice(), pairings.as_slice()).context(format_args!("{rows}"))?;
+    }
+    let boards = boards_of(rt, pairings.as_slice(), starting.takes.as_slice())?;
     let mut file = RoundFile::open(rt, starting.round.games)?;
     check_notes(starting.round.games, file.notes(), pairings.as_slice())?;
     take_words(&mut file, boards.as_slice(), starting)?;
@@ -192,6 +267,7 @@ where
         file,
         asks: Vec::new(rt.alloc()),
         done: Vec::new(rt.alloc()),
+        is_unheard: false,
     };
     go_round(rt, &mut rounds, starting.server, boards.as_slice())?;
     let (boards, games) = (boards.len(), rounds.done.len());

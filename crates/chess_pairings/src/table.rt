@@ -2,7 +2,7 @@
 use anyhow::Result;
 use pairing_texts::{Row, Seats};
 use rec_codec::Name;
-use server_link::{Link, row_of};
+use server_link::{Link, refused, row_of};
 use std::alloc::Global;
 use text_parts::parts;
 
@@ -13,9 +13,9 @@ fn seat_of(text: &str) -> Option<Name> {
 
 /// The games of the table.
 pub fn rows_of(alloc: Global, link: &mut Link) -> Result<Vec<Row>> {
-    let answer = link.ask("list", "ok list ")?;
+    let list = link.list()?;
     let mut rows = Vec::new(alloc);
-    for line in parts(alloc, answer.behind.as_str(), '\n')?.as_slice() {
+    for line in parts(alloc, list.as_str(), '\n')?.as_slice() {
         match row_of(line) {
             Some(row) => rows.push(Row {
                 game: row.game,
@@ -81,15 +81,23 @@ pub fn show_game(alloc: Global, link: &mut Link, game: u32) -> Result<Option<Sho
     }
     match shown_of(alloc, first)? {
         Some(shown) => Ok(Some(shown)),
-        None => anyhow::bail!("the server does not tell game {game}: {first}"),
+        None => Err(refused(line.as_str(), first)),
     }
 }
 
-/// Whether a game has these times, as the tag TimeControl tells them, and begins with the initial position.
+/// Whether a game has these times, as the tag TimeControl tells them, and begins with the initial position. One that has left
+/// the table has not.
 pub fn has_times(alloc: Global, link: &mut Link, game: u32, times: &str) -> Result<bool> {
     let line = format!(in alloc; "pgn {game}")?;
     let front = format!(in alloc; "ok pgn {game} ")?;
     let answer = link.ask(line.as_str(), front.as_str())?;
+    let first = answer.first.as_str();
+    if first.starts_with("no 3 ") {
+        return Ok(false);
+    }
+    if !first.starts_with(front.as_str()) {
+        return Err(refused(line.as_str(), first));
+    }
     let wanted = format!(in alloc; "[TimeControl \"{times}\"]")?;
     let mut has = false;
     for line in parts(alloc, answer.behind.as_str(), '\n')?.as_slice() {

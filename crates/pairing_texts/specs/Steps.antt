@@ -15,15 +15,15 @@ abbrev pub sits : List ℕ → Option (List ℕ) → Bool
 sits name None = false
 sits name (Some other) = bytes_eq other name
 
--- A game that may be the board's: opened since that was noted, White's own, and Black's or waiting for somebody.
-abbrev pub may_be : ℕ → List ℕ → List ℕ → Row → Bool
-may_be after white black row = nat_lt after row.game && sits white row.white && is_free_for black row.black
+-- A game that may be the board's: opened since that was noted, and White's own, whoever has joined it.
+abbrev pub may_be : ℕ → List ℕ → Row → Bool
+may_be after white row = nat_lt after row.game && sits white row.white
 
-abbrev pub game_where : ℕ → List ℕ → List ℕ → Row → List ℕ
-game_where after white black row = if may_be after white black row then row.game ∷ [] else []
+abbrev pub game_where : ℕ → List ℕ → Row → List ℕ
+game_where after white row = if may_be after white row then row.game ∷ [] else []
 
-abbrev pub candidates_in : ℕ → List ℕ → List ℕ → List Row → List ℕ
-candidates_in after white black rows = flat_map (game_where after white black) rows
+abbrev pub candidates_in : ℕ → List ℕ → List Row → List ℕ
+candidates_in after white rows = flat_map (game_where after white) rows
 
 -- Of games that may be the board's and have its times: it is opened where there is none, the one is its, and of several
 -- nobody knows which.

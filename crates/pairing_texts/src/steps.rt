@@ -53,40 +53,34 @@ fn sits(name: &Name, seat: Option<Name>) -> bool
     }
 }
 
-fn may_be(after: u32, white: &Name, black: &Name, row: &Row) -> bool
-    ensures { result ≡ spec.may_be after white.now black.now row.now }
+fn may_be(after: u32, white: &Name, row: &Row) -> bool
+    ensures { result ≡ spec.may_be after white.now row.now }
 {
-    after < row.game && sits(white, row.white) && is_free_for(black, row.black)
+    after < row.game && sits(white, row.white)
 }
 
-fn push_where(
-    games: &mut Vec<u32>,
-    after: u32,
-    white: &Name,
-    black: &Name,
-    row: &Row,
-) -> Result<(), AllocError>
-    ensures { OnOk result (games.new.items ≡ games.old.items ++ spec.game_where after white.now black.now row.now) }
+fn push_where(games: &mut Vec<u32>, after: u32, white: &Name, row: &Row) -> Result<(), AllocError>
+    ensures { OnOk result (games.new.items ≡ games.old.items ++ spec.game_where after white.now row.now) }
 {
-    if may_be(after, white, black, row) {
+    if may_be(after, white, row) {
         games.push(row.game)?;
     }
     Ok(())
 }
 
-/// The games of the table that may be a board's, of which it was noted that its number is greater than `after`.
+/// The games of the table that may be a board's, of which it was noted that its number is greater than `after`. One that
+/// somebody else has joined is among them: another is not to be opened in its place.
 pub fn candidates(
     alloc: Global,
     after: u32,
     white: &Name,
-    black: &Name,
     rows: &[Row],
 ) -> Result<Vec<u32>, AllocError>
-    ensures { IfOk result (λ games. games.items ≡ spec.candidates_in after white.now black.now rows.now) }
+    ensures { IfOk result (λ games. games.items ≡ spec.candidates_in after white.now rows.now) }
 {
     let mut games = Vec::new(alloc);
     for row in rows {
-        push_where(&mut games, after, white, black, row)?;
+        push_where(&mut games, after, white, row)?;
     }
     Ok(games)
 }

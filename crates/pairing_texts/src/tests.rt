@@ -96,11 +96,12 @@ fn boards(rt: HostRuntime) -> Result<(), Fail> {
     let rows = [
         row(16, "ann", ""),
         row(17, "ann", ""),
-        row(18, "ann", "ann"),
-        row(19, "ann", "bob"),
+        row(18, "ann", "cid"),
+        row(19, "cid", "ann"),
+        row(20, "ann", "bob"),
     ];
-    let games = candidates(rt.alloc(), 16, &ann, &bob, &rows)?;
-    assert!(rt; games.as_slice() == [17, 19].as_slice());
+    let games = candidates(rt.alloc(), 16, &ann, &rows)?;
+    assert!(rt; games.as_slice() == [17, 18, 20].as_slice());
     assert!(rt; step_of_games(&[]) == Step::Open);
     assert!(rt; step_of_games(&[17]) == Step::Take(17));
     assert!(rt; step_of_games(&[17, 19]) == Step::Ask);

@@ -4,5 +4,5 @@
 mod link;
 mod rows;
 
-pub use link::{Answer, Link};
+pub use link::{Answer, Link, refused};
 pub use rows::{Row, row_of};

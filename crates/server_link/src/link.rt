@@ -1,5 +1,5 @@
 //! A connection to the server.
-use anyhow::{Result, anyhow};
+use anyhow::{Error, Result, anyhow};
 use std::alloc::Global;
 use std::io::{self, BufRead, BufReader, ErrorKind, Write};
 use std::net::{Net, SocketAddr, TcpStream};
@@ -41,6 +41,15 @@ fn told(error: io::Error) -> anyhow::Error {
     }
 }
 
+/// What is wrong where the server gives this answer to a line, and no such answer was asked for.
+pub fn refused(line: &str, first: &str) -> Error {
+    if first.starts_with("HTTP/") {
+        anyhow!("no game server listens there, but a web server: it answers {first:?}")
+    } else {
+        anyhow!("the server answers {first:?} to {line:?}")
+    }
+}
+
 impl Link {
     /// Connects to the server. It fails where the server does not answer within ten seconds, as each call below does.
     pub fn open<R: Net<Stream = TcpStream> + AllocGlobal>(
@@ -68,11 +77,9 @@ impl Link {
 
     /// Asks a line. Where the answer begins with `front`, a number behind that says how many lines follow.
     pub fn ask(&mut self, line: &str, front: &str) -> Result<Answer> {
-        self.stream
-            .get_mut()
-            .write_all(line.as_bytes())
-            .map_err(told)?;
-        self.stream.get_mut().write_all(b"\n").map_err(told)?;
+        // (in one write: a second one would wait for the system's word on the first)
+        let text = format!(in self.alloc; "{line}\n")?;
+        self.stream.get_mut().write_all(text.as_bytes()).map_err(told)?;
         let mut first = String::new(self.alloc);
         self.read_line(&mut first)?;
         first.pop();
@@ -81,6 +88,25 @@ impl Link {
             self.read_line(&mut behind)?;
         }
         Ok(Answer { first, behind })
+    }
+
+    /// The rows of the server's list, a line each. It fails where the server does not tell them.
+    pub fn list(&mut self) -> Result<String> {
+        let answer = self.ask("list", "ok list ")?;
+        if !answer.first.starts_with("ok list ") {
+            return Err(refused("list", answer.first.as_str()));
+        }
+        Ok(answer.behind)
+    }
+
+    /// What is asked from now on is asked under this name. It fails where the server does not take it.
+    pub fn take_name(&mut self, name: &str) -> Result<()> {
+        let line = format!(in self.alloc; "name {name}")?;
+        let answer = self.ask(line.as_str(), "ok name ")?;
+        if !answer.first.starts_with("ok name ") {
+            return Err(refused(line.as_str(), answer.first.as_str()));
+        }
+        Ok(())
     }
 
     /// Asks a line, of which the answer is one line; whether it begins with `ok`.

@@ -47,11 +47,15 @@ abbrev pub halves_in : ℕ → List (List Meeting) → ℕ
 halves_in n [] = 0
 halves_in n (round ∷ rounds) = (cell_in n round).halves + halves_in n rounds
 
--- how many of the players 1 to `count` have more half points
-abbrev pub better_than : ℕ → List (List Meeting) → ℕ → ℕ
-better_than halves rounds zero = 0
-better_than halves rounds (suc count) =
-    (if nat_lt halves (halves_in (suc count) rounds) then 1 else 0) + better_than halves rounds count
+-- the half points of so many players, in the order of their numbers
+abbrev pub all_halves : List (List Meeting) → ℕ → List ℕ
+all_halves rounds zero = []
+all_halves rounds (suc count) = all_halves rounds count ++ (halves_in (suc count) rounds ∷ [])
+
+-- how many of all half points are more
+abbrev pub better_than : ℕ → List ℕ → ℕ
+better_than halves [] = 0
+better_than halves (other ∷ others) = (if nat_lt halves other then 1 else 0) + better_than halves others
 
 -- Columns 1 to 80 of a player's line: 5 to 8 have the number, 15 to 47 the name; sex, title, rating, federation, FIDE's number
 -- and the date of birth, 10 to 13 and 49 to 79, are not known.
@@ -59,19 +63,19 @@ unfoldable pub front_text : ℕ → List ℕ → List ℕ
 front_text n name =
     codes "001 " ++ (at_right 4 (decimal n) ++ (replicate 6 32 ++ (at_left 33 (map plain_byte name) ++ replicate 33 32)))
 
--- Columns 81 to 89: the points, and the place among so many players.
-unfoldable pub standing_text : List (List Meeting) → ℕ → ℕ → List ℕ
-standing_text rounds count n =
-    at_right 4 (points_text (halves_in n rounds)) ++ (32 ∷ at_right 4 (decimal (better_than (halves_in n rounds) rounds count + 1)))
+-- Columns 81 to 89: the points, and the place among players of all these half points.
+unfoldable pub standing_text : List (List Meeting) → List ℕ → ℕ → List ℕ
+standing_text rounds all n =
+    at_right 4 (points_text (halves_in n rounds)) ++ (32 ∷ at_right 4 (decimal (better_than (halves_in n rounds) all + 1)))
 
--- The line of a player among so many: columns 92 to 99 have the first round, and so on.
-unfoldable pub player_line : List (List Meeting) → ℕ → ℕ → List ℕ → List ℕ
-player_line rounds count n name = front_text n name ++ (standing_text rounds count n ++ (cells_text n rounds ++ (10 ∷ [])))
+-- The line of a player among these: columns 92 to 99 have the first round, and so on.
+unfoldable pub player_line : List (List Meeting) → List ℕ → ℕ → List ℕ → List ℕ
+player_line rounds all n name = front_text n name ++ (standing_text rounds all n ++ (cells_text n rounds ++ (10 ∷ [])))
 
 -- the lines of players, numbered from this on
-abbrev pub players_text : List (List Meeting) → ℕ → ℕ → List (List ℕ) → List ℕ
-players_text rounds count n [] = []
-players_text rounds count n (name ∷ names) = player_line rounds count n name ++ players_text rounds count (suc n) names
+abbrev pub players_text : List (List Meeting) → List ℕ → ℕ → List (List ℕ) → List ℕ
+players_text rounds all n [] = []
+players_text rounds all n (name ∷ names) = player_line rounds all n name ++ players_text rounds all (suc n) names
 
 -- how many rounds there are to be, as pairing programs ask
 abbrev pub rounds_line : Option ℕ → List ℕ
@@ -99,4 +103,4 @@ event_text e count = place_text e ++ (counts_text count ++ (kind_text e ++ round
 
 -- the report of these players, who are numbered from 1 on in their order
 unfoldable pub report_text : Event → List (List ℕ) → List (List Meeting) → List ℕ
-report_text e names rounds = event_text e (length names) ++ players_text rounds (length names) 1 names
+report_text e names rounds = event_text e (length names) ++ players_text rounds (all_halves rounds (length names)) 1 names

@@ -1,6 +1,8 @@
 //! A tournament's report.
-ghost use Rattle.std.specs.Prelude.{◌≡◌, ◌++◌, ◌∷◌, [], ◌≤◌, ◌<◌, ◌*◌, ◌^◌, length, map, decimal, codes, replicate, IfOk, OnOk, if◌then◌else◌};
+ghost use Rattle.std.specs.Prelude.{◌≡◌, ◌++◌, ◌∷◌, [], ◌≤◌, ◌<◌, ◌*◌, ◌^◌, length, map, decimal, codes, replicate, IfOk, IfErr, OnOk, if◌then◌else◌};
 ghost use Rattle.trf_texts.specs.Report as spec;
+ghost use Rattle.trf_texts.specs.Faults.{HasRoom, IsFault};
+ghost use Rattle.trf_texts.specs.declared.columns.Fault.TheVariants as faults;
 
 use crate::cells::{Cell, Meeting, cell_of};
 use itoa::Buffer;
@@ -37,6 +39,8 @@ pub enum Fault {
 }
 
 impl From<AllocError> for Fault {
+    ghost from_gives = { λ _ fault. fault ≡ faults.NoMemory };
+
     fn from(_error: AllocError) -> Fault {
         Fault::NoMemory
     }
@@ -182,15 +186,26 @@ fn one_where(is_more: bool) -> u64
     if is_more { 1 } else { 0 }
 }
 
-// How many players have more half points.
-fn better_than(halves: u64, rounds: &[Vec<Meeting>], count: u32) -> u64
+// The half points of so many players, in the order of their numbers.
+fn all_halves(alloc: Global, rounds: &[Vec<Meeting>], count: u32) -> Result<Vec<u64>, AllocError>
     requires { length rounds.now ≤ 99 }
-    ensures better { result ≡ spec.better_than halves (map (λ round. round.items) rounds.now) count }
-    ensures few { result ≤ count }
+    ensures { IfOk result (λ all. all.items ≡ spec.all_halves (map (λ round. round.items) rounds.now) count) }
+{
+    let mut all = Vec::new(alloc);
+    for at in 0..count {
+        all.push(halves_of(at + 1, rounds))?;
+    }
+    Ok(all)
+}
+
+// How many have more half points.
+fn better_than(halves: u64, all: &[u64]) -> u64
+    ensures better { result ≡ spec.better_than halves all.now }
+    ensures few { result ≤ length all.now }
 {
     let mut better: u64 = 0;
-    for at in 0..count {
-        let is_more = halves < halves_of(at + 1, rounds);
+    for other in all {
+        let is_more = halves < *other;
         better += one_where(is_more);
     }
     better
@@ -217,17 +232,17 @@ fn push_standing(
     out: &mut Vec<u8>,
     alloc: Global,
     rounds: &[Vec<Meeting>],
-    count: u32,
+    all: &[u64],
     number: u32,
 ) -> Result<(), AllocError>
     requires { length rounds.now ≤ 99 }
-    ensures { OnOk result (out.new.items ≡ out.old.items ++ spec.standing_text (map (λ round. round.items) rounds.now) count number) }
+    ensures { OnOk result (out.new.items ≡ out.old.items ++ spec.standing_text (map (λ round. round.items) rounds.now) all.now number) }
 {
     let halves = halves_of(number, rounds);
     let points = points_text(alloc, halves)?;
     push_right(out, 4, points.as_slice())?;
     out.push(b' ')?;
-    push_number(out, 4, better_than(halves, rounds, count) + 1)
+    push_number(out, 4, better_than(halves, all) + 1)
 }
 
 // The line of a player.
@@ -236,34 +251,34 @@ fn push_player(
     out: &mut Vec<u8>,
     alloc: Global,
     rounds: &[Vec<Meeting>],
-    count: u32,
+    all: &[u64],
     number: u32,
     name: &str,
 ) -> Result<(), AllocError>
     requires { length rounds.now ≤ 99 }
-    ensures { OnOk result (out.new.items ≡ out.old.items ++ spec.player_line (map (λ round. round.items) rounds.now) count number name.now) }
+    ensures { OnOk result (out.new.items ≡ out.old.items ++ spec.player_line (map (λ round. round.items) rounds.now) all.now number name.now) }
 {
     push_front(out, alloc, number, name)?;
-    push_standing(out, alloc, rounds, count, number)?;
+    push_standing(out, alloc, rounds, all, number)?;
     push_cells(out, number, rounds)?;
     out.push(b'\n')?;
     Ok(())
 }
 
-// The lines of all players.
+// The lines of all players, of whom all half points are known.
 fn push_players(
     out: &mut Vec<u8>,
     alloc: Global,
     rounds: &[Vec<Meeting>],
+    all: &[u64],
     names: &[&str],
 ) -> Result<(), AllocError>
     requires rounds { length rounds.now ≤ 99 }
     requires players { length names.now ≤ 9999 }
-    ensures { OnOk result (out.new.items ≡ out.old.items ++ spec.players_text (map (λ round. round.items) rounds.now) (length names.now) 1 (map (λ name. name.now) names.now)) }
+    ensures { OnOk result (out.new.items ≡ out.old.items ++ spec.players_text (map (λ round. round.items) rounds.now) all.now 1 (map (λ name. name.now) names.now)) }
 {
-    let count = names.len() as u32;
     for at in 0..names.len() {
-        push_player(out, alloc, rounds, count, at as u32 + 1, names[at])?;
+        push_player(out, alloc, rounds, all, at as u32 + 1, names[at])?;
     }
     Ok(())
 }
@@ -332,7 +347,9 @@ pub fn report(
     names: &[&str],
     rounds: &[Vec<Meeting>],
 ) -> Result<Vec<u8>, Fault>
-    ensures { IfOk result (λ text. text.items ≡ spec.report_text event.now (map (λ name. name.now) names.now) (map (λ round. round.items) rounds.now)) }
+    ensures text { IfOk result (λ text. text.items ≡ spec.report_text event.now (map (λ name. name.now) names.now) (map (λ round. round.items) rounds.now)) }
+    ensures room { IfOk result (λ _. HasRoom (length names.now) (length rounds.now)) }
+    ensures fault { IfErr result (IsFault (length names.now) (length rounds.now)) }
 {
     if names.len() > 9_999 {
         return Err(Fault::TooManyPlayers);
@@ -340,8 +357,9 @@ pub fn report(
     if rounds.len() > 99 {
         return Err(Fault::TooManyRounds);
     }
+    let all = all_halves(alloc, rounds, names.len() as u32)?;
     let mut text = Vec::new(alloc);
     push_event(&mut text, event, names.len())?;
-    push_players(&mut text, alloc, rounds, names)?;
+    push_players(&mut text, alloc, rounds, all.as_slice(), names)?;
     Ok(text)
 }
