@@ -1,0 +1,185 @@
+//! A client, with its connections to the servers.
+use crate::link::Link;
+use crate::pieces::{PIECE_ROOM, Wire};
+use anyhow::Result;
+use mio::net::TcpStream;
+use mio::{Registry, Token};
+use server_switch::Exchange;
+use session_lines::Lines;
+use std::alloc::Global;
+use std::net::{Net, SocketAddr};
+
+/// So many sockets a client has at most: its own, and one for each server.
+pub const SOCKETS: usize = 1_024;
+
+// Where so many bytes wait for a client, no more answers are taken for it.
+const TOLD_MOST: usize = 65_536;
+
+// Where so many bytes of its lines wait, no more are read.
+const LINES_MOST: usize = 4_096;
+
+const LONG_LINE: &[u8] = b"bye LineTooLong\n";
+
+/// A client.
+#[derive(Drop)]
+pub struct Client {
+    alloc: Global,
+    /// Its sockets' names are from `key * SOCKETS` on.
+    pub key: usize,
+    wire: Wire,
+    lines: Lines,
+    exchange: Exchange,
+    links: Vec<Link>,
+    // Whether it was told that its line was too long.
+    has_left: bool,
+}
+
+impl Client {
+    /// A client that comes.
+    pub fn new(
+        alloc: Global,
+        key: usize,
+        stream: TcpStream,
+        servers: &[Option<SocketAddr>],
+    ) -> Result<Client> {
+        let mut links = Vec::new(alloc);
+        let mut place = 0;
+        for server in servers {
+            if let Some(address) = server {
+                let token = Token(key.saturating_mul(SOCKETS).saturating_add(place + 1));
+                links.push(Link::new(alloc, *address, place, token))?;
+            }
+            place += 1;
+        }
+        Ok(Client {
+            alloc,
+            key,
+            wire: Wire::new(stream),
+            lines: Lines::new(alloc),
+            exchange: Exchange::new(alloc, servers.len())?,
+            links,
+            has_left: false,
+        })
+    }
+
+    /// A socket of it may be ready.
+    pub fn wake(&mut self, socket: usize) {
+        if socket == 0 {
+            self.wire.wake();
+        }
+        for link in self.links.as_mut_slice() {
+            if link.place() + 1 == socket {
+                link.wake();
+            }
+        }
+    }
+
+    /// Whether a server is there.
+    pub fn has_server(&self, place: usize) -> bool {
+        self.links
+            .iter()
+            .any(|link| link.place() == place && link.is_here())
+    }
+
+    /// Whether nothing more is to be done for it.
+    pub fn is_done(&self) -> bool {
+        let is_over = self.wire.has_ended || self.has_left;
+        let waits = self.lines.has_line() || !self.exchange.is_idle() || self.lines.is_too_long();
+        self.wire.is_lost || is_over && (self.has_left || !waits) && self.exchange.told.is_empty()
+    }
+
+    /// The moment at which there is something to do, though no socket of it is ready.
+    pub fn next_moment(&self) -> Option<u64> {
+        let mut first = None;
+        for link in self.links.as_slice() {
+            if let Some(moment) = link.next_moment(&self.exchange) {
+                first = Some(moment.min(first.unwrap_or(u64::MAX)));
+            }
+        }
+        first
+    }
+
+    fn is_full(&self) -> bool {
+        self.exchange.told.len() > TOLD_MOST
+    }
+
+    // Reads a piece of its lines.
+    fn read(&mut self, piece: &mut [u8; PIECE_ROOM]) -> Result<bool> {
+        if self.lines.is_too_long() || self.lines.waiting() > LINES_MOST || self.is_full() {
+            return Ok(false);
+        }
+        let Some(bytes) = self.wire.next_piece(self.alloc, piece)? else {
+            return Ok(false);
+        };
+        if self.lines.feed(bytes.as_slice()).is_err() {
+            self.wire.is_lost = true;
+        }
+        Ok(true)
+    }
+
+    // Says its next line, if that may be said.
+    fn say_line(&mut self) -> Result<bool> {
+        if !self.exchange.is_ready() || self.is_full() {
+            return Ok(false);
+        }
+        let Some(line) = self.lines.ahead().next_line() else {
+            return Ok(false);
+        };
+        self.exchange.said(line)?;
+        self.lines.drop_line();
+        Ok(true)
+    }
+
+    // Says its lines, as far as they may be said, and that one was too long.
+    fn say_lines(&mut self) -> Result<bool> {
+        let mut has_said = false;
+        while self.say_line()? {
+            has_said = true;
+        }
+        let is_last = self.lines.is_too_long() && !self.lines.has_line() && self.exchange.is_idle();
+        if is_last && !self.has_left {
+            self.exchange.told.extend_from_slice(LONG_LINE)?;
+            self.has_left = true;
+        }
+        Ok(has_said)
+    }
+
+    // A turn of each connection to a server.
+    fn turn_links(
+        &mut self,
+        net: &impl Net,
+        registry: &Registry,
+        piece: &mut [u8; PIECE_ROOM],
+        at: u64,
+    ) -> Result<bool> {
+        let mut has_worked = false;
+        let may_read = !self.is_full();
+        for link in self.links.as_mut_slice() {
+            has_worked |= link.turn(
+                self.alloc,
+                net,
+                registry,
+                &mut self.exchange,
+                piece,
+                may_read,
+                at,
+            )?;
+        }
+        Ok(has_worked)
+    }
+
+    /// One turn. It tells whether there was anything to do.
+    pub fn turn(
+        &mut self,
+        net: &impl Net,
+        registry: &Registry,
+        piece: &mut [u8; PIECE_ROOM],
+        at: u64,
+    ) -> Result<bool> {
+        let has_read = self.read(piece)?;
+        let has_said = self.say_lines()?;
+        let has_worked = self.turn_links(net, registry, piece, at)?;
+        let has_written = self.wire.write_out(&mut self.exchange.told);
+        Ok(has_read | has_said | has_worked | has_written)
+    }
+}
