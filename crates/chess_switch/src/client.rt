@@ -18,6 +18,9 @@ const TOLD_MOST: usize = 65_536;
 // Where so many bytes of its lines wait, no more are read.
 const LINES_MOST: usize = 4_096;
 
+// So many pieces are dropped of what comes behind a line that is too long, before it is closed.
+const DROPPED_MOST: u32 = 255;
+
 const LONG_LINE: &[u8] = b"bye LineTooLong\n";
 
 /// A client.
@@ -30,8 +33,9 @@ pub struct Client {
     lines: Lines,
     exchange: Exchange,
     links: Vec<Link>,
-    // Whether it was told that its line was too long.
+    // Whether it was told that its line was too long, and how many pieces were dropped since.
     has_left: bool,
+    dropped: u32,
 }
 
 impl Client {
@@ -59,6 +63,7 @@ impl Client {
             exchange: Exchange::new(alloc, servers.len())?,
             links,
             has_left: false,
+            dropped: 0,
         })
     }
 
@@ -74,18 +79,32 @@ impl Client {
         }
     }
 
-    /// Whether a server is there.
+    /// Whether a server is there, and whether it was tried and is not.
     pub fn has_server(&self, place: usize) -> bool {
         self.links
             .iter()
             .any(|link| link.place() == place && link.is_here())
     }
 
+    pub fn lacks_server(&self, place: usize) -> bool {
+        self.links
+            .iter()
+            .any(|link| link.place() == place && link.is_away())
+    }
+
     /// Whether nothing more is to be done for it.
     pub fn is_done(&self) -> bool {
-        let is_over = self.wire.has_ended || self.has_left;
+        if self.wire.is_lost {
+            return true;
+        }
+        if !self.exchange.told.is_empty() {
+            return false;
+        }
+        if self.has_left {
+            return !self.wire.is_readable() || self.dropped > DROPPED_MOST;
+        }
         let waits = self.lines.has_line() || !self.exchange.is_idle() || self.lines.is_too_long();
-        self.wire.is_lost || is_over && (self.has_left || !waits) && self.exchange.told.is_empty()
+        self.wire.has_ended && !waits
     }
 
     /// The moment at which there is something to do, though no socket of it is ready.
@@ -103,9 +122,21 @@ impl Client {
         self.exchange.told.len() > TOLD_MOST
     }
 
+    // Drops a piece of what comes behind a line that is too long.
+    fn drop_piece(&mut self, piece: &mut [u8; PIECE_ROOM]) -> Result<bool> {
+        let any = self.wire.next_piece(self.alloc, piece)?.is_some();
+        if any {
+            self.dropped = self.dropped.saturating_add(1);
+        }
+        Ok(any)
+    }
+
     // Reads a piece of its lines.
     fn read(&mut self, piece: &mut [u8; PIECE_ROOM]) -> Result<bool> {
-        if self.lines.is_too_long() || self.lines.waiting() > LINES_MOST || self.is_full() {
+        if self.lines.is_too_long() {
+            return self.drop_piece(piece);
+        }
+        if self.lines.waiting() > LINES_MOST || self.is_full() {
             return Ok(false);
         }
         let Some(bytes) = self.wire.next_piece(self.alloc, piece)? else {

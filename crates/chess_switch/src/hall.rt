@@ -65,9 +65,9 @@ impl Hall {
         self.clients.iter().any(|client| client.has_server(place))
     }
 
-    /// Whether there is a client.
-    pub fn has_clients(&self) -> bool {
-        !self.clients.is_empty()
+    /// Whether a client has tried a server, and it was not there.
+    pub fn lacks_server(&self, place: usize) -> bool {
+        self.clients.iter().any(|client| client.lacks_server(place))
     }
 
     // A client comes; one more than there may be is closed.

@@ -104,6 +104,11 @@ impl Link {
         matches!(self.stage, Stage::Here(_))
     }
 
+    /// Whether the server was tried and is not there.
+    pub fn is_away(&self) -> bool {
+        matches!(self.stage, Stage::Away) && self.call_at > 0
+    }
+
     /// Its socket may be ready.
     pub fn wake(&mut self) {
         match &mut self.stage {

@@ -7,24 +7,22 @@ use std::alloc::Global;
 use std::net::{IpAddr, Net, SocketAddr};
 use std::rt::Clock;
 
-// Tells an operator of each server that came or went, as far as a client has asked.
+// Tells an operator of each server that came or went, as far as clients have tried it; of none it is known at first.
 fn tell_servers<R: Eprint>(
     rt: &R,
     servers: &[Option<SocketAddr>],
     hall: &Hall,
-    told: &mut Vec<bool>,
+    told: &mut Vec<Option<bool>>,
 ) {
-    if !hall.has_clients() {
-        return;
-    }
     for place in 0..told.len() {
         let is_here = hall.has_server(place);
-        if is_here == told[place] {
+        let is_known = is_here || hall.lacks_server(place);
+        if !is_known || told[place] == Some(is_here) {
             continue;
         }
-        told[place] = is_here;
+        told[place] = Some(is_here);
         if let Some(Some(server)) = servers.get(place) {
-            let number = place + 1;
+            let number = place.saturating_add(1);
             let _ = if is_here {
                 eprintln!(rt; "server {number} at {server} is there")
             } else {
@@ -50,7 +48,7 @@ where
     let servers = serving.servers.clone()?;
     let mut told = Vec::new(alloc);
     for _ in 0..servers.len() {
-        told.push(false)?;
+        told.push(None)?;
     }
     let mut hall = Hall::open(rt, alloc, serving.address, servers)?;
     let port = hall.port()?;

@@ -10,7 +10,7 @@ use Rattle.server_switch.specs.declared.slots.Slot.{Slot}
 use Rattle.server_switch.specs.declared.slots.Slot.TheVariants as slots
 
 -- what one server has of a list: it has not told, it has these rows, or it is not there
-data pub Share : Type 0 where
+pub data Share : Type 0 where
   Due : Share
   Rows : (rows : List ℕ) → Share
   Absent : Share
@@ -18,7 +18,7 @@ data pub Share : Type 0 where
 -- What a line waits for: nothing, since it is answered so; the answer of this server; that to a line that says a name there, of
 -- which nobody is told; that to the line that opens a game there; another server with room, where this one has none and has answered
 -- so; the servers' shares of the list.
-data pub Wait : Type 0 where
+pub data Wait : Type 0 where
   Answered : (text : List ℕ) → Wait
   Sent : (place : ℕ) → Wait
   Naming : (place : ℕ) → Wait
@@ -137,21 +137,25 @@ lost_at place wait = if waits_for place wait then lost_of place wait else wait
 abbrev pub lost_waits : ℕ → List Wait → List Wait
 lost_waits place waits = map (lost_at place) waits
 
+-- the answer of a line that has one
+abbrev pub answer_of : Wait → Option (List ℕ)
+answer_of (Answered text) = Some text
+answer_of (Refused place line text) = Some text
+answer_of _ = None
+
 -- the answers that are next, and the lines behind them
+abbrev pub text_behind : Option (List ℕ) → List ℕ → List ℕ
+text_behind None texts = []
+text_behind (Some text) texts = text ++ texts
+
 abbrev pub text_ahead : List Wait → List ℕ
 text_ahead [] = []
-text_ahead (Answered text ∷ waits) = text ++ text_ahead waits
-text_ahead (Refused place line text ∷ waits) = text ++ text_ahead waits
-text_ahead (Sent place ∷ waits) = []
-text_ahead (Naming place ∷ waits) = []
-text_ahead (Opening place line ∷ waits) = []
-text_ahead (Listing shares ∷ waits) = []
+text_ahead (wait ∷ waits) = text_behind (answer_of wait) (text_ahead waits)
+
+abbrev pub left_behind : Option (List ℕ) → List Wait → List Wait → List Wait
+left_behind None all waits = all
+left_behind (Some text) all waits = waits
 
 abbrev pub left_ahead : List Wait → List Wait
 left_ahead [] = []
-left_ahead (Answered text ∷ waits) = left_ahead waits
-left_ahead (Refused place line text ∷ waits) = left_ahead waits
-left_ahead (Sent place ∷ waits) = Sent place ∷ waits
-left_ahead (Naming place ∷ waits) = Naming place ∷ waits
-left_ahead (Opening place line ∷ waits) = Opening place line ∷ waits
-left_ahead (Listing shares ∷ waits) = Listing shares ∷ waits
+left_ahead (wait ∷ waits) = left_behind (answer_of wait) (wait ∷ waits) (left_ahead waits)

@@ -30,7 +30,7 @@ fn tell_behind(
     text: &str,
     tail: Option<&str>,
 ) -> Result<String, AllocError>
-    ensures { IfOk result (λ told. string_bytes told ≡ told_behind words.now (renumbered place text.now) (tail_text 10 tail)) }
+    ensures { IfOk result (λ told. string_bytes told ≡ told_behind words.now (renumbered place text.now) (tail_text 10 tail.entry)) }
 {
     let Some((game, behind)) = number_ahead(text) else {
         return String::from_str(alloc, LOST);

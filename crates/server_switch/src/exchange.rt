@@ -1,11 +1,9 @@
 //! One client's exchange with the servers: what comes in, and what goes out.
-ghost use Rattle.std.specs.Prelude.{◌≡◌, ◌≤◌, ◌<◌, ◌+◌, ◌++◌, ◌∷◌, [], ℕ, false, true, Some, None, length, map, IfOk, IfSome, IfNone, OnOk, codes};
-ghost use Rattle.std.specs.List.{list_any};
-ghost use Rattle.std.specs.String.{string_bytes};
-ghost use Rattle.rec_codec.specs.Name.{IsName};
-ghost use Rattle.server_switch.specs.Lines as lines;
-ghost use Rattle.server_switch.specs.Waits.{Answered, Sent, Opening, wait_of, share_of, text_ahead, left_ahead, lost_waits, answered_waits, listing, waits_for};
-ghost use Rattle.server_switch.specs.Exchanges.{waits_of, IsRestSame, is_here};
+ghost use Rattle.std.specs.Prelude.{◌≡◌, ◌≤◌, ◌<◌, ◌++◌, ◌∷◌, [], true, false, Some, length, IfSome, IfNone, OnOk, codes};
+ghost use Rattle.server_switch.specs.Exchanges.{waits_of, standings, is_here, IsNoneHere, IsOutcome, Answers, Sends, game_outcome, IsOpened};
+ghost use Rattle.server_switch.specs.Fields.{tail_text};
+ghost use Rattle.server_switch.specs.Lines.{change_at, renewed};
+ghost use Rattle.server_switch.specs.Waits.{Answered, wait_of, text_ahead, left_ahead, lost_waits};
 
 use crate::answers::{BAD_LINE, NO_GAME, NO_SERVER};
 use crate::fields::push_number;
@@ -93,9 +91,10 @@ impl Exchange {
 
     // The first server from a place on that is there.
     fn next_here(&self, from: usize) -> Option<usize>
-        ensures some { IfSome result (λ place. (from ≤ place) × (place < length self.now.servers.items) × (is_here self.now place ≡ true)) }
-        ensures first { IfSome result (λ place. (q : ℕ) → from ≤ q → q < place → is_here self.now q ≡ false) }
-        ensures none { IfNone result ((q : ℕ) → from ≤ q → q < length self.now.servers.items → is_here self.now q ≡ false) }
+        ensures within { IfSome result (λ place. (from ≤ place) × (place < length self.now.servers.items)) }
+        ensures here { IfSome result (λ place. is_here self.now place ≡ true) }
+        ensures first { IfSome result (λ place. IsNoneHere self.now from place) }
+        ensures none { IfNone result (IsNoneHere self.now from (length self.now.servers.items)) }
     {
         for place in from..self.servers.len() {
             if self.is_here(place) {
@@ -107,31 +106,22 @@ impl Exchange {
 
     // The next line is answered by the switch itself.
     fn answer(&mut self, text: &str) -> Result<(), AllocError>
-        ensures waits { OnOk result (waits_of self.new ≡ waits_of self.old ++ Answered text.now ∷ []) }
-        ensures rest { OnOk result (IsRestSame self.old self.new) }
+        ensures { OnOk result (IsOutcome (Answers text.now) self.old self.new) }
     {
         let text = String::from_str(self.alloc, text)?;
         self.slots.push_back(Slot::Answered(text))?;
         Ok(())
     }
 
-    // Says the client's name to a server, where another or none was said there last.
-    fn say_name(&mut self, place: usize) -> Result<(), AllocError>
-        requires { place < length self.old.servers.items }
-    {
-        let has_said = self.servers[place].say(self.name)?;
-        if has_said {
-            self.slots.push_back(Slot::Naming(place))?;
-        }
-        Ok(())
-    }
-
     // Sends a line to a server, under the client's name.
     fn send(&mut self, place: usize, line: &str, slot: Slot) -> Result<(), AllocError>
         requires { place < length self.old.servers.items }
+        ensures { OnOk result (IsOutcome (Sends place line.now (wait_of slot)) self.old self.new) }
     {
-        self.say_name(place)?;
-        self.servers[place].put("", line)?;
+        let has_said = self.servers[place].put_under(self.name, line)?;
+        if has_said {
+            self.slots.push_back(Slot::Naming(place))?;
+        }
         self.slots.push_back(slot)?;
         Ok(())
     }
@@ -152,7 +142,9 @@ impl Exchange {
     }
 
     // A line of a game.
-    fn game_said(&mut self, word: &str, number: u32, tail: Option<&str>) -> Result<(), AllocError> {
+    fn game_said(&mut self, word: &str, number: u32, tail: Option<&str>) -> Result<(), AllocError>
+        ensures { OnOk result (IsOutcome (game_outcome self.old word.now number (tail_text 32 tail.entry)) self.old self.new) }
+    {
         let Some(place) = (server_of(number) as usize).checked_sub(1) else {
             return self.answer(NO_GAME);
         };
@@ -169,7 +161,9 @@ impl Exchange {
     }
 
     // A line that opens a game goes to the first server from a place on that is there.
-    fn open_at(&mut self, from: usize, line: &str, refusal: &str) -> Result<(), AllocError> {
+    fn open_at(&mut self, from: usize, line: &str, refusal: &str) -> Result<(), AllocError>
+        ensures { OnOk result (IsOpened from line.now refusal.now self.old self.new) }
+    {
         match self.next_here(from) {
             Some(place) => {
                 let kept = String::from_str(self.alloc, line)?;
@@ -184,7 +178,7 @@ impl Exchange {
         requires { place < length self.old.servers.items }
     {
         if self.is_here(place) {
-            self.servers[place].put("", "list")?;
+            self.servers[place].put("list")?;
             Ok(Part::Waits)
         } else {
             Ok(Part::Absent)
@@ -264,19 +258,31 @@ impl Exchange {
     }
 
     // The connection to a server is another, or none.
-    fn renew(&mut self, place: usize, is_here: bool) {
+    fn renew(&mut self, place: usize, is_here: bool)
+        ensures standings { standings self.new ≡ change_at (λ s. renewed is_here) place (standings self.old) }
+        ensures waits { waits_of self.new ≡ waits_of self.old }
+        ensures told { self.new.told ≡ self.old.told }
+        ensures name { self.new.name ≡ self.old.name }
+    {
         if place < self.servers.len() {
             self.servers[place].renew(is_here);
         }
     }
 
-    /// A server is there, by a connection on which nothing was said.
-    pub fn here(&mut self, place: usize) {
+    /// A server is there, by a connection on which nothing was said. To no other goes anything, and the client is told nothing.
+    pub fn here(&mut self, place: usize)
+        ensures standings { standings self.new ≡ change_at (λ s. renewed true) place (standings self.old) }
+        ensures waits { waits_of self.new ≡ waits_of self.old }
+        ensures told { self.new.told ≡ self.old.told }
+        ensures name { self.new.name ≡ self.old.name }
+    {
         self.renew(place, true);
     }
 
-    /// The connection to a server is lost.
+    /// The connection to a server is lost: the lines that wait for it are answered so, and no other line changes; to no other server
+    /// goes anything.
     pub fn gone(&mut self, place: usize) -> Result<(), AllocError>
+        ensures standings { OnOk result (standings self.new ≡ change_at (λ s. renewed false) place (standings self.old)) }
         ensures told { OnOk result (self.new.told.items ≡ self.old.told.items ++ text_ahead (lost_waits place (waits_of self.old))) }
         ensures left { OnOk result (waits_of self.new ≡ left_ahead (lost_waits place (waits_of self.old))) }
         ensures name { OnOk result (self.new.name ≡ self.old.name) }

@@ -37,7 +37,7 @@ pub fn number_ahead(text: &str) -> Option<(u32, Option<&str>)>
 /// Puts a sign and what stands behind it behind a text, if there is something.
 pub fn push_tail(text: &mut String, sign: char, tail: Option<&str>) -> Result<(), AllocError>
     requires { sign < 128 }
-    ensures { OnOk result (string_bytes text.new ≡ string_bytes text.old ++ tail_text sign tail) }
+    ensures { OnOk result (string_bytes text.new ≡ string_bytes text.old ++ tail_text sign tail.entry) }
 {
     match tail {
         None => Ok(()),
@@ -51,7 +51,7 @@ pub fn push_tail(text: &mut String, sign: char, tail: Option<&str>) -> Result<()
 
 /// Puts a number, and what stands behind it, behind a text.
 pub fn push_number(text: &mut String, number: u32, tail: Option<&str>) -> Result<(), AllocError>
-    ensures { OnOk result (string_bytes text.new ≡ string_bytes text.old ++ (decimal number ++ tail_text 32 tail)) }
+    ensures { OnOk result (string_bytes text.new ≡ string_bytes text.old ++ (decimal number ++ tail_text 32 tail.entry)) }
 {
     let mut buffer = Buffer::new();
     text.push_str(buffer.format(number))?;

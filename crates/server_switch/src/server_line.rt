@@ -1,9 +1,7 @@
 //! What the switch knows of a server, and what is to go there.
-ghost use Rattle.std.specs.Prelude.{◌≡◌, ◌++◌, [], false, None, OnOk, IfOk};
-ghost use Rattle.std.specs.String.{string_bytes};
-ghost use Rattle.rec_codec.specs.Name.{IsName};
+ghost use Rattle.std.specs.Prelude.{◌≡◌, ◌++◌, false, OnOk, IfOk};
 ghost use Rattle.server_switch.specs.Lines as lines;
-ghost use Rattle.server_switch.specs.Lines.{ended, naming, said_then, is_new};
+ghost use Rattle.server_switch.specs.Lines.{standing_of, renewed, put_behind, put_under, is_new};
 
 use lobby_words::Coming;
 use rec_codec::Name;
@@ -35,10 +33,7 @@ fn is_said(said: &Option<Name>, name: &Name) -> bool
 impl ServerLine {
     /// A line to a server that is not there.
     pub fn new(alloc: Global) -> ServerLine
-        ensures here { result.is_here ≡ false }
-        ensures said { result.said ≡ None }
-        ensures begun { string_bytes result.coming.text ≡ [] }
-        ensures wire { result.wire.items ≡ [] }
+        ensures { standing_of result ≡ renewed false }
     {
         ServerLine {
             is_here: false,
@@ -51,11 +46,7 @@ impl ServerLine {
     /// The connection is lost, or there is a new one: on what comes next nothing was said, no answer has begun, and what was to go is
     /// dropped.
     pub fn renew(&mut self, is_here: bool)
-        ensures here { self.new.is_here ≡ is_here }
-        ensures said { self.new.said ≡ None }
-        ensures begun { string_bytes self.new.coming.text ≡ [] }
-        ensures left { self.new.coming.left ≡ 0 }
-        ensures wire { self.new.wire.items ≡ [] }
+        ensures { standing_of self.new ≡ renewed is_here }
     {
         self.is_here = is_here;
         self.said = None;
@@ -63,12 +54,9 @@ impl ServerLine {
         self.wire.clear();
     }
 
-    /// Sends a line of two parts.
-    pub fn put(&mut self, front: &str, rest: &str) -> Result<(), AllocError>
-        ensures wire { OnOk result (self.new.wire.items ≡ self.old.wire.items ++ ended (front.now ++ rest.now)) }
-        ensures said { self.new.said ≡ self.old.said }
-        ensures here { self.new.is_here ≡ self.old.is_here }
-        ensures coming { self.new.coming ≡ self.old.coming }
+    // Puts a line of two parts behind what is to go.
+    fn put_parts(&mut self, front: &str, rest: &str) -> Result<(), AllocError>
+        ensures { OnOk result (standing_of self.new ≡ put_behind (front.now ++ rest.now) (standing_of self.old)) }
     {
         self.wire.extend_from_slice(front.as_bytes())?;
         self.wire.extend_from_slice(rest.as_bytes())?;
@@ -76,22 +64,34 @@ impl ServerLine {
         Ok(())
     }
 
-    /// Says a name, where another or none was said last. It tells whether it did.
-    pub fn say(&mut self, name: Option<Name>) -> Result<bool, AllocError>
-        ensures new { IfOk result (λ is_new_one. is_new_one ≡ is_new self.old.said name) }
-        ensures wire { OnOk result (self.new.wire.items ≡ self.old.wire.items ++ naming self.old.said name) }
-        ensures said { OnOk result (self.new.said ≡ said_then self.old.said name) }
-        ensures here { OnOk result (self.new.is_here ≡ self.old.is_here) }
-        ensures coming { OnOk result (self.new.coming ≡ self.old.coming) }
+    /// Sends a line.
+    pub fn put(&mut self, line: &str) -> Result<(), AllocError>
+        ensures { OnOk result (standing_of self.new ≡ put_behind line.now (standing_of self.old)) }
     {
-        let Some(name) = name else {
-            return Ok(false);
-        };
-        if is_said(&self.said, &name) {
-            return Ok(false);
+        self.put_parts("", line)
+    }
+
+    /// Sends a line under a name, which is said first where another or none was said last. It tells whether it was said.
+    pub fn put_under(&mut self, name: Option<Name>, line: &str) -> Result<bool, AllocError>
+        ensures new { IfOk result (λ is_said_now. is_said_now ≡ is_new self.old.said name) }
+        ensures sent { OnOk result (standing_of self.new ≡ put_under name line.now (standing_of self.old)) }
+    {
+        match name {
+            None => {
+                self.put(line)?;
+                Ok(false)
+            }
+            Some(name) => {
+                if is_said(&self.said, &name) {
+                    self.put(line)?;
+                    Ok(false)
+                } else {
+                    self.put_parts("name ", name.as_str())?;
+                    self.said = Some(name);
+                    self.put(line)?;
+                    Ok(true)
+                }
+            }
         }
-        self.put("name ", name.as_str())?;
-        self.said = Some(name);
-        Ok(true)
     }
 }

@@ -1,5 +1,5 @@
 //! The client's lines that are not answered yet, each with what it waits for.
-ghost use Rattle.std.specs.Prelude.{◌≡◌, ◌++◌, map, IfOk, OnOk};
+ghost use Rattle.std.specs.Prelude.{◌≡◌, ◌++◌, Some, None, map, IfOk, IfErr, OnOk};
 ghost use Rattle.std.specs.String.{string_bytes};
 ghost use Rattle.server_switch.specs.Waits as waits;
 ghost use Rattle.server_switch.specs.Waits.{wait_of, share_of, is_due_at, text_ahead, left_ahead, lost_waits, answered_waits, filled, lost_at};
@@ -116,9 +116,9 @@ pub fn answer_first(
     let mut is_taken = false;
     while let Some(slot) = slots.pop_front() {
         let waits = slot.waits_for(place);
-        let slot = fill_next(alloc, place, answer, is_taken, slot)?;
+        let other = fill_next(alloc, place, answer, is_taken, slot)?;
         is_taken = is_taken | waits;
-        kept.push_back(slot)?;
+        kept.push_back(other)?;
     }
     *slots = kept;
     Ok(())
@@ -153,11 +153,23 @@ pub fn lose_each(slots: &mut VecDeque<Slot>, alloc: Global, place: usize) -> Res
 {
     let mut kept = VecDeque::new(alloc);
     while let Some(slot) = slots.pop_front() {
-        let slot = lose_if(alloc, place, slot)?;
-        kept.push_back(slot)?;
+        let other = lose_if(alloc, place, slot)?;
+        kept.push_back(other)?;
     }
     *slots = kept;
     Ok(())
+}
+
+// The text of a line that is answered; else the line.
+fn text_of(slot: Slot) -> Result<String, Slot>
+    ensures text { IfOk result (λ text. waits.answer_of (wait_of slot) ≡ Some (string_bytes text)) }
+    ensures none { IfErr result (λ same. (same ≡ slot) × (waits.answer_of (wait_of slot) ≡ None)) }
+{
+    match slot {
+        Slot::Answered(text) => Ok(text),
+        Slot::Refused(_place, _line, text) => Ok(text),
+        other => Err(other),
+    }
 }
 
 /// Takes the answers that are next.
@@ -166,12 +178,10 @@ pub fn take_ahead(slots: &mut VecDeque<Slot>, told: &mut Vec<u8>) -> Result<(), 
     ensures left { OnOk result (map wait_of slots.new.items ≡ left_ahead (map wait_of slots.old.items)) }
 {
     while let Some(slot) = slots.pop_front() {
-        match slot {
-            Slot::Answered(text) | Slot::Refused(_, _, text) => {
-                told.extend_from_slice(text.as_bytes())?;
-            }
-            other => {
-                slots.push_front(other)?;
+        match text_of(slot) {
+            Ok(text) => told.extend_from_slice(text.as_bytes())?,
+            Err(slot) => {
+                slots.push_front(slot)?;
                 return Ok(());
             }
         }

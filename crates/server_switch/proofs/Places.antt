@@ -1,0 +1,16 @@
+-- The line to one server among all.
+use Rattle.std.proofs.Common.{ℕ, ◌≡◌, List, map, Option, Some, sym, ap, ◌∙◌}
+use Rattle.std.specs.Prelude.{slice_get, slice_set, option_map}
+use Rattle.std.proofs.lemmas.List.{map-set}
+use Rattle.std.proofs.lemmas.Option.{slice_get-map}
+use Rattle.server_switch.specs.declared.server_line.ServerLine.{ServerLine}
+use Rattle.server_switch.specs.Lines.{Standing, standing_of, changed, change_at}
+
+pub changed_at : (servers new : List ServerLine) (place : ℕ) (change : Standing → Standing) (before after : ServerLine) →
+    slice_get servers place ≡ Some before → new ≡ slice_set servers place after → standing_of after ≡ change (standing_of before) →
+    map standing_of new ≡ change_at change place (map standing_of servers)
+changed_at servers new place change before after got put is =
+    ap (map standing_of) put
+    ∙ (map-set standing_of servers place after
+    ∙ (ap (slice_set (map standing_of servers) place) is
+    ∙ sym (ap (changed change place (map standing_of servers)) (slice_get-map standing_of servers place ∙ ap (option_map standing_of) got))))
