@@ -18,6 +18,9 @@ const TOLD_MOST: usize = 65_536;
 // Where so many bytes of its lines wait, no more are read.
 const LINES_MOST: usize = 4_096;
 
+// Its first line waits until each server was tried, and at most so many milliseconds.
+const FIRST_MOST: u64 = 2_000;
+
 // So many pieces are dropped of what comes behind a line that is too long, before it is closed.
 const DROPPED_MOST: u32 = 255;
 
@@ -33,6 +36,9 @@ pub struct Client {
     lines: Lines,
     exchange: Exchange,
     links: Vec<Link>,
+    // Whether its first line may be said, and by when it may.
+    has_begun: bool,
+    begin_by: Option<u64>,
     // Whether it was told that its line was too long, and how many pieces were dropped since.
     has_left: bool,
     dropped: u32,
@@ -62,6 +68,8 @@ impl Client {
             lines: Lines::new(alloc),
             exchange: Exchange::new(alloc, servers.len())?,
             links,
+            has_begun: false,
+            begin_by: None,
             has_left: false,
             dropped: 0,
         })
@@ -109,7 +117,7 @@ impl Client {
 
     /// The moment at which there is something to do, though no socket of it is ready.
     pub fn next_moment(&self) -> Option<u64> {
-        let mut first = None;
+        let mut first = if self.has_begun { None } else { self.begin_by };
         for link in self.links.as_slice() {
             if let Some(moment) = link.next_moment(&self.exchange) {
                 first = Some(moment.min(first.unwrap_or(u64::MAX)));
@@ -150,7 +158,7 @@ impl Client {
 
     // Says its next line, if that may be said.
     fn say_line(&mut self) -> Result<bool> {
-        if !self.exchange.is_ready() || self.is_full() {
+        if !self.has_begun || !self.exchange.is_ready() || self.is_full() {
             return Ok(false);
         }
         let Some(line) = self.lines.ahead().next_line() else {
@@ -173,6 +181,20 @@ impl Client {
             self.has_left = true;
         }
         Ok(has_said)
+    }
+
+    // Whether each server was tried.
+    fn begin(&mut self, at: u64) {
+        if self.has_begun {
+            return;
+        }
+        let by = self.begin_by.unwrap_or(at.saturating_add(FIRST_MOST));
+        self.begin_by = Some(by);
+        let are_tried = self
+            .links
+            .iter()
+            .all(|link| link.is_here() || link.is_away());
+        self.has_begun = at >= by || are_tried;
     }
 
     // A turn of each connection to a server.
@@ -208,6 +230,7 @@ impl Client {
         at: u64,
     ) -> Result<bool> {
         let has_read = self.read(piece)?;
+        self.begin(at);
         let has_said = self.say_lines()?;
         let has_worked = self.turn_links(net, registry, piece, at)?;
         let has_written = self.wire.write_out(&mut self.exchange.told);

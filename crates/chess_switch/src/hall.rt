@@ -38,8 +38,9 @@ impl Hall {
         address: SocketAddr,
         servers: Vec<Option<SocketAddr>>,
     ) -> Result<Hall> {
-        let mut listener = TcpListener::bind(net, address)
-            .context(format_args!("listening on {address}"))?;
+        let mut listener = TcpListener::bind(net, address).context(format_args!(
+            "listening on {address}"
+        ))?;
         let poll = Poll::new(net)?;
         poll.registry()
             .register(&mut listener, Token(ENTRANCE), Interest::READABLE)?;
@@ -76,10 +77,17 @@ impl Hall {
             return Ok(());
         }
         let key = self.next_key;
-        self.next_key = self.next_key.checked_add(1).context("too many clients came")?;
+        self.next_key = self
+            .next_key
+            .checked_add(1)
+            .context("too many clients came")?;
         let token = Token(key.saturating_mul(SOCKETS));
         let interest = Interest::READABLE | Interest::WRITABLE;
-        let is_watched = self.poll.registry().register(&mut stream, token, interest).is_ok();
+        let is_watched = self
+            .poll
+            .registry()
+            .register(&mut stream, token, interest)
+            .is_ok();
         if is_watched && stream.set_nodelay(true).is_ok() {
             let client = Client::new(self.alloc, key, stream, self.servers.as_slice())?;
             self.clients.push(client)?;
@@ -102,9 +110,9 @@ impl Hall {
                     self.has_more = false;
                     Ok(false)
                 }
-                ErrorKind::ConnectionAborted | ErrorKind::ConnectionReset | ErrorKind::Interrupted => {
-                    Ok(true)
-                }
+                ErrorKind::ConnectionAborted
+                | ErrorKind::ConnectionReset
+                | ErrorKind::Interrupted => { Ok(true) }
                 _ => Ok(false),
             },
         }

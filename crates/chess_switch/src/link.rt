@@ -7,9 +7,8 @@ use server_switch::Exchange;
 use session_lines::first_feed;
 use std::alloc::Global;
 use std::io::ErrorKind;
-use std::mem;
 use std::net::{Net, SocketAddr};
-use std::str;
+use std::{mem, str};
 
 // So many milliseconds lie between two tries to reach a server, and after so many without an answer it is given up.
 const RETRY: u64 = 500;
@@ -45,8 +44,9 @@ pub struct Link {
     // What came behind the last whole line.
     held: Vec<u8>,
     call_at: u64,
-    // By when an answer is to come, where one is due.
+    // By when an answer is to come, where one is due, and whether one was due in the last turn.
     until: u64,
+    was_due: bool,
 }
 
 // Whether a connection is made; none where that is open.
@@ -91,6 +91,7 @@ impl Link {
             held: Vec::new(alloc),
             call_at: 0,
             until: 0,
+            was_due: false,
         }
     }
 
@@ -128,7 +129,13 @@ impl Link {
     }
 
     // Goes on with a connection that is not made yet.
-    fn reach(&mut self, alloc: Global, net: &impl Net, registry: &Registry, at: u64) -> Result<bool> {
+    fn reach(
+        &mut self,
+        alloc: Global,
+        net: &impl Net,
+        registry: &Registry,
+        at: u64,
+    ) -> Result<bool> {
         match mem::replace(&mut self.stage, Stage::Away) {
             Stage::Away if at >= self.call_at => {
                 self.call_at = at.saturating_add(RETRY);
@@ -212,6 +219,7 @@ impl Link {
     // The server is gone.
     fn lose(&mut self, exchange: &mut Exchange, at: u64) -> Result<()> {
         self.stage = Stage::Away;
+        self.was_due = false;
         self.held.clear();
         self.call_at = at.saturating_add(RETRY);
         exchange.gone(self.place)?;
@@ -246,10 +254,11 @@ impl Link {
             is_sound = self.hear_lines(exchange)?;
             has_worked = true;
         }
-        if came.is_some() || !may_read || !exchange.waits_for(self.place) {
+        if came.is_some() || !may_read || !self.was_due {
             self.until = at.saturating_add(PATIENCE);
         }
-        if is_lost || !is_sound || at >= self.until {
+        self.was_due = exchange.waits_for(self.place);
+        if is_lost || !is_sound || self.was_due && at >= self.until {
             self.lose(exchange, at)?;
             has_worked = true;
         }

@@ -1,9 +1,9 @@
 //! Several game servers behind one port.
 #![tactic(auto)]
 
+mod client;
 mod clock;
 mod command_line;
-mod client;
 mod hall;
 mod link;
 mod pieces;

@@ -176,7 +176,12 @@ fn put_part(parts: &mut Vec<Part>, place: usize, part: Part)
 }
 
 /// A server's answer to `list` has come.
-pub fn listed(alloc: Global, place: usize, answer: &str, parts: Vec<Part>) -> Result<Slot, AllocError>
+pub fn listed(
+    alloc: Global,
+    place: usize,
+    answer: &str,
+    parts: Vec<Part>,
+) -> Result<Slot, AllocError>
     ensures { IfOk result (λ slot. wait_of slot ≡ listing (waits.put_at place (waits.share_in place answer.now) (map share_of parts.items))) }
 {
     let mut parts = parts;

@@ -22,10 +22,7 @@ type Row = (Comes, &'static str, [&'static str; 3]);
 const NOTHING: [&str; 3] = ["", "", ""];
 
 // Two of three servers are there; the third comes later.
-const HERE: [Row; 2] = [
-    (Comes::Here(0), "", NOTHING),
-    (Comes::Here(1), "", NOTHING),
-];
+const HERE: [Row; 2] = [(Comes::Here(0), "", NOTHING), (Comes::Here(1), "", NOTHING)];
 
 fn come(exchange: &mut Exchange, comes: Comes) -> Result<(), Fail> {
     match comes {
@@ -93,7 +90,11 @@ fn lines_go_to_their_servers(rt: HostRuntime) -> Result<(), Fail> {
             "",
             ["", "name ann\nmove 3 0 e4\n", ""],
         ),
-        (Comes::Said("move 20000003 2 d4"), "", ["", "move 3 2 d4\n", ""]),
+        (
+            Comes::Said("move 20000003 2 d4"),
+            "",
+            ["", "move 3 2 d4\n", ""],
+        ),
         (Comes::Heard(1, "ok name ann"), "", NOTHING),
         (
             Comes::Heard(1, "ok move 3 1 e4"),
@@ -110,7 +111,11 @@ fn lines_go_to_their_servers(rt: HostRuntime) -> Result<(), Fail> {
         (Comes::Said("join 40000001"), "no 3 NoGame\n", NOTHING),
         (Comes::Said("join 17"), "no 3 NoGame\n", NOTHING),
         (Comes::Said("join 010000017"), "no 1 BadLine\n", NOTHING),
-        (Comes::Said("move 10000017 0 e4\r"), "no 1 BadLine\n", NOTHING),
+        (
+            Comes::Said("move 10000017 0 e4\r"),
+            "no 1 BadLine\n",
+            NOTHING,
+        ),
         (
             Comes::Said("claim 10000002 9 three "),
             "",
@@ -134,7 +139,10 @@ fn answers_come_in_order(rt: HostRuntime) -> Result<(), Fail> {
         (Comes::Said("nothing"), "", NOTHING),
         (Comes::Said("list"), "", ["list\n", "list\n", ""]),
         (
-            Comes::Heard(1, "ok pgn 1 3\n[White \"ann\"]\n\n*\nok list 1\n4 ann - 0 *"),
+            Comes::Heard(
+                1,
+                "ok pgn 1 3\n[White \"ann\"]\n\n*\nok list 1\n4 ann - 0 *",
+            ),
             "",
             NOTHING,
         ),
@@ -156,14 +164,22 @@ fn answers_come_in_order(rt: HostRuntime) -> Result<(), Fail> {
 fn open_goes_where_room_is(rt: HostRuntime) -> Result<(), Fail> {
     let mut exchange = begun(&rt)?;
     let rows: [Row; 7] = [
-        (Comes::Said("open white 300 2"), "", ["open white 300 2\n", "", ""]),
+        (
+            Comes::Said("open white 300 2"),
+            "",
+            ["open white 300 2\n", "", ""],
+        ),
         (
             Comes::Heard(0, "no 19 TooManyGames"),
             "",
             ["", "open white 300 2\n", ""],
         ),
         (Comes::Heard(1, "ok open 5"), "ok open 20000005\n", NOTHING),
-        (Comes::Said("open white 300 2"), "", ["open white 300 2\n", "", ""]),
+        (
+            Comes::Said("open white 300 2"),
+            "",
+            ["open white 300 2\n", "", ""],
+        ),
         (
             Comes::Heard(0, "no 19 TooManyGames"),
             "",
@@ -189,7 +205,11 @@ fn one_server_is_lost(rt: HostRuntime) -> Result<(), Fail> {
             "",
             ["", "name ann\nflag 1\n", ""],
         ),
-        (Comes::Said("flag 10000001"), "", ["name ann\nflag 1\n", "", ""]),
+        (
+            Comes::Said("flag 10000001"),
+            "",
+            ["name ann\nflag 1\n", "", ""],
+        ),
         (Comes::Said("list"), "", ["list\n", "list\n", ""]),
         (Comes::Heard(1, "ok name ann"), "", NOTHING),
         (Comes::Gone(1), "lost\n", NOTHING),
