@@ -156,7 +156,7 @@ impl Link {
                     self.stage = Stage::Called(call);
                     Ok(false)
                 }
-                _ => Ok(false),
+                _ => Ok(true),
             },
             stage => {
                 self.stage = stage;

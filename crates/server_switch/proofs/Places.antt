@@ -1,8 +1,8 @@
 -- The line to one server among all.
-use Rattle.std.proofs.Common.{ℕ, ◌≡◌, List, map, Option, Some, sym, ap, ◌∙◌}
+use Rattle.std.proofs.Common.{ℕ, ◌≡◌, ◌<◌, List, length, get_or, map, Option, Some, refl, sym, ap, ◌∙◌}
 use Rattle.std.specs.Prelude.{slice_get, slice_set, option_map}
 use Rattle.std.proofs.lemmas.List.{map-set}
-use Rattle.std.proofs.lemmas.Option.{slice_get-map}
+use Rattle.std.proofs.lemmas.Option.{slice_get-map, slice_get-get_or}
 use Rattle.server_switch.specs.declared.server_line.ServerLine.{ServerLine}
 use Rattle.server_switch.specs.Lines.{Standing, standing_of, changed, change_at}
 
@@ -14,3 +14,11 @@ changed_at servers new place change before after got put is =
     ∙ (map-set standing_of servers place after
     ∙ (ap (slice_set (map standing_of servers) place) is
     ∙ sym (ap (changed change place (map standing_of servers)) (slice_get-map standing_of servers place ∙ ap (option_map standing_of) got))))
+
+-- the same, of a place that is there
+pub sent_at : (servers : List ServerLine) (place : ℕ) (change : Standing → Standing) (before after : ServerLine) → place < length servers →
+    before ≡ get_or servers place before → standing_of after ≡ change (standing_of before) →
+    map standing_of (slice_set servers place after) ≡ change_at change place (map standing_of servers)
+sent_at servers place change before after inside at is =
+    changed_at servers (slice_set servers place after) place change before after
+    (slice_get-get_or servers place before inside ∙ ap Some (sym at)) refl is
