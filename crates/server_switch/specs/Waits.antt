@@ -84,12 +84,20 @@ count_lines text = count_by (λ b. b == 10) text
 abbrev pub list_text : List ℕ → List ℕ
 list_text rows = codes "ok list " ++ (decimal (count_lines rows) ++ (codes "\n" ++ rows))
 
+abbrev pub merged_by : Bool → List Share → List ℕ
+merged_by true shares = list_text (rows_in shares)
+merged_by false shares = codes "no 36 NoServer\n"
+
 abbrev pub merged : List Share → List ℕ
-merged shares = if list_any is_told shares then list_text (rows_in shares) else codes "no 36 NoServer\n"
+merged shares = merged_by (list_any is_told shares) shares
 
 -- a list that was asked: it is answered once no share is due
+abbrev pub listing_by : Bool → List Share → Wait
+listing_by true shares = Listing shares
+listing_by false shares = Answered (merged shares)
+
 abbrev pub listing : List Share → Wait
-listing shares = if list_any is_due shares then Listing shares else Answered (merged shares)
+listing shares = listing_by (list_any is_due shares) shares
 
 -- a share in its place
 abbrev pub put_at : ℕ → Share → List Share → List Share

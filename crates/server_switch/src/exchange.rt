@@ -1,8 +1,8 @@
 //! One client's exchange with the servers: what comes in, and what goes out.
-ghost use Rattle.std.specs.Prelude.{◌≡◌, ◌≤◌, ◌<◌, ◌++◌, ◌∷◌, [], true, false, Some, length, IfSome, IfNone, OnOk, codes};
-ghost use Rattle.server_switch.specs.Exchanges.{waits_of, standings, is_here, IsNoneHere, IsOutcome, Answers, Sends, game_outcome, IsOpened};
+ghost use Rattle.std.specs.Prelude.{◌≡◌, ◌≤◌, ◌<◌, ◌++◌, ◌∷◌, [], true, false, Some, length, IfSome, IfNone, IfOk, OnOk, codes};
+ghost use Rattle.server_switch.specs.Exchanges.{waits_of, standings, is_here, said_at, name_waits, IsNoneHere, IsOutcome, Answers, Sends, game_outcome, IsOpened};
 ghost use Rattle.server_switch.specs.Fields.{tail_text};
-ghost use Rattle.server_switch.specs.Lines.{change_at, renewed};
+ghost use Rattle.server_switch.specs.Lines.{change_at, put_under, is_new, renewed};
 ghost use Rattle.server_switch.specs.Waits.{Answered, wait_of, text_ahead, left_ahead, lost_waits};
 
 use crate::answers::{BAD_LINE, NO_GAME, NO_SERVER};
@@ -113,16 +113,39 @@ impl Exchange {
         Ok(())
     }
 
+    // Puts a line to a server, under the client's name. It tells whether that was said before.
+    fn put_to(&mut self, place: usize, line: &str) -> Result<bool, AllocError>
+        requires { place < length self.old.servers.items }
+        ensures new { IfOk result (λ has_said. has_said ≡ is_new (said_at self.old place) self.old.name) }
+        ensures sent { OnOk result (standings self.new ≡ change_at (put_under self.old.name line.now) place (standings self.old)) }
+        ensures rest { OnOk result ((self.new.slots ≡ self.old.slots) × (self.new.name ≡ self.old.name) × (self.new.told ≡ self.old.told)) }
+    {
+        let has_said = self.servers[place].put_under(self.name, line)?;
+        Ok(has_said)
+    }
+
+    // A line waits, behind one that says the name where that was said.
+    fn push_waits(&mut self, place: usize, has_said: bool, slot: Slot) -> Result<(), AllocError>
+        ensures waits { OnOk result (waits_of self.new ≡ waits_of self.old ++ (name_waits place has_said ++ wait_of slot ∷ [])) }
+        ensures rest { OnOk result ((self.new.servers ≡ self.old.servers) × (self.new.name ≡ self.old.name) × (self.new.told ≡ self.old.told)) }
+    {
+        if has_said {
+            self.slots.push_back(Slot::Naming(place))?;
+            self.slots.push_back(slot)?;
+            Ok(())
+        } else {
+            self.slots.push_back(slot)?;
+            Ok(())
+        }
+    }
+
     // Sends a line to a server, under the client's name.
     fn send(&mut self, place: usize, line: &str, slot: Slot) -> Result<(), AllocError>
         requires { place < length self.old.servers.items }
         ensures { OnOk result (IsOutcome (Sends place line.now (wait_of slot)) self.old self.new) }
     {
-        let has_said = self.servers[place].put_under(self.name, line)?;
-        if has_said {
-            self.slots.push_back(Slot::Naming(place))?;
-        }
-        self.slots.push_back(slot)?;
+        let has_said = self.put_to(place, line)?;
+        self.push_waits(place, has_said, slot)?;
         Ok(())
     }
 
@@ -185,11 +208,20 @@ impl Exchange {
         }
     }
 
+    // What the server at a place has of a list that is asked for now.
+    fn part_at(&mut self, place: usize) -> Result<Part, AllocError> {
+        if place < self.servers.len() {
+            self.ask_list(place)
+        } else {
+            Ok(Part::Absent)
+        }
+    }
+
     // The line that asks for all games.
     fn list_said(&mut self) -> Result<(), AllocError> {
         let mut parts = Vec::new(self.alloc);
         for place in 0..self.servers.len() {
-            let part = self.ask_list(place)?;
+            let part = self.part_at(place)?;
             parts.push(part)?;
         }
         let slot = listing_of(self.alloc, parts)?;

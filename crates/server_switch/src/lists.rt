@@ -97,16 +97,30 @@ fn is_told(part: &Part) -> bool
     }
 }
 
-fn are_told(parts: &[Part]) -> bool
+fn any_told(parts: &[Part]) -> bool
     ensures { result ≡ list_any (λ part. waits.is_told (share_of part)) parts.now }
 {
     parts.iter().any(is_told)
 }
 
-fn are_waiting(parts: &[Part]) -> bool
+#[tactic(auto, using(crate::proofs::Rows::told_map))]
+fn are_told(parts: &[Part]) -> bool
+    ensures { result ≡ list_any waits.is_told (map share_of parts.now) }
+{
+    any_told(parts)
+}
+
+fn any_waiting(parts: &[Part]) -> bool
     ensures { result ≡ list_any (λ part. is_due (share_of part)) parts.now }
 {
     parts.iter().any(is_waiting)
+}
+
+#[tactic(auto, using(crate::proofs::Rows::due_map))]
+fn are_waiting(parts: &[Part]) -> bool
+    ensures { result ≡ list_any is_due (map share_of parts.now) }
+{
+    any_waiting(parts)
 }
 
 fn add_rows(rows: &mut String, part: &Part) -> Result<(), AllocError>
@@ -143,16 +157,26 @@ fn headed(alloc: Global, rows: &str) -> Result<String, AllocError>
     Ok(text)
 }
 
-// The one answer to `list`, once each server has told.
+// The one answer to `list`, where some server has told, and where none has.
+fn merged_by(alloc: Global, are_told: bool, parts: &[Part]) -> Result<String, AllocError>
+    ensures { IfOk result (λ text. string_bytes text ≡ waits.merged_by are_told (map share_of parts.now)) }
+{
+    if are_told {
+        let rows = all_rows(alloc, parts)?;
+        let text = headed(alloc, rows.as_str())?;
+        Ok(text)
+    } else {
+        let text = String::from_str(alloc, NO_SERVER)?;
+        Ok(text)
+    }
+}
+
+// The same, once each server has told or is not there.
 fn merged(alloc: Global, parts: &[Part]) -> Result<String, AllocError>
     ensures { IfOk result (λ text. string_bytes text ≡ waits.merged (map share_of parts.now)) }
 {
-    if are_told(parts) {
-        let rows = all_rows(alloc, parts)?;
-        headed(alloc, rows.as_str())
-    } else {
-        String::from_str(alloc, NO_SERVER)
-    }
+    let are_told = are_told(parts);
+    merged_by(alloc, are_told, parts)
 }
 
 /// A list, which is answered once no part of it is waited for.

@@ -1,5 +1,5 @@
 //! The client's lines that are not answered yet, each with what it waits for.
-ghost use Rattle.std.specs.Prelude.{◌≡◌, ◌++◌, Some, None, map, IfOk, IfErr, OnOk};
+ghost use Rattle.std.specs.Prelude.{◌≡◌, ◌++◌, Some, None, false, map, IfOk, IfErr, OnOk};
 ghost use Rattle.std.specs.String.{string_bytes};
 ghost use Rattle.server_switch.specs.Waits as waits;
 ghost use Rattle.server_switch.specs.Waits.{wait_of, share_of, is_due_at, text_ahead, left_ahead, lost_waits, answered_waits, filled, lost_at};
