@@ -12,6 +12,9 @@ use std::net::{Net, SocketAddr};
 /// So many sockets a client has at most: its own, and one for each server.
 pub const SOCKETS: usize = 1_024;
 
+// So many of its lines are said in a turn.
+const LINES_AT_ONCE: usize = 64;
+
 // Where so many bytes wait for a client, no more answers are taken for it.
 const TOLD_MOST: usize = 65_536;
 
@@ -53,13 +56,11 @@ impl Client {
         servers: &[Option<SocketAddr>],
     ) -> Result<Client> {
         let mut links = Vec::new(alloc);
-        let mut place = 0;
-        for server in servers {
-            if let Some(address) = server {
+        for place in 0..servers.len() {
+            if let Some(Some(address)) = servers.get(place) {
                 let token = Token(key.saturating_mul(SOCKETS).saturating_add(place + 1));
                 links.push(Link::new(alloc, *address, place, token))?;
             }
-            place += 1;
         }
         Ok(Client {
             alloc,
@@ -81,7 +82,7 @@ impl Client {
             self.wire.wake();
         }
         for link in self.links.as_mut_slice() {
-            if link.place() + 1 == socket {
+            if socket.checked_sub(1) == Some(link.place()) {
                 link.wake();
             }
         }
@@ -172,7 +173,10 @@ impl Client {
     // Says its lines, as far as they may be said, and that one was too long.
     fn say_lines(&mut self) -> Result<bool> {
         let mut has_said = false;
-        while self.say_line()? {
+        for _ in 0..LINES_AT_ONCE {
+            if !self.say_line()? {
+                break;
+            }
             has_said = true;
         }
         let is_last = self.lines.is_too_long() && !self.lines.has_line() && self.exchange.is_idle();

@@ -92,6 +92,28 @@ fn server_of(text: &str, next: u32) -> Option<(u32, SocketAddr)> {
     }
 }
 
+// Puts the address of a server in its place; false where one is there.
+fn put_server(
+    servers: &mut Vec<Option<SocketAddr>>,
+    place: usize,
+    address: SocketAddr,
+) -> Result<bool, AllocError> {
+    for _ in servers.len()..place {
+        servers.push(None)?;
+    }
+    if servers.len() <= place {
+        servers.push(Some(address))?;
+        return Ok(true);
+    }
+    match servers.get_mut(place) {
+        Some(server) if server.is_none() => {
+            *server = Some(address);
+            Ok(true)
+        }
+        _ => Ok(false),
+    }
+}
+
 // The addresses by the servers' numbers; none where a text says no server, or a number is there twice.
 fn servers_of(
     alloc: Global,
@@ -108,13 +130,9 @@ fn servers_of(
         }
         next = number + 1;
         let place = number as usize - 1;
-        while servers.len() <= place {
-            servers.push(None)?;
-        }
-        if servers[place].is_some() {
+        if !put_server(&mut servers, place, address)? {
             return Ok(None);
         }
-        servers[place] = Some(address);
     }
     Ok(Some(servers))
 }

@@ -1,5 +1,5 @@
 //! The connection to a server that a client has.
-use crate::pieces::{PIECE_ROOM, Wire};
+use crate::pieces::{PIECE_ROOM, Wire, give_up};
 use anyhow::Result;
 use mio::net::TcpStream;
 use mio::{Interest, Registry, Token};
@@ -199,21 +199,29 @@ impl Link {
         Ok(has_written || came.is_some())
     }
 
-    // Tells each whole line; false where one is no text.
-    fn hear_lines(&mut self, exchange: &mut Exchange) -> Result<bool> {
-        let mut from = 0;
+    // The next whole line, which is taken off.
+    fn take_line(&mut self, alloc: Global) -> Result<Option<Vec<u8>>> {
+        let Some(at) = first_feed(self.held.as_slice()) else {
+            return Ok(None);
+        };
+        let line = Vec::from_slice(alloc, &self.held[..at])?;
+        give_up(&mut self.held, at + 1);
+        Ok(Some(line))
+    }
+
+    // Tells each whole line of a piece; false where one is no text.
+    fn hear_lines(&mut self, alloc: Global, exchange: &mut Exchange) -> Result<bool> {
         let mut is_sound = true;
-        while let Some(at) = first_feed(&self.held[from..]) {
-            match str::from_utf8(&self.held[from..from + at]) {
+        for _ in 0..PIECE_ROOM {
+            let Some(line) = self.take_line(alloc)? else {
+                break;
+            };
+            match str::from_utf8(line.as_slice()) {
                 Ok(line) => exchange.heard(self.place, line)?,
                 Err(_) => is_sound = false,
             }
-            from += at + 1;
         }
-        let left = self.held.len() - from;
-        self.held.as_mut_slice().copy_within(from.., 0);
-        self.held.truncate(left);
-        Ok(is_sound && left <= LINE_MOST)
+        Ok(is_sound && self.held.len() <= LINE_MOST)
     }
 
     // The server is gone.
@@ -251,7 +259,7 @@ impl Link {
         let is_lost = wire.is_lost || wire.has_ended;
         if let Some(bytes) = &came {
             self.held.extend_from_slice(bytes.as_slice())?;
-            is_sound = self.hear_lines(exchange)?;
+            is_sound = self.hear_lines(alloc, exchange)?;
             has_worked = true;
         }
         if came.is_some() || !may_read || !self.was_due {

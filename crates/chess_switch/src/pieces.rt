@@ -18,6 +18,14 @@ pub struct Wire {
     pub is_lost: bool,
 }
 
+/// Gives up the first bytes.
+pub fn give_up(bytes: &mut Vec<u8>, count: usize) {
+    let count = count.min(bytes.len());
+    let left = bytes.len() - count;
+    bytes.as_mut_slice().copy_within(count.., 0);
+    bytes.truncate(left);
+}
+
 impl Wire {
     pub fn new(stream: TcpStream) -> Wire {
         Wire {
@@ -44,7 +52,7 @@ impl Wire {
     fn read(&mut self, piece: &mut [u8; PIECE_ROOM]) -> usize {
         match self.stream.read(piece) {
             Ok(0) => self.has_ended = true,
-            Ok(count) => return count.min(PIECE_ROOM),
+            Ok(count) => return count,
             Err(error) => match error.kind() {
                 ErrorKind::WouldBlock => self.can_read = false,
                 ErrorKind::Interrupted => {}
@@ -63,9 +71,10 @@ impl Wire {
         if !self.is_readable() {
             return Ok(None);
         }
-        match self.read(piece) {
-            0 => Ok(None),
-            count => Ok(Some(Vec::from_slice(alloc, &piece[..count])?)),
+        let count = self.read(piece);
+        match piece.get(..count) {
+            Some(bytes) if !bytes.is_empty() => Ok(Some(Vec::from_slice(alloc, bytes)?)),
+            _ => Ok(None),
         }
     }
 
@@ -76,12 +85,7 @@ impl Wire {
         }
         match self.stream.write(bytes.as_slice()) {
             Ok(0) => self.is_lost = true,
-            Ok(count) => {
-                let count = count.min(bytes.len());
-                let left = bytes.len() - count;
-                bytes.as_mut_slice().copy_within(count.., 0);
-                bytes.truncate(left);
-            }
+            Ok(count) => give_up(bytes, count),
             Err(error) => match error.kind() {
                 ErrorKind::WouldBlock => {
                     self.can_write = false;

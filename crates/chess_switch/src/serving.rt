@@ -12,7 +12,7 @@ fn tell_servers<R: Eprint>(
     rt: &R,
     servers: &[Option<SocketAddr>],
     hall: &Hall,
-    told: &mut Vec<Option<bool>>,
+    told: &mut [Option<bool>],
 ) {
     for place in 0..told.len() {
         let is_here = hall.has_server(place);
@@ -60,7 +60,7 @@ where
     for _ in 0..u64::MAX {
         let at = moments.next();
         let has_worked = hall.turn(rt, at)?;
-        tell_servers(rt, serving.servers.as_slice(), &hall, &mut told);
+        tell_servers(rt, serving.servers.as_slice(), &hall, told.as_mut_slice());
         hall.rest(has_worked, at)?;
     }
     Ok(())
