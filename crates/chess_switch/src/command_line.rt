@@ -1,0 +1,145 @@
+//! The words of the command line, with the text of their help.
+use clap::builder::ValueParser;
+use clap::error::ErrorKind;
+use clap::{ArgAction, ArgMatches, Command, Error};
+use command_words::{VERSION, option};
+use server_switch::SERVERS_MOST;
+use std::alloc::{AllocError, Global};
+use std::net::{IpAddr, Ipv4Addr, SocketAddr};
+
+const HELP: &str = "\
+It stands between several game servers and their clients, as a lobby, an archive or pairings,
+and speaks the servers' lines on both sides. A game has its server's number in its own: game
+17 of server 2 is 20000017. The servers are 1, 2 .. in the order in which they are given; S=
+before an address gives its server the number S.
+
+A line of a game goes to the game's server, and open to the first one that has room. A server
+that is not there is waited for, and its games alone are not.
+
+It prints 'port P' and goes on until it is killed, by any signal.
+
+Exit status: 1 with what is wrong on standard error; 2 for words that the program does not
+know.
+
+Example:
+  chess-switch --server 127.0.0.1:5001 --server 127.0.0.1:5002 --port 5000
+prints
+  port 5000";
+
+/// Which servers there are, and where the clients come.
+#[derive(Drop)]
+pub struct Serving {
+    /// The servers' addresses, from server 1 on.
+    pub servers: Vec<Option<SocketAddr>>,
+    pub address: SocketAddr,
+}
+
+/// The switch's command line.
+pub fn command<'a>(alloc: Global) -> Result<Command<'a>, AllocError> {
+    let server = option(
+        alloc,
+        "server",
+        "[S=]A:P",
+        "Where a game server listens; it may be given several times",
+    )
+    .action(ArgAction::Append)
+    .required(true);
+    let port = option(
+        alloc,
+        "port",
+        "P",
+        "The port, 0 to 65535; 0 leaves the choice to the system",
+    )
+    .value_parser(ValueParser::Unsigned(0, 65_535))
+    .required(true);
+    let address = option(
+        alloc,
+        "address",
+        "A",
+        "The address of this machine, 127.0.0.1 without it",
+    );
+    Command::new(alloc, "chess-switch")
+        .about("Makes one game server of several.")
+        .version(VERSION)
+        .after_help(HELP)
+        .arg(server)?
+        .arg(port)?
+        .arg(address)
+}
+
+/// Reads the words, the program's own name first. An `Err` is a usage fault, or a request for help.
+pub fn read_words(alloc: Global, words: &[String]) -> Result<Serving, Error> {
+    let mut command = command(alloc)?;
+    let matches = command.try_get_matches_from_mut(words)?;
+    let servers = servers_of(alloc, matches.get_strs("server").unwrap_or(&[]))?;
+    match (servers, address_of(&matches), matches.get_one("port")) {
+        (Some(servers), Some(address), Some(port)) => Ok(Serving {
+            servers,
+            address: SocketAddr::new(address, port),
+        }),
+        _ => Err(command.error(
+            ErrorKind::InvalidValue,
+            "an address is none, or a server's number is none or there twice",
+        )?),
+    }
+}
+
+// The number and the address of a server, which is the next one where no number is said.
+fn server_of(text: &str, next: u32) -> Option<(u32, SocketAddr)> {
+    match text.split_once('=') {
+        Some((number, address)) => Some((number.parse().ok()?, address.parse().ok()?)),
+        None => Some((next, text.parse().ok()?)),
+    }
+}
+
+// Puts the address of a server in its place; false where one is there.
+fn put_server(
+    servers: &mut Vec<Option<SocketAddr>>,
+    place: usize,
+    address: SocketAddr,
+) -> Result<bool, AllocError> {
+    for _ in servers.len()..place {
+        servers.push(None)?;
+    }
+    if servers.len() <= place {
+        servers.push(Some(address))?;
+        return Ok(true);
+    }
+    match servers.get_mut(place) {
+        Some(server) if server.is_none() => {
+            *server = Some(address);
+            Ok(true)
+        }
+        _ => Ok(false),
+    }
+}
+
+// The addresses by the servers' numbers; none where a text says no server, or a number is there twice.
+fn servers_of(
+    alloc: Global,
+    texts: &[&str],
+) -> Result<Option<Vec<Option<SocketAddr>>>, AllocError> {
+    let mut servers = Vec::new(alloc);
+    let mut next = 1;
+    for text in texts {
+        let Some((number, address)) = server_of(text, next) else {
+            return Ok(None);
+        };
+        if number == 0 || number > SERVERS_MOST {
+            return Ok(None);
+        }
+        next = number + 1;
+        let place = number as usize - 1;
+        if !put_server(&mut servers, place, address)? {
+            return Ok(None);
+        }
+    }
+    Ok(Some(servers))
+}
+
+fn address_of(matches: &ArgMatches<'_>) -> Option<IpAddr> {
+    match matches.get_str("address") {
+        Some(address) => address.parse().ok(),
+        None => Some(IpAddr::V4(Ipv4Addr::LOCALHOST)),
+    }
+}

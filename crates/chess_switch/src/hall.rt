@@ -1,0 +1,170 @@
+//! The clients, and what wakes them.
+use crate::client::{Client, SOCKETS};
+use crate::pieces::PIECE_ROOM;
+use anyhow::{Context, Result};
+use mio::net::{TcpListener, TcpStream};
+use mio::{Events, Interest, Poll, Token};
+use std::alloc::Global;
+use std::io::ErrorKind;
+use std::net::{Net, SocketAddr};
+use std::time::Duration;
+
+// How many clients are served at a time.
+const CLIENTS_MOST: usize = 32;
+
+// The name of the socket where clients come.
+const ENTRANCE: usize = 0;
+
+const EVENTS: usize = 256;
+
+/// The clients.
+#[derive(Drop)]
+pub struct Hall {
+    alloc: Global,
+    listener: TcpListener,
+    has_more: bool,
+    servers: Vec<Option<SocketAddr>>,
+    clients: Vec<Client>,
+    next_key: usize,
+    poll: Poll,
+    events: Events,
+}
+
+impl Hall {
+    /// Listens for clients.
+    pub fn open(
+        net: &impl Net,
+        alloc: Global,
+        address: SocketAddr,
+        servers: Vec<Option<SocketAddr>>,
+    ) -> Result<Hall> {
+        let mut listener = TcpListener::bind(net, address).context(format_args!(
+            "listening on {address}"
+        ))?;
+        let poll = Poll::new(net)?;
+        poll.registry()
+            .register(&mut listener, Token(ENTRANCE), Interest::READABLE)?;
+        Ok(Hall {
+            alloc,
+            listener,
+            has_more: true,
+            servers,
+            clients: Vec::new(alloc),
+            next_key: 1,
+            poll,
+            events: Events::with_capacity(alloc, EVENTS)?,
+        })
+    }
+
+    /// The port that is listened on.
+    pub fn port(&self) -> Result<u16> {
+        Ok(self.listener.local_addr()?.port())
+    }
+
+    /// Whether a client has a server.
+    pub fn has_server(&self, place: usize) -> bool {
+        self.clients.iter().any(|client| client.has_server(place))
+    }
+
+    /// Whether a client has tried a server, and it was not there.
+    pub fn lacks_server(&self, place: usize) -> bool {
+        self.clients.iter().any(|client| client.lacks_server(place))
+    }
+
+    // A client comes; one more than there may be is closed.
+    fn admit(&mut self, mut stream: TcpStream) -> Result<()> {
+        if self.clients.len() >= CLIENTS_MOST {
+            return Ok(());
+        }
+        let key = self.next_key;
+        self.next_key = self
+            .next_key
+            .checked_add(1)
+            .context("too many clients came")?;
+        let token = Token(key.saturating_mul(SOCKETS));
+        let interest = Interest::READABLE | Interest::WRITABLE;
+        let is_watched = self
+            .poll
+            .registry()
+            .register(&mut stream, token, interest)
+            .is_ok();
+        if is_watched && stream.set_nodelay(true).is_ok() {
+            let client = Client::new(self.alloc, key, stream, self.servers.as_slice())?;
+            self.clients.push(client)?;
+        }
+        Ok(())
+    }
+
+    // Accepts at most one client. It tells whether one came.
+    fn welcome(&mut self) -> Result<bool> {
+        if !self.has_more {
+            return Ok(false);
+        }
+        match self.listener.accept() {
+            Ok((stream, _)) => {
+                self.admit(stream)?;
+                Ok(true)
+            }
+            Err(error) => match error.kind() {
+                ErrorKind::WouldBlock => {
+                    self.has_more = false;
+                    Ok(false)
+                }
+                ErrorKind::ConnectionAborted
+                | ErrorKind::ConnectionReset
+                | ErrorKind::Interrupted => { Ok(true) }
+                _ => Ok(false),
+            },
+        }
+    }
+
+    /// One turn at a moment, in milliseconds. It tells whether there was anything to do.
+    pub fn turn(&mut self, net: &impl Net, at: u64) -> Result<bool> {
+        let mut piece = [0; PIECE_ROOM];
+        let mut has_worked = self.welcome()?;
+        for client in self.clients.as_mut_slice() {
+            has_worked |= client.turn(net, self.poll.registry(), &mut piece, at)?;
+        }
+        let before = self.clients.len();
+        self.clients.retain(|client| !client.is_done());
+        Ok(has_worked || self.clients.len() != before)
+    }
+
+    // How long nothing is to be done at most, though no socket is ready.
+    fn pause(&self, at: u64) -> Option<u64> {
+        let mut first = None;
+        for client in self.clients.as_slice() {
+            if let Some(moment) = client.next_moment() {
+                first = Some(moment.min(first.unwrap_or(u64::MAX)));
+            }
+        }
+        first.map(|moment| moment.saturating_sub(at))
+    }
+
+    // The sockets that were ready are looked at in the next turn.
+    fn wake(&mut self) {
+        for event in self.events.iter() {
+            let token = usize::from(event.token());
+            if token == ENTRANCE {
+                self.has_more = true;
+            }
+            for client in self.clients.as_mut_slice() {
+                if client.key == token / SOCKETS {
+                    client.wake(token % SOCKETS);
+                }
+            }
+        }
+    }
+
+    /// Waits until a socket is ready or there is something to do; not at all where the turn had something to do.
+    pub fn rest(&mut self, has_worked: bool, at: u64) -> Result<()> {
+        let most = if has_worked {
+            Some(Duration::ZERO)
+        } else {
+            self.pause(at).map(Duration::from_millis)
+        };
+        self.poll.poll(&mut self.events, most)?;
+        self.wake();
+        Ok(())
+    }
+}

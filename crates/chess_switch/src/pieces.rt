@@ -1,0 +1,100 @@
+//! A socket that does not wait.
+use mio::net::TcpStream;
+use std::alloc::{AllocError, Global};
+use std::io::{ErrorKind, Read, Write};
+
+/// The most bytes that one read takes.
+pub const PIECE_ROOM: usize = 4_096;
+
+/// A socket, and what is known of it.
+#[derive(Drop)]
+pub struct Wire {
+    stream: TcpStream,
+    can_read: bool,
+    can_write: bool,
+    /// The peer sends no more.
+    pub has_ended: bool,
+    /// It has failed.
+    pub is_lost: bool,
+}
+
+/// Gives up the first bytes.
+pub fn give_up(bytes: &mut Vec<u8>, count: usize) {
+    let count = count.min(bytes.len());
+    let left = bytes.len() - count;
+    bytes.as_mut_slice().copy_within(count.., 0);
+    bytes.truncate(left);
+}
+
+impl Wire {
+    pub fn new(stream: TcpStream) -> Wire {
+        Wire {
+            stream,
+            can_read: true,
+            can_write: true,
+            has_ended: false,
+            is_lost: false,
+        }
+    }
+
+    /// Its socket may be ready.
+    pub fn wake(&mut self) {
+        self.can_read = true;
+        self.can_write = true;
+    }
+
+    /// Whether something can be read.
+    pub fn is_readable(&self) -> bool {
+        self.can_read && !self.has_ended && !self.is_lost
+    }
+
+    // How many bytes of a piece a read brought.
+    fn read(&mut self, piece: &mut [u8; PIECE_ROOM]) -> usize {
+        match self.stream.read(piece) {
+            Ok(0) => self.has_ended = true,
+            Ok(count) => return count,
+            Err(error) => match error.kind() {
+                ErrorKind::WouldBlock => self.can_read = false,
+                ErrorKind::Interrupted => {}
+                _ => self.is_lost = true,
+            },
+        }
+        0
+    }
+
+    /// The next bytes, where there are any.
+    pub fn next_piece(
+        &mut self,
+        alloc: Global,
+        piece: &mut [u8; PIECE_ROOM],
+    ) -> Result<Option<Vec<u8>>, AllocError> {
+        if !self.is_readable() {
+            return Ok(None);
+        }
+        let count = self.read(piece);
+        match piece.get(..count) {
+            Some(bytes) if !bytes.is_empty() => Ok(Some(Vec::from_slice(alloc, bytes)?)),
+            _ => Ok(None),
+        }
+    }
+
+    /// Writes what the peer takes of some bytes, which are given up. It tells whether that was anything.
+    pub fn write_out(&mut self, bytes: &mut Vec<u8>) -> bool {
+        if !self.can_write || self.is_lost || bytes.is_empty() {
+            return false;
+        }
+        match self.stream.write(bytes.as_slice()) {
+            Ok(0) => self.is_lost = true,
+            Ok(count) => give_up(bytes, count),
+            Err(error) => match error.kind() {
+                ErrorKind::WouldBlock => {
+                    self.can_write = false;
+                    return false;
+                }
+                ErrorKind::Interrupted => {}
+                _ => self.is_lost = true,
+            },
+        }
+        true
+    }
+}

@@ -1,0 +1,4 @@
+pub mod Cuts
+pub mod Rows
+pub mod Steps
+pub mod Places

@@ -1,0 +1,79 @@
+//! The answers of a server, with the numbers that its games have here.
+ghost use Rattle.std.specs.Prelude.{◌≡◌, ◌++◌, IfOk, codes};
+ghost use Rattle.std.specs.String.{string_bytes};
+ghost use Rattle.server_switch.specs.Answers as answers;
+ghost use Rattle.server_switch.specs.Answers.{told_behind};
+ghost use Rattle.server_switch.specs.Fields.{renumbered, tail_text};
+
+use crate::fields::{cut_at, number_ahead, push_number, push_tail};
+use crate::numbers::number_of;
+use lobby_words::cut;
+use std::alloc::{AllocError, Global};
+
+/// What is told in place of an answer that is not known.
+pub const LOST: &str = "lost\n";
+
+/// What is told where the server of a line is not there.
+pub const NO_SERVER: &str = "no 36 NoServer\n";
+
+/// What is told of a line that has no form.
+pub const BAD_LINE: &str = "no 1 BadLine\n";
+
+/// What is told of a game of no server.
+pub const NO_GAME: &str = "no 3 NoGame\n";
+
+// An answer that names a game behind some words.
+fn tell_behind(
+    alloc: Global,
+    words: &str,
+    place: usize,
+    text: &str,
+    tail: Option<&str>,
+) -> Result<String, AllocError>
+    ensures { IfOk result (λ told. string_bytes told ≡ told_behind words.now (renumbered place text.now) (tail_text 10 tail.entry)) }
+{
+    let Some((game, behind)) = number_ahead(text) else {
+        return String::from_str(alloc, LOST);
+    };
+    let Some(number) = number_of(place, game) else {
+        return String::from_str(alloc, LOST);
+    };
+    let mut told = String::from_str(alloc, words)?;
+    push_number(&mut told, number, behind)?;
+    push_tail(&mut told, '\n', tail)?;
+    Ok(told)
+}
+
+// The words before the game in an answer `ok WORD G ..`.
+fn ok_words(alloc: Global, word: &str) -> Result<String, AllocError>
+    ensures { IfOk result (λ words. string_bytes words ≡ codes "ok " ++ (word.now ++ codes " ")) }
+{
+    let mut words = String::from_str(alloc, "ok ")?;
+    words.push_str(word)?;
+    words.push(' ')?;
+    Ok(words)
+}
+
+/// A server's answer to a line of a game or to `open`, as it is told.
+pub fn told(alloc: Global, place: usize, answer: &str) -> Result<String, AllocError>
+    ensures { IfOk result (λ told. string_bytes told ≡ answers.told place answer.now) }
+{
+    let (line, tail) = cut_at(answer, '\n');
+    let (word, rest) = cut(line);
+    let (kind, behind) = cut(rest);
+    if word == "fallen" {
+        tell_behind(alloc, "fallen ", place, rest, tail)
+    } else if word == "ok" {
+        let words = ok_words(alloc, kind)?;
+        tell_behind(alloc, words.as_str(), place, behind, tail)
+    } else {
+        String::from_str(alloc, answer)
+    }
+}
+
+/// Whether a server has no room for a game.
+pub fn is_full(answer: &str) -> bool
+    ensures { result ≡ answers.is_full answer.now }
+{
+    answer.starts_with("no 19 ")
+}

@@ -1,0 +1,14 @@
+//! What a switch between one client and several game servers says to each. It has no sockets.
+#![tactic(auto)]
+
+mod answers;
+mod exchange;
+mod fields;
+mod lists;
+mod numbers;
+mod routes;
+mod server_line;
+mod slots;
+
+pub use exchange::Exchange;
+pub use numbers::{GAMES_MOST, SERVERS_MOST, game_of, number_of, server_of};
