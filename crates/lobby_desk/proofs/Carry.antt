@@ -11,8 +11,8 @@ use Rattle.lobby_words.specs.declared.planning.Standing.{Standing}
 use Rattle.lobby_words.specs.declared.planning.Identity.{Identity}
 use Rattle.lobby_desk.specs.declared.players.Player.{Player}
 use Rattle.lobby_desk.specs.declared.watching.Watch.{Watch}
-use Rattle.lobby_words.specs.Words.{is_leave_sort, is_leave_lobby_sort, or_0}
-use Rattle.lobby_words.specs.Plans.{asked, act_plan, drop_plan, login_plan, numbered_plan, plan_of}
+use Rattle.lobby_words.specs.Words.{as_line, is_leave_sort, is_leave_lobby_sort, or_0}
+use Rattle.lobby_words.specs.Plans.{asked, act_plan, named_plan, as_plan, drop_plan, login_plan, numbered_plan, plan_of}
 use Rattle.lobby_desk.specs.Lines.{lines_of, is_said, name_line}
 use Rattle.lobby_desk.specs.Events.{Telling, ForItself, ForPositions, ForTable, ForGame, ForAct, Owed, Asker, Dropper, owed_last, plan_asker, sort_asker}
 use Rattle.lobby_desk.specs.Watching.{risen}
@@ -34,6 +34,19 @@ act_last s (Some who) said text c =
     elim s.is_crowded as (λ b. LastIs (if b then asked s (plans.Refuse refusals.TooManyOpen) else asked s (plans.Act who)) said text c (Asker c (ForAct who.name text))) [
       | true ↦ asked_last s (plans.Refuse refusals.TooManyOpen) said text c (Asker c (ForAct who.name text)) refl
       | false ↦ asked_last s (plans.Act who) said text c (Asker c (ForAct who.name text)) refl
+    ]
+
+named_last : (s : Standing) (who : Identity) (named : Option (List ℕ)) (said : Option (List ℕ)) (text : List ℕ) (c : ℕ) →
+    LastIs (named_plan s who named) said text c (Asker c (ForAct who.name text))
+named_last s who None said text c = refl
+named_last s who (Some name) said text c = asked_last s (plans.ActAs who name) said text c (Asker c (ForAct who.name text)) refl
+
+as_last : (s : Standing) (who : Option Identity) (said : Option (List ℕ)) (text : List ℕ) (c : ℕ) → LastIs (as_plan s who) said text c (Asker c (ForAct (name_of who) text))
+as_last s None said text c = refl
+as_last s (Some who) said text c =
+    elim who.is_arbiter as (λ b. LastIs (if b then named_plan s who s.named else plans.Refuse refusals.NotArbiter) said text c (Asker c (ForAct who.name text))) [
+      | true ↦ named_last s who s.named said text c
+      | false ↦ refl
     ]
 
 drop_last : (s : Standing) (who : Option Identity) (game : ℕ) (said : Option (List ℕ)) (text : List ℕ) (c : ℕ) →
@@ -78,6 +91,7 @@ pub planned_last : (m : Bool) (sort : Sort) (s : Standing) (game : Option ℕ) (
 planned_last false sort s game said text c = refl
 planned_last true sorts.Read s game said text c = asked_last s plans.Read said text c (Asker c ForItself) refl
 planned_last true sorts.Act s game said text c = act_last s s.who said text c
+planned_last true sorts.As s game said text c = as_last s s.who said text c
 planned_last true sorts.Drop s game said text c = numbered_last s game said text c
 planned_last true sorts.Login s game said text c = login_last s.holder said text c
 planned_last true sorts.Players s game said text c = refl
@@ -100,6 +114,20 @@ act_does P s (Some who) none h =
     elim s.is_crowded as (λ b. P (if b then asked s (plans.Refuse refusals.TooManyOpen) else asked s (plans.Act who))) [
       | true ↦ asked_does P s (plans.Refuse refusals.TooManyOpen) (none refusals.NoServer) (none refusals.TooManyOpen)
       | false ↦ asked_does P s (plans.Act who) (none refusals.NoServer) (h who)
+    ]
+
+named_does : (P : Plan → Type 0) (s : Standing) (who : Identity) (named : Option (List ℕ)) → ((r : Refusal) → P (plans.Refuse r)) →
+    ((name : List ℕ) → P (plans.ActAs who name)) → P (named_plan s who named)
+named_does P s who None none h = none refusals.NoPlayer
+named_does P s who (Some name) none h = asked_does P s (plans.ActAs who name) (none refusals.NoServer) (h name)
+
+as_does : (P : Plan → Type 0) (s : Standing) (who : Option Identity) → ((r : Refusal) → P (plans.Refuse r)) →
+    ((one : Identity) (name : List ℕ) → P (plans.ActAs one name)) → P (as_plan s who)
+as_does P s None none h = none refusals.NoToken
+as_does P s (Some who) none h =
+    elim who.is_arbiter as (λ b. P (if b then named_plan s who s.named else plans.Refuse refusals.NotArbiter)) [
+      | true ↦ named_does P s who s.named none (h who)
+      | false ↦ none refusals.NotArbiter
     ]
 
 drop_does : (P : Plan → Type 0) (s : Standing) (who : Option Identity) (game : ℕ) → ((r : Refusal) → P (plans.Refuse r)) →
@@ -149,6 +177,7 @@ pub planned_watches : (m : Bool) (sort : Sort) (s : Standing) (game : Option ℕ
 planned_watches false sort s game c watches = refl
 planned_watches true sorts.Read s game c watches = asked_does (WatchesStay c watches) s plans.Read refl refl
 planned_watches true sorts.Act s game c watches = act_does (WatchesStay c watches) s s.who (λ _. refl) (λ _. refl)
+planned_watches true sorts.As s game c watches = as_does (WatchesStay c watches) s s.who (λ _. refl) (λ _ _. refl)
 planned_watches true sorts.Drop s game c watches = dropped_does (WatchesStay c watches) s game (λ _. refl) (λ _ _. refl)
 planned_watches true sorts.Login s game c watches = login_does (WatchesStay c watches) s.holder (λ _. refl) (λ _. refl)
 planned_watches true sorts.Players s game c watches = refl
@@ -173,6 +202,7 @@ pub planned_table : (m : Bool) (sort : Sort) (s : Standing) (game : Option ℕ) 
 planned_table false sort s game c table = refl
 planned_table true sorts.Read s game c table = asked_does (TableStays c table) s plans.Read refl refl
 planned_table true sorts.Act s game c table = act_does (TableStays c table) s s.who (λ _. refl) (λ _. refl)
+planned_table true sorts.As s game c table = as_does (TableStays c table) s s.who (λ _. refl) (λ _ _. refl)
 planned_table true sorts.Drop s game c table = dropped_does (TableStays c table) s game (λ _. refl) (λ _ _. refl)
 planned_table true sorts.Login s game c table = login_does (TableStays c table) s.holder (λ _. refl) (λ _. refl)
 planned_table true sorts.Players s game c table = refl
@@ -195,6 +225,7 @@ pub answered_or_sent : (players : List Player) (plan : Plan) (said : Option (Lis
 answered_or_sent players (plans.Refuse refusal) said text c tells h = (h.0, h.2)
 answered_or_sent players plans.Read said text c tells h = h
 answered_or_sent players (plans.Act who) said text c tells h = act_sent (is_said said who.name) who.name text c tells h
+answered_or_sent players (plans.ActAs who name) said text c tells h = act_sent (is_said said name) name (as_line text) c tells h
 answered_or_sent players (plans.Drop who game) said text c tells h = h
 answered_or_sent players (plans.Login who) said text c tells h = (h.0, h.2)
 answered_or_sent players plans.Players said text c tells h = (h.0, h.2)

@@ -3,6 +3,8 @@ pub mod Found
 pub mod Opened
 pub mod Lines
 pub mod Carry
+pub mod Named
+pub mod As
 pub mod Waited
 pub mod PlayerRows
 pub mod Watched

@@ -1,6 +1,6 @@
 -- Whom a token shows, and how players are told.
 use Rattle.std.specs.Prelude.{ℕ, Bool, List, [], length, ◌++◌, codes, decimal, Option, Some, None, find, option_map, if◌then◌else◌}
-use Rattle.std.specs.List.{flat_map}
+use Rattle.std.specs.List.{flat_map, list_any}
 use Rattle.std.specs.String.{string_bytes}
 use Rattle.std.specs.Str.{bytes_eq}
 use Rattle.sha2.specs.Sha256.{sha256}
@@ -21,6 +21,10 @@ or_holder None is_holder who = if is_holder then Some who else None
 -- the first player whose sum is that of the token
 unfoldable pub holder_of : List Player → List ℕ → Option Identity
 holder_of players token = option_map identity_of (find (has_sum (sha256 token)) players)
+
+-- this name, where a player has it
+abbrev pub player_named : List Player → List ℕ → Option (List ℕ)
+player_named players name = if list_any (λ player. bytes_eq player.name name) players then Some name else None
 
 -- a player as he is told: name, role and full name
 abbrev pub role_text : Bool → List ℕ

@@ -12,9 +12,9 @@ use Rattle.lobby_desk.specs.declared.players.Player.{Player}
 use Rattle.lobby_desk.specs.declared.players.Visitor.{Visitor}
 use Rattle.lobby_desk.specs.declared.watching.Watch.{Watch}
 use Rattle.lobby_desk.specs.declared.desk.Desk.{Desk}
-use Rattle.lobby_words.specs.Words.{rest_of, is_message, sort_of, number_in}
+use Rattle.lobby_words.specs.Words.{rest_of, as_name, is_message, sort_of, number_in}
 use Rattle.lobby_words.specs.Waiting.{is_open as opens_game}
-use Rattle.lobby_desk.specs.Players.{holder_of, login_text, players_text}
+use Rattle.lobby_desk.specs.Players.{holder_of, player_named, login_text, players_text}
 use Rattle.lobby_words.specs.Plans.{refusal_text, plan_of}
 use Rattle.lobby_desk.specs.Lines.{bytes_of, lines_of, act_lines, said_after, notice_lines, IsNamed}
 use Rattle.lobby_words.specs.Answers.{IsSeated, IsFirstSeated, IsSeatless, act_game, is_whole, answer}
@@ -166,6 +166,7 @@ pub record IsSaid (players : List Player) (old : View) (c : ℕ) (text : List �
   pub standing : Standing
   pub who : standing.who ≡ old.who c
   pub holder : standing.holder ≡ holder_of players (rest_of text)
+  pub other : standing.named ≡ player_named players (as_name text)
   pub here : standing.is_here ≡ old.here
   pub full : standing.is_full ≡ is_full old.known.watches c (number_in (rest_of text))
   pub crowded : standing.is_crowded ≡ crowds old.known (old.who c) text

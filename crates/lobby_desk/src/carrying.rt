@@ -10,7 +10,7 @@ use crate::rows::{login_line, player_rows};
 use crate::server_line::{Acting, Due, ServerLine};
 use crate::telling::{Kind, Told, headed, tell};
 use crate::watching::{Watch, rise, unwatch};
-use lobby_words::{Identity, Plan};
+use lobby_words::{Identity, Plan, as_line};
 use std::alloc::{AllocError, Global};
 use std::collections::BTreeMap;
 
@@ -89,6 +89,10 @@ pub fn send(
         Plan::Act(who) => {
             let act = acting(alloc, from, who, text)?;
             line.act(who.name, text, Due::Act(act), wire)
+        }
+        Plan::ActAs(who, name) => {
+            let act = acting(alloc, from, who, text)?;
+            line.act(*name, as_line(text), Due::Act(act), wire)
         }
         Plan::Drop(who, game) => {
             let act = acting(alloc, from, who, text)?;

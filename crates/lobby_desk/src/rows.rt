@@ -4,11 +4,12 @@ ghost use Rattle.std.specs.List.{flat_map};
 ghost use Rattle.std.specs.Option.{option_copied};
 ghost use Rattle.std.specs.Str.{bytes_eq};
 ghost use Rattle.std.specs.String.{string_bytes};
-ghost use Rattle.lobby_desk.specs.Players.{role_text, player_row, row_of, full_name_of, login_text, players_text};
+ghost use Rattle.lobby_desk.specs.Players.{role_text, player_row, row_of, player_named, full_name_of, login_text, players_text};
 
 use crate::players::Player;
 use itoa::Buffer;
 use lobby_words::Identity;
+use rec_codec::Name;
 use std::alloc::{AllocError, Global};
 
 fn role_text(is_arbiter: bool) -> &'static str
@@ -50,6 +51,16 @@ fn named<'a>(players: &'a [Player], name: &str) -> Option<&'a Player>
     ensures { option_copied result ≡ find (λ player. bytes_eq player.name name.now) players.now }
 {
     players.iter().find(|player| player.name.as_str() == name)
+}
+
+/// A name, where a player has it.
+pub fn player_named(players: &[Player], name: &str) -> Option<Name>
+    ensures { result ≡ player_named players.now name.now }
+{
+    match named(players, name) {
+        None => None,
+        Some(player) => Some(player.name),
+    }
 }
 
 // The full name of the first player of a name.

@@ -18,6 +18,7 @@ refusal_text refusals.NotArbiter = codes "no 33 NotArbiter\n"
 refusal_text refusals.TooManyOpen = codes "no 35 TooManyOpen\n"
 refusal_text refusals.NoServer = codes "no 36 NoServer\n"
 refusal_text refusals.TooManyWatched = codes "no 37 TooManyWatched\n"
+refusal_text refusals.NoPlayer = codes "no 38 NoPlayer\n"
 
 -- what asks for the server
 abbrev pub asked : Standing → Plan → Plan
@@ -28,6 +29,16 @@ abbrev pub act_plan : Standing → Option Identity → Plan
 act_plan s None = plans.Refuse refusals.NoToken
 act_plan s (Some who) =
     if s.is_crowded then asked s (plans.Refuse refusals.TooManyOpen) else asked s (plans.Act who)
+
+-- an act of an arbiter under the name of another: not where no player has it
+abbrev pub named_plan : Standing → Identity → Option (List ℕ) → Plan
+named_plan s who None = plans.Refuse refusals.NoPlayer
+named_plan s who (Some name) = asked s (plans.ActAs who name)
+
+-- the same, and not without an arbiter's token
+abbrev pub as_plan : Standing → Option Identity → Plan
+as_plan s None = plans.Refuse refusals.NoToken
+as_plan s (Some who) = if who.is_arbiter then named_plan s who s.named else plans.Refuse refusals.NotArbiter
 
 -- a drop: not without an arbiter's token
 abbrev pub drop_plan : Standing → Option Identity → ℕ → Plan
@@ -55,6 +66,7 @@ numbered_plan sort s (Some game) = game_plan sort s game
 abbrev pub sort_plan : Sort → Standing → Option ℕ → Plan
 sort_plan sorts.Read s game = asked s plans.Read
 sort_plan sorts.Act s game = act_plan s s.who
+sort_plan sorts.As s game = as_plan s s.who
 sort_plan sorts.Drop s game = numbered_plan sorts.Drop s game
 sort_plan sorts.Login s game = login_plan s.holder
 sort_plan sorts.Players s game = plans.Players

@@ -22,6 +22,8 @@ pub enum Plan {
     Read,
     /// The message is passed on under a name.
     Act(Identity),
+    /// The line of an arbiter's message is passed on under the name of another.
+    ActAs(Identity, Name),
     /// Who is seated in the game is asked for, and the message is passed on under a name of theirs.
     Drop(Identity, u32),
     Login(Identity),
@@ -40,6 +42,8 @@ pub struct Standing {
     pub who: Option<Identity>,
     /// Who has the token that stands behind the message's word.
     pub holder: Option<Identity>,
+    /// The name that stands behind the message's word, where a player has it.
+    pub named: Option<Name>,
     /// Whether the server is there.
     pub is_here: bool,
     /// Whether the connection watches as many games as may be.
@@ -70,6 +74,32 @@ fn act_plan(standing: &Standing) -> Plan
                 asked(standing, Plan::Refuse(Refusal::TooManyOpen))
             } else {
                 asked(standing, Plan::Act(who))
+            }
+        }
+    }
+}
+
+// An act of an arbiter under the name of another.
+fn named_plan(standing: &Standing, who: Identity, named: Option<Name>) -> Plan
+    ensures { result ≡ plans.named_plan standing.now who named }
+{
+    match named {
+        None => Plan::Refuse(Refusal::NoPlayer),
+        Some(name) => asked(standing, Plan::ActAs(who, name)),
+    }
+}
+
+// An act under the name of another.
+fn as_plan(standing: &Standing) -> Plan
+    ensures { result ≡ plans.as_plan standing.now standing.now.who }
+{
+    match standing.who {
+        None => Plan::Refuse(Refusal::NoToken),
+        Some(who) => {
+            if !who.is_arbiter {
+                Plan::Refuse(Refusal::NotArbiter)
+            } else {
+                named_plan(standing, who, standing.named)
             }
         }
     }
@@ -126,6 +156,7 @@ fn sort_plan(sort: Sort, standing: &Standing, game: Option<u32>) -> Plan
     match sort {
         Sort::Read => asked(standing, Plan::Read),
         Sort::Act => act_plan(standing),
+        Sort::As => as_plan(standing),
         Sort::Login => login_plan(standing.holder),
         Sort::Players => Plan::Players,
         Sort::Lobby => asked(standing, Plan::Lobby),

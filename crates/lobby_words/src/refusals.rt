@@ -19,6 +19,8 @@ pub enum Refusal {
     NoServer,
     /// As many games are watched as may be.
     TooManyWatched,
+    /// No player has the name.
+    NoPlayer,
 }
 
 impl Refusal {
@@ -34,6 +36,7 @@ impl Refusal {
             Refusal::TooManyOpen => "no 35 TooManyOpen\n",
             Refusal::NoServer => "no 36 NoServer\n",
             Refusal::TooManyWatched => "no 37 TooManyWatched\n",
+            Refusal::NoPlayer => "no 38 NoPlayer\n",
         }
     }
 }
