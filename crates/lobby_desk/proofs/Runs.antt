@@ -17,7 +17,7 @@ use Rattle.lobby_desk.specs.declared.players.Player.{Player}
 use Rattle.lobby_words.specs.declared.listing.Waiting.{Waiting}
 use Rattle.lobby_desk.specs.declared.watching.Watch.{Watch}
 use Rattle.lobby_words.specs.Words.{word_of, rest_of, as_name, as_line, is_message, sort_of, is_act_sort, is_as_sort, is_drop_sort, is_name_sort, is_login_sort, number_in, or_0}
-use Rattle.lobby_words.specs.Plans.{asked, act_plan, named_plan, as_plan, drop_plan, login_plan, numbered_plan, plan_of}
+use Rattle.lobby_words.specs.Plans.{asked, act_plan, named_plan, as_plan, arbiter_plan, drop_plan, login_plan, numbered_plan, plan_of}
 use Rattle.lobby_desk.specs.Lines.{lines_of, act_lines, said_after, name_line, game_line, is_said, notice_lines, IsNamed}
 use Rattle.lobby_words.specs.Answers.{is_accepted, first_line, act_game, is_whole, answer}
 use Rattle.lobby_desk.specs.Watching.{watch_if, sit_if}
@@ -28,7 +28,7 @@ use Rattle.lobby_desk.specs.Players.{player_named}
 use Rattle.lobby_desk.specs.History.{Step, comes, has_come, shown_by, player_said, player_after, player_in, is_drop, is_as, name_as, name_for, name_behind, name_through, name_before, name_in, ActsUnder, ActsRight, NoActs, NoDrops, sort_asks, IsOf, open_in, known_in, IsArbiter, AsksNow, HasAsked, IsDropOf, IsNoticeOf, IsRight, AreWhole, AllRight, AllTold, IsRun}
 use Rattle.lobby_words.proofs.Numbers.{number_small}
 use Rattle.lobby_desk.proofs.Sent.{is_said_same}
-use Rattle.lobby_desk.proofs.Carry.{as_does}
+use Rattle.lobby_desk.proofs.Carry.{as_does, arbiter_does}
 use Rattle.lobby_desk.proofs.As.{as_whole, as_acts}
 use Rattle.lobby_desk.proofs.Lines.{show_whole, fen_whole, pgn_whole, list_whole, name_whole, show_reads, fen_reads, pgn_reads, list_reads, name_names}
 
@@ -89,6 +89,7 @@ planned_who true sorts.As s game before = as_who s s.who before
 planned_who true sorts.Drop s game before = dropped_who s game before
 planned_who true sorts.Login s game before = login_who s.holder before
 planned_who true sorts.Players s game before = refl
+planned_who true sorts.Who s game before = arbiter_does (λ plan. who_noted plan before ≡ before) s.who plans.Who (λ _. refl) refl
 planned_who true sorts.Lobby s game before = asked_who s plans.Lobby before refl
 planned_who true sorts.LeaveLobby s game before = refl
 planned_who true sorts.Watch s game before = watch_who s game before
@@ -307,6 +308,13 @@ watch_good text s under said (Some game) small =
           (show_reads game, (fen_reads game, tt)) (show_whole game small, (fen_whole game small, tt)))
     ]
 
+-- a plan of an arbiter's by which nothing goes out
+silent_good : (text : List ℕ) (who : Option Identity) (under said : Option (List ℕ)) (plan : Plan) →
+    Good [] under said (lines_of plan said text) (said_after plan said) →
+    Good [] under said (lines_of (arbiter_plan who plan) said text) (said_after (arbiter_plan who plan) said)
+silent_good text who under said plan h =
+    arbiter_does (λ p. Good [] under said (lines_of p said text) (said_after p said)) who plan (λ _. none_good [] under said) h
+
 leave_good : (text : List ℕ) (s : Standing) (under said : Option (List ℕ)) (game : Option ℕ) →
     Good [] under said (lines_of (numbered_plan sorts.Leave s game) said text) (said_after (numbered_plan sorts.Leave s game) said)
 leave_good text s under said None = none_good [] under said
@@ -334,6 +342,8 @@ plan_good players text s said game true sorts.As other message is small named = 
 plan_good players text s said game true sorts.Drop other message is small named = dropped_good text s (name_for players s.who text) said game small named
 plan_good players text s said game true sorts.Login other message is small named = login_good text (name_for players s.who text) said s.holder
 plan_good players text s said game true sorts.Players other message is small named = none_good [] (name_for players s.who text) said
+plan_good players text s said game true sorts.Who other message is small named =
+    silent_good text s.who (name_for players s.who text) said plans.Who (none_good [] (name_for players s.who text) said)
 plan_good players text s said game true sorts.Lobby other message is small named =
     asked_good (codes "list" ∷ []) text s (name_for players s.who text) said plans.Lobby
     (λ _. reads_good (name_for players s.who text) said (codes "list" ∷ []) (list_reads, tt) (list_whole, tt)) named
@@ -553,6 +563,7 @@ asks_at true sorts.As s game said text = tt
 asks_at true sorts.Drop s game said text = dropped_asks s game said text
 asks_at true sorts.Login s game said text = tt
 asks_at true sorts.Players s game said text = tt
+asks_at true sorts.Who s game said text = tt
 asks_at true sorts.Lobby s game said text = tt
 asks_at true sorts.LeaveLobby s game said text = tt
 asks_at true sorts.Watch s game said text = tt
@@ -578,6 +589,7 @@ asked_if_drop players past c by text sorts.As game h = tt
 asked_if_drop players past c by text sorts.Drop game h = h refl
 asked_if_drop players past c by text sorts.Login game h = tt
 asked_if_drop players past c by text sorts.Players game h = tt
+asked_if_drop players past c by text sorts.Who game h = tt
 asked_if_drop players past c by text sorts.Lobby game h = tt
 asked_if_drop players past c by text sorts.LeaveLobby game h = tt
 asked_if_drop players past c by text sorts.Watch game h = tt
@@ -687,6 +699,7 @@ drop_names_none sorts.As h = absurd (false≢true h)
 drop_names_none sorts.Drop h = refl
 drop_names_none sorts.Login h = absurd (false≢true h)
 drop_names_none sorts.Players h = absurd (false≢true h)
+drop_names_none sorts.Who h = absurd (false≢true h)
 drop_names_none sorts.Lobby h = absurd (false≢true h)
 drop_names_none sorts.LeaveLobby h = absurd (false≢true h)
 drop_names_none sorts.Watch h = absurd (false≢true h)

@@ -1,11 +1,12 @@
 -- Whom a token shows, and how players are told.
-use Rattle.std.specs.Prelude.{ℕ, Bool, List, [], length, ◌++◌, codes, decimal, Option, Some, None, find, option_map, if◌then◌else◌}
+use Rattle.std.specs.Prelude.{ℕ, Bool, false, List, [], length, ◌++◌, codes, decimal, map, filter, Option, Some, None, find, option_map, if◌then◌else◌}
 use Rattle.std.specs.List.{flat_map, list_any}
 use Rattle.std.specs.String.{string_bytes}
 use Rattle.std.specs.Str.{bytes_eq}
 use Rattle.sha2.specs.Sha256.{sha256}
 use Rattle.lobby_desk.specs.declared.players.Player.{Player}
 use Rattle.lobby_words.specs.declared.planning.Identity.{Identity}
+use Rattle.lobby_words.specs.Answers.{ended}
 
 abbrev pub identity_of : Player → Identity
 identity_of player = record { name = player.name; is_arbiter = player.is_arbiter }
@@ -50,3 +51,19 @@ login_text players who = codes "ok login " ++ player_row who.name who.is_arbiter
 
 abbrev pub players_text : List Player → List ℕ
 players_text players = codes "ok players " ++ decimal (length players) ++ codes "\n" ++ flat_map row_of players
+
+-- Whether one of these connections acts for the player of this name, by for whom each acts.
+abbrev pub is_named : Option Identity → List ℕ → Bool
+is_named None name = false
+is_named (Some who) name = bytes_eq who.name name
+
+abbrev pub is_present : (ℕ → Option Identity) → List ℕ → List ℕ → Bool
+is_present who connections name = list_any (λ c. is_named (who c) name) connections
+
+-- the names of the players of whom that is so, in the list's order
+abbrev pub present_names : (ℕ → Option Identity) → List ℕ → List Player → List (List ℕ)
+present_names who connections players = map (λ player. player.name) (filter (λ player. is_present who connections player.name) players)
+
+-- the answer to `who` that tells these names
+abbrev pub who_text : List (List ℕ) → List ℕ
+who_text names = codes "ok who " ++ decimal (length names) ++ codes "\n" ++ flat_map ended names

@@ -14,7 +14,7 @@ use Rattle.lobby_desk.specs.declared.watching.Watch.{Watch}
 use Rattle.lobby_desk.specs.declared.desk.Desk.{Desk}
 use Rattle.lobby_words.specs.Words.{rest_of, as_name, is_message, sort_of, number_in}
 use Rattle.lobby_words.specs.Waiting.{is_open as opens_game}
-use Rattle.lobby_desk.specs.Players.{holder_of, player_named, login_text, players_text}
+use Rattle.lobby_desk.specs.Players.{holder_of, player_named, login_text, players_text, present_names, who_text}
 use Rattle.lobby_words.specs.Plans.{refusal_text, plan_of}
 use Rattle.lobby_desk.specs.Lines.{bytes_of, lines_of, act_lines, said_after, notice_lines, IsNamed}
 use Rattle.lobby_words.specs.Answers.{IsSeated, IsFirstSeated, IsSeatless, act_game, is_whole, answer}
@@ -85,25 +85,34 @@ abbrev pub is_own : Plan → Bool
 is_own (plans.Refuse refusal) = true
 is_own (plans.Login who) = true
 is_own plans.Players = true
+is_own plans.Who = true
 is_own plans.LeaveLobby = true
 is_own (plans.Leave game) = true
 is_own _ = false
 
--- Such an answer: a refusal says why; the player is told, or all players are; what is left is named.
-abbrev pub IsOwnText : List Player → Plan → List ℕ → Type 0
-IsOwnText players (plans.Refuse refusal) text = text ≡ refusal_text refusal
-IsOwnText players (plans.Login who) text = text ≡ login_text players who
-IsOwnText players plans.Players text = text ≡ players_text players
-IsOwnText players plans.LeaveLobby text = text ≡ codes "ok leave lobby\n"
-IsOwnText players (plans.Leave game) text = text ≡ codes "ok leave " ++ decimal game ++ codes "\n"
-IsOwnText players _ text = Unit {0}
+-- The answer to `who` tells the players for whom a connection acts that is open, and no other.
+abbrev pub IsPresence : List Player → (ℕ → Bool) → (ℕ → Option Identity) → List ℕ → Type 0
+IsPresence players is_open acts_for text =
+    (all : List ℕ) × ((c : ℕ) → at_table all c ≡ is_open c) × (text ≡ who_text (present_names acts_for all players))
 
-abbrev pub IsAnsweredIf : Bool → List Player → Plan → ℕ → List Telling → Type 0
-IsAnsweredIf true players plan c tells = (text : List ℕ) × IsOwnText players plan text × (tells ≡ to_one c text ∷ [])
-IsAnsweredIf false players plan c tells = tells ≡ []
+-- Such an answer, where these connections are open, and each acts for this player: a refusal says why; the player is told, or all
+-- players are, or those who are there; what is left is named.
+abbrev pub IsOwnText : List Player → (ℕ → Bool) → (ℕ → Option Identity) → Plan → List ℕ → Type 0
+IsOwnText players is_open acts_for (plans.Refuse refusal) text = text ≡ refusal_text refusal
+IsOwnText players is_open acts_for (plans.Login who) text = text ≡ login_text players who
+IsOwnText players is_open acts_for plans.Players text = text ≡ players_text players
+IsOwnText players is_open acts_for plans.Who text = IsPresence players is_open acts_for text
+IsOwnText players is_open acts_for plans.LeaveLobby text = text ≡ codes "ok leave lobby\n"
+IsOwnText players is_open acts_for (plans.Leave game) text = text ≡ codes "ok leave " ++ decimal game ++ codes "\n"
+IsOwnText players is_open acts_for _ text = Unit {0}
 
-abbrev pub IsAnswered : List Player → Plan → ℕ → List Telling → Type 0
-IsAnswered players plan c tells = IsAnsweredIf (is_own plan) players plan c tells
+abbrev pub IsAnsweredIf : Bool → List Player → (ℕ → Bool) → (ℕ → Option Identity) → Plan → ℕ → List Telling → Type 0
+IsAnsweredIf true players is_open acts_for plan c tells =
+    (text : List ℕ) × IsOwnText players is_open acts_for plan text × (tells ≡ to_one c text ∷ [])
+IsAnsweredIf false players is_open acts_for plan c tells = tells ≡ []
+
+abbrev pub IsAnswered : List Player → (ℕ → Bool) → (ℕ → Option Identity) → Plan → ℕ → List Telling → Type 0
+IsAnswered players is_open acts_for plan c tells = IsAnsweredIf (is_own plan) players is_open acts_for plan c tells
 
 abbrev pub known : Desk → Known
 known desk = record {
@@ -174,7 +183,7 @@ pub record IsSaid (players : List Player) (old : View) (c : ℕ) (text : List �
   pub planned : plan ≡ plan_of (is_message text) (sort_of text) standing (number_in (rest_of text))
   pub named : IsNamed plan
   pub lines_are : lines ≡ lines_of plan old.said text
-  pub answers : IsAnswered players plan c tells
+  pub answers : IsAnswered players old.is_open old.who plan c tells
   pub next_is : new.next ≡ old.next
   pub said_is : new.said ≡ said_after plan old.said
   pub here_is : new.here ≡ old.here
@@ -296,7 +305,7 @@ pub record Carried (old : Desk) (from : ℕ) (text : List ℕ) (plan : Plan) (un
   pub tells : List Telling
   pub sent : after ≡ before ++ bytes_of (lines_of plan old.line.said text)
   pub told : told_after ≡ told_before ++ tells
-  pub answers : IsAnswered old.players.items plan from tells
+  pub answers : IsAnswered old.players.items (open_of old) (who_of old) plan from tells
   pub named : IsNamed plan
   pub said_is : new.line.said ≡ said_after plan old.line.said
   pub here_is : new.line.is_here ≡ old.line.is_here

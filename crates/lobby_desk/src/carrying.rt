@@ -6,6 +6,7 @@ ghost use Rattle.lobby_desk.specs.Events.{Telling, tellings, owed_of, owed_last,
 ghost use Rattle.lobby_desk.specs.Who.{who_in, open_in_map, until_in, who_noted, plan_watches, plan_table, is_own, IsOwnText, IsAnswered};
 
 use crate::players::{Player, Visitor};
+use crate::present::present_rows;
 use crate::rows::{login_line, player_rows};
 use crate::server_line::{Acting, Due, ServerLine};
 use crate::telling::{Kind, Told, headed, tell};
@@ -30,27 +31,36 @@ pub fn forget(watches: &mut Vec<Watch>, table: &mut Vec<u64>, from: u64, plan: &
 pub fn answer_plan(
     alloc: Global,
     players: &[Player],
+    visitors: &BTreeMap<u64, Visitor>,
     from: u64,
     plan: &Plan,
     told: &mut Vec<Told>,
 ) -> Result<(), AllocError>
-    ensures { OnOk result ((tells : List Telling) × (tellings told.new.items ≡ tellings told.old.items ++ tells) × IsAnswered players.now plan.now from tells) }
+    ensures { OnOk result ((tells : List Telling) × (tellings told.new.items ≡ tellings told.old.items ++ tells)
+        × IsAnswered players.now (open_in_map visitors.now) (who_in visitors.now) plan.now from tells) }
 {
-    match own_answer(alloc, plan, players)? {
+    match own_answer(alloc, plan, players, visitors)? {
         None => Ok(()),
         Some(answer) => tell(alloc, told, from, Kind::Whole, answer),
     }
 }
 
 // The line that a connection is answered for a plan by which nothing is sent.
-fn own_answer(alloc: Global, plan: &Plan, players: &[Player]) -> Result<Option<String>, AllocError>
+fn own_answer(
+    alloc: Global,
+    plan: &Plan,
+    players: &[Player],
+    visitors: &BTreeMap<u64, Visitor>,
+) -> Result<Option<String>, AllocError>
     ensures own { IfOk result (λ answer. is_some answer ≡ is_own plan.now) }
-    ensures text { IfOk result (λ answer. IfSome answer (λ text. IsOwnText players.now plan.now (string_bytes text))) }
+    ensures text { IfOk result (λ answer. IfSome answer (λ text.
+        IsOwnText players.now (open_in_map visitors.now) (who_in visitors.now) plan.now (string_bytes text))) }
 {
     match plan {
         Plan::Refuse(refusal) => Ok(Some(String::from_str(alloc, refusal.line())?)),
         Plan::Login(who) => Ok(Some(login_line(alloc, who, players)?)),
         Plan::Players => Ok(Some(player_rows(alloc, players)?)),
+        Plan::Who => Ok(Some(present_rows(alloc, players, visitors)?)),
         Plan::LeaveLobby => Ok(Some(String::from_str(alloc, "ok leave lobby\n")?)),
         Plan::Leave(game) => Ok(Some(headed(alloc, "ok leave ", *game)?)),
         _ => Ok(None),

@@ -83,12 +83,12 @@ pub fn login_line(alloc: Global, who: &Identity, players: &[Player]) -> Result<S
     Ok(text)
 }
 
-// How many players there are.
-fn count_line(alloc: Global, count: usize) -> Result<String, AllocError>
-    ensures { IfOk result (λ text. string_bytes text ≡ codes "ok players " ++ decimal count ++ codes "\n") }
+/// A word that ends with a space, how many there are, and a line feed.
+pub fn count_line(alloc: Global, word: &str, count: usize) -> Result<String, AllocError>
+    ensures { IfOk result (λ text. string_bytes text ≡ word.now ++ decimal count ++ codes "\n") }
 {
     let mut buffer = Buffer::new();
-    let mut text = String::from_str(alloc, "ok players ")?;
+    let mut text = String::from_str(alloc, word)?;
     text.push_str(buffer.format(count))?;
     text.push('\n')?;
     Ok(text)
@@ -98,7 +98,7 @@ fn count_line(alloc: Global, count: usize) -> Result<String, AllocError>
 pub fn player_rows(alloc: Global, players: &[Player]) -> Result<String, AllocError>
     ensures { IfOk result (λ text. string_bytes text ≡ players_text players.now) }
 {
-    let mut text = count_line(alloc, players.len())?;
+    let mut text = count_line(alloc, "ok players ", players.len())?;
     for player in players {
         push_player(&mut text, player)?;
     }

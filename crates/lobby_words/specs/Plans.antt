@@ -45,6 +45,11 @@ abbrev pub drop_plan : Standing → Option Identity → ℕ → Plan
 drop_plan s None game = plans.Refuse refusals.NoToken
 drop_plan s (Some who) game = if who.is_arbiter then asked s (plans.Drop who game) else plans.Refuse refusals.NotArbiter
 
+-- what an arbiter alone may ask for
+abbrev pub arbiter_plan : Option Identity → Plan → Plan
+arbiter_plan None plan = plans.Refuse refusals.NoToken
+arbiter_plan (Some who) plan = if who.is_arbiter then plan else plans.Refuse refusals.NotArbiter
+
 -- a token is shown, and this player has it
 abbrev pub login_plan : Option Identity → Plan
 login_plan None = plans.Refuse refusals.BadToken
@@ -70,6 +75,7 @@ sort_plan sorts.As s game = as_plan s s.who
 sort_plan sorts.Drop s game = numbered_plan sorts.Drop s game
 sort_plan sorts.Login s game = login_plan s.holder
 sort_plan sorts.Players s game = plans.Players
+sort_plan sorts.Who s game = arbiter_plan s.who plans.Who
 sort_plan sorts.Lobby s game = asked s plans.Lobby
 sort_plan sorts.LeaveLobby s game = plans.LeaveLobby
 sort_plan sorts.Name s game = plans.Refuse refusals.BadLine

@@ -49,9 +49,10 @@ as_sort text = if is_play_word (word_of (as_line text)) then sorts.As else sorts
 abbrev pub whole_sort : List ℕ → Sort
 whole_sort text =
     if bytes_eq text (codes "players") then sorts.Players
+    else (if bytes_eq text (codes "who") then sorts.Who
     else (if bytes_eq text (codes "lobby") then sorts.Lobby
     else (if bytes_eq text (codes "leave lobby") then sorts.LeaveLobby
-    else sorts.Nothing))
+    else sorts.Nothing)))
 
 abbrev pub own_sort : List ℕ → List ℕ → Sort
 own_sort w text =

@@ -28,6 +28,8 @@ pub enum Plan {
     Drop(Identity, u32),
     Login(Identity),
     Players,
+    /// Which players are there.
+    Who,
     Lobby,
     LeaveLobby,
     Watch(u32),
@@ -121,6 +123,23 @@ fn drop_plan(standing: &Standing, game: u32) -> Plan
     }
 }
 
+// What an arbiter alone may ask for.
+fn arbiter_plan(standing: &Standing, plan: Plan) -> Plan
+    ensures { result ≡ plans.arbiter_plan standing.now.who plan }
+{
+    match standing.who {
+        None => Plan::Refuse(Refusal::NoToken),
+        Some(who) => {
+            let is_arbiter = who.is_arbiter;
+            if is_arbiter {
+                plan
+            } else {
+                Plan::Refuse(Refusal::NotArbiter)
+            }
+        }
+    }
+}
+
 // A token is shown.
 fn login_plan(holder: Option<Identity>) -> Plan
     ensures { result ≡ plans.login_plan holder }
@@ -159,6 +178,7 @@ fn sort_plan(sort: Sort, standing: &Standing, game: Option<u32>) -> Plan
         Sort::As => as_plan(standing),
         Sort::Login => login_plan(standing.holder),
         Sort::Players => Plan::Players,
+        Sort::Who => arbiter_plan(standing, Plan::Who),
         Sort::Lobby => asked(standing, Plan::Lobby),
         Sort::LeaveLobby => Plan::LeaveLobby,
         Sort::Name | Sort::Nothing => Plan::Refuse(Refusal::BadLine),

@@ -17,6 +17,8 @@ pub enum Sort {
     Drop,
     Login,
     Players,
+    /// Which players are there.
+    Who,
     Lobby,
     LeaveLobby,
     Watch,
@@ -138,6 +140,8 @@ fn whole_sort(text: &str) -> Sort
 {
     if text == "players" {
         Sort::Players
+    } else if text == "who" {
+        Sort::Who
     } else if text == "lobby" {
         Sort::Lobby
     } else if text == "leave lobby" {
