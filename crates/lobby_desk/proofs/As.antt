@@ -13,13 +13,16 @@ use Rattle.lobby_desk.proofs.Found.{and_first, and_second}
 
 -- ---- where a message asks for that, LINE is an act in a game
 
-whole_none : (a b c d : Bool) →
-    is_as_sort (if a then sorts.Players else (if b then sorts.Who else (if c then sorts.Lobby else (if d then sorts.LeaveLobby else sorts.Nothing)))) ≡ false
-whole_none true b c d = refl
-whole_none false true c d = refl
-whole_none false false true d = refl
-whole_none false false false true = refl
-whole_none false false false false = refl
+whole_none : (a b c d e f : Bool) →
+    is_as_sort (if a then sorts.Players else (if b then sorts.Who else (if c then sorts.Pause else (if d then sorts.Resume
+    else (if e then sorts.Lobby else (if f then sorts.LeaveLobby else sorts.Nothing)))))) ≡ false
+whole_none true b c d e f = refl
+whole_none false true c d e f = refl
+whole_none false false true d e f = refl
+whole_none false false false true e f = refl
+whole_none false false false false true f = refl
+whole_none false false false false false true = refl
+whole_none false false false false false false = refl
 
 own_none : (a b c d : Bool) (last : Sort) → is_as_sort last ≡ false →
     is_as_sort (if a then sorts.Login else (if b then sorts.Watch else (if c then sorts.Line else (if d then sorts.Leave else last)))) ≡ false
@@ -48,7 +51,8 @@ as_plays text is =
     (is_play_word (word_of (as_line text))) (own_sort w text)
     (own_none (bytes_eq w (codes "login")) (bytes_eq w (codes "watch")) (bytes_eq w (codes "line"))
     (bytes_eq w (codes "leave") && not (bytes_eq text (codes "leave lobby"))) (whole_sort text)
-    (whole_none (bytes_eq text (codes "players")) (bytes_eq text (codes "who")) (bytes_eq text (codes "lobby")) (bytes_eq text (codes "leave lobby"))))
+    (whole_none (bytes_eq text (codes "players")) (bytes_eq text (codes "who")) (bytes_eq text (codes "pause entries"))
+    (bytes_eq text (codes "resume entries")) (bytes_eq text (codes "lobby")) (bytes_eq text (codes "leave lobby"))))
     (ap is_as_sort is)
 
 -- ---- a line with such a word is an act

@@ -1,5 +1,5 @@
 -- What a plan leaves and tells.
-use Rattle.std.proofs.Common.{ℕ, ◌≡◌, Bool, true, false, ◌&&◌, List, [], ◌∷◌, Option, None, Some, refl}
+use Rattle.std.proofs.Common.{ℕ, ◌≡◌, Bool, true, false, ◌&&◌, not, List, [], ◌∷◌, Option, None, Some, refl}
 use Rattle.std.specs.Prelude.{if◌then◌else◌}
 use Rattle.lobby_words.specs.declared.words.Sort.{Sort}
 use Rattle.lobby_words.specs.declared.words.Sort.TheVariants as sorts
@@ -12,7 +12,7 @@ use Rattle.lobby_words.specs.declared.planning.Identity.{Identity}
 use Rattle.lobby_desk.specs.declared.players.Player.{Player}
 use Rattle.lobby_desk.specs.declared.watching.Watch.{Watch}
 use Rattle.lobby_words.specs.Words.{as_line, is_leave_sort, is_leave_lobby_sort, or_0}
-use Rattle.lobby_words.specs.Plans.{asked, act_plan, named_plan, as_plan, drop_plan, arbiter_plan, login_plan, numbered_plan, plan_of}
+use Rattle.lobby_words.specs.Plans.{asked, entered_plan, act_plan, named_plan, as_plan, drop_plan, arbiter_plan, login_plan, numbered_plan, plan_of}
 use Rattle.lobby_desk.specs.Lines.{lines_of, is_said, name_line}
 use Rattle.lobby_desk.specs.Events.{Telling, ForItself, ForPositions, ForTable, ForGame, ForAct, Owed, Asker, Dropper, owed_last, plan_asker, sort_asker}
 use Rattle.lobby_desk.specs.Watching.{risen}
@@ -28,12 +28,19 @@ asked_last : (s : Standing) (plan : Plan) (said : Option (List ℕ)) (text : Lis
 asked_last s plan said text c o h =
     elim s.is_here as (λ b. LastIs (if b then plan else plans.Refuse refusals.NoServer) said text c o) [ true ↦ h | false ↦ refl ]
 
-act_last : (s : Standing) (who : Option Identity) (said : Option (List ℕ)) (text : List ℕ) (c : ℕ) → LastIs (act_plan s who) said text c (Asker c (ForAct (name_of who) text))
-act_last s None said text c = refl
-act_last s (Some who) said text c =
+entered_last : (s : Standing) (who : Identity) (said : Option (List ℕ)) (text : List ℕ) (c : ℕ) → LastIs (entered_plan s who) said text c (Asker c (ForAct who.name text))
+entered_last s who said text c =
     elim s.is_crowded as (λ b. LastIs (if b then asked s (plans.Refuse refusals.TooManyOpen) else asked s (plans.Act who)) said text c (Asker c (ForAct who.name text))) [
       | true ↦ asked_last s (plans.Refuse refusals.TooManyOpen) said text c (Asker c (ForAct who.name text)) refl
       | false ↦ asked_last s (plans.Act who) said text c (Asker c (ForAct who.name text)) refl
+    ]
+
+act_last : (s : Standing) (who : Option Identity) (said : Option (List ℕ)) (text : List ℕ) (c : ℕ) → LastIs (act_plan s who) said text c (Asker c (ForAct (name_of who) text))
+act_last s None said text c = refl
+act_last s (Some who) said text c =
+    elim (s.is_paused && not who.is_arbiter) as (λ b. LastIs (if b then plans.Refuse refusals.EntriesPaused else entered_plan s who) said text c (Asker c (ForAct who.name text))) [
+      | true ↦ refl
+      | false ↦ entered_last s who said text c
     ]
 
 named_last : (s : Standing) (who : Identity) (named : Option (List ℕ)) (said : Option (List ℕ)) (text : List ℕ) (c : ℕ) →
@@ -102,6 +109,8 @@ planned_last true sorts.Drop s game said text c = numbered_last s game said text
 planned_last true sorts.Login s game said text c = login_last s.holder said text c
 planned_last true sorts.Players s game said text c = refl
 planned_last true sorts.Who s game said text c = arbiter_last s.who plans.Who said text c refl
+planned_last true sorts.Pause s game said text c = arbiter_last s.who plans.Pause said text c refl
+planned_last true sorts.Resume s game said text c = arbiter_last s.who plans.Resume said text c refl
 planned_last true sorts.Lobby s game said text c = asked_last s plans.Lobby said text c (Asker c ForTable) refl
 planned_last true sorts.LeaveLobby s game said text c = refl
 planned_last true sorts.Watch s game said text c = watch_last s game said text c
@@ -114,13 +123,20 @@ planned_last true sorts.Nothing s game said text c = refl
 asked_does : (P : Plan → Type 0) (s : Standing) (plan : Plan) → P (plans.Refuse refusals.NoServer) → P plan → P (asked s plan)
 asked_does P s plan none h = elim s.is_here as (λ b. P (if b then plan else plans.Refuse refusals.NoServer)) [ true ↦ h | false ↦ none ]
 
-act_does : (P : Plan → Type 0) (s : Standing) (who : Option Identity) → ((r : Refusal) → P (plans.Refuse r)) → ((one : Identity) → P (plans.Act one)) →
+entered_does : (P : Plan → Type 0) (s : Standing) (who : Identity) → ((r : Refusal) → P (plans.Refuse r)) → P (plans.Act who) → P (entered_plan s who)
+entered_does P s who none h =
+    elim s.is_crowded as (λ b. P (if b then asked s (plans.Refuse refusals.TooManyOpen) else asked s (plans.Act who))) [
+      | true ↦ asked_does P s (plans.Refuse refusals.TooManyOpen) (none refusals.NoServer) (none refusals.TooManyOpen)
+      | false ↦ asked_does P s (plans.Act who) (none refusals.NoServer) h
+    ]
+
+pub act_does : (P : Plan → Type 0) (s : Standing) (who : Option Identity) → ((r : Refusal) → P (plans.Refuse r)) → ((one : Identity) → P (plans.Act one)) →
     P (act_plan s who)
 act_does P s None none h = none refusals.NoToken
 act_does P s (Some who) none h =
-    elim s.is_crowded as (λ b. P (if b then asked s (plans.Refuse refusals.TooManyOpen) else asked s (plans.Act who))) [
-      | true ↦ asked_does P s (plans.Refuse refusals.TooManyOpen) (none refusals.NoServer) (none refusals.TooManyOpen)
-      | false ↦ asked_does P s (plans.Act who) (none refusals.NoServer) (h who)
+    elim (s.is_paused && not who.is_arbiter) as (λ b. P (if b then plans.Refuse refusals.EntriesPaused else entered_plan s who)) [
+      | true ↦ none refusals.EntriesPaused
+      | false ↦ entered_does P s who none (h who)
     ]
 
 named_does : (P : Plan → Type 0) (s : Standing) (who : Identity) (named : Option (List ℕ)) → ((r : Refusal) → P (plans.Refuse r)) →
@@ -194,6 +210,8 @@ planned_watches true sorts.Drop s game c watches = dropped_does (WatchesStay c w
 planned_watches true sorts.Login s game c watches = login_does (WatchesStay c watches) s.holder (λ _. refl) (λ _. refl)
 planned_watches true sorts.Players s game c watches = refl
 planned_watches true sorts.Who s game c watches = arbiter_does (WatchesStay c watches) s.who plans.Who (λ _. refl) refl
+planned_watches true sorts.Pause s game c watches = arbiter_does (WatchesStay c watches) s.who plans.Pause (λ _. refl) refl
+planned_watches true sorts.Resume s game c watches = arbiter_does (WatchesStay c watches) s.who plans.Resume (λ _. refl) refl
 planned_watches true sorts.Lobby s game c watches = asked_does (WatchesStay c watches) s plans.Lobby refl refl
 planned_watches true sorts.LeaveLobby s game c watches = refl
 planned_watches true sorts.Watch s game c watches = watch_does (WatchesStay c watches) s game (λ _. refl) (λ _. refl)
@@ -220,6 +238,8 @@ planned_table true sorts.Drop s game c table = dropped_does (TableStays c table)
 planned_table true sorts.Login s game c table = login_does (TableStays c table) s.holder (λ _. refl) (λ _. refl)
 planned_table true sorts.Players s game c table = refl
 planned_table true sorts.Who s game c table = arbiter_does (TableStays c table) s.who plans.Who (λ _. refl) refl
+planned_table true sorts.Pause s game c table = arbiter_does (TableStays c table) s.who plans.Pause (λ _. refl) refl
+planned_table true sorts.Resume s game c table = arbiter_does (TableStays c table) s.who plans.Resume (λ _. refl) refl
 planned_table true sorts.Lobby s game c table = asked_does (TableStays c table) s plans.Lobby refl refl
 planned_table true sorts.LeaveLobby s game c table = refl
 planned_table true sorts.Watch s game c table = watch_does (TableStays c table) s game (λ _. refl) (λ _. refl)
@@ -244,6 +264,8 @@ answered_or_sent players is_open acts_for (plans.Drop who game) said text c tell
 answered_or_sent players is_open acts_for (plans.Login who) said text c tells h = (h.0, h.2)
 answered_or_sent players is_open acts_for plans.Players said text c tells h = (h.0, h.2)
 answered_or_sent players is_open acts_for plans.Who said text c tells h = (h.0, h.2)
+answered_or_sent players is_open acts_for plans.Pause said text c tells h = (h.0, h.2)
+answered_or_sent players is_open acts_for plans.Resume said text c tells h = (h.0, h.2)
 answered_or_sent players is_open acts_for plans.Lobby said text c tells h = h
 answered_or_sent players is_open acts_for plans.LeaveLobby said text c tells h = (h.0, h.2)
 answered_or_sent players is_open acts_for (plans.Watch game) said text c tells h = h

@@ -1,5 +1,5 @@
 -- What is promised holds of each run.
-use Rattle.std.proofs.Common.{ℕ, ◌≡◌, ◌<◌, ◌+◌, ◌^◌, ◌⊎◌, inl, inr, Bool, true, false, ◌&&◌, ◌||◌, ◌==◌, List, [], ◌∷◌, ◌++◌, Option, None, Some, IfSome, codes, refl, sym, ap, ◌∙◌, subst, arith}
+use Rattle.std.proofs.Common.{ℕ, ◌≡◌, ◌<◌, ◌+◌, ◌^◌, ◌⊎◌, inl, inr, Bool, true, false, ◌&&◌, ◌||◌, ◌==◌, not, List, [], ◌∷◌, ◌++◌, Option, None, Some, IfSome, codes, refl, sym, ap, ◌∙◌, subst, arith}
 use Rattle.std.specs.Prelude.{if◌then◌else◌}
 use Rattle.std.specs.List.{AllByRecursion}
 use Rattle.std.specs.Str.{bytes_eq}
@@ -17,7 +17,7 @@ use Rattle.lobby_desk.specs.declared.players.Player.{Player}
 use Rattle.lobby_words.specs.declared.listing.Waiting.{Waiting}
 use Rattle.lobby_desk.specs.declared.watching.Watch.{Watch}
 use Rattle.lobby_words.specs.Words.{word_of, rest_of, as_name, as_line, is_message, sort_of, is_act_sort, is_as_sort, is_drop_sort, is_name_sort, is_login_sort, number_in, or_0}
-use Rattle.lobby_words.specs.Plans.{asked, act_plan, named_plan, as_plan, arbiter_plan, drop_plan, login_plan, numbered_plan, plan_of}
+use Rattle.lobby_words.specs.Plans.{asked, entered_plan, act_plan, named_plan, as_plan, arbiter_plan, drop_plan, login_plan, numbered_plan, plan_of}
 use Rattle.lobby_desk.specs.Lines.{lines_of, act_lines, said_after, name_line, game_line, is_said, notice_lines, IsNamed}
 use Rattle.lobby_words.specs.Answers.{is_accepted, first_line, act_game, is_whole, answer}
 use Rattle.lobby_desk.specs.Watching.{watch_if, sit_if}
@@ -28,7 +28,7 @@ use Rattle.lobby_desk.specs.Players.{player_named}
 use Rattle.lobby_desk.specs.History.{Step, comes, has_come, shown_by, player_said, player_after, player_in, is_drop, is_as, name_as, name_for, name_behind, name_through, name_before, name_in, ActsUnder, ActsRight, NoActs, NoDrops, sort_asks, IsOf, open_in, known_in, IsArbiter, AsksNow, HasAsked, IsDropOf, IsNoticeOf, IsRight, AreWhole, AllRight, AllTold, IsRun}
 use Rattle.lobby_words.proofs.Numbers.{number_small}
 use Rattle.lobby_desk.proofs.Sent.{is_said_same}
-use Rattle.lobby_desk.proofs.Carry.{as_does, arbiter_does}
+use Rattle.lobby_desk.proofs.Carry.{act_does, as_does, arbiter_does}
 use Rattle.lobby_desk.proofs.As.{as_whole, as_acts}
 use Rattle.lobby_desk.proofs.Lines.{show_whole, fen_whole, pgn_whole, list_whole, name_whole, show_reads, fen_reads, pgn_reads, list_reads, name_names}
 
@@ -38,12 +38,7 @@ asked_who s plan before h =
     elim s.is_here as (λ b. who_noted (if b then plan else plans.Refuse refusals.NoServer) before ≡ before) [ true ↦ h | false ↦ refl ]
 
 act_who : (s : Standing) (who : Option Identity) (before : Option Identity) → who_noted (act_plan s who) before ≡ before
-act_who s None before = refl
-act_who s (Some who) before =
-    elim s.is_crowded as (λ b. who_noted (if b then asked s (plans.Refuse refusals.TooManyOpen) else asked s (plans.Act who)) before ≡ before) [
-      | true ↦ asked_who s (plans.Refuse refusals.TooManyOpen) before refl
-      | false ↦ asked_who s (plans.Act who) before refl
-    ]
+act_who s who before = act_does (λ plan. who_noted plan before ≡ before) s who (λ _. refl) (λ _. refl)
 
 as_who : (s : Standing) (who : Option Identity) (before : Option Identity) → who_noted (as_plan s who) before ≡ before
 as_who s who before = as_does (λ plan. who_noted plan before ≡ before) s who (λ _. refl) (λ _ _. refl)
@@ -90,6 +85,8 @@ planned_who true sorts.Drop s game before = dropped_who s game before
 planned_who true sorts.Login s game before = login_who s.holder before
 planned_who true sorts.Players s game before = refl
 planned_who true sorts.Who s game before = arbiter_does (λ plan. who_noted plan before ≡ before) s.who plans.Who (λ _. refl) refl
+planned_who true sorts.Pause s game before = arbiter_does (λ plan. who_noted plan before ≡ before) s.who plans.Pause (λ _. refl) refl
+planned_who true sorts.Resume s game before = arbiter_does (λ plan. who_noted plan before ≡ before) s.who plans.Resume (λ _. refl) refl
 planned_who true sorts.Lobby s game before = asked_who s plans.Lobby before refl
 planned_who true sorts.LeaveLobby s game before = refl
 planned_who true sorts.Watch s game before = watch_who s game before
@@ -224,12 +221,10 @@ acts_good text name under said own message is named =
 own_name : (players : List Player) (who : Identity) (text : List ℕ) → sort_of text ≡ sorts.Act → name_for players (Some who) text ≡ Some who.name
 own_name players who text is = ap (λ (sort : Sort). if is_as_sort sort then name_as players who.is_arbiter text else Some who.name) is
 
--- the plan for an act
-act_good : (players : List Player) (text : List ℕ) (s : Standing) (said : Option (List ℕ)) (who : Option Identity) → is_message text ≡ true →
-    sort_of text ≡ sorts.Act → IsNamed (act_plan s who) →
-    Good (text ∷ []) (name_for players who text) said (lines_of (act_plan s who) said text) (said_after (act_plan s who) said)
-act_good players text s said None message is = λ named. none_good (text ∷ []) None said
-act_good players text s said (Some who) message is =
+entered_good : (players : List Player) (text : List ℕ) (s : Standing) (said : Option (List ℕ)) (who : Identity) → is_message text ≡ true →
+    sort_of text ≡ sorts.Act → IsNamed (entered_plan s who) →
+    Good (text ∷ []) (name_for players (Some who) text) said (lines_of (entered_plan s who) said text) (said_after (entered_plan s who) said)
+entered_good players text s said who message is =
     let under = name_for players (Some who) text in
     elim s.is_crowded as (λ b. IsNamed (if b then asked s (plans.Refuse refusals.TooManyOpen) else asked s (plans.Act who)) →
     Good (text ∷ []) (name_for players (Some who) text) said (lines_of (if b then asked s (plans.Refuse refusals.TooManyOpen) else asked s (plans.Act who)) said text)
@@ -237,6 +232,19 @@ act_good players text s said (Some who) message is =
       | true ↦ asked_good (text ∷ []) text s under said (plans.Refuse refusals.TooManyOpen) (λ _. none_good (text ∷ []) under said)
       | false ↦ asked_good (text ∷ []) text s under said (plans.Act who)
           (λ named. acts_good text who.name under said (own_name players who text is) message is named)
+    ]
+
+-- the plan for an act
+act_good : (players : List Player) (text : List ℕ) (s : Standing) (said : Option (List ℕ)) (who : Option Identity) → is_message text ≡ true →
+    sort_of text ≡ sorts.Act → IsNamed (act_plan s who) →
+    Good (text ∷ []) (name_for players who text) said (lines_of (act_plan s who) said text) (said_after (act_plan s who) said)
+act_good players text s said None message is = λ named. none_good (text ∷ []) None said
+act_good players text s said (Some who) message is =
+    elim (s.is_paused && not who.is_arbiter) as (λ b. IsNamed (if b then plans.Refuse refusals.EntriesPaused else entered_plan s who) →
+    Good (text ∷ []) (name_for players (Some who) text) said (lines_of (if b then plans.Refuse refusals.EntriesPaused else entered_plan s who) said text)
+    (said_after (if b then plans.Refuse refusals.EntriesPaused else entered_plan s who) said)) [
+      | true ↦ λ _. none_good (text ∷ []) (name_for players (Some who) text) said
+      | false ↦ entered_good players text s said who message is
     ]
 
 -- the plan for an act of an arbiter under the name of another
@@ -344,6 +352,10 @@ plan_good players text s said game true sorts.Login other message is small named
 plan_good players text s said game true sorts.Players other message is small named = none_good [] (name_for players s.who text) said
 plan_good players text s said game true sorts.Who other message is small named =
     silent_good text s.who (name_for players s.who text) said plans.Who (none_good [] (name_for players s.who text) said)
+plan_good players text s said game true sorts.Pause other message is small named =
+    silent_good text s.who (name_for players s.who text) said plans.Pause (none_good [] (name_for players s.who text) said)
+plan_good players text s said game true sorts.Resume other message is small named =
+    silent_good text s.who (name_for players s.who text) said plans.Resume (none_good [] (name_for players s.who text) said)
 plan_good players text s said game true sorts.Lobby other message is small named =
     asked_good (codes "list" ∷ []) text s (name_for players s.who text) said plans.Lobby
     (λ _. reads_good (name_for players s.who text) said (codes "list" ∷ []) (list_reads, tt) (list_whole, tt)) named
@@ -564,6 +576,8 @@ asks_at true sorts.Drop s game said text = dropped_asks s game said text
 asks_at true sorts.Login s game said text = tt
 asks_at true sorts.Players s game said text = tt
 asks_at true sorts.Who s game said text = tt
+asks_at true sorts.Pause s game said text = tt
+asks_at true sorts.Resume s game said text = tt
 asks_at true sorts.Lobby s game said text = tt
 asks_at true sorts.LeaveLobby s game said text = tt
 asks_at true sorts.Watch s game said text = tt
@@ -590,6 +604,8 @@ asked_if_drop players past c by text sorts.Drop game h = h refl
 asked_if_drop players past c by text sorts.Login game h = tt
 asked_if_drop players past c by text sorts.Players game h = tt
 asked_if_drop players past c by text sorts.Who game h = tt
+asked_if_drop players past c by text sorts.Pause game h = tt
+asked_if_drop players past c by text sorts.Resume game h = tt
 asked_if_drop players past c by text sorts.Lobby game h = tt
 asked_if_drop players past c by text sorts.LeaveLobby game h = tt
 asked_if_drop players past c by text sorts.Watch game h = tt
@@ -700,6 +716,8 @@ drop_names_none sorts.Drop h = refl
 drop_names_none sorts.Login h = absurd (false≢true h)
 drop_names_none sorts.Players h = absurd (false≢true h)
 drop_names_none sorts.Who h = absurd (false≢true h)
+drop_names_none sorts.Pause h = absurd (false≢true h)
+drop_names_none sorts.Resume h = absurd (false≢true h)
 drop_names_none sorts.Lobby h = absurd (false≢true h)
 drop_names_none sorts.LeaveLobby h = absurd (false≢true h)
 drop_names_none sorts.Watch h = absurd (false≢true h)

@@ -3,7 +3,7 @@ ghost use Rattle.std.specs.Prelude.{ℕ, List, ◌≡◌, ◌++◌, ◌==◌, �
 ghost use Rattle.std.specs.String.{string_bytes};
 ghost use Rattle.lobby_desk.specs.Lines.{bytes_of, lines_of, said_after, IsNamed, IsHeardSame};
 ghost use Rattle.lobby_desk.specs.Events.{Telling, tellings, owed_of, owed_last, plan_asker};
-ghost use Rattle.lobby_desk.specs.Who.{who_in, open_in_map, until_in, who_noted, plan_watches, plan_table, is_own, IsOwnText, IsAnswered};
+ghost use Rattle.lobby_desk.specs.Who.{who_in, open_in_map, until_in, who_noted, plan_watches, plan_table, paused_after, is_own, IsOwnText, IsAnswered};
 
 use crate::players::{Player, Visitor};
 use crate::present::present_rows;
@@ -61,6 +61,8 @@ fn own_answer(
         Plan::Login(who) => Ok(Some(login_line(alloc, who, players)?)),
         Plan::Players => Ok(Some(player_rows(alloc, players)?)),
         Plan::Who => Ok(Some(present_rows(alloc, players, visitors)?)),
+        Plan::Pause => Ok(Some(String::from_str(alloc, "ok pause entries\n")?)),
+        Plan::Resume => Ok(Some(String::from_str(alloc, "ok resume entries\n")?)),
         Plan::LeaveLobby => Ok(Some(String::from_str(alloc, "ok leave lobby\n")?)),
         Plan::Leave(game) => Ok(Some(headed(alloc, "ok leave ", *game)?)),
         _ => Ok(None),
@@ -124,6 +126,17 @@ fn who_noted(before: Option<Identity>, plan: &Plan) -> Option<Identity>
 {
     match plan {
         Plan::Login(who) => Some(*who),
+        _ => before,
+    }
+}
+
+/// Whether entries are paused after a plan.
+pub fn paused_after(before: bool, plan: &Plan) -> bool
+    ensures { result ≡ paused_after plan.now before }
+{
+    match plan {
+        Plan::Pause => true,
+        Plan::Resume => false,
         _ => before,
     }
 }

@@ -50,9 +50,11 @@ abbrev pub whole_sort : List ℕ → Sort
 whole_sort text =
     if bytes_eq text (codes "players") then sorts.Players
     else (if bytes_eq text (codes "who") then sorts.Who
+    else (if bytes_eq text (codes "pause entries") then sorts.Pause
+    else (if bytes_eq text (codes "resume entries") then sorts.Resume
     else (if bytes_eq text (codes "lobby") then sorts.Lobby
     else (if bytes_eq text (codes "leave lobby") then sorts.LeaveLobby
-    else sorts.Nothing)))
+    else sorts.Nothing)))))
 
 abbrev pub own_sort : List ℕ → List ℕ → Sort
 own_sort w text =

@@ -30,6 +30,9 @@ pub enum Plan {
     Players,
     /// Which players are there.
     Who,
+    /// No games are opened from now on, and games are again.
+    Pause,
+    Resume,
     Lobby,
     LeaveLobby,
     Watch(u32),
@@ -52,6 +55,8 @@ pub struct Standing {
     pub is_full: bool,
     /// Whether the message opens a game where the player has as many waiting for a second player as may be.
     pub is_crowded: bool,
+    /// Whether the message opens a game while entries are paused.
+    pub is_paused: bool,
 }
 
 // What asks for the server.
@@ -65,6 +70,17 @@ fn asked(standing: &Standing, plan: Plan) -> Plan
     }
 }
 
+// An act but a drop, of who may open games.
+fn entered_plan(standing: &Standing, who: Identity) -> Plan
+    ensures { result ≡ plans.entered_plan standing.now who }
+{
+    if standing.is_crowded {
+        asked(standing, Plan::Refuse(Refusal::TooManyOpen))
+    } else {
+        asked(standing, Plan::Act(who))
+    }
+}
+
 // An act but a drop.
 fn act_plan(standing: &Standing) -> Plan
     ensures { result ≡ plans.act_plan standing.now standing.now.who }
@@ -72,10 +88,11 @@ fn act_plan(standing: &Standing) -> Plan
     match standing.who {
         None => Plan::Refuse(Refusal::NoToken),
         Some(who) => {
-            if standing.is_crowded {
-                asked(standing, Plan::Refuse(Refusal::TooManyOpen))
+            let is_player = !who.is_arbiter;
+            if standing.is_paused & is_player {
+                Plan::Refuse(Refusal::EntriesPaused)
             } else {
-                asked(standing, Plan::Act(who))
+                entered_plan(standing, who)
             }
         }
     }
@@ -179,6 +196,8 @@ fn sort_plan(sort: Sort, standing: &Standing, game: Option<u32>) -> Plan
         Sort::Login => login_plan(standing.holder),
         Sort::Players => Plan::Players,
         Sort::Who => arbiter_plan(standing, Plan::Who),
+        Sort::Pause => arbiter_plan(standing, Plan::Pause),
+        Sort::Resume => arbiter_plan(standing, Plan::Resume),
         Sort::Lobby => asked(standing, Plan::Lobby),
         Sort::LeaveLobby => Plan::LeaveLobby,
         Sort::Name | Sort::Nothing => Plan::Refuse(Refusal::BadLine),

@@ -21,6 +21,8 @@ pub enum Refusal {
     TooManyWatched,
     /// No player has the name.
     NoPlayer,
+    /// No games are opened at the moment, but by an arbiter.
+    EntriesPaused,
 }
 
 impl Refusal {
@@ -37,6 +39,7 @@ impl Refusal {
             Refusal::NoServer => "no 36 NoServer\n",
             Refusal::TooManyWatched => "no 37 TooManyWatched\n",
             Refusal::NoPlayer => "no 38 NoPlayer\n",
+            Refusal::EntriesPaused => "no 39 EntriesPaused\n",
         }
     }
 }

@@ -19,6 +19,9 @@ pub enum Sort {
     Players,
     /// Which players are there.
     Who,
+    /// No games are opened from now on, and games are again.
+    Pause,
+    Resume,
     Lobby,
     LeaveLobby,
     Watch,
@@ -142,6 +145,10 @@ fn whole_sort(text: &str) -> Sort
         Sort::Players
     } else if text == "who" {
         Sort::Who
+    } else if text == "pause entries" {
+        Sort::Pause
+    } else if text == "resume entries" {
+        Sort::Resume
     } else if text == "lobby" {
         Sort::Lobby
     } else if text == "leave lobby" {
