@@ -1,10 +1,11 @@
 -- The line of a message `as NAME LINE`.
-use Rattle.std.proofs.Common.{ℕ, ◌≡◌, ◌≤◌, ◌==◌, Bool, true, false, ◌&&◌, ◌||◌, not, List, [], ◌∷◌, length, codes, refl, sym, ap, ◌∙◌, subst, arith}
+use Rattle.std.proofs.Common.{ℕ, zero, suc, ◌≡◌, ◌≤◌, ◌+◌, ◌==◌, Bool, true, false, ◌&&◌, ◌||◌, not, List, [], ◌∷◌, length, drop, codes, refl, sym, ap, ◌∙◌, subst, arith}
 use Rattle.std.specs.Prelude.{if◌then◌else◌, nat_le}
-use Rattle.std.specs.List.{list_all, after_first}
+use Rattle.std.specs.List.{list_all, position_or_len}
 use Rattle.std.specs.Str.{bytes_eq}
 use Rattle.std.proofs.lemmas.Bool.{false≢true}
 use Rattle.std.proofs.lemmas.Bool.Decides.{nat_tests}
+use Rattle.std.proofs.lemmas.List.{length-drop}
 use Rattle.std.proofs.lemmas.Slice.Eq.{bytes_eq-Decides}
 use Rattle.lobby_words.specs.declared.words.Sort.{Sort}
 use Rattle.lobby_words.specs.declared.words.Sort.TheVariants as sorts
@@ -58,22 +59,37 @@ as_plays text is =
 -- ---- a line with such a word is an act
 
 -- what holds of each of the words holds of a text that is one of them
-among : (P : List ℕ → Type 0) (w word : List ℕ) (rest : Bool) → P word → (rest ≡ true → P w) → (bytes_eq w word || rest) ≡ true → P w
-among P w word rest here later h = among_at (bytes_eq w word) refl h
-  where
-    among_at : (b : Bool) → bytes_eq w word ≡ b → (b || rest) ≡ true → P w
-    among_at true is h = subst P (sym ((bytes_eq-Decides w word).0 is)) here
-    among_at false is h = later h
+among : (P : List ℕ → Type 0) (w word : List ℕ) (before : Bool) → (before ≡ true → P w) → P word → (before || bytes_eq w word) ≡ true → P w
+among P w word true earlier here h = earlier refl
+among P w word false earlier here h = subst P (sym ((bytes_eq-Decides w word).0 h)) here
 
-is_last : (P : List ℕ → Type 0) (w word : List ℕ) → P word → bytes_eq w word ≡ true → P w
-is_last P w word here h = subst P (sym ((bytes_eq-Decides w word).0 h)) here
+abbrev pub to_offer : List ℕ → Bool
+to_offer w = bytes_eq w (codes "move") || bytes_eq w (codes "offer")
+
+abbrev pub to_accept : List ℕ → Bool
+to_accept w = to_offer w || bytes_eq w (codes "accept")
+
+abbrev pub to_decline : List ℕ → Bool
+to_decline w = to_accept w || bytes_eq w (codes "decline")
+
+abbrev pub to_resign : List ℕ → Bool
+to_resign w = to_decline w || bytes_eq w (codes "resign")
+
+abbrev pub to_claim : List ℕ → Bool
+to_claim w = to_resign w || bytes_eq w (codes "claim")
 
 each_word : (P : List ℕ → Type 0) (w : List ℕ) → P (codes "move") → P (codes "offer") → P (codes "accept") → P (codes "decline") →
     P (codes "resign") → P (codes "claim") → P (codes "flag") → is_play_word w ≡ true → P w
 unfolding is_play_word
-each_word P w a b c d e f g =
-    among P w (codes "move") _ a (among P w (codes "offer") _ b (among P w (codes "accept") _ c (among P w (codes "decline") _ d
-    (among P w (codes "resign") _ e (among P w (codes "claim") _ f (is_last P w (codes "flag") g))))))
+each_word P w move offer accept decline resign claim flag h =
+    among P w (codes "flag") (to_claim w)
+    (among P w (codes "claim") (to_resign w)
+    (among P w (codes "resign") (to_decline w)
+    (among P w (codes "decline") (to_accept w)
+    (among P w (codes "accept") (to_offer w)
+    (among P w (codes "offer") (bytes_eq w (codes "move"))
+    (λ is. subst P (sym ((bytes_eq-Decides w (codes "move")).0 is)) move) offer)
+    accept) decline) resign) claim) flag h
 
 -- what such a word is
 abbrev pub IsActWord : List ℕ → Type 0
@@ -81,7 +97,8 @@ IsActWord w = (bytes_eq w (codes "name") ≡ false) × (is_read_word w ≡ false
 
 plays_acts : (w : List ℕ) → is_play_word w ≡ true → IsActWord w
 unfolding is_read_word is_act_word is_play_word
-plays_acts w = each_word IsActWord w (refl, refl, refl) (refl, refl, refl) (refl, refl, refl) (refl, refl, refl) (refl, refl, refl) (refl, refl, refl) (refl, refl, refl)
+plays_acts w h =
+    each_word IsActWord w (refl, refl, refl) (refl, refl, refl) (refl, refl, refl) (refl, refl, refl) (refl, refl, refl) (refl, refl, refl) (refl, refl, refl) h
 
 acts_if : (a b c : Bool) (last : Sort) → a ≡ false → b ≡ false → c ≡ true →
     (if a then sorts.Name else (if b then sorts.Read else (if c then sorts.Act else last))) ≡ sorts.Act
@@ -94,29 +111,25 @@ act_by_word : (line : List ℕ) → IsActWord (word_of line) → sort_of line �
 unfolding sort_of
 act_by_word line h =
     let w = word_of line in
-    acts_if (bytes_eq w (codes "name")) (is_read_word w) (is_act_word w) _ h.0 h.1 h.2
+    acts_if (bytes_eq w (codes "name")) (is_read_word w) (is_act_word w)
+    (if bytes_eq w (codes "drop") then sorts.Drop else (if bytes_eq w (codes "as") then as_sort line else own_sort w line)) h.0 h.1 h.2
 
 pub as_acts : (text : List ℕ) → sort_of text ≡ sorts.As → sort_of (as_line text) ≡ sorts.Act
 as_acts text is = act_by_word (as_line text) (plays_acts (word_of (as_line text)) (as_plays text is))
 
 -- ---- it may stand in a message, as the message may
 
+shown_behind : (n : ℕ) (text : List ℕ) → list_all is_message_byte text ≡ true → list_all is_message_byte (drop n text) ≡ true
+shown_behind zero text h = h
+shown_behind (suc n) [] h = refl
+shown_behind (suc n) (b ∷ bs) h = shown_behind n bs (and_second (is_message_byte b) (list_all is_message_byte bs) h)
+
 -- what stands behind a first space
 behind_space : (text : List ℕ) → list_all is_message_byte text ≡ true → list_all is_message_byte (rest_of text) ≡ true
-behind_space [] h = refl
-behind_space (b ∷ bs) h =
-    elim (b == 32) as (λ t. list_all is_message_byte (if t then bs else rest_of bs) ≡ true) [
-      | true ↦ and_second (is_message_byte b) (list_all is_message_byte bs) h
-      | false ↦ behind_space bs (and_second (is_message_byte b) (list_all is_message_byte bs) h)
-    ]
+behind_space text h = shown_behind (position_or_len (λ b. b == 32) text + 1) text h
 
 shorter : (text : List ℕ) → length (rest_of text) ≤ length text
-shorter [] = omega arith
-shorter (b ∷ bs) =
-    elim (b == 32) as (λ t. length (if t then bs else rest_of bs) ≤ length (b ∷ bs)) [
-      | true ↦ omega arith
-      | false ↦ let less = shorter bs in omega (arith, less)
-    ]
+shorter text = let short = length-drop (position_or_len (λ b. b == 32) text + 1) text in omega (arith, short)
 
 -- a text whose word is one of these is not empty
 some_if : (line : List ℕ) → IsActWord (word_of line) → 1 ≤ length line
@@ -128,12 +141,17 @@ record Parts (text : List ℕ) : Type 0 where
   short : length text ≤ 255
   shown : list_all is_message_byte text ≡ true
 
+at_most : (n : ℕ) → nat_le n 255 ≡ true → n ≤ 255
+at_most n h = grind (arith, nat_tests)
+
 parts : (text : List ℕ) → is_message text ≡ true → Parts text
-parts text h = record {
-  short = grind (arith, nat_tests);
-  shown = and_second (nat_le (length text) 255) (list_all is_message_byte text)
-      (and_second (nat_le 1 (length text)) (nat_le (length text) 255 && list_all is_message_byte text) h);
-}
+parts text h =
+    let len = length text in
+    let counted = and_first (nat_le 1 len && nat_le len 255) (list_all is_message_byte text) h in
+    record {
+      short = at_most (length text) (and_second (nat_le 1 len) (nat_le len 255) counted);
+      shown = and_second (nat_le 1 len && nat_le len 255) (list_all is_message_byte text) h;
+    }
 
 message : (text : List ℕ) → 1 ≤ length text → length text ≤ 255 → list_all is_message_byte text ≡ true → is_message text ≡ true
 message text some short bytes = grind (arith, nat_tests)

@@ -7,7 +7,7 @@ pub mod Named
 pub mod As
 pub mod Waited
 pub mod PlayerRows
-pub mod Present
+pub mod PresentNames
 pub mod Watched
 pub mod Steps
 pub mod Runs

@@ -52,17 +52,19 @@ login_text players who = codes "ok login " ++ player_row who.name who.is_arbiter
 abbrev pub players_text : List Player → List ℕ
 players_text players = codes "ok players " ++ decimal (length players) ++ codes "\n" ++ flat_map row_of players
 
--- Whether one of these connections acts for the player of this name, by for whom each acts.
+-- whether it is the player of this name
 abbrev pub is_named : Option Identity → List ℕ → Bool
 is_named None name = false
 is_named (Some who) name = bytes_eq who.name name
 
+-- whether one of these connections acts for him, by for whom each acts
 abbrev pub is_present : (ℕ → Option Identity) → List ℕ → List ℕ → Bool
 is_present who connections name = list_any (λ c. is_named (who c) name) connections
 
 -- the names of the players of whom that is so, in the list's order
 abbrev pub present_names : (ℕ → Option Identity) → List ℕ → List Player → List (List ℕ)
-present_names who connections players = map (λ player. player.name) (filter (λ player. is_present who connections player.name) players)
+present_names who connections players =
+    map (λ (player : Player). player.name) (filter (λ (player : Player). is_present who connections player.name) players)
 
 -- the answer to `who` that tells these names
 abbrev pub who_text : List (List ℕ) → List ℕ

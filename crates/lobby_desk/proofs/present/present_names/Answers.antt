@@ -3,7 +3,7 @@ use Rattle.std.specs.Prelude.{if◌then◌else◌}
 use Rattle.lobby_desk.specs.declared.players.Player.{Player}
 use Rattle.lobby_desk.specs.Players.{is_present}
 use Rattle.lobby_desk.specs.Who.{who_in}
-use Rattle.lobby_desk.proofs.Present.{names_more}
+use Rattle.lobby_desk.proofs.PresentNames.{names_more}
 use Rattle.lobby_desk.proofs.present.present_names.Goals as goal
 
 pub loop-player-preserved : goal.loop-player-preserved

@@ -1,7 +1,7 @@
 use Rattle.std.proofs.Common.{◌≡◌, take}
 use Rattle.lobby_desk.specs.Players.{is_present}
 use Rattle.lobby_desk.specs.Who.{who_in}
-use Rattle.lobby_desk.proofs.Present.{names_of}
+use Rattle.lobby_desk.proofs.PresentNames.{names_of}
 use Rattle.lobby_desk.proofs.present.present_names.Given as goal
 
 abbrev pub invariant-loop-player : goal.invariant-loop-player

@@ -6,8 +6,7 @@ use Rattle.lobby_desk.proofs.present.present_rows.Goals as goal
 pub returns : goal.returns
 returns c =
     let players = c.args.players.now in
-    let visitors = c.args.visitors.now in
-    (
+    let visitors = c.args.visitors.now in (
       c.in_ok-all.all.items,
       c.in_ok-all.ensures,
       c.in_ok-text.ensures

@@ -1,6 +1,6 @@
 use Rattle.std.proofs.Common.{ℕ, ◌++◌, List, length, codes, decimal, ap, ◌∙◌}
 use Rattle.lobby_words.specs.Answers.{ended}
-use Rattle.lobby_desk.proofs.Present.{lines_more}
+use Rattle.lobby_desk.proofs.PresentNames.{lines_more}
 use Rattle.lobby_desk.proofs.present.who_text.Goals as goal
 
 pub loop-name-preserved : goal.loop-name-preserved
