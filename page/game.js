@@ -7,7 +7,7 @@ import { byId, copy, make, save, say, setText } from './make.js';
 import { drawActions, drawFacts, drawMoves, drawOutcome, drawPlayers } from './sheet.js';
 import { sound } from './sound.js';
 import {
-  FLAG_UP, NOT_YOUR_MOVE, NO_GAME, OTHER, OVER, SIDES, WRONG_PLY, clockWords, colourWord, kindWord, manWords,
+  FLAG_UP, NOT_YOUR_MOVE, NO_GAME, OTHER, OVER, SIDES, WRONG_PLY, clockWords, colourWord, enteredWords, kindWord, manWords,
   refusalWords, resultWords, sanWords,
 } from './words.js';
 
@@ -166,7 +166,7 @@ export class GameView {
   }
 
   /** A notice of this game: an act was accepted. */
-  notice(by, sent, answer, standing) {
+  notice({ by, sent, arbiter }, answer, standing) {
     this.stand(standing);
     if (!standing) {
       this.wasTaken = true;
@@ -175,7 +175,7 @@ export class GameView {
       return;
     }
     this.follow(sent, answer);
-    this.tell(by, sent, answer);
+    this.tell(by, sent, answer, arbiter);
     this.render();
   }
 
@@ -194,7 +194,7 @@ export class GameView {
 
   // ---- what is said
 
-  tell(by, sent, answer) {
+  tell(by, sent, answer, arbiter) {
     const word = sent.split(' ')[0], name = this.app.nameWords(by), own = by === this.app.me();
     const moved = /^ok (?:move \d+|claim \d+ wrong) \d+ (\S+)/.exec(answer);
     const side = this.standing.white === by ? 'w' : 'b';
@@ -203,6 +203,8 @@ export class GameView {
       sound(moved[1].includes('x') ? 'take' : 'move');
     }
     if (answer.startsWith('fallen')) say('The flag has fallen.');
+    else if (arbiter) this.news(`The arbiter, ${this.app.nameWords(arbiter)}, has entered ${enteredWords(word)} for ${
+      own ? 'you' : name}.`);
     else if (word === 'join') this.news(`${name} has joined. The game has begun.`);
     else if (word === 'offer' && !own && this.seat()) say(`${name} offers a draw.`);
     else if (word === 'offer') this.news(own ? 'You have offered a draw.' : `${name} offers a draw.`);

@@ -14,6 +14,7 @@ export class HallView {
     this.app = app;
     this.rows = rows;
     this.root = byId('hall-view');
+    this.hash = '#/hall';
     this.list = byId('hall-boards');
     this.cards = new Map();
     this.first = 0;

@@ -66,6 +66,20 @@ export function readPlayers(lines) {
   return players;
 }
 
+/** `by NAME LINE` as {by, sent, arbiter}, null for any other line: of an arbiter's `as NAME LINE` that name and that line,
+ * and who entered it. */
+export function readAct(line) {
+  const found = /^by (\S+) (.*)$/.exec(line);
+  if (!found) return null;
+  const as = /^as (\S+) (.*)$/.exec(found[2]);
+  return as ? { by: as[1], sent: as[2], arbiter: found[1] } : { by: found[1], sent: found[2], arbiter: '' };
+}
+
+/** The names of `ok who K`. */
+export function readWho(lines) {
+  return new Set(lines.slice(1));
+}
+
 /** `e2e4` as {from, to}; empty texts for `-` or anything else. */
 export function squaresOf(move) {
   const found = /^([a-h][1-8])([a-h][1-8])[qrbn]?$/.exec(move);

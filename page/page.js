@@ -1,8 +1,9 @@
 // The page: who is here, which view is open, and the connection that all of it shares.
 
+import { ArbiterView } from './arbiter.js';
 import { GameView } from './game.js';
 import { HallView, wholeScreen } from './hall.js';
-import { readPlayers, readRefusal, readRows, readStanding } from './lines.js';
+import { readAct, readPlayers, readRefusal, readRows, readStanding } from './lines.js';
 import { byId, make, read, say, setText, write } from './make.js';
 import { setSound, wantsSound } from './sound.js';
 import { TableView } from './table.js';
@@ -36,6 +37,7 @@ class Page {
     this.table = new TableView(this);
     this.game = new GameView(this);
     this.hall = new HallView(this, () => this.table.rows);
+    this.desk = new ArbiterView(this, () => this.table.rows);
     this.listen();
     this.route();
     this.changed();
@@ -166,10 +168,10 @@ class Page {
     const found = /^\/(game|hall)\/(\d{1,10})$/.exec(fragment);
     const number = found ? Number(found[2]) : 0;
     if (number) this.begun.add(number);
-    const view = number ? this.game : fragment === '/hall' ? this.hall : this.table;
+    const view = number ? this.game : { '/hall': this.hall, '/arbiter': this.desk }[fragment] || this.table;
     document.body.classList.toggle('hall', Boolean(found && found[1] === 'hall' || view === this.hall));
     document.body.classList.toggle('one-game', Boolean(number));
-    for (const other of [this.table, this.game, this.hall]) {
+    for (const other of [this.table, this.game, this.hall, this.desk]) {
       if (other !== view && !other.root.hidden) other.close();
     }
     const isOther = this.view && (this.view !== view || number && number !== this.game.number);
@@ -180,7 +182,7 @@ class Page {
     this.atTable();
     byId('invited').hidden = true;
     for (const link of document.querySelectorAll('.top nav a')) {
-      if (link.hash === (view === this.hall ? '#/hall' : number ? '' : '#/')) link.setAttribute('aria-current', 'page');
+      if (link.hash === (number ? '' : view.hash || '#/')) link.setAttribute('aria-current', 'page');
       else link.removeAttribute('aria-current');
     }
     scrollTo(0, 0);
@@ -203,7 +205,7 @@ class Page {
       return;
     }
     this.table.load(readRows(answer.slice(2)));
-    if (this.view === this.hall) this.hall.again();
+    if (this.view === this.hall || this.view === this.desk) this.view.again();
     if (this.lostOpen) this.findOpened();
     this.findBegun();
   }
@@ -302,12 +304,13 @@ class Page {
   }
 
   notice(lines) {
-    const number = Number(lines[0].split(' ')[1]), found = /^by (\S+) (.*)$/.exec(lines[1] || '');
-    if (!found) return;
-    const [, by, sent] = found, answer = lines[2], standing = readStanding(lines.slice(3));
+    const number = Number(lines[0].split(' ')[1]), act = readAct(lines[1] || '');
+    if (!act) return;
+    const { by, sent } = act, answer = lines[2], standing = readStanding(lines.slice(3));
     this.table.notice(number, sent, standing);
-    if (this.view === this.game && this.game.number === number) this.game.notice(by, sent, answer, standing);
+    if (this.view === this.game && this.game.number === number) this.game.notice(act, answer, standing);
     if (this.view === this.hall) this.hall.notice(number, sent, answer, standing);
+    if (this.view === this.desk) this.desk.notice(number, act, answer, standing);
     if (standing) this.invite(number, by, sent.split(' ')[0], standing);
   }
 
@@ -387,6 +390,7 @@ class Page {
   renderWho() {
     const player = this.player;
     setText(byId('who-name'), player ? player.full : 'Watching');
+    byId('to-arbiter').hidden = !this.isArbiter();
     byId('signed-in').hidden = !player;
     byId('signed-out').hidden = Boolean(player);
     byId('keep').checked = Boolean(this.token) && read(local, 'token') === this.token;

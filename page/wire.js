@@ -32,6 +32,9 @@ export class Wire {
     addEventListener('online', () => this.retry());
     addEventListener('offline', () => this.say(PROBE, true));
     document.addEventListener('visibilitychange', () => document.hidden || this.retry());
+    // (a browser that keeps a page which was left, to come back to it, keeps its socket too: who left would seem to be here)
+    addEventListener('pagehide', () => this.socket && this.ended());
+    addEventListener('pageshow', (event) => event.persisted && this.retry());
     this.connect();
   }
 

@@ -28,11 +28,13 @@ const REFUSALS = {
   24: 'From that position the game would be over at once.',
   31: 'You are watching. To play, open your personal link.',
   32: 'This personal link is not known here. Ask your arbiter for a new one.',
-  33: 'Only an arbiter takes a game off the table.',
+  33: 'Only an arbiter may do that.',
   34: 'That was too much within a second. Nothing was sent; try again.',
   35: 'Sixteen of your games wait for an opponent already. Wait until one is joined, or ask an arbiter to take one off.',
   36: 'The lobby has no connection to the game server at the moment. Nothing was done; try again soon.',
   37: 'This page watches sixteen games already.',
+  38: 'No player of this name is known here.',
+  39: 'An arbiter has stopped new games for the moment. Games that were begun go on.',
 };
 
 /** What a refused line means to who sent it. */
@@ -67,6 +69,24 @@ export function resultWords(result, article) {
     result: WINS[result] || '', score: result.replace('1/2-1/2', '½–½').replace('-', '–'), reason,
     article: article ? `Article ${article} of the FIDE Laws` : '',
   };
+}
+
+const ENTERED = {
+  move: 'a move', offer: 'an offer of a draw', accept: 'the agreement to a draw', decline: 'the refusal of a draw',
+  resign: 'the resignation', claim: 'a claim of a draw', flag: 'the call of the flag',
+};
+
+/** What an arbiter has entered, by the first word of the line. */
+export function enteredWords(word) {
+  return ENTERED[word] || 'an act';
+}
+
+/** An act that was accepted, in a few words: `Nf3 by Ann Lee`. */
+export function actWords({ by, sent, arbiter }, answer, nameWords) {
+  const word = sent.split(' ')[0], moved = /^ok (?:move \d+|claim \d+ wrong) \d+ (\S+)/.exec(answer);
+  const what = answer.startsWith('fallen') ? 'the flag was found fallen' : moved ? moved[1]
+    : { join: 'joining', claim: 'a claim of a draw' }[word] || enteredWords(word);
+  return `${what} by ${nameWords(by)}${arbiter ? `, entered by ${nameWords(arbiter)}` : ''}`;
 }
 
 const MEN = { p: 'pawn', n: 'knight', b: 'bishop', r: 'rook', q: 'queen', k: 'king' };

@@ -33,10 +33,12 @@ import model
 
 TOP = os.path.dirname(os.path.dirname(os.path.dirname(os.path.realpath(__file__))))
 READS = ('show', 'fen', 'pgn', 'list')
-ACTS = ('open', 'join', 'move', 'offer', 'accept', 'decline', 'resign', 'claim', 'flag', 'drop')
+IN_A_GAME = ('move', 'offer', 'accept', 'decline', 'resign', 'claim', 'flag')
+ACTS = ('open', 'join', 'drop', *IN_A_GAME)
+OF_ARBITERS = ('who', 'pause entries', 'resume entries')
 OWN = ('login', 'players', 'lobby', 'watch', 'leave', 'line')
 REFUSED = {1: 'BadLine', 31: 'NoToken', 32: 'BadToken', 33: 'NotArbiter', 34: 'TooFast', 35: 'TooManyOpen',
-           36: 'NoServer', 37: 'TooManyWatched'}
+           36: 'NoServer', 37: 'TooManyWatched', 38: 'NoPlayer', 39: 'EntriesPaused'}
 POLICY = ("default-src 'none'; script-src 'self'; style-src 'self'; img-src 'self'; connect-src 'self'; "
           "base-uri 'none'; form-action 'none'; frame-ancestors 'none'")
 TYPES = {'html': 'text/html; charset=utf-8', 'css': 'text/css; charset=utf-8',
@@ -99,6 +101,7 @@ class Lobby:
         self.silent = False
         self.delay = 0
         self.opened = collections.defaultdict(set)
+        self.paused = False
 
     # ---- one message
 
@@ -120,35 +123,44 @@ class Lobby:
         word = text.split(' ')[0]
         if word in OWN:
             return self.own(c, word, text), None
-        if word not in READS + ACTS:
+        if text in OF_ARBITERS:
+            return self.of_arbiters(c, text), None
+        if word not in (*READS, *ACTS, 'as'):
+            refuse(1)
+        _, other, line = (text.split(' ', 2) + ['', ''])[:3]
+        if word == 'as' and line.split(' ')[0] not in IN_A_GAME:
             refuse(1)
         if word == 'drop' and not (re.fullmatch('drop ' + G, text) and int(text[5:]) <= model.TOP):
             refuse(1)
-        if word in ACTS and c.player is None:
+        if word in (*ACTS, 'as') and c.player is None:
             refuse(31)
-        if word == 'drop' and c.player[1] != 'arbiter':
+        if word in ('drop', 'as') and c.player[1] != 'arbiter':
             refuse(33)
+        if word == 'as' and other not in [name for name, _, _ in self.players.values()]:
+            refuse(38)
+        if word == 'open' and self.paused and c.player[1] != 'arbiter':
+            refuse(39)
         if not self.here:
             refuse(36)
         name = c.player[0] if c.player else None
         if word == 'open' and len(self.waiting_of(name)) >= MOST_OPEN:
             refuse(35)
-        return self.asked(c, word, name, text)
+        return self.asked(c, word, name, text, *((other, line) if word == 'as' else (name, text)))
 
-    def asked(self, c, word, name, text):
-        fault = self.fault if word in ACTS else None
+    def asked(self, c, word, name, text, seat, line):
+        """A player's message goes to the server as this line, under the name of who has the seat."""
+        fault = self.fault if word in (*ACTS, 'as') else None
         if fault:
             self.fault = None
         if fault == 'drop':
             self.server_is(False)
             return ['lost'], None
-        seat = name
         if word == 'drop':
             show = self.server.ask(None, 'show' + text[4:])[0].split(' ')
             if show[0] == 'no':
                 return [' '.join(show)], None
             seat = show[3] if show[3] != '-' else show[4]
-        answer = self.server.ask(seat, text)
+        answer = self.server.ask(seat, line)
         if fault == 'lose':
             self.server_is(False)
             return ['lost'], None
@@ -162,6 +174,18 @@ class Lobby:
     def waiting_of(self, name):
         games = self.server.table.games
         return [n for n in self.opened[name] if n in games and self.server.fields(n).joined is None]
+
+    def of_arbiters(self, c, text):
+        if c.player is None:
+            refuse(31)
+        if c.player[1] != 'arbiter':
+            refuse(33)
+        if text != 'who':
+            self.paused = text == 'pause entries'
+            return ['ok ' + text]
+        acting = {one.player for one in self.connections}
+        names = [row[0] for row in self.players.values() if row in acting]
+        return ['ok who %d' % len(names)] + names
 
     def own(self, c, word, text):
         if word == 'login':

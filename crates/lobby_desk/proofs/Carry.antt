@@ -1,5 +1,5 @@
 -- What a plan leaves and tells.
-use Rattle.std.proofs.Common.{ℕ, ◌≡◌, Bool, true, false, ◌&&◌, List, [], ◌∷◌, Option, None, Some, refl}
+use Rattle.std.proofs.Common.{ℕ, ◌≡◌, Bool, true, false, ◌&&◌, not, List, [], ◌∷◌, Option, None, Some, refl}
 use Rattle.std.specs.Prelude.{if◌then◌else◌}
 use Rattle.lobby_words.specs.declared.words.Sort.{Sort}
 use Rattle.lobby_words.specs.declared.words.Sort.TheVariants as sorts
@@ -11,8 +11,8 @@ use Rattle.lobby_words.specs.declared.planning.Standing.{Standing}
 use Rattle.lobby_words.specs.declared.planning.Identity.{Identity}
 use Rattle.lobby_desk.specs.declared.players.Player.{Player}
 use Rattle.lobby_desk.specs.declared.watching.Watch.{Watch}
-use Rattle.lobby_words.specs.Words.{is_leave_sort, is_leave_lobby_sort, or_0}
-use Rattle.lobby_words.specs.Plans.{asked, act_plan, drop_plan, login_plan, numbered_plan, plan_of}
+use Rattle.lobby_words.specs.Words.{as_line, is_leave_sort, is_leave_lobby_sort, or_0}
+use Rattle.lobby_words.specs.Plans.{asked, entered_plan, act_plan, named_plan, as_plan, drop_plan, arbiter_plan, login_plan, numbered_plan, plan_of}
 use Rattle.lobby_desk.specs.Lines.{lines_of, is_said, name_line}
 use Rattle.lobby_desk.specs.Events.{Telling, ForItself, ForPositions, ForTable, ForGame, ForAct, Owed, Asker, Dropper, owed_last, plan_asker, sort_asker}
 use Rattle.lobby_desk.specs.Watching.{risen}
@@ -28,12 +28,32 @@ asked_last : (s : Standing) (plan : Plan) (said : Option (List ℕ)) (text : Lis
 asked_last s plan said text c o h =
     elim s.is_here as (λ b. LastIs (if b then plan else plans.Refuse refusals.NoServer) said text c o) [ true ↦ h | false ↦ refl ]
 
-act_last : (s : Standing) (who : Option Identity) (said : Option (List ℕ)) (text : List ℕ) (c : ℕ) → LastIs (act_plan s who) said text c (Asker c (ForAct (name_of who) text))
-act_last s None said text c = refl
-act_last s (Some who) said text c =
+entered_last : (s : Standing) (who : Identity) (said : Option (List ℕ)) (text : List ℕ) (c : ℕ) → LastIs (entered_plan s who) said text c (Asker c (ForAct who.name text))
+entered_last s who said text c =
     elim s.is_crowded as (λ b. LastIs (if b then asked s (plans.Refuse refusals.TooManyOpen) else asked s (plans.Act who)) said text c (Asker c (ForAct who.name text))) [
       | true ↦ asked_last s (plans.Refuse refusals.TooManyOpen) said text c (Asker c (ForAct who.name text)) refl
       | false ↦ asked_last s (plans.Act who) said text c (Asker c (ForAct who.name text)) refl
+    ]
+
+act_last : (s : Standing) (who : Option Identity) (said : Option (List ℕ)) (text : List ℕ) (c : ℕ) → LastIs (act_plan s who) said text c (Asker c (ForAct (name_of who) text))
+act_last s None said text c = refl
+act_last s (Some who) said text c =
+    elim (s.is_paused && not who.is_arbiter) as (λ b. LastIs (if b then plans.Refuse refusals.EntriesPaused else entered_plan s who) said text c (Asker c (ForAct who.name text))) [
+      | true ↦ refl
+      | false ↦ entered_last s who said text c
+    ]
+
+named_last : (s : Standing) (who : Identity) (named : Option (List ℕ)) (said : Option (List ℕ)) (text : List ℕ) (c : ℕ) →
+    LastIs (named_plan s who named) said text c (Asker c (ForAct who.name text))
+named_last s who None said text c = refl
+named_last s who (Some name) said text c = asked_last s (plans.ActAs who name) said text c (Asker c (ForAct who.name text)) refl
+
+as_last : (s : Standing) (who : Option Identity) (said : Option (List ℕ)) (text : List ℕ) (c : ℕ) → LastIs (as_plan s who) said text c (Asker c (ForAct (name_of who) text))
+as_last s None said text c = refl
+as_last s (Some who) said text c =
+    elim who.is_arbiter as (λ b. LastIs (if b then named_plan s who s.named else plans.Refuse refusals.NotArbiter) said text c (Asker c (ForAct who.name text))) [
+      | true ↦ named_last s who s.named said text c
+      | false ↦ refl
     ]
 
 drop_last : (s : Standing) (who : Option Identity) (game : ℕ) (said : Option (List ℕ)) (text : List ℕ) (c : ℕ) →
@@ -44,6 +64,12 @@ drop_last s (Some who) game said text c =
       | true ↦ asked_last s (plans.Drop who game) said text c (Dropper c who.name text) refl
       | false ↦ refl
     ]
+
+arbiter_last : (who : Option Identity) (plan : Plan) (said : Option (List ℕ)) (text : List ℕ) (c : ℕ) → LastIs plan said text c (Asker c ForItself) →
+    LastIs (arbiter_plan who plan) said text c (Asker c ForItself)
+arbiter_last None plan said text c h = refl
+arbiter_last (Some who) plan said text c h =
+    elim who.is_arbiter as (λ b. LastIs (if b then plan else plans.Refuse refusals.NotArbiter) said text c (Asker c ForItself)) [ true ↦ h | false ↦ refl ]
 
 login_last : (holder : Option Identity) (said : Option (List ℕ)) (text : List ℕ) (c : ℕ) → LastIs (login_plan holder) said text c (Asker c ForItself)
 login_last None said text c = refl
@@ -78,9 +104,13 @@ pub planned_last : (m : Bool) (sort : Sort) (s : Standing) (game : Option ℕ) (
 planned_last false sort s game said text c = refl
 planned_last true sorts.Read s game said text c = asked_last s plans.Read said text c (Asker c ForItself) refl
 planned_last true sorts.Act s game said text c = act_last s s.who said text c
+planned_last true sorts.As s game said text c = as_last s s.who said text c
 planned_last true sorts.Drop s game said text c = numbered_last s game said text c
 planned_last true sorts.Login s game said text c = login_last s.holder said text c
 planned_last true sorts.Players s game said text c = refl
+planned_last true sorts.Who s game said text c = arbiter_last s.who plans.Who said text c refl
+planned_last true sorts.Pause s game said text c = arbiter_last s.who plans.Pause said text c refl
+planned_last true sorts.Resume s game said text c = arbiter_last s.who plans.Resume said text c refl
 planned_last true sorts.Lobby s game said text c = asked_last s plans.Lobby said text c (Asker c ForTable) refl
 planned_last true sorts.LeaveLobby s game said text c = refl
 planned_last true sorts.Watch s game said text c = watch_last s game said text c
@@ -93,13 +123,34 @@ planned_last true sorts.Nothing s game said text c = refl
 asked_does : (P : Plan → Type 0) (s : Standing) (plan : Plan) → P (plans.Refuse refusals.NoServer) → P plan → P (asked s plan)
 asked_does P s plan none h = elim s.is_here as (λ b. P (if b then plan else plans.Refuse refusals.NoServer)) [ true ↦ h | false ↦ none ]
 
-act_does : (P : Plan → Type 0) (s : Standing) (who : Option Identity) → ((r : Refusal) → P (plans.Refuse r)) → ((one : Identity) → P (plans.Act one)) →
+entered_does : (P : Plan → Type 0) (s : Standing) (who : Identity) → ((r : Refusal) → P (plans.Refuse r)) → P (plans.Act who) → P (entered_plan s who)
+entered_does P s who none h =
+    elim s.is_crowded as (λ b. P (if b then asked s (plans.Refuse refusals.TooManyOpen) else asked s (plans.Act who))) [
+      | true ↦ asked_does P s (plans.Refuse refusals.TooManyOpen) (none refusals.NoServer) (none refusals.TooManyOpen)
+      | false ↦ asked_does P s (plans.Act who) (none refusals.NoServer) h
+    ]
+
+pub act_does : (P : Plan → Type 0) (s : Standing) (who : Option Identity) → ((r : Refusal) → P (plans.Refuse r)) → ((one : Identity) → P (plans.Act one)) →
     P (act_plan s who)
 act_does P s None none h = none refusals.NoToken
 act_does P s (Some who) none h =
-    elim s.is_crowded as (λ b. P (if b then asked s (plans.Refuse refusals.TooManyOpen) else asked s (plans.Act who))) [
-      | true ↦ asked_does P s (plans.Refuse refusals.TooManyOpen) (none refusals.NoServer) (none refusals.TooManyOpen)
-      | false ↦ asked_does P s (plans.Act who) (none refusals.NoServer) (h who)
+    elim (s.is_paused && not who.is_arbiter) as (λ b. P (if b then plans.Refuse refusals.EntriesPaused else entered_plan s who)) [
+      | true ↦ none refusals.EntriesPaused
+      | false ↦ entered_does P s who none (h who)
+    ]
+
+named_does : (P : Plan → Type 0) (s : Standing) (who : Identity) (named : Option (List ℕ)) → ((r : Refusal) → P (plans.Refuse r)) →
+    ((name : List ℕ) → P (plans.ActAs who name)) → P (named_plan s who named)
+named_does P s who None none h = none refusals.NoPlayer
+named_does P s who (Some name) none h = asked_does P s (plans.ActAs who name) (none refusals.NoServer) (h name)
+
+pub as_does : (P : Plan → Type 0) (s : Standing) (who : Option Identity) → ((r : Refusal) → P (plans.Refuse r)) →
+    ((one : Identity) (name : List ℕ) → P (plans.ActAs one name)) → P (as_plan s who)
+as_does P s None none h = none refusals.NoToken
+as_does P s (Some who) none h =
+    elim who.is_arbiter as (λ b. P (if b then named_plan s who s.named else plans.Refuse refusals.NotArbiter)) [
+      | true ↦ named_does P s who s.named none (h who)
+      | false ↦ none refusals.NotArbiter
     ]
 
 drop_does : (P : Plan → Type 0) (s : Standing) (who : Option Identity) (game : ℕ) → ((r : Refusal) → P (plans.Refuse r)) →
@@ -115,6 +166,11 @@ dropped_does : (P : Plan → Type 0) (s : Standing) (game : Option ℕ) → ((r 
     ((one : Identity) (g : ℕ) → P (plans.Drop one g)) → P (numbered_plan sorts.Drop s game)
 dropped_does P s None none h = none refusals.BadLine
 dropped_does P s (Some game) none h = drop_does P s s.who game none (λ one. h one game)
+
+pub arbiter_does : (P : Plan → Type 0) (who : Option Identity) (plan : Plan) → ((r : Refusal) → P (plans.Refuse r)) → P plan → P (arbiter_plan who plan)
+arbiter_does P None plan none h = none refusals.NoToken
+arbiter_does P (Some who) plan none h =
+    elim who.is_arbiter as (λ b. P (if b then plan else plans.Refuse refusals.NotArbiter)) [ true ↦ h | false ↦ none refusals.NotArbiter ]
 
 login_does : (P : Plan → Type 0) (holder : Option Identity) → ((r : Refusal) → P (plans.Refuse r)) → ((one : Identity) → P (plans.Login one)) →
     P (login_plan holder)
@@ -149,9 +205,13 @@ pub planned_watches : (m : Bool) (sort : Sort) (s : Standing) (game : Option ℕ
 planned_watches false sort s game c watches = refl
 planned_watches true sorts.Read s game c watches = asked_does (WatchesStay c watches) s plans.Read refl refl
 planned_watches true sorts.Act s game c watches = act_does (WatchesStay c watches) s s.who (λ _. refl) (λ _. refl)
+planned_watches true sorts.As s game c watches = as_does (WatchesStay c watches) s s.who (λ _. refl) (λ _ _. refl)
 planned_watches true sorts.Drop s game c watches = dropped_does (WatchesStay c watches) s game (λ _. refl) (λ _ _. refl)
 planned_watches true sorts.Login s game c watches = login_does (WatchesStay c watches) s.holder (λ _. refl) (λ _. refl)
 planned_watches true sorts.Players s game c watches = refl
+planned_watches true sorts.Who s game c watches = arbiter_does (WatchesStay c watches) s.who plans.Who (λ _. refl) refl
+planned_watches true sorts.Pause s game c watches = arbiter_does (WatchesStay c watches) s.who plans.Pause (λ _. refl) refl
+planned_watches true sorts.Resume s game c watches = arbiter_does (WatchesStay c watches) s.who plans.Resume (λ _. refl) refl
 planned_watches true sorts.Lobby s game c watches = asked_does (WatchesStay c watches) s plans.Lobby refl refl
 planned_watches true sorts.LeaveLobby s game c watches = refl
 planned_watches true sorts.Watch s game c watches = watch_does (WatchesStay c watches) s game (λ _. refl) (λ _. refl)
@@ -173,9 +233,13 @@ pub planned_table : (m : Bool) (sort : Sort) (s : Standing) (game : Option ℕ) 
 planned_table false sort s game c table = refl
 planned_table true sorts.Read s game c table = asked_does (TableStays c table) s plans.Read refl refl
 planned_table true sorts.Act s game c table = act_does (TableStays c table) s s.who (λ _. refl) (λ _. refl)
+planned_table true sorts.As s game c table = as_does (TableStays c table) s s.who (λ _. refl) (λ _ _. refl)
 planned_table true sorts.Drop s game c table = dropped_does (TableStays c table) s game (λ _. refl) (λ _ _. refl)
 planned_table true sorts.Login s game c table = login_does (TableStays c table) s.holder (λ _. refl) (λ _. refl)
 planned_table true sorts.Players s game c table = refl
+planned_table true sorts.Who s game c table = arbiter_does (TableStays c table) s.who plans.Who (λ _. refl) refl
+planned_table true sorts.Pause s game c table = arbiter_does (TableStays c table) s.who plans.Pause (λ _. refl) refl
+planned_table true sorts.Resume s game c table = arbiter_does (TableStays c table) s.who plans.Resume (λ _. refl) refl
 planned_table true sorts.Lobby s game c table = asked_does (TableStays c table) s plans.Lobby refl refl
 planned_table true sorts.LeaveLobby s game c table = refl
 planned_table true sorts.Watch s game c table = watch_does (TableStays c table) s game (λ _. refl) (λ _. refl)
@@ -190,16 +254,20 @@ act_sent : (b : Bool) (name text : List ℕ) (c : ℕ) (tells : List Telling) �
 act_sent true name text c tells h = h
 act_sent false name text c tells h = h
 
-pub answered_or_sent : (players : List Player) (plan : Plan) (said : Option (List ℕ)) (text : List ℕ) (c : ℕ) (tells : List Telling) → IsAnswered players plan c tells →
+pub answered_or_sent : (players : List Player) (is_open : ℕ → Bool) (acts_for : ℕ → Option Identity) (plan : Plan) (said : Option (List ℕ)) (text : List ℕ) (c : ℕ) (tells : List Telling) → IsAnswered players is_open acts_for plan c tells →
     IsToldOrSent (lines_of plan said text) c tells
-answered_or_sent players (plans.Refuse refusal) said text c tells h = (h.0, h.2)
-answered_or_sent players plans.Read said text c tells h = h
-answered_or_sent players (plans.Act who) said text c tells h = act_sent (is_said said who.name) who.name text c tells h
-answered_or_sent players (plans.Drop who game) said text c tells h = h
-answered_or_sent players (plans.Login who) said text c tells h = (h.0, h.2)
-answered_or_sent players plans.Players said text c tells h = (h.0, h.2)
-answered_or_sent players plans.Lobby said text c tells h = h
-answered_or_sent players plans.LeaveLobby said text c tells h = (h.0, h.2)
-answered_or_sent players (plans.Watch game) said text c tells h = h
-answered_or_sent players (plans.Leave game) said text c tells h = (h.0, h.2)
-answered_or_sent players (plans.Line game) said text c tells h = h
+answered_or_sent players is_open acts_for (plans.Refuse refusal) said text c tells h = (h.0, h.2)
+answered_or_sent players is_open acts_for plans.Read said text c tells h = h
+answered_or_sent players is_open acts_for (plans.Act who) said text c tells h = act_sent (is_said said who.name) who.name text c tells h
+answered_or_sent players is_open acts_for (plans.ActAs who name) said text c tells h = act_sent (is_said said name) name (as_line text) c tells h
+answered_or_sent players is_open acts_for (plans.Drop who game) said text c tells h = h
+answered_or_sent players is_open acts_for (plans.Login who) said text c tells h = (h.0, h.2)
+answered_or_sent players is_open acts_for plans.Players said text c tells h = (h.0, h.2)
+answered_or_sent players is_open acts_for plans.Who said text c tells h = (h.0, h.2)
+answered_or_sent players is_open acts_for plans.Pause said text c tells h = (h.0, h.2)
+answered_or_sent players is_open acts_for plans.Resume said text c tells h = (h.0, h.2)
+answered_or_sent players is_open acts_for plans.Lobby said text c tells h = h
+answered_or_sent players is_open acts_for plans.LeaveLobby said text c tells h = (h.0, h.2)
+answered_or_sent players is_open acts_for (plans.Watch game) said text c tells h = h
+answered_or_sent players is_open acts_for (plans.Leave game) said text c tells h = (h.0, h.2)
+answered_or_sent players is_open acts_for (plans.Line game) said text c tells h = h

@@ -3,8 +3,11 @@ pub mod Found
 pub mod Opened
 pub mod Lines
 pub mod Carry
+pub mod Named
+pub mod As
 pub mod Waited
 pub mod PlayerRows
+pub mod PresentNames
 pub mod Watched
 pub mod Steps
 pub mod Runs

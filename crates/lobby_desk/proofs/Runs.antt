@@ -1,5 +1,5 @@
 -- What is promised holds of each run.
-use Rattle.std.proofs.Common.{ℕ, ◌≡◌, ◌<◌, ◌+◌, ◌^◌, ◌⊎◌, inl, inr, Bool, true, false, ◌&&◌, ◌||◌, ◌==◌, List, [], ◌∷◌, ◌++◌, Option, None, Some, IfSome, codes, refl, sym, ap, ◌∙◌, subst, arith}
+use Rattle.std.proofs.Common.{ℕ, ◌≡◌, ◌<◌, ◌+◌, ◌^◌, ◌⊎◌, inl, inr, Bool, true, false, ◌&&◌, ◌||◌, ◌==◌, not, List, [], ◌∷◌, ◌++◌, Option, None, Some, IfSome, codes, refl, sym, ap, ◌∙◌, subst, arith}
 use Rattle.std.specs.Prelude.{if◌then◌else◌}
 use Rattle.std.specs.List.{AllByRecursion}
 use Rattle.std.specs.Str.{bytes_eq}
@@ -16,17 +16,20 @@ use Rattle.lobby_words.specs.declared.planning.Identity.{Identity}
 use Rattle.lobby_desk.specs.declared.players.Player.{Player}
 use Rattle.lobby_words.specs.declared.listing.Waiting.{Waiting}
 use Rattle.lobby_desk.specs.declared.watching.Watch.{Watch}
-use Rattle.lobby_words.specs.Words.{word_of, rest_of, is_message, sort_of, is_act_sort, is_drop_sort, is_name_sort, is_login_sort, number_in, or_0}
-use Rattle.lobby_words.specs.Plans.{asked, act_plan, drop_plan, login_plan, numbered_plan, plan_of}
+use Rattle.lobby_words.specs.Words.{word_of, rest_of, as_name, as_line, is_message, sort_of, is_act_sort, is_as_sort, is_drop_sort, is_name_sort, is_login_sort, number_in, or_0}
+use Rattle.lobby_words.specs.Plans.{asked, entered_plan, act_plan, named_plan, as_plan, arbiter_plan, drop_plan, login_plan, numbered_plan, plan_of}
 use Rattle.lobby_desk.specs.Lines.{lines_of, act_lines, said_after, name_line, game_line, is_said, notice_lines, IsNamed}
 use Rattle.lobby_words.specs.Answers.{is_accepted, first_line, act_game, is_whole, answer}
 use Rattle.lobby_desk.specs.Watching.{watch_if, sit_if}
 use Rattle.lobby_desk.specs.Events.{Event, Opened, Closed, Said, Hurried, Heard, Gone, Here, Telling, ForItself, ForPositions, ForTable, ForGame, ForAct, Owed, Nobody, Asker, Dropper, Followers, owed_last, sort_asker, asker, followers_of, follower}
 use Rattle.lobby_desk.specs.Tellings.{Known, open_now, watch_heard, watch_next, watches_now, table_heard, table_next, table_now, owed_answered, owed_now, known_now, presence, lost, AreToldAll, IsTold}
 use Rattle.lobby_desk.specs.Who.{View, BeginsView, IsSaid, IsHeard, IsDropped, IsSentFor, IsSentNext, IsSentHeard, IsDone, IsKnown, who_noted, name_of, speaker}
-use Rattle.lobby_desk.specs.History.{Step, comes, has_come, shown_by, player_said, player_after, player_in, is_drop, name_behind, name_through, name_before, name_in, ActsUnder, ActsRight, NoActs, NoDrops, sort_asks, IsOf, open_in, known_in, IsArbiter, AsksNow, HasAsked, IsDropOf, IsNoticeOf, IsRight, AreWhole, AllRight, AllTold, IsRun}
+use Rattle.lobby_desk.specs.Players.{player_named}
+use Rattle.lobby_desk.specs.History.{Step, comes, has_come, shown_by, player_said, player_after, player_in, is_drop, is_as, name_as, name_for, name_behind, name_through, name_before, name_in, ActsUnder, ActsRight, NoActs, NoDrops, sort_asks, IsOf, open_in, known_in, IsArbiter, AsksNow, HasAsked, IsDropOf, IsNoticeOf, IsRight, AreWhole, AllRight, AllTold, IsRun}
 use Rattle.lobby_words.proofs.Numbers.{number_small}
 use Rattle.lobby_desk.proofs.Sent.{is_said_same}
+use Rattle.lobby_desk.proofs.Carry.{act_does, as_does, arbiter_does}
+use Rattle.lobby_desk.proofs.As.{as_whole, as_acts}
 use Rattle.lobby_desk.proofs.Lines.{show_whole, fen_whole, pgn_whole, list_whole, name_whole, show_reads, fen_reads, pgn_reads, list_reads, name_names}
 
 -- for whom the connection acts after a plan
@@ -35,12 +38,10 @@ asked_who s plan before h =
     elim s.is_here as (λ b. who_noted (if b then plan else plans.Refuse refusals.NoServer) before ≡ before) [ true ↦ h | false ↦ refl ]
 
 act_who : (s : Standing) (who : Option Identity) (before : Option Identity) → who_noted (act_plan s who) before ≡ before
-act_who s None before = refl
-act_who s (Some who) before =
-    elim s.is_crowded as (λ b. who_noted (if b then asked s (plans.Refuse refusals.TooManyOpen) else asked s (plans.Act who)) before ≡ before) [
-      | true ↦ asked_who s (plans.Refuse refusals.TooManyOpen) before refl
-      | false ↦ asked_who s (plans.Act who) before refl
-    ]
+act_who s who before = act_does (λ plan. who_noted plan before ≡ before) s who (λ _. refl) (λ _. refl)
+
+as_who : (s : Standing) (who : Option Identity) (before : Option Identity) → who_noted (as_plan s who) before ≡ before
+as_who s who before = as_does (λ plan. who_noted plan before ≡ before) s who (λ _. refl) (λ _ _. refl)
 
 drop_who : (s : Standing) (who : Option Identity) (game : ℕ) (before : Option Identity) → who_noted (drop_plan s who game) before ≡ before
 drop_who s None game before = refl
@@ -79,9 +80,13 @@ planned_who : (m : Bool) (sort : Sort) (s : Standing) (game : Option ℕ) (befor
 planned_who false sort s game before = refl
 planned_who true sorts.Read s game before = asked_who s plans.Read before refl
 planned_who true sorts.Act s game before = act_who s s.who before
+planned_who true sorts.As s game before = as_who s s.who before
 planned_who true sorts.Drop s game before = dropped_who s game before
 planned_who true sorts.Login s game before = login_who s.holder before
 planned_who true sorts.Players s game before = refl
+planned_who true sorts.Who s game before = arbiter_does (λ plan. who_noted plan before ≡ before) s.who plans.Who (λ _. refl) refl
+planned_who true sorts.Pause s game before = arbiter_does (λ plan. who_noted plan before ≡ before) s.who plans.Pause (λ _. refl) refl
+planned_who true sorts.Resume s game before = arbiter_does (λ plan. who_noted plan before ≡ before) s.who plans.Resume (λ _. refl) refl
 planned_who true sorts.Lobby s game before = asked_who s plans.Lobby before refl
 planned_who true sorts.LeaveLobby s game before = refl
 planned_who true sorts.Watch s game before = watch_who s game before
@@ -94,9 +99,9 @@ planned_who true sorts.Nothing s game before = refl
 abbrev pub AllRead : List (List ℕ) → Type 0
 AllRead lines = AllByRecursion (λ line. sort_of line ≡ sorts.Read) lines
 
--- what lines for a message have to be, that asks this
-record Good (asks : List (List ℕ)) (who : Option Identity) (said : Option (List ℕ)) (lines : List (List ℕ)) (then_said : Option (List ℕ)) : Type 0 where
-  acts : ActsRight who said lines
+-- what lines for a message have to be, that asks this, and whose acts stand under this name
+record Good (asks : List (List ℕ)) (under : Option (List ℕ)) (said : Option (List ℕ)) (lines : List (List ℕ)) (then_said : Option (List ℕ)) : Type 0 where
+  acts : ActsRight under said lines
   drops : NoDrops lines
   of_text : IsOf asks lines
   whole : AreWhole lines
@@ -123,23 +128,22 @@ names_stay said [] h = refl
 names_stay said (line ∷ lines) h =
     ap (λ name. name_through name lines) (name_stays said line h.0) ∙ names_stay said lines h.1
 
-reads_right : (who : Option Identity) (said : Option (List ℕ)) (lines : List (List ℕ)) → AllRead lines → ActsRight who said lines
+reads_right : (under said : Option (List ℕ)) (lines : List (List ℕ)) → AllRead lines → ActsRight under said lines
 reads_right None said lines h = no_acts lines h
-reads_right (Some who) said lines h = acts_under said lines who.name h
+reads_right (Some name) said lines h = acts_under said lines name h
 
-reads_good : (who : Option Identity) (said : Option (List ℕ)) (lines : List (List ℕ)) → AllRead lines → AreWhole lines →
-    Good lines who said lines said
-reads_good who said lines h whole = record {
-  acts = reads_right who said lines h;
+reads_good : (under said : Option (List ℕ)) (lines : List (List ℕ)) → AllRead lines → AreWhole lines → Good lines under said lines said
+reads_good under said lines h whole = record {
+  acts = reads_right under said lines h;
   drops = no_drops lines h;
   of_text = inr (inl refl);
   whole = whole;
   name = sym (names_stay said lines h);
 }
 
-none_good : (asks : List (List ℕ)) (who : Option Identity) (said : Option (List ℕ)) → Good asks who said [] said
-none_good asks who said = record {
-  acts = reads_right who said [] tt;
+none_good : (asks : List (List ℕ)) (under said : Option (List ℕ)) → Good asks under said [] said
+none_good asks under said = record {
+  acts = reads_right under said [] tt;
   drops = tt;
   of_text = inl refl;
   whole = tt;
@@ -189,128 +193,191 @@ act_no_drop text name none true = (none, tt)
 act_no_drop text name none false = (ap is_drop_sort (name_names name), (none, tt))
 
 -- a plan by which nothing goes out where the server is not there
-asked_good : (asks : List (List ℕ)) (text : List ℕ) (s : Standing) (who : Option Identity) (said : Option (List ℕ)) (plan : Plan) →
-    (IsNamed plan → Good asks who said (lines_of plan said text) (said_after plan said)) → IsNamed (asked s plan) →
-    Good asks who said (lines_of (asked s plan) said text) (said_after (asked s plan) said)
-asked_good asks text s who said plan h =
+asked_good : (asks : List (List ℕ)) (text : List ℕ) (s : Standing) (under said : Option (List ℕ)) (plan : Plan) →
+    (IsNamed plan → Good asks under said (lines_of plan said text) (said_after plan said)) → IsNamed (asked s plan) →
+    Good asks under said (lines_of (asked s plan) said text) (said_after (asked s plan) said)
+asked_good asks text s under said plan h =
     elim s.is_here as (λ b. IsNamed (if b then plan else plans.Refuse refusals.NoServer) →
-    Good asks who said (lines_of (if b then plan else plans.Refuse refusals.NoServer) said text)
+    Good asks under said (lines_of (if b then plan else plans.Refuse refusals.NoServer) said text)
     (said_after (if b then plan else plans.Refuse refusals.NoServer) said)) [
       | true ↦ h
-      | false ↦ λ _. none_good asks who said
+      | false ↦ λ _. none_good asks under said
+    ]
+
+-- the lines of an act
+acts_good : (text name : List ℕ) (under said : Option (List ℕ)) → under ≡ Some name → is_message text ≡ true → sort_of text ≡ sorts.Act →
+    IsName name → Good (text ∷ []) under said (act_lines said name text) (Some name)
+acts_good text name under said own message is named =
+    let lines = act_under text name said sorts.Act message is refl named in
+    record {
+      acts = subst (λ (u : Option (List ℕ)). ActsRight u said (act_lines said name text)) (sym own) lines.acts;
+      drops = act_no_drop text name (ap is_drop_sort is) (is_said said name);
+      of_text = lines.of_text;
+      whole = lines.whole;
+      name = lines.later;
+    }
+
+-- the name under which the act of a message stands that is no `as`
+own_name : (players : List Player) (who : Identity) (text : List ℕ) → sort_of text ≡ sorts.Act → name_for players (Some who) text ≡ Some who.name
+own_name players who text is = ap (λ (sort : Sort). if is_as_sort sort then name_as players who.is_arbiter text else Some who.name) is
+
+entered_good : (players : List Player) (text : List ℕ) (s : Standing) (said : Option (List ℕ)) (who : Identity) → is_message text ≡ true →
+    sort_of text ≡ sorts.Act → IsNamed (entered_plan s who) →
+    Good (text ∷ []) (name_for players (Some who) text) said (lines_of (entered_plan s who) said text) (said_after (entered_plan s who) said)
+entered_good players text s said who message is =
+    let under = name_for players (Some who) text in
+    elim s.is_crowded as (λ b. IsNamed (if b then asked s (plans.Refuse refusals.TooManyOpen) else asked s (plans.Act who)) →
+    Good (text ∷ []) (name_for players (Some who) text) said (lines_of (if b then asked s (plans.Refuse refusals.TooManyOpen) else asked s (plans.Act who)) said text)
+    (said_after (if b then asked s (plans.Refuse refusals.TooManyOpen) else asked s (plans.Act who)) said)) [
+      | true ↦ asked_good (text ∷ []) text s under said (plans.Refuse refusals.TooManyOpen) (λ _. none_good (text ∷ []) under said)
+      | false ↦ asked_good (text ∷ []) text s under said (plans.Act who)
+          (λ named. acts_good text who.name under said (own_name players who text is) message is named)
     ]
 
 -- the plan for an act
-acts_good : (text : List ℕ) (who : Identity) (said : Option (List ℕ)) → is_message text ≡ true → sort_of text ≡ sorts.Act → IsName who.name →
-    Good (text ∷ []) (Some who) said (act_lines said who.name text) (Some who.name)
-acts_good text who said message is named =
-    let under = act_under text who.name said sorts.Act message is refl named in
-    record {
-      acts = under.acts;
-      drops = act_no_drop text who.name (ap is_drop_sort is) (is_said said who.name);
-      of_text = under.of_text;
-      whole = under.whole;
-      name = under.later;
-    }
-
-act_good : (text : List ℕ) (s : Standing) (said : Option (List ℕ)) (who : Option Identity) → is_message text ≡ true → sort_of text ≡ sorts.Act →
-    IsNamed (act_plan s who) → Good (text ∷ []) who said (lines_of (act_plan s who) said text) (said_after (act_plan s who) said)
-act_good text s said None message is = λ named. none_good (text ∷ []) None said
-act_good text s said (Some who) message is =
-    elim s.is_crowded as (λ b. IsNamed (if b then asked s (plans.Refuse refusals.TooManyOpen) else asked s (plans.Act who)) →
-    Good (text ∷ []) (Some who) said (lines_of (if b then asked s (plans.Refuse refusals.TooManyOpen) else asked s (plans.Act who)) said text)
-    (said_after (if b then asked s (plans.Refuse refusals.TooManyOpen) else asked s (plans.Act who)) said)) [
-      | true ↦ asked_good (text ∷ []) text s (Some who) said (plans.Refuse refusals.TooManyOpen) (λ _. none_good (text ∷ []) (Some who) said)
-      | false ↦ asked_good (text ∷ []) text s (Some who) said (plans.Act who) (λ named. acts_good text who said message is named)
+act_good : (players : List Player) (text : List ℕ) (s : Standing) (said : Option (List ℕ)) (who : Option Identity) → is_message text ≡ true →
+    sort_of text ≡ sorts.Act → IsNamed (act_plan s who) →
+    Good (text ∷ []) (name_for players who text) said (lines_of (act_plan s who) said text) (said_after (act_plan s who) said)
+act_good players text s said None message is = λ named. none_good (text ∷ []) None said
+act_good players text s said (Some who) message is =
+    elim (s.is_paused && not who.is_arbiter) as (λ b. IsNamed (if b then plans.Refuse refusals.EntriesPaused else entered_plan s who) →
+    Good (text ∷ []) (name_for players (Some who) text) said (lines_of (if b then plans.Refuse refusals.EntriesPaused else entered_plan s who) said text)
+    (said_after (if b then plans.Refuse refusals.EntriesPaused else entered_plan s who) said)) [
+      | true ↦ λ _. none_good (text ∷ []) (name_for players (Some who) text) said
+      | false ↦ entered_good players text s said who message is
     ]
+
+-- the plan for an act of an arbiter under the name of another
+named_good : (text : List ℕ) (s : Standing) (who : Identity) (named under said : Option (List ℕ)) → under ≡ named → is_message text ≡ true →
+    sort_of text ≡ sorts.As → IsNamed (named_plan s who named) →
+    Good (as_line text ∷ []) under said (lines_of (named_plan s who named) said text) (said_after (named_plan s who named) said)
+named_good text s who None under said same message is = λ named. none_good (as_line text ∷ []) under said
+named_good text s who (Some name) under said same message is =
+    asked_good (as_line text ∷ []) text s under said (plans.ActAs who name)
+    (λ named. acts_good (as_line text) name under said same (as_whole text message is) (as_acts text is) named)
+
+arbiter_good : (players : List Player) (text : List ℕ) (s : Standing) (said : Option (List ℕ)) (who : Identity) → s.named ≡ player_named players (as_name text) →
+    is_message text ≡ true → sort_of text ≡ sorts.As → (b : Bool) → who.is_arbiter ≡ b →
+    IsNamed (if b then named_plan s who s.named else plans.Refuse refusals.NotArbiter) →
+    Good (as_line text ∷ []) (name_for players (Some who) text) said (lines_of (if b then named_plan s who s.named else plans.Refuse refusals.NotArbiter) said text)
+    (said_after (if b then named_plan s who s.named else plans.Refuse refusals.NotArbiter) said)
+arbiter_good players text s said who other message is true arbiter =
+    named_good text s who s.named (name_for players (Some who) text) said
+    (ap (λ (sort : Sort). if is_as_sort sort then name_as players who.is_arbiter text else Some who.name) is
+    ∙ (ap (λ (b : Bool). name_as players b text) arbiter ∙ sym other)) message is
+arbiter_good players text s said who other message is false arbiter = λ named. none_good (as_line text ∷ []) (name_for players (Some who) text) said
+
+as_good : (players : List Player) (text : List ℕ) (s : Standing) (said : Option (List ℕ)) (who : Option Identity) → s.named ≡ player_named players (as_name text) →
+    is_message text ≡ true → sort_of text ≡ sorts.As → IsNamed (as_plan s who) →
+    Good (as_line text ∷ []) (name_for players who text) said (lines_of (as_plan s who) said text) (said_after (as_plan s who) said)
+as_good players text s said None other message is = λ named. none_good (as_line text ∷ []) None said
+as_good players text s said (Some who) other message is = arbiter_good players text s said who other message is who.is_arbiter refl
 
 -- the plan for a drop asks who is seated
-show_good : (who : Option Identity) (said : Option (List ℕ)) (game : ℕ) → game < 2 ^ 32 →
-    Good (game_line (codes "show ") game ∷ []) who said (game_line (codes "show ") game ∷ []) said
-show_good who said game small =
-    reads_good who said (game_line (codes "show ") game ∷ []) (show_reads game, tt) (show_whole game small, tt)
+show_good : (under said : Option (List ℕ)) (game : ℕ) → game < 2 ^ 32 →
+    Good (game_line (codes "show ") game ∷ []) under said (game_line (codes "show ") game ∷ []) said
+show_good under said game small =
+    reads_good under said (game_line (codes "show ") game ∷ []) (show_reads game, tt) (show_whole game small, tt)
 
-drop_good : (text : List ℕ) (s : Standing) (said : Option (List ℕ)) (one : Option Identity) (who : Option Identity) (game : ℕ) → game < 2 ^ 32 →
+drop_good : (text : List ℕ) (s : Standing) (under said : Option (List ℕ)) (who : Option Identity) (game : ℕ) → game < 2 ^ 32 →
     IsNamed (drop_plan s who game) →
-    Good (game_line (codes "show ") game ∷ []) one said (lines_of (drop_plan s who game) said text) (said_after (drop_plan s who game) said)
-drop_good text s said one None game small = λ named. none_good (game_line (codes "show ") game ∷ []) one said
-drop_good text s said one (Some who) game small =
+    Good (game_line (codes "show ") game ∷ []) under said (lines_of (drop_plan s who game) said text) (said_after (drop_plan s who game) said)
+drop_good text s under said None game small = λ named. none_good (game_line (codes "show ") game ∷ []) under said
+drop_good text s under said (Some who) game small =
     elim who.is_arbiter as (λ b. IsNamed (if b then asked s (plans.Drop who game) else plans.Refuse refusals.NotArbiter) →
-    Good (game_line (codes "show ") game ∷ []) one said (lines_of (if b then asked s (plans.Drop who game) else plans.Refuse refusals.NotArbiter) said text)
+    Good (game_line (codes "show ") game ∷ []) under said (lines_of (if b then asked s (plans.Drop who game) else plans.Refuse refusals.NotArbiter) said text)
     (said_after (if b then asked s (plans.Drop who game) else plans.Refuse refusals.NotArbiter) said)) [
-      | true ↦ asked_good (game_line (codes "show ") game ∷ []) text s one said (plans.Drop who game) (λ _. show_good one said game small)
-      | false ↦ λ _. none_good (game_line (codes "show ") game ∷ []) one said
+      | true ↦ asked_good (game_line (codes "show ") game ∷ []) text s under said (plans.Drop who game) (λ _. show_good under said game small)
+      | false ↦ λ _. none_good (game_line (codes "show ") game ∷ []) under said
     ]
 
-dropped_good : (text : List ℕ) (s : Standing) (said : Option (List ℕ)) (game : Option ℕ) → IfSome game (λ g. g < 2 ^ 32) →
+dropped_good : (text : List ℕ) (s : Standing) (under said : Option (List ℕ)) (game : Option ℕ) → IfSome game (λ g. g < 2 ^ 32) →
     IsNamed (numbered_plan sorts.Drop s game) →
-    Good (sort_asks sorts.Drop (or_0 game) text) s.who said (lines_of (numbered_plan sorts.Drop s game) said text) (said_after (numbered_plan sorts.Drop s game) said)
-dropped_good text s said None small = λ named. none_good (sort_asks sorts.Drop 0 text) s.who said
-dropped_good text s said (Some game) small = drop_good text s said s.who s.who game small
+    Good (sort_asks sorts.Drop (or_0 game) text) under said (lines_of (numbered_plan sorts.Drop s game) said text) (said_after (numbered_plan sorts.Drop s game) said)
+dropped_good text s under said None small = λ named. none_good (sort_asks sorts.Drop 0 text) under said
+dropped_good text s under said (Some game) small = drop_good text s under said s.who game small
 
-login_good : (text : List ℕ) (who : Option Identity) (said : Option (List ℕ)) (holder : Option Identity) →
-    Good [] who said (lines_of (login_plan holder) said text) (said_after (login_plan holder) said)
-login_good text who said None = none_good [] who said
-login_good text who said (Some one) = none_good [] who said
+login_good : (text : List ℕ) (under said : Option (List ℕ)) (holder : Option Identity) →
+    Good [] under said (lines_of (login_plan holder) said text) (said_after (login_plan holder) said)
+login_good text under said None = none_good [] under said
+login_good text under said (Some one) = none_good [] under said
 
-watch_good : (text : List ℕ) (s : Standing) (who : Option Identity) (said : Option (List ℕ)) (game : Option ℕ) → IfSome game (λ g. g < 2 ^ 32) →
+watch_good : (text : List ℕ) (s : Standing) (under said : Option (List ℕ)) (game : Option ℕ) → IfSome game (λ g. g < 2 ^ 32) →
     IsNamed (numbered_plan sorts.Watch s game) →
-    Good (sort_asks sorts.Watch (or_0 game) text) who said (lines_of (numbered_plan sorts.Watch s game) said text) (said_after (numbered_plan sorts.Watch s game) said)
-watch_good text s who said None small = λ named. none_good (sort_asks sorts.Watch 0 text) who said
-watch_good text s who said (Some game) small =
+    Good (sort_asks sorts.Watch (or_0 game) text) under said (lines_of (numbered_plan sorts.Watch s game) said text) (said_after (numbered_plan sorts.Watch s game) said)
+watch_good text s under said None small = λ named. none_good (sort_asks sorts.Watch 0 text) under said
+watch_good text s under said (Some game) small =
     elim s.is_full as (λ b. IsNamed (if b then asked s (plans.Refuse refusals.TooManyWatched) else asked s (plans.Watch game)) →
-    Good (sort_asks sorts.Watch game text) who said (lines_of (if b then asked s (plans.Refuse refusals.TooManyWatched) else asked s (plans.Watch game)) said text)
+    Good (sort_asks sorts.Watch game text) under said (lines_of (if b then asked s (plans.Refuse refusals.TooManyWatched) else asked s (plans.Watch game)) said text)
     (said_after (if b then asked s (plans.Refuse refusals.TooManyWatched) else asked s (plans.Watch game)) said)) [
-      | true ↦ asked_good (sort_asks sorts.Watch game text) text s who said (plans.Refuse refusals.TooManyWatched) (λ _. none_good (sort_asks sorts.Watch game text) who said)
-      | false ↦ asked_good (sort_asks sorts.Watch game text) text s who said (plans.Watch game) (λ _.
-          reads_good who said (game_line (codes "show ") game ∷ game_line (codes "fen ") game ∷ [])
+      | true ↦ asked_good (sort_asks sorts.Watch game text) text s under said (plans.Refuse refusals.TooManyWatched) (λ _. none_good (sort_asks sorts.Watch game text) under said)
+      | false ↦ asked_good (sort_asks sorts.Watch game text) text s under said (plans.Watch game) (λ _.
+          reads_good under said (game_line (codes "show ") game ∷ game_line (codes "fen ") game ∷ [])
           (show_reads game, (fen_reads game, tt)) (show_whole game small, (fen_whole game small, tt)))
     ]
 
-leave_good : (text : List ℕ) (s : Standing) (who : Option Identity) (said : Option (List ℕ)) (game : Option ℕ) →
-    Good [] who said (lines_of (numbered_plan sorts.Leave s game) said text) (said_after (numbered_plan sorts.Leave s game) said)
-leave_good text s who said None = none_good [] who said
-leave_good text s who said (Some game) = none_good [] who said
+-- a plan of an arbiter's by which nothing goes out
+silent_good : (text : List ℕ) (who : Option Identity) (under said : Option (List ℕ)) (plan : Plan) →
+    Good [] under said (lines_of plan said text) (said_after plan said) →
+    Good [] under said (lines_of (arbiter_plan who plan) said text) (said_after (arbiter_plan who plan) said)
+silent_good text who under said plan h =
+    arbiter_does (λ p. Good [] under said (lines_of p said text) (said_after p said)) who plan (λ _. none_good [] under said) h
 
-line_good : (text : List ℕ) (s : Standing) (who : Option Identity) (said : Option (List ℕ)) (game : Option ℕ) → IfSome game (λ g. g < 2 ^ 32) →
+leave_good : (text : List ℕ) (s : Standing) (under said : Option (List ℕ)) (game : Option ℕ) →
+    Good [] under said (lines_of (numbered_plan sorts.Leave s game) said text) (said_after (numbered_plan sorts.Leave s game) said)
+leave_good text s under said None = none_good [] under said
+leave_good text s under said (Some game) = none_good [] under said
+
+line_good : (text : List ℕ) (s : Standing) (under said : Option (List ℕ)) (game : Option ℕ) → IfSome game (λ g. g < 2 ^ 32) →
     IsNamed (numbered_plan sorts.Line s game) →
-    Good (sort_asks sorts.Line (or_0 game) text) who said (lines_of (numbered_plan sorts.Line s game) said text) (said_after (numbered_plan sorts.Line s game) said)
-line_good text s who said None small named = none_good (sort_asks sorts.Line 0 text) who said
-line_good text s who said (Some game) small named =
-    asked_good (sort_asks sorts.Line game text) text s who said (plans.Line game)
-    (λ _. reads_good who said (game_line (codes "pgn ") game ∷ []) (pgn_reads game, tt) (pgn_whole game small, tt)) named
+    Good (sort_asks sorts.Line (or_0 game) text) under said (lines_of (numbered_plan sorts.Line s game) said text) (said_after (numbered_plan sorts.Line s game) said)
+line_good text s under said None small named = none_good (sort_asks sorts.Line 0 text) under said
+line_good text s under said (Some game) small named =
+    asked_good (sort_asks sorts.Line game text) text s under said (plans.Line game)
+    (λ _. reads_good under said (game_line (codes "pgn ") game ∷ []) (pgn_reads game, tt) (pgn_whole game small, tt)) named
 
 -- each plan for a message
-plan_good : (text : List ℕ) (s : Standing) (said : Option (List ℕ)) (game : Option ℕ) (m : Bool) (sort : Sort) → is_message text ≡ m →
-    sort_of text ≡ sort → IfSome game (λ g. g < 2 ^ 32) → IsNamed (plan_of m sort s game) →
-    Good (sort_asks sort (or_0 game) text) s.who said (lines_of (plan_of m sort s game) said text) (said_after (plan_of m sort s game) said)
-plan_good text s said game false sort message is small named = none_good (sort_asks sort (or_0 game) text) s.who said
-plan_good text s said game true sorts.Read message is small named =
-    asked_good (text ∷ []) text s s.who said plans.Read (λ _. reads_good s.who said (text ∷ []) (is, tt) (message, tt)) named
-plan_good text s said game true sorts.Act message is small named = act_good text s said s.who message is named
-plan_good text s said game true sorts.Drop message is small named = dropped_good text s said game small named
-plan_good text s said game true sorts.Login message is small named = login_good text s.who said s.holder
-plan_good text s said game true sorts.Players message is small named = none_good [] s.who said
-plan_good text s said game true sorts.Lobby message is small named =
-    asked_good (codes "list" ∷ []) text s s.who said plans.Lobby (λ _. reads_good s.who said (codes "list" ∷ []) (list_reads, tt) (list_whole, tt)) named
-plan_good text s said game true sorts.LeaveLobby message is small named = none_good [] s.who said
-plan_good text s said game true sorts.Watch message is small named = watch_good text s s.who said game small named
-plan_good text s said game true sorts.Leave message is small named = leave_good text s s.who said game
-plan_good text s said game true sorts.Line message is small named = line_good text s s.who said game small named
-plan_good text s said game true sorts.Name message is small named = none_good [] s.who said
-plan_good text s said game true sorts.Nothing message is small named = none_good [] s.who said
+plan_good : (players : List Player) (text : List ℕ) (s : Standing) (said : Option (List ℕ)) (game : Option ℕ) (m : Bool) (sort : Sort) →
+    s.named ≡ player_named players (as_name text) → is_message text ≡ m → sort_of text ≡ sort → IfSome game (λ g. g < 2 ^ 32) →
+    IsNamed (plan_of m sort s game) →
+    Good (sort_asks sort (or_0 game) text) (name_for players s.who text) said (lines_of (plan_of m sort s game) said text) (said_after (plan_of m sort s game) said)
+plan_good players text s said game false sort other message is small named = none_good (sort_asks sort (or_0 game) text) (name_for players s.who text) said
+plan_good players text s said game true sorts.Read other message is small named =
+    asked_good (text ∷ []) text s (name_for players s.who text) said plans.Read
+    (λ _. reads_good (name_for players s.who text) said (text ∷ []) (is, tt) (message, tt)) named
+plan_good players text s said game true sorts.Act other message is small named = act_good players text s said s.who message is named
+plan_good players text s said game true sorts.As other message is small named = as_good players text s said s.who other message is named
+plan_good players text s said game true sorts.Drop other message is small named = dropped_good text s (name_for players s.who text) said game small named
+plan_good players text s said game true sorts.Login other message is small named = login_good text (name_for players s.who text) said s.holder
+plan_good players text s said game true sorts.Players other message is small named = none_good [] (name_for players s.who text) said
+plan_good players text s said game true sorts.Who other message is small named =
+    silent_good text s.who (name_for players s.who text) said plans.Who (none_good [] (name_for players s.who text) said)
+plan_good players text s said game true sorts.Pause other message is small named =
+    silent_good text s.who (name_for players s.who text) said plans.Pause (none_good [] (name_for players s.who text) said)
+plan_good players text s said game true sorts.Resume other message is small named =
+    silent_good text s.who (name_for players s.who text) said plans.Resume (none_good [] (name_for players s.who text) said)
+plan_good players text s said game true sorts.Lobby other message is small named =
+    asked_good (codes "list" ∷ []) text s (name_for players s.who text) said plans.Lobby
+    (λ _. reads_good (name_for players s.who text) said (codes "list" ∷ []) (list_reads, tt) (list_whole, tt)) named
+plan_good players text s said game true sorts.LeaveLobby other message is small named = none_good [] (name_for players s.who text) said
+plan_good players text s said game true sorts.Watch other message is small named = watch_good text s (name_for players s.who text) said game small named
+plan_good players text s said game true sorts.Leave other message is small named = leave_good text s (name_for players s.who text) said game
+plan_good players text s said game true sorts.Line other message is small named = line_good text s (name_for players s.who text) said game small named
+plan_good players text s said game true sorts.Name other message is small named = none_good [] (name_for players s.who text) said
+plan_good players text s said game true sorts.Nothing other message is small named = none_good [] (name_for players s.who text) said
 
 -- a message
 said_good : (players : List Player) (old : View) (c : ℕ) (text : List ℕ) (lines : List (List ℕ)) (tells : List Telling) (new : View) →
-    IsSaid players old c text lines tells new → Good (sort_asks (sort_of text) (or_0 (number_in (rest_of text))) text) (old.who c) old.said lines new.said
+    IsSaid players old c text lines tells new →
+    Good (sort_asks (sort_of text) (or_0 (number_in (rest_of text))) text) (name_for players (old.who c) text) old.said lines new.said
 said_good players old c text lines tells new h =
     let game = number_in (rest_of text) in
     let named : IsNamed (plan_of (is_message text) (sort_of text) h.standing (number_in (rest_of text))) = subst IsNamed h.planned h.named in
-    let planned = plan_good text h.standing old.said game (is_message text) (sort_of text) refl refl (number_small (rest_of text)) named in
-    let done = subst (λ (plan : Plan). Good (sort_asks (sort_of text) (or_0 (number_in (rest_of text))) text) h.standing.who old.said (lines_of plan old.said text) (said_after plan old.said)) (sym h.planned) planned in
-    let by = subst (λ (who : Option Identity). Good (sort_asks (sort_of text) (or_0 (number_in (rest_of text))) text) who old.said (lines_of h.plan old.said text) (said_after h.plan old.said)) h.who done in
-    let lined = subst (λ (ls : List (List ℕ)). Good (sort_asks (sort_of text) (or_0 (number_in (rest_of text))) text) (old.who c) old.said ls (said_after h.plan old.said)) (sym h.lines_are) by in
-    subst (λ (n : Option (List ℕ)). Good (sort_asks (sort_of text) (or_0 (number_in (rest_of text))) text) (old.who c) old.said lines n) (sym h.said_is) lined
+    let planned = plan_good players text h.standing old.said game (is_message text) (sort_of text) h.other refl refl (number_small (rest_of text)) named in
+    let done = subst (λ (plan : Plan). Good (sort_asks (sort_of text) (or_0 (number_in (rest_of text))) text) (name_for players h.standing.who text) old.said (lines_of plan old.said text) (said_after plan old.said)) (sym h.planned) planned in
+    let by = subst (λ (who : Option Identity). Good (sort_asks (sort_of text) (or_0 (number_in (rest_of text))) text) (name_for players who text) old.said (lines_of h.plan old.said text) (said_after h.plan old.said)) h.who done in
+    let lined = subst (λ (ls : List (List ℕ)). Good (sort_asks (sort_of text) (or_0 (number_in (rest_of text))) text) (name_for players (old.who c) text) old.said ls (said_after h.plan old.said)) (sym h.lines_are) by in
+    subst (λ (n : Option (List ℕ)). Good (sort_asks (sort_of text) (or_0 (number_in (rest_of text))) text) (name_for players (old.who c) text) old.said lines n) (sym h.said_is) lined
 
 -- what is known is the same if each part of it is
 abbrev known_of : List Owed → ℕ → List ℕ → List ℕ → List Watch → List ℕ → List Waiting → Known
@@ -504,9 +571,13 @@ asks_at : (m : Bool) (sort : Sort) (s : Standing) (game : Option ℕ) (said : Op
 asks_at false sort s game said text = asks_none (is_drop_sort sort) s.who false
 asks_at true sorts.Read s game said text = tt
 asks_at true sorts.Act s game said text = tt
+asks_at true sorts.As s game said text = tt
 asks_at true sorts.Drop s game said text = dropped_asks s game said text
 asks_at true sorts.Login s game said text = tt
 asks_at true sorts.Players s game said text = tt
+asks_at true sorts.Who s game said text = tt
+asks_at true sorts.Pause s game said text = tt
+asks_at true sorts.Resume s game said text = tt
 asks_at true sorts.Lobby s game said text = tt
 asks_at true sorts.LeaveLobby s game said text = tt
 asks_at true sorts.Watch s game said text = tt
@@ -528,9 +599,13 @@ asked_if_drop : (players : List Player) (past : List Step) (c : ℕ) (by text : 
     (is_drop_sort sort ≡ true → HasAsked players past c text) → IsAsked players past (sort_asker sort game c by text)
 asked_if_drop players past c by text sorts.Read game h = tt
 asked_if_drop players past c by text sorts.Act game h = tt
+asked_if_drop players past c by text sorts.As game h = tt
 asked_if_drop players past c by text sorts.Drop game h = h refl
 asked_if_drop players past c by text sorts.Login game h = tt
 asked_if_drop players past c by text sorts.Players game h = tt
+asked_if_drop players past c by text sorts.Who game h = tt
+asked_if_drop players past c by text sorts.Pause game h = tt
+asked_if_drop players past c by text sorts.Resume game h = tt
 asked_if_drop players past c by text sorts.Lobby game h = tt
 asked_if_drop players past c by text sorts.LeaveLobby game h = tt
 asked_if_drop players past c by text sorts.Watch game h = tt
@@ -636,9 +711,13 @@ was_asked players (s ∷ past) c text h =
 drop_names_none : (sort : Sort) → is_drop_sort sort ≡ true → is_name_sort sort ≡ false
 drop_names_none sorts.Read h = absurd (false≢true h)
 drop_names_none sorts.Act h = absurd (false≢true h)
+drop_names_none sorts.As h = absurd (false≢true h)
 drop_names_none sorts.Drop h = refl
 drop_names_none sorts.Login h = absurd (false≢true h)
 drop_names_none sorts.Players h = absurd (false≢true h)
+drop_names_none sorts.Who h = absurd (false≢true h)
+drop_names_none sorts.Pause h = absurd (false≢true h)
+drop_names_none sorts.Resume h = absurd (false≢true h)
 drop_names_none sorts.Lobby h = absurd (false≢true h)
 drop_names_none sorts.LeaveLobby h = absurd (false≢true h)
 drop_names_none sorts.Watch h = absurd (false≢true h)
@@ -762,8 +841,8 @@ done_good players past old (Said c text) lines tells now agrees step =
       who = λ d. said_who players old c text lines tells now step d ∙ ap (λ (before : Option Identity). player_after players (Said c text) d before) (agrees.who d);
       said = good.name ∙ ap (λ (n : Option (List ℕ)). name_through n lines) agrees.said;
       right = (
-        subst (λ (n : Option (List ℕ)). ActsRight (player_in players past c) n lines) agrees.said
-            (subst (λ (who : Option Identity). ActsRight who old.said lines) (agrees.who c) good.acts),
+        subst (λ (n : Option (List ℕ)). ActsRight (name_for players (player_in players past c) text) n lines) agrees.said
+            (subst (λ (who : Option Identity). ActsRight (name_for players who text) old.said lines) (agrees.who c) good.acts),
         good.drops,
         good.of_text,
       );

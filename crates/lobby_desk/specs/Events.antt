@@ -86,6 +86,7 @@ owed_last who (line ∷ next ∷ lines) = Nobody ∷ owed_last who (next ∷ lin
 abbrev pub sort_asker : Sort → Option ℕ → ℕ → List ℕ → List ℕ → Owed
 sort_asker sorts.Drop game c by text = Dropper c by text
 sort_asker sorts.Act game c by text = Asker c (ForAct by text)
+sort_asker sorts.As game c by text = Asker c (ForAct by text)
 sort_asker sorts.Line game c by text = Asker c ForPositions
 sort_asker sorts.Lobby game c by text = Asker c ForTable
 sort_asker sorts.Watch game c by text = Asker c (ForGame (or_0 game))
@@ -98,6 +99,7 @@ asker c by text = sort_asker (sort_of text) (number_in (rest_of text)) c by text
 abbrev pub plan_asker : Plan → ℕ → List ℕ → Owed
 plan_asker (plans.Drop who game) c text = Dropper c who.name text
 plan_asker (plans.Act who) c text = Asker c (ForAct who.name text)
+plan_asker (plans.ActAs who name) c text = Asker c (ForAct who.name text)
 plan_asker (plans.Line game) c text = Asker c ForPositions
 plan_asker plans.Lobby c text = Asker c ForTable
 plan_asker (plans.Watch game) c text = Asker c (ForGame game)

@@ -5,8 +5,8 @@ use Rattle.lobby_words.specs.declared.words.Sort.{Sort}
 use Rattle.lobby_words.specs.declared.words.Sort.TheVariants as sorts
 use Rattle.lobby_words.specs.declared.planning.Identity.{Identity}
 use Rattle.lobby_desk.specs.declared.players.Player.{Player}
-use Rattle.lobby_words.specs.Words.{rest_of, is_message, sort_of, is_act_sort, is_drop_sort, is_name_sort, is_login_sort, number_or_0}
-use Rattle.lobby_desk.specs.Players.{holder_of}
+use Rattle.lobby_words.specs.Words.{rest_of, as_name, as_line, is_message, sort_of, is_act_sort, is_as_sort, is_drop_sort, is_name_sort, is_login_sort, number_or_0}
+use Rattle.lobby_desk.specs.Players.{holder_of, player_named}
 use Rattle.lobby_words.specs.Answers.{IsSeated, IsFirstSeated, act_game, is_whole, answer}
 use Rattle.lobby_desk.specs.Lines.{name_line, game_line, notice_lines}
 use Rattle.lobby_desk.specs.Events.{Event, Opened, Closed, Said, Heard, Gone, Here, Telling, ForAct, Owed, Asker, Dropper, Followers, act_told}
@@ -41,7 +41,7 @@ abbrev pub player_in : List Player → List Step → ℕ → Option Identity
 player_in players [] c = None
 player_in players (s ∷ past) c = player_after players s.event c (player_in players past c)
 
--- a line says a name, is an act, is a `drop`
+-- a line says a name, is an act, is a `drop`; a message is `as NAME LINE`
 abbrev pub says_name : List ℕ → Bool
 says_name line = is_name_sort (sort_of line)
 
@@ -50,6 +50,9 @@ is_act line = is_act_sort (sort_of line)
 
 abbrev pub is_drop : List ℕ → Bool
 is_drop line = is_drop_sort (sort_of line)
+
+abbrev pub is_as : List ℕ → Bool
+is_as text = is_as_sort (sort_of text)
 
 -- the name that holds behind a line, and behind lines
 abbrev pub name_behind : Option (List ℕ) → List ℕ → Option (List ℕ)
@@ -81,17 +84,26 @@ NoActs lines = AllByRecursion (λ line. is_act line ≡ false) lines
 abbrev pub NoDrops : List (List ℕ) → Type 0
 NoDrops lines = AllByRecursion (λ line. is_drop line ≡ false) lines
 
--- The lines for a message of a connection: where it has shown no token none is an act; else each act stands under the name
--- of the player whose token it is. No `drop` is among them.
-abbrev pub ActsRight : Option Identity → Option (List ℕ) → List (List ℕ) → Type 0
-ActsRight None said lines = NoActs lines
-ActsRight (Some who) said lines = ActsUnder said lines who.name
+-- The name under which the acts for a message may stand, where its connection has shown the token of this player: his own; but
+-- for `as NAME LINE` that name, where he is an arbiter and a player has it, and else none. Without a token there is none.
+abbrev pub name_as : List Player → Bool → List ℕ → Option (List ℕ)
+name_as players is_arbiter text = if is_arbiter then player_named players (as_name text) else None
 
--- What a message has the desk say to the server, by its sort and by the number behind its word: itself; or for the game or the
--- table that it names what the server is asked; for all else nothing.
+abbrev pub name_for : List Player → Option Identity → List ℕ → Option (List ℕ)
+name_for players None text = None
+name_for players (Some who) text = if is_as text then name_as players who.is_arbiter text else Some who.name
+
+-- The lines for a message: each act among them stands under this name; where there is none, none is an act.
+abbrev pub ActsRight : Option (List ℕ) → Option (List ℕ) → List (List ℕ) → Type 0
+ActsRight None said lines = NoActs lines
+ActsRight (Some name) said lines = ActsUnder said lines name
+
+-- What a message has the desk say to the server, by its sort and by the number behind its word: itself; of `as NAME LINE` the
+-- line; or for the game or the table that it names what the server is asked; for all else nothing.
 abbrev pub sort_asks : Sort → ℕ → List ℕ → List (List ℕ)
 sort_asks sorts.Read game text = text ∷ []
 sort_asks sorts.Act game text = text ∷ []
+sort_asks sorts.As game text = as_line text ∷ []
 sort_asks sorts.Drop game text = game_line (codes "show ") game ∷ []
 sort_asks sorts.Lobby game text = codes "list" ∷ []
 sort_asks sorts.Watch game text = game_line (codes "show ") game ∷ game_line (codes "fen ") game ∷ []
@@ -164,10 +176,10 @@ abbrev pub has_come : List Step → ℕ → Bool
 has_come [] c = false
 has_come (s ∷ past) c = comes s.event c || has_come past c
 
--- What goes out for an event. A connection that comes has a number that none had before.
+-- What goes out for an event; for a message no `drop` does. A connection that comes has a number that none had before.
 abbrev pub IsRight : List Player → List Step → Event → List (List ℕ) → Type 0
 IsRight players past (Said c text) lines =
-    ActsRight (player_in players past c) (name_in past) lines × NoDrops lines × IsOf (asks_of text) lines
+    ActsRight (name_for players (player_in players past c) text) (name_in past) lines × NoDrops lines × IsOf (asks_of text) lines
 IsRight players past (Heard line) lines =
     (lines ≡ []) ⊎ IsNoticeOf players past line lines ⊎ IsDropOf players past line lines
 IsRight players past (Opened c) lines = (lines ≡ []) × (has_come past c ≡ false)

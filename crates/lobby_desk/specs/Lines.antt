@@ -2,6 +2,7 @@
 use Rattle.std.specs.Prelude.{ℕ, ◌≡◌, Bool, false, List, [], ◌∷◌, ◌++◌, Option, Some, None, codes, decimal, if◌then◌else◌}
 use Rattle.std.specs.Str.{bytes_eq}
 use Rattle.lobby_words.specs.declared.planning.Plan.{Plan}
+use Rattle.lobby_words.specs.Words.{as_line}
 use Rattle.lobby_words.specs.declared.planning.Plan.TheVariants as plans
 use Rattle.rec_codec.specs.Name.{IsName}
 use Rattle.lobby_desk.specs.declared.server_line.ServerLine.{ServerLine}
@@ -32,6 +33,7 @@ act_lines said name line = if is_said said name then line ∷ [] else name_line 
 abbrev pub lines_of : Plan → Option (List ℕ) → List ℕ → List (List ℕ)
 lines_of plans.Read said text = text ∷ []
 lines_of (plans.Act who) said text = act_lines said who.name text
+lines_of (plans.ActAs who name) said text = act_lines said name (as_line text)
 lines_of (plans.Drop who game) said text = game_line (codes "show ") game ∷ []
 lines_of plans.Lobby said text = codes "list" ∷ []
 lines_of (plans.Watch game) said text = game_line (codes "show ") game ∷ game_line (codes "fen ") game ∷ []
@@ -41,6 +43,7 @@ lines_of _ said text = []
 -- the name that was said last after a plan's lines
 abbrev pub said_after : Plan → Option (List ℕ) → Option (List ℕ)
 said_after (plans.Act who) said = Some who.name
+said_after (plans.ActAs who name) said = Some name
 said_after _ said = said
 
 -- what an accepted act makes the desk ask, of the game that its answer names
@@ -51,6 +54,7 @@ notice_lines (Some game) = game_line (codes "show ") game ∷ game_line (codes "
 -- the name under which a plan acts is one
 abbrev pub IsNamed : Plan → Type 0
 IsNamed (plans.Act who) = IsName who.name
+IsNamed (plans.ActAs who name) = IsName name
 IsNamed _ = Unit {0}
 
 -- what the server has told is the same

@@ -1,11 +1,12 @@
 -- Whom a token shows, and how players are told.
-use Rattle.std.specs.Prelude.{ℕ, Bool, List, [], length, ◌++◌, codes, decimal, Option, Some, None, find, option_map, if◌then◌else◌}
-use Rattle.std.specs.List.{flat_map}
+use Rattle.std.specs.Prelude.{ℕ, Bool, false, List, [], length, ◌++◌, codes, decimal, map, filter, Option, Some, None, find, option_map, if◌then◌else◌}
+use Rattle.std.specs.List.{flat_map, list_any}
 use Rattle.std.specs.String.{string_bytes}
 use Rattle.std.specs.Str.{bytes_eq}
 use Rattle.sha2.specs.Sha256.{sha256}
 use Rattle.lobby_desk.specs.declared.players.Player.{Player}
 use Rattle.lobby_words.specs.declared.planning.Identity.{Identity}
+use Rattle.lobby_words.specs.Answers.{ended}
 
 abbrev pub identity_of : Player → Identity
 identity_of player = record { name = player.name; is_arbiter = player.is_arbiter }
@@ -21,6 +22,10 @@ or_holder None is_holder who = if is_holder then Some who else None
 -- the first player whose sum is that of the token
 unfoldable pub holder_of : List Player → List ℕ → Option Identity
 holder_of players token = option_map identity_of (find (has_sum (sha256 token)) players)
+
+-- this name, where a player has it
+abbrev pub player_named : List Player → List ℕ → Option (List ℕ)
+player_named players name = if list_any (λ player. bytes_eq player.name name) players then Some name else None
 
 -- a player as he is told: name, role and full name
 abbrev pub role_text : Bool → List ℕ
@@ -46,3 +51,21 @@ login_text players who = codes "ok login " ++ player_row who.name who.is_arbiter
 
 abbrev pub players_text : List Player → List ℕ
 players_text players = codes "ok players " ++ decimal (length players) ++ codes "\n" ++ flat_map row_of players
+
+-- whether it is the player of this name
+abbrev pub is_named : Option Identity → List ℕ → Bool
+is_named None name = false
+is_named (Some who) name = bytes_eq who.name name
+
+-- whether one of these connections acts for him, by for whom each acts
+abbrev pub is_present : (ℕ → Option Identity) → List ℕ → List ℕ → Bool
+is_present who connections name = list_any (λ c. is_named (who c) name) connections
+
+-- the names of the players of whom that is so, in the list's order
+abbrev pub present_names : (ℕ → Option Identity) → List ℕ → List Player → List (List ℕ)
+present_names who connections players =
+    map (λ (player : Player). player.name) (filter (λ (player : Player). is_present who connections player.name) players)
+
+-- the answer to `who` that tells these names
+abbrev pub who_text : List (List ℕ) → List ℕ
+who_text names = codes "ok who " ++ decimal (length names) ++ codes "\n" ++ flat_map ended names

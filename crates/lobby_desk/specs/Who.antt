@@ -12,9 +12,9 @@ use Rattle.lobby_desk.specs.declared.players.Player.{Player}
 use Rattle.lobby_desk.specs.declared.players.Visitor.{Visitor}
 use Rattle.lobby_desk.specs.declared.watching.Watch.{Watch}
 use Rattle.lobby_desk.specs.declared.desk.Desk.{Desk}
-use Rattle.lobby_words.specs.Words.{rest_of, is_message, sort_of, number_in}
+use Rattle.lobby_words.specs.Words.{rest_of, as_name, is_message, sort_of, number_in}
 use Rattle.lobby_words.specs.Waiting.{is_open as opens_game}
-use Rattle.lobby_desk.specs.Players.{holder_of, login_text, players_text}
+use Rattle.lobby_desk.specs.Players.{holder_of, player_named, login_text, players_text, present_names, who_text}
 use Rattle.lobby_words.specs.Plans.{refusal_text, plan_of}
 use Rattle.lobby_desk.specs.Lines.{bytes_of, lines_of, act_lines, said_after, notice_lines, IsNamed}
 use Rattle.lobby_words.specs.Answers.{IsSeated, IsFirstSeated, IsSeatless, act_game, is_whole, answer}
@@ -84,30 +84,49 @@ abbrev pub plan_table : Plan → ℕ → List ℕ → List ℕ
 plan_table plans.LeaveLobby c table = risen c table
 plan_table _ c table = table
 
+-- whether entries are paused after it
+abbrev pub paused_after : Plan → Bool → Bool
+paused_after plans.Pause before = true
+paused_after plans.Resume before = false
+paused_after _ before = before
+
 -- whether nothing goes out by a plan, so that a message is answered at once
 abbrev pub is_own : Plan → Bool
 is_own (plans.Refuse refusal) = true
 is_own (plans.Login who) = true
 is_own plans.Players = true
+is_own plans.Who = true
+is_own plans.Pause = true
+is_own plans.Resume = true
 is_own plans.LeaveLobby = true
 is_own (plans.Leave game) = true
 is_own _ = false
 
--- Such an answer: a refusal says why; the player is told, or all players are; what is left is named.
-abbrev pub IsOwnText : List Player → Plan → List ℕ → Type 0
-IsOwnText players (plans.Refuse refusal) text = text ≡ refusal_text refusal
-IsOwnText players (plans.Login who) text = text ≡ login_text players who
-IsOwnText players plans.Players text = text ≡ players_text players
-IsOwnText players plans.LeaveLobby text = text ≡ codes "ok leave lobby\n"
-IsOwnText players (plans.Leave game) text = text ≡ codes "ok leave " ++ decimal game ++ codes "\n"
-IsOwnText players _ text = Unit {0}
+-- The answer to `who` tells the players for whom a connection acts that is open, and no other.
+abbrev pub IsPresence : List Player → (ℕ → Bool) → (ℕ → Option Identity) → List ℕ → Type 0
+IsPresence players is_open acts_for text =
+    (all : List ℕ) × ((c : ℕ) → at_table all c ≡ is_open c) × (text ≡ who_text (present_names acts_for all players))
 
-abbrev pub IsAnsweredIf : Bool → List Player → Plan → ℕ → List Telling → Type 0
-IsAnsweredIf true players plan c tells = (text : List ℕ) × IsOwnText players plan text × (tells ≡ to_one c text ∷ [])
-IsAnsweredIf false players plan c tells = tells ≡ []
+-- Such an answer, where these connections are open, and each acts for this player: a refusal says why; the player is told, or all
+-- players are, or those who are there; what is left is named.
+abbrev pub IsOwnText : List Player → (ℕ → Bool) → (ℕ → Option Identity) → Plan → List ℕ → Type 0
+IsOwnText players is_open acts_for (plans.Refuse refusal) text = text ≡ refusal_text refusal
+IsOwnText players is_open acts_for (plans.Login who) text = text ≡ login_text players who
+IsOwnText players is_open acts_for plans.Players text = text ≡ players_text players
+IsOwnText players is_open acts_for plans.Who text = IsPresence players is_open acts_for text
+IsOwnText players is_open acts_for plans.Pause text = text ≡ codes "ok pause entries\n"
+IsOwnText players is_open acts_for plans.Resume text = text ≡ codes "ok resume entries\n"
+IsOwnText players is_open acts_for plans.LeaveLobby text = text ≡ codes "ok leave lobby\n"
+IsOwnText players is_open acts_for (plans.Leave game) text = text ≡ codes "ok leave " ++ decimal game ++ codes "\n"
+IsOwnText players is_open acts_for _ text = Unit {0}
 
-abbrev pub IsAnswered : List Player → Plan → ℕ → List Telling → Type 0
-IsAnswered players plan c tells = IsAnsweredIf (is_own plan) players plan c tells
+abbrev pub IsAnsweredIf : Bool → List Player → (ℕ → Bool) → (ℕ → Option Identity) → Plan → ℕ → List Telling → Type 0
+IsAnsweredIf true players is_open acts_for plan c tells =
+    (text : List ℕ) × IsOwnText players is_open acts_for plan text × (tells ≡ to_one c text ∷ [])
+IsAnsweredIf false players is_open acts_for plan c tells = tells ≡ []
+
+abbrev pub IsAnswered : List Player → (ℕ → Bool) → (ℕ → Option Identity) → Plan → ℕ → List Telling → Type 0
+IsAnswered players is_open acts_for plan c tells = IsAnsweredIf (is_own plan) players is_open acts_for plan c tells
 
 abbrev pub known : Desk → Known
 known desk = record {
@@ -125,17 +144,18 @@ abbrev pub IsReady : Desk → ℕ → Type 0
 IsReady desk c = (open_of desk c ≡ true) × (owes (known desk).owed c ≡ false)
 
 -- what is seen of a desk: the number of the connection that comes next, which are open, for whom each acts, the name that was
--- said last to the server, whether that is there, and what is known
+-- said last to the server, whether that is there, whether entries are paused, and what is known
 pub record View : Type 0 where
   pub next : ℕ
   pub is_open : ℕ → Bool
   pub who : ℕ → Option Identity
   pub said : Option (List ℕ)
   pub here : Bool
+  pub paused : Bool
   pub known : Known
 
 abbrev pub view : Desk → View
-view desk = record { next = desk.next; is_open = open_of desk; who = who_of desk; said = desk.line.said; here = desk.line.is_here; known = known desk }
+view desk = record { next = desk.next; is_open = open_of desk; who = who_of desk; said = desk.line.said; here = desk.line.is_here; paused = desk.is_paused; known = known desk }
 
 -- A desk that begins: no connection has come, and nothing was said.
 pub record BeginsView (now : View) : Type 0 where
@@ -143,6 +163,7 @@ pub record BeginsView (now : View) : Type 0 where
   pub none_open : (c : ℕ) → now.is_open c ≡ false
   pub who : (c : ℕ) → now.who c ≡ None
   pub said : now.said ≡ None
+  pub paused : now.paused ≡ false
   pub owed : now.known.owed ≡ []
   pub left : now.known.left ≡ 0
   pub begun : now.known.begun ≡ []
@@ -170,17 +191,20 @@ pub record IsSaid (players : List Player) (old : View) (c : ℕ) (text : List �
   pub standing : Standing
   pub who : standing.who ≡ old.who c
   pub holder : standing.holder ≡ holder_of players (rest_of text)
+  pub other : standing.named ≡ player_named players (as_name text)
   pub here : standing.is_here ≡ old.here
   pub full : standing.is_full ≡ is_full old.known.watches c (number_in (rest_of text))
   pub crowded : standing.is_crowded ≡ crowds old.known (old.who c) text
+  pub paused : standing.is_paused ≡ (opens_game text && old.paused)
   pub plan : Plan
   pub planned : plan ≡ plan_of (is_message text) (sort_of text) standing (number_in (rest_of text))
   pub named : IsNamed plan
   pub lines_are : lines ≡ lines_of plan old.said text
-  pub answers : IsAnswered players plan c tells
+  pub answers : IsAnswered players old.is_open old.who plan c tells
   pub next_is : new.next ≡ old.next
   pub said_is : new.said ≡ said_after plan old.said
   pub here_is : new.here ≡ old.here
+  pub paused_is : new.paused ≡ paused_after plan old.paused
   pub who_is : (d : ℕ) → new.who d ≡ (if c == d then who_noted plan (old.who d) else old.who d)
 
 -- A drop that waited goes out, under the name of a player who has a seat in its game, as the answer to `show` says: White, where
@@ -219,6 +243,7 @@ pub record IsHeard (old : View) (line : List ℕ) (lines : List (List ℕ)) (new
   pub sent : IsSentHeard (is_whole old.known.left line) old.known.owed old.said (answer old.known.begun line) lines new.said
   pub next_is : new.next ≡ old.next
   pub here_is : new.here ≡ old.here
+  pub paused_is : new.paused ≡ old.paused
   pub who_is : (d : ℕ) → new.who d ≡ old.who d
 
 -- A connection came or is gone: nothing goes out, and it acts for nobody.
@@ -226,6 +251,7 @@ pub record IsMoved (old : View) (c : ℕ) (lines : List (List ℕ)) (new : View)
   pub none : lines ≡ []
   pub said_is : new.said ≡ old.said
   pub here_is : new.here ≡ old.here
+  pub paused_is : new.paused ≡ old.paused
   pub who_is : (d : ℕ) → new.who d ≡ (if c == d then None else old.who d)
 
 -- A connection came: it has the number that comes next, which none had before, and is told whether the server is there.
@@ -246,6 +272,7 @@ pub record IsHurried (old : View) (lines : List (List ℕ)) (new : View) : Type 
   pub next_is : new.next ≡ old.next
   pub said_is : new.said ≡ old.said
   pub here_is : new.here ≡ old.here
+  pub paused_is : new.paused ≡ old.paused
   pub who_is : (d : ℕ) → new.who d ≡ old.who d
 
 -- The server is gone, or is there again: nothing goes out, and no name was said on the connection that comes next.
@@ -254,6 +281,7 @@ pub record IsTurned (old : View) (here : Bool) (lines : List (List ℕ)) (new : 
   pub next_is : new.next ≡ old.next
   pub said_is : new.said ≡ None
   pub here_is : new.here ≡ here
+  pub paused_is : new.paused ≡ old.paused
   pub who_is : (d : ℕ) → new.who d ≡ old.who d
 
 -- what the desk does about an event: the lines that go out, and for whom connections act then
@@ -299,10 +327,11 @@ pub record Carried (old : Desk) (from : ℕ) (text : List ℕ) (plan : Plan) (un
   pub tells : List Telling
   pub sent : after ≡ before ++ bytes_of (lines_of plan old.line.said text)
   pub told : told_after ≡ told_before ++ tells
-  pub answers : IsAnswered old.players.items plan from tells
+  pub answers : IsAnswered old.players.items (open_of old) (who_of old) plan from tells
   pub named : IsNamed plan
   pub said_is : new.line.said ≡ said_after plan old.line.said
   pub here_is : new.line.is_here ≡ old.line.is_here
+  pub paused_is : new.is_paused ≡ paused_after plan old.is_paused
   pub who_is : (c : ℕ) → who_of new c ≡ (if from == c then who_noted plan (who_of old c) else who_of old c)
   pub owed : (known new).owed ≡ (known old).owed ++ owed_last (plan_asker plan from text) (lines_of plan old.line.said text)
   pub opens : (c : ℕ) → open_of new c ≡ (from == c || open_of old c)
@@ -328,6 +357,7 @@ pub record AnswersTo (o : Owed) (now : List ℕ) (old : Desk) (before after : Li
   pub table : new.table.items ≡ table_heard (open_of old) o old.table.items
   pub waiting : new.line.waiting.items ≡ waiting_heard o now old.line.waiting.items
   pub here_is : new.line.is_here ≡ old.line.is_here
+  pub paused_is : new.is_paused ≡ old.is_paused
   pub visitors : new.visitors ≡ old.visitors
   pub coming : new.line.coming ≡ old.line.coming
   pub last : new.line.last ≡ old.line.last
@@ -347,6 +377,7 @@ pub record Answered (now : List ℕ) (old : Desk) (before after : List ℕ) (tol
   pub table : new.table.items ≡ table_next (open_of old) (known old).owed old.table.items
   pub waiting : new.line.waiting.items ≡ waiting_next (known old).owed now old.line.waiting.items
   pub here_is : new.line.is_here ≡ old.line.is_here
+  pub paused_is : new.is_paused ≡ old.is_paused
   pub visitors : new.visitors ≡ old.visitors
   pub coming : new.line.coming ≡ old.line.coming
   pub last : new.line.last ≡ old.line.last

@@ -3,14 +3,15 @@ ghost use Rattle.std.specs.Prelude.{ℕ, List, ◌≡◌, ◌++◌, ◌==◌, �
 ghost use Rattle.std.specs.String.{string_bytes};
 ghost use Rattle.lobby_desk.specs.Lines.{bytes_of, lines_of, said_after, IsNamed, IsHeardSame};
 ghost use Rattle.lobby_desk.specs.Events.{Telling, tellings, owed_of, owed_last, plan_asker};
-ghost use Rattle.lobby_desk.specs.Who.{who_in, open_in_map, until_in, who_noted, plan_watches, plan_table, is_own, IsOwnText, IsAnswered};
+ghost use Rattle.lobby_desk.specs.Who.{who_in, open_in_map, until_in, who_noted, plan_watches, plan_table, paused_after, is_own, IsOwnText, IsAnswered};
 
 use crate::players::{Player, Visitor};
+use crate::present::present_rows;
 use crate::rows::{login_line, player_rows};
 use crate::server_line::{Acting, Due, ServerLine};
 use crate::telling::{Kind, Told, headed, tell};
 use crate::watching::{Watch, rise, unwatch};
-use lobby_words::{Identity, Plan};
+use lobby_words::{Identity, Plan, as_line};
 use std::alloc::{AllocError, Global};
 use std::collections::BTreeMap;
 
@@ -30,27 +31,38 @@ pub fn forget(watches: &mut Vec<Watch>, table: &mut Vec<u64>, from: u64, plan: &
 pub fn answer_plan(
     alloc: Global,
     players: &[Player],
+    visitors: &BTreeMap<u64, Visitor>,
     from: u64,
     plan: &Plan,
     told: &mut Vec<Told>,
 ) -> Result<(), AllocError>
-    ensures { OnOk result ((tells : List Telling) × (tellings told.new.items ≡ tellings told.old.items ++ tells) × IsAnswered players.now plan.now from tells) }
+    ensures { OnOk result ((tells : List Telling) × (tellings told.new.items ≡ tellings told.old.items ++ tells)
+        × IsAnswered players.now (open_in_map visitors.now) (who_in visitors.now) plan.now from tells) }
 {
-    match own_answer(alloc, plan, players)? {
+    match own_answer(alloc, plan, players, visitors)? {
         None => Ok(()),
         Some(answer) => tell(alloc, told, from, Kind::Whole, answer),
     }
 }
 
 // The line that a connection is answered for a plan by which nothing is sent.
-fn own_answer(alloc: Global, plan: &Plan, players: &[Player]) -> Result<Option<String>, AllocError>
+fn own_answer(
+    alloc: Global,
+    plan: &Plan,
+    players: &[Player],
+    visitors: &BTreeMap<u64, Visitor>,
+) -> Result<Option<String>, AllocError>
     ensures own { IfOk result (λ answer. is_some answer ≡ is_own plan.now) }
-    ensures text { IfOk result (λ answer. IfSome answer (λ text. IsOwnText players.now plan.now (string_bytes text))) }
+    ensures text { IfOk result (λ answer. IfSome answer (λ text.
+        IsOwnText players.now (open_in_map visitors.now) (who_in visitors.now) plan.now (string_bytes text))) }
 {
     match plan {
         Plan::Refuse(refusal) => Ok(Some(String::from_str(alloc, refusal.line())?)),
         Plan::Login(who) => Ok(Some(login_line(alloc, who, players)?)),
         Plan::Players => Ok(Some(player_rows(alloc, players)?)),
+        Plan::Who => Ok(Some(present_rows(alloc, players, visitors)?)),
+        Plan::Pause => Ok(Some(String::from_str(alloc, "ok pause entries\n")?)),
+        Plan::Resume => Ok(Some(String::from_str(alloc, "ok resume entries\n")?)),
         Plan::LeaveLobby => Ok(Some(String::from_str(alloc, "ok leave lobby\n")?)),
         Plan::Leave(game) => Ok(Some(headed(alloc, "ok leave ", *game)?)),
         _ => Ok(None),
@@ -90,6 +102,10 @@ pub fn send(
             let act = acting(alloc, from, who, text)?;
             line.act(who.name, text, Due::Act(act), wire)
         }
+        Plan::ActAs(who, name) => {
+            let act = acting(alloc, from, who, text)?;
+            line.act(*name, as_line(text), Due::Act(act), wire)
+        }
         Plan::Drop(who, game) => {
             let act = acting(alloc, from, who, text)?;
             line.ask("show ", *game, Due::Drop(act), wire)
@@ -110,6 +126,17 @@ fn who_noted(before: Option<Identity>, plan: &Plan) -> Option<Identity>
 {
     match plan {
         Plan::Login(who) => Some(*who),
+        _ => before,
+    }
+}
+
+/// Whether entries are paused after a plan.
+pub fn paused_after(before: bool, plan: &Plan) -> bool
+    ensures { result ≡ paused_after plan.now before }
+{
+    match plan {
+        Plan::Pause => true,
+        Plan::Resume => false,
         _ => before,
     }
 }

@@ -8,6 +8,7 @@ mod desk;
 mod law;
 mod pace;
 mod players;
+mod present;
 mod rows;
 mod server_line;
 mod telling;

@@ -4,11 +4,12 @@ ghost use Rattle.std.specs.List.{flat_map};
 ghost use Rattle.std.specs.Option.{option_copied};
 ghost use Rattle.std.specs.Str.{bytes_eq};
 ghost use Rattle.std.specs.String.{string_bytes};
-ghost use Rattle.lobby_desk.specs.Players.{role_text, player_row, row_of, full_name_of, login_text, players_text};
+ghost use Rattle.lobby_desk.specs.Players.{role_text, player_row, row_of, player_named, full_name_of, login_text, players_text};
 
 use crate::players::Player;
 use itoa::Buffer;
 use lobby_words::Identity;
+use rec_codec::Name;
 use std::alloc::{AllocError, Global};
 
 fn role_text(is_arbiter: bool) -> &'static str
@@ -52,6 +53,16 @@ fn named<'a>(players: &'a [Player], name: &str) -> Option<&'a Player>
     players.iter().find(|player| player.name.as_str() == name)
 }
 
+/// A name, where a player has it.
+pub fn player_named(players: &[Player], name: &str) -> Option<Name>
+    ensures { result ≡ player_named players.now name.now }
+{
+    match named(players, name) {
+        None => None,
+        Some(player) => Some(player.name),
+    }
+}
+
 // The full name of the first player of a name.
 fn full_name_of<'a>(players: &'a [Player], name: &str) -> &'a str
     ensures { result.now ≡ full_name_of players.now name.now }
@@ -72,12 +83,12 @@ pub fn login_line(alloc: Global, who: &Identity, players: &[Player]) -> Result<S
     Ok(text)
 }
 
-// How many players there are.
-fn count_line(alloc: Global, count: usize) -> Result<String, AllocError>
-    ensures { IfOk result (λ text. string_bytes text ≡ codes "ok players " ++ decimal count ++ codes "\n") }
+/// A word that ends with a space, how many there are, and a line feed.
+pub fn count_line(alloc: Global, word: &str, count: usize) -> Result<String, AllocError>
+    ensures { IfOk result (λ text. string_bytes text ≡ word.now ++ decimal count ++ codes "\n") }
 {
     let mut buffer = Buffer::new();
-    let mut text = String::from_str(alloc, "ok players ")?;
+    let mut text = String::from_str(alloc, word)?;
     text.push_str(buffer.format(count))?;
     text.push('\n')?;
     Ok(text)
@@ -87,7 +98,7 @@ fn count_line(alloc: Global, count: usize) -> Result<String, AllocError>
 pub fn player_rows(alloc: Global, players: &[Player]) -> Result<String, AllocError>
     ensures { IfOk result (λ text. string_bytes text ≡ players_text players.now) }
 {
-    let mut text = count_line(alloc, players.len())?;
+    let mut text = count_line(alloc, "ok players ", players.len())?;
     for player in players {
         push_player(&mut text, player)?;
     }

@@ -1,5 +1,5 @@
 -- What is done about a message.
-use Rattle.std.specs.Prelude.{ℕ, Bool, true, false, List, codes, Option, None, Some, if◌then◌else◌}
+use Rattle.std.specs.Prelude.{ℕ, Bool, true, false, ◌&&◌, not, List, codes, Option, None, Some, if◌then◌else◌}
 use Rattle.lobby_words.specs.declared.words.Sort.{Sort}
 use Rattle.lobby_words.specs.declared.words.Sort.TheVariants as sorts
 use Rattle.lobby_words.specs.declared.planning.Identity.{Identity}
@@ -18,21 +18,41 @@ refusal_text refusals.NotArbiter = codes "no 33 NotArbiter\n"
 refusal_text refusals.TooManyOpen = codes "no 35 TooManyOpen\n"
 refusal_text refusals.NoServer = codes "no 36 NoServer\n"
 refusal_text refusals.TooManyWatched = codes "no 37 TooManyWatched\n"
+refusal_text refusals.NoPlayer = codes "no 38 NoPlayer\n"
+refusal_text refusals.EntriesPaused = codes "no 39 EntriesPaused\n"
 
 -- what asks for the server
 abbrev pub asked : Standing → Plan → Plan
 asked s plan = if s.is_here then plan else plans.Refuse refusals.NoServer
 
--- an act of a connection that acts for this player: not without a token, and no game more than may wait for a second player
+-- An act of a connection that acts for this player: not without a token; no game is opened while entries are paused, but by an
+-- arbiter, and no game more than may wait for a second player.
+abbrev pub entered_plan : Standing → Identity → Plan
+entered_plan s who = if s.is_crowded then asked s (plans.Refuse refusals.TooManyOpen) else asked s (plans.Act who)
+
 abbrev pub act_plan : Standing → Option Identity → Plan
 act_plan s None = plans.Refuse refusals.NoToken
-act_plan s (Some who) =
-    if s.is_crowded then asked s (plans.Refuse refusals.TooManyOpen) else asked s (plans.Act who)
+act_plan s (Some who) = if s.is_paused && not who.is_arbiter then plans.Refuse refusals.EntriesPaused else entered_plan s who
+
+-- an act of an arbiter under the name of another: not where no player has it
+abbrev pub named_plan : Standing → Identity → Option (List ℕ) → Plan
+named_plan s who None = plans.Refuse refusals.NoPlayer
+named_plan s who (Some name) = asked s (plans.ActAs who name)
+
+-- the same, and not without an arbiter's token
+abbrev pub as_plan : Standing → Option Identity → Plan
+as_plan s None = plans.Refuse refusals.NoToken
+as_plan s (Some who) = if who.is_arbiter then named_plan s who s.named else plans.Refuse refusals.NotArbiter
 
 -- a drop: not without an arbiter's token
 abbrev pub drop_plan : Standing → Option Identity → ℕ → Plan
 drop_plan s None game = plans.Refuse refusals.NoToken
 drop_plan s (Some who) game = if who.is_arbiter then asked s (plans.Drop who game) else plans.Refuse refusals.NotArbiter
+
+-- what an arbiter alone may ask for
+abbrev pub arbiter_plan : Option Identity → Plan → Plan
+arbiter_plan None plan = plans.Refuse refusals.NoToken
+arbiter_plan (Some who) plan = if who.is_arbiter then plan else plans.Refuse refusals.NotArbiter
 
 -- a token is shown, and this player has it
 abbrev pub login_plan : Option Identity → Plan
@@ -55,9 +75,13 @@ numbered_plan sort s (Some game) = game_plan sort s game
 abbrev pub sort_plan : Sort → Standing → Option ℕ → Plan
 sort_plan sorts.Read s game = asked s plans.Read
 sort_plan sorts.Act s game = act_plan s s.who
+sort_plan sorts.As s game = as_plan s s.who
 sort_plan sorts.Drop s game = numbered_plan sorts.Drop s game
 sort_plan sorts.Login s game = login_plan s.holder
 sort_plan sorts.Players s game = plans.Players
+sort_plan sorts.Who s game = arbiter_plan s.who plans.Who
+sort_plan sorts.Pause s game = arbiter_plan s.who plans.Pause
+sort_plan sorts.Resume s game = arbiter_plan s.who plans.Resume
 sort_plan sorts.Lobby s game = asked s plans.Lobby
 sort_plan sorts.LeaveLobby s game = plans.LeaveLobby
 sort_plan sorts.Name s game = plans.Refuse refusals.BadLine

@@ -25,19 +25,36 @@ unfoldable pub is_read_word : List ℕ → Bool
 is_read_word w =
     bytes_eq w (codes "show") || bytes_eq w (codes "fen") || bytes_eq w (codes "pgn") || bytes_eq w (codes "list")
 
+-- the words of acts in a game that is played
+unfoldable pub is_play_word : List ℕ → Bool
+is_play_word w =
+    bytes_eq w (codes "move") || bytes_eq w (codes "offer") || bytes_eq w (codes "accept") || bytes_eq w (codes "decline")
+    || bytes_eq w (codes "resign") || bytes_eq w (codes "claim") || bytes_eq w (codes "flag")
+
 -- the words of acts, but `drop`
 unfoldable pub is_act_word : List ℕ → Bool
-is_act_word w =
-    bytes_eq w (codes "open") || bytes_eq w (codes "join") || bytes_eq w (codes "move") || bytes_eq w (codes "offer")
-    || bytes_eq w (codes "accept") || bytes_eq w (codes "decline") || bytes_eq w (codes "resign")
-    || bytes_eq w (codes "claim") || bytes_eq w (codes "flag")
+is_act_word w = bytes_eq w (codes "open") || bytes_eq w (codes "join") || is_play_word w
+
+-- the name and the line of a message `as NAME LINE`
+abbrev pub as_name : List ℕ → List ℕ
+as_name text = word_of (rest_of text)
+
+abbrev pub as_line : List ℕ → List ℕ
+as_line text = rest_of (rest_of text)
+
+-- what a message asks for whose word is `as`: LINE is an act in a game that is played
+abbrev pub as_sort : List ℕ → Sort
+as_sort text = if is_play_word (word_of (as_line text)) then sorts.As else sorts.Nothing
 
 abbrev pub whole_sort : List ℕ → Sort
 whole_sort text =
     if bytes_eq text (codes "players") then sorts.Players
+    else (if bytes_eq text (codes "who") then sorts.Who
+    else (if bytes_eq text (codes "pause entries") then sorts.Pause
+    else (if bytes_eq text (codes "resume entries") then sorts.Resume
     else (if bytes_eq text (codes "lobby") then sorts.Lobby
     else (if bytes_eq text (codes "leave lobby") then sorts.LeaveLobby
-    else sorts.Nothing))
+    else sorts.Nothing)))))
 
 abbrev pub own_sort : List ℕ → List ℕ → Sort
 own_sort w text =
@@ -54,7 +71,8 @@ sort_of text =
     else (if is_read_word (word_of text) then sorts.Read
     else (if is_act_word (word_of text) then sorts.Act
     else (if bytes_eq (word_of text) (codes "drop") then sorts.Drop
-    else own_sort (word_of text) text)))
+    else (if bytes_eq (word_of text) (codes "as") then as_sort text
+    else own_sort (word_of text) text))))
 
 -- the lines of the server that change something, `drop` and the others
 abbrev pub is_act_sort : Sort → Bool
@@ -65,6 +83,10 @@ is_act_sort _ = false
 abbrev pub is_drop_sort : Sort → Bool
 is_drop_sort sorts.Drop = true
 is_drop_sort _ = false
+
+abbrev pub is_as_sort : Sort → Bool
+is_as_sort sorts.As = true
+is_as_sort _ = false
 
 abbrev pub is_name_sort : Sort → Bool
 is_name_sort sorts.Name = true

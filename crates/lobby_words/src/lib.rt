@@ -13,4 +13,4 @@ pub use coming::Coming;
 pub use listing::{Waiting, ends_wait, is_list, is_open, waiting_in};
 pub use planning::{Identity, Plan, Standing, plan_of};
 pub use refusals::Refusal;
-pub use words::{Sort, cut, number_named};
+pub use words::{Sort, as_line, as_name, cut, number_named};

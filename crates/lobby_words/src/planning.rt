@@ -22,10 +22,17 @@ pub enum Plan {
     Read,
     /// The message is passed on under a name.
     Act(Identity),
+    /// The line of an arbiter's message is passed on under the name of another.
+    ActAs(Identity, Name),
     /// Who is seated in the game is asked for, and the message is passed on under a name of theirs.
     Drop(Identity, u32),
     Login(Identity),
     Players,
+    /// Which players are there.
+    Who,
+    /// No games are opened from now on, and games are again.
+    Pause,
+    Resume,
     Lobby,
     LeaveLobby,
     Watch(u32),
@@ -40,12 +47,16 @@ pub struct Standing {
     pub who: Option<Identity>,
     /// Who has the token that stands behind the message's word.
     pub holder: Option<Identity>,
+    /// The name that stands behind the message's word, where a player has it.
+    pub named: Option<Name>,
     /// Whether the server is there.
     pub is_here: bool,
     /// Whether the connection watches as many games as may be.
     pub is_full: bool,
     /// Whether the message opens a game where the player has as many waiting for a second player as may be.
     pub is_crowded: bool,
+    /// Whether the message opens a game while entries are paused.
+    pub is_paused: bool,
 }
 
 // What asks for the server.
@@ -59,6 +70,17 @@ fn asked(standing: &Standing, plan: Plan) -> Plan
     }
 }
 
+// An act but a drop, of who may open games.
+fn entered_plan(standing: &Standing, who: Identity) -> Plan
+    ensures { result ≡ plans.entered_plan standing.now who }
+{
+    if standing.is_crowded {
+        asked(standing, Plan::Refuse(Refusal::TooManyOpen))
+    } else {
+        asked(standing, Plan::Act(who))
+    }
+}
+
 // An act but a drop.
 fn act_plan(standing: &Standing) -> Plan
     ensures { result ≡ plans.act_plan standing.now standing.now.who }
@@ -66,10 +88,37 @@ fn act_plan(standing: &Standing) -> Plan
     match standing.who {
         None => Plan::Refuse(Refusal::NoToken),
         Some(who) => {
-            if standing.is_crowded {
-                asked(standing, Plan::Refuse(Refusal::TooManyOpen))
+            let is_player = !who.is_arbiter;
+            if standing.is_paused & is_player {
+                Plan::Refuse(Refusal::EntriesPaused)
             } else {
-                asked(standing, Plan::Act(who))
+                entered_plan(standing, who)
+            }
+        }
+    }
+}
+
+// An act of an arbiter under the name of another.
+fn named_plan(standing: &Standing, who: Identity, named: Option<Name>) -> Plan
+    ensures { result ≡ plans.named_plan standing.now who named }
+{
+    match named {
+        None => Plan::Refuse(Refusal::NoPlayer),
+        Some(name) => asked(standing, Plan::ActAs(who, name)),
+    }
+}
+
+// An act under the name of another.
+fn as_plan(standing: &Standing) -> Plan
+    ensures { result ≡ plans.as_plan standing.now standing.now.who }
+{
+    match standing.who {
+        None => Plan::Refuse(Refusal::NoToken),
+        Some(who) => {
+            if !who.is_arbiter {
+                Plan::Refuse(Refusal::NotArbiter)
+            } else {
+                named_plan(standing, who, standing.named)
             }
         }
     }
@@ -84,6 +133,23 @@ fn drop_plan(standing: &Standing, game: u32) -> Plan
         Some(who) => {
             if who.is_arbiter {
                 asked(standing, Plan::Drop(who, game))
+            } else {
+                Plan::Refuse(Refusal::NotArbiter)
+            }
+        }
+    }
+}
+
+// What an arbiter alone may ask for.
+fn arbiter_plan(standing: &Standing, plan: Plan) -> Plan
+    ensures { result ≡ plans.arbiter_plan standing.now.who plan }
+{
+    match standing.who {
+        None => Plan::Refuse(Refusal::NoToken),
+        Some(who) => {
+            let is_arbiter = who.is_arbiter;
+            if is_arbiter {
+                plan
             } else {
                 Plan::Refuse(Refusal::NotArbiter)
             }
@@ -126,8 +192,12 @@ fn sort_plan(sort: Sort, standing: &Standing, game: Option<u32>) -> Plan
     match sort {
         Sort::Read => asked(standing, Plan::Read),
         Sort::Act => act_plan(standing),
+        Sort::As => as_plan(standing),
         Sort::Login => login_plan(standing.holder),
         Sort::Players => Plan::Players,
+        Sort::Who => arbiter_plan(standing, Plan::Who),
+        Sort::Pause => arbiter_plan(standing, Plan::Pause),
+        Sort::Resume => arbiter_plan(standing, Plan::Resume),
         Sort::Lobby => asked(standing, Plan::Lobby),
         Sort::LeaveLobby => Plan::LeaveLobby,
         Sort::Name | Sort::Nothing => Plan::Refuse(Refusal::BadLine),

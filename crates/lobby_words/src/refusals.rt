@@ -19,6 +19,10 @@ pub enum Refusal {
     NoServer,
     /// As many games are watched as may be.
     TooManyWatched,
+    /// No player has the name.
+    NoPlayer,
+    /// No games are opened at the moment, but by an arbiter.
+    EntriesPaused,
 }
 
 impl Refusal {
@@ -34,6 +38,8 @@ impl Refusal {
             Refusal::TooManyOpen => "no 35 TooManyOpen\n",
             Refusal::NoServer => "no 36 NoServer\n",
             Refusal::TooManyWatched => "no 37 TooManyWatched\n",
+            Refusal::NoPlayer => "no 38 NoPlayer\n",
+            Refusal::EntriesPaused => "no 39 EntriesPaused\n",
         }
     }
 }

@@ -12,9 +12,16 @@ pub enum Sort {
     Read,
     /// An act, but `drop`.
     Act,
+    /// An act in a game under the name of another.
+    As,
     Drop,
     Login,
     Players,
+    /// Which players are there.
+    Who,
+    /// No games are opened from now on, and games are again.
+    Pause,
+    Resume,
     Lobby,
     LeaveLobby,
     Watch,
@@ -74,13 +81,11 @@ fn is_read_word(word: &str) -> bool
     show | fen | pgn | list
 }
 
-// Whether a line of the server with this word is an act, but `drop`.
-#[tactic(auto, unfolding(crate::specs::Words::is_act_word))]
-fn is_act_word(word: &str) -> bool
-    ensures { result ≡ words.is_act_word word.now }
+// Whether a line of the server with this word is an act in a game that is played.
+#[tactic(auto, unfolding(crate::specs::Words::is_play_word))]
+fn is_play_word(word: &str) -> bool
+    ensures { result ≡ words.is_play_word word.now }
 {
-    let opening = word == "open";
-    let join = word == "join";
     let play = word == "move";
     let offer = word == "offer";
     let accept = word == "accept";
@@ -88,7 +93,48 @@ fn is_act_word(word: &str) -> bool
     let resign = word == "resign";
     let claim = word == "claim";
     let flag = word == "flag";
-    opening | join | play | offer | accept | decline | resign | claim | flag
+    play | offer | accept | decline | resign | claim | flag
+}
+
+// Whether a line of the server with this word is an act, but `drop`.
+#[tactic(auto, unfolding(crate::specs::Words::is_act_word))]
+fn is_act_word(word: &str) -> bool
+    ensures { result ≡ words.is_act_word word.now }
+{
+    let opening = word == "open";
+    let join = word == "join";
+    let play = is_play_word(word);
+    opening | join | play
+}
+
+/// The name in a message `as NAME LINE`.
+pub fn as_name(text: &str) -> &str
+    ensures { result.now ≡ words.as_name text.entry.now }
+{
+    let (_, rest) = cut(text);
+    let (name, _) = cut(rest);
+    name
+}
+
+/// The line in a message `as NAME LINE`.
+pub fn as_line(text: &str) -> &str
+    ensures { result.now ≡ words.as_line text.entry.now }
+{
+    let (_, rest) = cut(text);
+    let (_, line) = cut(rest);
+    line
+}
+
+// What a message asks for whose word is `as`.
+fn as_sort(text: &str) -> Sort
+    ensures { result ≡ words.as_sort text.now }
+{
+    let (word, _) = cut(as_line(text));
+    if is_play_word(word) {
+        Sort::As
+    } else {
+        Sort::Nothing
+    }
 }
 
 // What a message of one word asks for, or one of two that has no number.
@@ -97,6 +143,12 @@ fn whole_sort(text: &str) -> Sort
 {
     if text == "players" {
         Sort::Players
+    } else if text == "who" {
+        Sort::Who
+    } else if text == "pause entries" {
+        Sort::Pause
+    } else if text == "resume entries" {
+        Sort::Resume
     } else if text == "lobby" {
         Sort::Lobby
     } else if text == "leave lobby" {
@@ -137,6 +189,8 @@ pub fn sort_of(text: &str) -> Sort
         Sort::Act
     } else if word == "drop" {
         Sort::Drop
+    } else if word == "as" {
+        as_sort(text)
     } else {
         own_sort(word, text)
     }

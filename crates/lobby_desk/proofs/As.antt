@@ -1,0 +1,166 @@
+-- The line of a message `as NAME LINE`.
+use Rattle.std.proofs.Common.{ℕ, zero, suc, ◌≡◌, ◌≤◌, ◌+◌, ◌==◌, Bool, true, false, ◌&&◌, ◌||◌, not, List, [], ◌∷◌, length, drop, codes, refl, sym, ap, ◌∙◌, subst, arith}
+use Rattle.std.specs.Prelude.{if◌then◌else◌, nat_le}
+use Rattle.std.specs.List.{list_all, position_or_len}
+use Rattle.std.specs.Str.{bytes_eq}
+use Rattle.std.proofs.lemmas.Bool.{false≢true}
+use Rattle.std.proofs.lemmas.Bool.Decides.{nat_tests}
+use Rattle.std.proofs.lemmas.List.{length-drop}
+use Rattle.std.proofs.lemmas.Slice.Eq.{bytes_eq-Decides}
+use Rattle.lobby_words.specs.declared.words.Sort.{Sort}
+use Rattle.lobby_words.specs.declared.words.Sort.TheVariants as sorts
+use Rattle.lobby_words.specs.Words.{word_of, rest_of, as_line, is_message, is_message_byte, is_play_word, is_read_word, is_act_word, as_sort, own_sort, whole_sort, sort_of, is_as_sort}
+use Rattle.lobby_desk.proofs.Found.{and_first, and_second}
+
+-- ---- where a message asks for that, LINE is an act in a game
+
+whole_none : (a b c d e f : Bool) →
+    is_as_sort (if a then sorts.Players else (if b then sorts.Who else (if c then sorts.Pause else (if d then sorts.Resume
+    else (if e then sorts.Lobby else (if f then sorts.LeaveLobby else sorts.Nothing)))))) ≡ false
+whole_none true b c d e f = refl
+whole_none false true c d e f = refl
+whole_none false false true d e f = refl
+whole_none false false false true e f = refl
+whole_none false false false false true f = refl
+whole_none false false false false false true = refl
+whole_none false false false false false false = refl
+
+own_none : (a b c d : Bool) (last : Sort) → is_as_sort last ≡ false →
+    is_as_sort (if a then sorts.Login else (if b then sorts.Watch else (if c then sorts.Line else (if d then sorts.Leave else last)))) ≡ false
+own_none true b c d last h = refl
+own_none false true c d last h = refl
+own_none false false true d last h = refl
+own_none false false false true last h = refl
+own_none false false false false last h = h
+
+plays_if : (a b c d e p : Bool) (last : Sort) → is_as_sort last ≡ false →
+    is_as_sort (if a then sorts.Name else (if b then sorts.Read else (if c then sorts.Act else (if d then sorts.Drop
+    else (if e then (if p then sorts.As else sorts.Nothing) else last))))) ≡ true → p ≡ true
+plays_if true b c d e p last none h = absurd (false≢true h)
+plays_if false true c d e p last none h = absurd (false≢true h)
+plays_if false false true d e p last none h = absurd (false≢true h)
+plays_if false false false true e p last none h = absurd (false≢true h)
+plays_if false false false false true true last none h = refl
+plays_if false false false false true false last none h = absurd (false≢true h)
+plays_if false false false false false p last none h = absurd (false≢true (sym none ∙ h))
+
+as_plays : (text : List ℕ) → sort_of text ≡ sorts.As → is_play_word (word_of (as_line text)) ≡ true
+unfolding sort_of
+as_plays text is =
+    let w = word_of text in
+    plays_if (bytes_eq w (codes "name")) (is_read_word w) (is_act_word w) (bytes_eq w (codes "drop")) (bytes_eq w (codes "as"))
+    (is_play_word (word_of (as_line text))) (own_sort w text)
+    (own_none (bytes_eq w (codes "login")) (bytes_eq w (codes "watch")) (bytes_eq w (codes "line"))
+    (bytes_eq w (codes "leave") && not (bytes_eq text (codes "leave lobby"))) (whole_sort text)
+    (whole_none (bytes_eq text (codes "players")) (bytes_eq text (codes "who")) (bytes_eq text (codes "pause entries"))
+    (bytes_eq text (codes "resume entries")) (bytes_eq text (codes "lobby")) (bytes_eq text (codes "leave lobby"))))
+    (ap is_as_sort is)
+
+-- ---- a line with such a word is an act
+
+-- what holds of each of the words holds of a text that is one of them
+among : (P : List ℕ → Type 0) (w word : List ℕ) (before : Bool) → (before ≡ true → P w) → P word → (before || bytes_eq w word) ≡ true → P w
+among P w word true earlier here h = earlier refl
+among P w word false earlier here h = subst P (sym ((bytes_eq-Decides w word).0 h)) here
+
+abbrev pub to_offer : List ℕ → Bool
+to_offer w = bytes_eq w (codes "move") || bytes_eq w (codes "offer")
+
+abbrev pub to_accept : List ℕ → Bool
+to_accept w = to_offer w || bytes_eq w (codes "accept")
+
+abbrev pub to_decline : List ℕ → Bool
+to_decline w = to_accept w || bytes_eq w (codes "decline")
+
+abbrev pub to_resign : List ℕ → Bool
+to_resign w = to_decline w || bytes_eq w (codes "resign")
+
+abbrev pub to_claim : List ℕ → Bool
+to_claim w = to_resign w || bytes_eq w (codes "claim")
+
+each_word : (P : List ℕ → Type 0) (w : List ℕ) → P (codes "move") → P (codes "offer") → P (codes "accept") → P (codes "decline") →
+    P (codes "resign") → P (codes "claim") → P (codes "flag") → is_play_word w ≡ true → P w
+unfolding is_play_word
+each_word P w move offer accept decline resign claim flag h =
+    among P w (codes "flag") (to_claim w)
+    (among P w (codes "claim") (to_resign w)
+    (among P w (codes "resign") (to_decline w)
+    (among P w (codes "decline") (to_accept w)
+    (among P w (codes "accept") (to_offer w)
+    (among P w (codes "offer") (bytes_eq w (codes "move"))
+    (λ is. subst P (sym ((bytes_eq-Decides w (codes "move")).0 is)) move) offer)
+    accept) decline) resign) claim) flag h
+
+-- what such a word is
+abbrev pub IsActWord : List ℕ → Type 0
+IsActWord w = (bytes_eq w (codes "name") ≡ false) × (is_read_word w ≡ false) × (is_act_word w ≡ true)
+
+plays_acts : (w : List ℕ) → is_play_word w ≡ true → IsActWord w
+unfolding is_read_word is_act_word is_play_word
+plays_acts w h =
+    each_word IsActWord w (refl, refl, refl) (refl, refl, refl) (refl, refl, refl) (refl, refl, refl) (refl, refl, refl) (refl, refl, refl) (refl, refl, refl) h
+
+acts_if : (a b c : Bool) (last : Sort) → a ≡ false → b ≡ false → c ≡ true →
+    (if a then sorts.Name else (if b then sorts.Read else (if c then sorts.Act else last))) ≡ sorts.Act
+acts_if false false true last h k l = refl
+acts_if true b c last h k l = absurd (false≢true (sym h))
+acts_if false true c last h k l = absurd (false≢true (sym k))
+acts_if false false false last h k l = absurd (false≢true l)
+
+act_by_word : (line : List ℕ) → IsActWord (word_of line) → sort_of line ≡ sorts.Act
+unfolding sort_of
+act_by_word line h =
+    let w = word_of line in
+    acts_if (bytes_eq w (codes "name")) (is_read_word w) (is_act_word w)
+    (if bytes_eq w (codes "drop") then sorts.Drop else (if bytes_eq w (codes "as") then as_sort line else own_sort w line)) h.0 h.1 h.2
+
+pub as_acts : (text : List ℕ) → sort_of text ≡ sorts.As → sort_of (as_line text) ≡ sorts.Act
+as_acts text is = act_by_word (as_line text) (plays_acts (word_of (as_line text)) (as_plays text is))
+
+-- ---- it may stand in a message, as the message may
+
+shown_behind : (n : ℕ) (text : List ℕ) → list_all is_message_byte text ≡ true → list_all is_message_byte (drop n text) ≡ true
+shown_behind zero text h = h
+shown_behind (suc n) [] h = refl
+shown_behind (suc n) (b ∷ bs) h = shown_behind n bs (and_second (is_message_byte b) (list_all is_message_byte bs) h)
+
+-- what stands behind a first space
+behind_space : (text : List ℕ) → list_all is_message_byte text ≡ true → list_all is_message_byte (rest_of text) ≡ true
+behind_space text h = shown_behind (position_or_len (λ b. b == 32) text + 1) text h
+
+shorter : (text : List ℕ) → length (rest_of text) ≤ length text
+shorter text = let short = length-drop (position_or_len (λ b. b == 32) text + 1) text in omega (arith, short)
+
+-- a text whose word is one of these is not empty
+some_if : (line : List ℕ) → IsActWord (word_of line) → 1 ≤ length line
+unfolding is_act_word is_play_word
+some_if [] h = absurd (false≢true h.2)
+some_if (b ∷ bs) h = omega arith
+
+record Parts (text : List ℕ) : Type 0 where
+  short : length text ≤ 255
+  shown : list_all is_message_byte text ≡ true
+
+at_most : (n : ℕ) → nat_le n 255 ≡ true → n ≤ 255
+at_most n h = grind (arith, nat_tests)
+
+parts : (text : List ℕ) → is_message text ≡ true → Parts text
+parts text h =
+    let len = length text in
+    let counted = and_first (nat_le 1 len && nat_le len 255) (list_all is_message_byte text) h in
+    record {
+      short = at_most (length text) (and_second (nat_le 1 len) (nat_le len 255) counted);
+      shown = and_second (nat_le 1 len && nat_le len 255) (list_all is_message_byte text) h;
+    }
+
+message : (text : List ℕ) → 1 ≤ length text → length text ≤ 255 → list_all is_message_byte text ≡ true → is_message text ≡ true
+message text some short bytes = grind (arith, nat_tests)
+
+pub as_whole : (text : List ℕ) → is_message text ≡ true → sort_of text ≡ sorts.As → is_message (as_line text) ≡ true
+as_whole text is sort =
+    let p = parts text is in
+    let short = p.short in
+    let first = shorter text in
+    let second = shorter (rest_of text) in
+    message (as_line text) (some_if (as_line text) (plays_acts (word_of (as_line text)) (as_plays text sort))) (omega (arith, short, first, second))
+    (behind_space (rest_of text) (behind_space text p.shown))

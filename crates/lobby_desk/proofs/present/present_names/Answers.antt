@@ -1,0 +1,16 @@
+use Rattle.std.proofs.Common.{ℕ, Bool, List, [], ◌∷◌, ◌++◌, take, sym, ap, ◌∙◌}
+use Rattle.std.specs.Prelude.{if◌then◌else◌}
+use Rattle.lobby_desk.specs.declared.players.Player.{Player}
+use Rattle.lobby_desk.specs.Players.{is_present}
+use Rattle.lobby_desk.specs.Who.{who_in}
+use Rattle.lobby_desk.proofs.PresentNames.{names_more}
+use Rattle.lobby_desk.proofs.present.present_names.Goals as goal
+
+pub loop-player-preserved : goal.loop-player-preserved
+loop-player-preserved c =
+    let test = λ (p : Player). is_present (who_in c.args.visitors.now) c.args.connections.now p.name in
+    let item = c.player-item.result in
+    c.in_ok-add_if.ensures
+    ∙ (ap (λ (b : Bool). c.loop-player.names.items ++ (if b then item.name ∷ [] else [])) c.is_present-is_here.ensures
+    ∙ (ap (λ (xs : List (List ℕ)). xs ++ (if test item then item.name ∷ [] else [])) c.loop-player.invariant
+    ∙ sym (names_more test c.args.players.now c.loop-player.player-index item c.loop-player-test.true c.player-item.is)))

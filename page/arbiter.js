@@ -1,0 +1,344 @@
+// The arbiter's desk: all running games at a glance, and what is entered for their players.
+
+import { Picture } from './board.js';
+import { Clock } from './clock.js';
+import { placementOf, readLine, readRefusal, readStanding, readWho, squaresOf } from './lines.js';
+import { arrange, byId, make, setText } from './make.js';
+import { OTHER, SIDES, actWords, colourWord, refusalWords, resultWords } from './words.js';
+
+const MOST = 12;                     // games on a page: each is watched
+const ASKS_WHO = 10000;
+const AGREED = 2;                    // both sides have moved then: a draw can be agreed on
+
+export class ArbiterView {
+  /** rows(): the table's rows by number. */
+  constructor(app, rows) {
+    this.app = app;
+    this.rows = rows;
+    this.root = byId('arbiter-view');
+    this.hash = '#/arbiter';
+    this.list = byId('arbiter-games');
+    this.cards = new Map();
+    this.first = 0;
+    this.here = null;                  // the names of who is connected, once that was told
+    byId('arbiter-find').addEventListener('input', () => {
+      this.first = 0;
+      this.fill();
+    });
+    byId('arbiter-back').addEventListener('click', () => this.page(-1));
+    byId('arbiter-on').addEventListener('click', () => this.page(1));
+    byId('pause-entries').addEventListener('click', () => this.entries('pause'));
+    byId('resume-entries').addEventListener('click', () => this.entries('resume'));
+    byId('arbiter-dialog').addEventListener('close', (event) => {
+      const asked = this.asked;
+      this.asked = null;
+      if (event.target.returnValue === 'yes' && asked) this.enter(asked);
+    });
+  }
+
+  open() {
+    this.root.hidden = false;
+    clearInterval(this.asking);
+    this.asking = setInterval(() => {
+      this.askWho();
+      this.fill();
+    }, ASKS_WHO);
+    this.askWho();
+    this.render();
+    this.app.titled('Arbiter');
+  }
+
+  close() {
+    this.root.hidden = true;
+    clearInterval(this.asking);
+    byId('arbiter-dialog').close();
+    for (const number of [...this.cards.keys()]) this.remove(number);
+    this.note('');
+  }
+
+  /** The games that this view has to be told of. */
+  needs() {
+    return [...this.cards].filter(([, card]) => !card.isOver).map(([number]) => number);
+  }
+
+  /** After a new connection: what is shown is asked for again. */
+  again() {
+    for (const number of this.cards.keys()) this.ask(number);
+    this.askWho();
+    this.fill();
+  }
+
+  render() {
+    if (this.root.hidden) return;
+    const may = this.app.isArbiter();
+    byId('arbiter-only').hidden = may;
+    byId('arbiter-desk').hidden = !may;
+    for (const id of ['pause-entries', 'resume-entries']) byId(id).disabled = !this.app.wire.state.open;
+    for (const card of this.cards.values()) this.renderActs(card);
+    this.fill();
+  }
+
+  // ---- which games
+
+  running() {
+    const text = byId('arbiter-find').value.trim().toLowerCase();
+    const has = (name) => `${name} ${this.app.nameWords(name)}`.toLowerCase().includes(text);
+    return [...this.rows().values()].filter((row) => row.white && row.black && row.result === '*'
+      && (!text || has(row.white) || has(row.black)));
+  }
+
+  page(step) {
+    const pages = Math.ceil(this.running().length / MOST);
+    if (pages < 2) return;
+    this.first = MOST * ((this.first / MOST + step + pages) % pages);
+    for (const [number, card] of [...this.cards]) {
+      if (card.isOver) this.remove(number);
+    }
+    this.fill();
+  }
+
+  /** The games of this page, and those that ended on it. */
+  fill() {
+    if (this.root.hidden || !this.app.isArbiter()) return;
+    const running = this.running();
+    if (this.first >= running.length) this.first = 0;
+    const shown = running.slice(this.first, this.first + MOST).map((row) => row.number), wanted = new Set(shown);
+    for (const [number, card] of [...this.cards]) {
+      if (!wanted.has(number) && !card.isOver) this.remove(number);
+    }
+    for (const number of shown) {
+      if (!this.cards.has(number)) this.add(number);
+    }
+    arrange(this.list, [...this.cards.keys()].sort((a, b) => a - b).map((number) => this.cards.get(number).root));
+    byId('arbiter-none').hidden = this.cards.size > 0;
+    byId('arbiter-pages').hidden = running.length <= MOST;
+    setText(byId('arbiter-place'), `${this.first + 1} to ${this.first + shown.length} of ${running.length}`);
+  }
+
+  // ---- a game
+
+  add(number) {
+    const card = { number, board: new Picture(`Game ${number}`), clocks: {}, names: {}, away: {}, seats: {}, acts: {} };
+    const player = (side) => {
+      const clock = make('span', { class: 'clock', role: 'timer' });
+      card.clocks[side] = new Clock(clock);
+      card.names[side] = make('span', { class: 'name' });
+      card.away[side] = make('span', { class: 'away', hidden: true }, 'not connected');
+      card.seats[side] = make('div', { class: `desk-player ${side === 'w' ? 'white' : 'black'}` },
+        make('span', { class: 'disc', 'aria-hidden': 'true' }), make('span', { class: 'who-plays' },
+          make('span', { class: 'unseen' }, `${colourWord(side)}: `), card.names[side]), clock, card.away[side]);
+      return card.seats[side];
+    };
+    const act = (kind, words) => {
+      card.acts[kind] = make('button', { type: 'button', 'data-key': `${kind}-${number}`,
+        onclick: () => this.askAbout(card, kind) }, words, make('span', { class: 'unseen' }, `, game ${number}`));
+      return card.acts[kind];
+    };
+    card.title = make('a', { href: `#/game/${number}`, 'data-key': `game-${number}` }, `Game ${number}`);
+    card.state = make('p', { class: 'desk-state' });
+    card.last = make('p', { class: 'desk-last small' });
+    card.note = make('p', { class: 'note', role: 'status' });
+    card.root = make('article', { class: 'desk-card', 'aria-label': `Game ${number}` }, card.board.root,
+      make('h2', {}, card.title), player('b'), card.state, card.last, player('w'),
+      make('div', { class: 'desk-acts', role: 'group', 'aria-label': `Decide game ${number}` },
+        act('w', 'White resigns'), act('b', 'Black resigns'), act('draw', 'Draw'), act('flag', 'Flag'),
+        act('drop', 'Take off')), card.note);
+    this.cards.set(number, card);
+    this.renderActs(card);
+    this.ask(number);
+  }
+
+  remove(number) {
+    const card = this.cards.get(number);
+    Object.values(card.clocks).forEach((clock) => clock.stop());
+    card.root.remove();
+    this.cards.delete(number);
+    this.app.wire.takeBack(`line ${number}`);
+    this.app.leaveLater();
+  }
+
+  /** Asks how a game stands, and for its last move. */
+  async ask(number) {
+    const answer = await this.app.watch(number), standing = answer[0].startsWith('ok ') && readStanding(answer.slice(1));
+    if (!this.cards.has(number)) return;
+    if (!standing) {
+      if (answer[0].startsWith('no ')) this.gone(number);
+      return;
+    }
+    this.draw(number, standing);
+    const told = await this.app.wire.say(`line ${number}`, true), card = this.cards.get(number);
+    const line = told[0].startsWith('ok ') ? readLine(told.slice(1)) : [], last = line[line.length - 1];
+    if (!last || !card || !card.standing || card.standing.fen !== last.fen) return;
+    card.move = last;
+    if (!card.act && last.san) card.act = last.san;
+    this.draw(number, card.standing, card.at);
+  }
+
+  gone(number) {
+    const had = this.cards.get(number).root.contains(document.activeElement);
+    this.remove(number);
+    this.fill();
+    if (had) byId('arbiter-title').focus();
+  }
+
+  notice(number, act, answer, standing) {
+    if (this.root.hidden) return;
+    const card = this.cards.get(number);
+    if (card && !standing) this.gone(number);
+    else if (card) {
+      const moved = /^ok (?:move \d+|claim \d+ wrong) \d+ (\S+)/.exec(answer);
+      if (moved) card.move = squaresOf(act.sent.split(' ').pop());
+      card.act = actWords(act, answer, (name) => this.app.nameWords(name));
+      this.draw(number, standing);
+    }
+    this.fill();
+  }
+
+  draw(number, standing, at = performance.now()) {
+    const card = this.cards.get(number), runs = !standing.article;
+    Object.assign(card, { standing, at, isOver: !runs });
+    card.board.show({ fen: standing.fen, last: card.move, check: standing.check });
+    card.board.root.setAttribute('aria-label', `Game ${number}, ${placementOf(standing.fen).size} men on the board`);
+    for (const side of SIDES) {
+      setText(card.names[side], this.nameOf(card, side));
+      card.clocks[side].label = colourWord(side);
+      card.clocks[side].set({ left: standing.left[side], at, running: runs && standing.side === side });
+      card.seats[side].classList.toggle('turn', runs && standing.side === side);
+    }
+    setText(card.state, this.stateWords(standing));
+    setText(card.last, card.act ? `Last: ${card.act}` : '');
+    card.root.classList.toggle('done', !runs);
+    this.renderActs(card);
+    this.renderAway(card);
+  }
+
+  nameOf(card, side) {
+    return this.app.nameWords(side === 'w' ? card.standing.white : card.standing.black);
+  }
+
+  stateWords({ side, offer, result, article }) {
+    if (article) {
+      const words = resultWords(result, article);
+      return `${words.score} ${words.result} ${words.reason}`;
+    }
+    const offers = [...offer].map((one) => `${colourWord(one)} offers a draw`);
+    return [`${colourWord(side)} to move`, ...offers].join(' · ');
+  }
+
+  renderActs(card) {
+    const { standing, acts, busy } = card, runs = Boolean(standing && !standing.article);
+    const had = document.activeElement;
+    for (const [kind, button] of Object.entries(acts)) {
+      button.hidden = Boolean(standing) && (kind === 'drop') === runs;
+      button.disabled = !standing || busy || !this.app.reachable() || kind === 'draw' && standing.ply < AGREED;
+    }
+    acts.draw.title = standing && standing.ply < AGREED ? 'A draw can be agreed on once both sides have made a move.' : '';
+    if (card.root.contains(had) && !had.getClientRects().length) card.title.focus();
+  }
+
+  // ---- who is there
+
+  async askWho() {
+    if (this.root.hidden || document.hidden || !this.app.isArbiter() || !this.app.wire.state.open) return;
+    const answer = await this.app.wire.say('who', true);
+    if (!answer[0].startsWith('ok who')) return;
+    this.here = readWho(answer);
+    for (const card of this.cards.values()) this.renderAway(card);
+  }
+
+  renderAway(card) {
+    if (!card.standing) return;
+    for (const side of SIDES) {
+      const name = side === 'w' ? card.standing.white : card.standing.black;
+      card.away[side].hidden = !this.here || this.here.has(name) || Boolean(card.standing.article);
+    }
+  }
+
+  // ---- entering
+
+  /** What is entered, as it is asked about: a title, what follows, and the lines. */
+  question(card, kind) {
+    const { number, standing } = card, { white, black, side, offer } = standing;
+    const seat = { w: white, b: black }, name = { w: this.nameOf(card, 'w'), b: this.nameOf(card, 'b') };
+    if (kind === 'w' || kind === 'b') {
+      return { title: `Enter the resignation of ${name[kind]} in game ${number}?`,
+        words: `${name[OTHER[kind]]} wins with ${colourWord(OTHER[kind])}. It cannot be taken back.`,
+        lines: [`as ${seat[kind]} resign ${number}`] };
+    }
+    if (kind === 'draw') {
+      const offered = offer.includes('w') ? 'w' : offer.includes('b') ? 'b' : '', by = offered || 'w';
+      const accept = `as ${seat[OTHER[by]]} accept ${number}`;
+      return { title: `Enter a draw between ${name.w} and ${name.b} in game ${number}?`,
+        words: `${offered ? `The offer of ${name[by]} stands` : `An offer is entered for ${name[by]}`}, and its acceptance `
+          + `is entered for ${name[OTHER[by]]}. It cannot be taken back.`,
+        lines: offered ? [accept] : [`as ${seat.w} offer ${number}`, accept] };
+    }
+    if (kind === 'flag') {
+      return { title: `Call the flag of ${name[side]} in game ${number}?`,
+        words: `It is called for ${name[OTHER[side]]}, against ${name[side]}, who is to move. The server’s clock decides.`,
+        lines: [`as ${seat[OTHER[side]]} flag ${number}`] };
+    }
+    return { title: `Take game ${number} of ${name.w} and ${name.b} off the table?`,
+      words: 'Its moves and its result are gone then. Save its PGN before, where it is to be kept.',
+      lines: [`drop ${number}`] };
+  }
+
+  askAbout(card, kind) {
+    const dialog = byId('arbiter-dialog'), asked = this.question(card, kind);
+    this.asked = { number: card.number, lines: asked.lines, button: card.acts[kind] };
+    setText(byId('arbiter-question'), asked.title);
+    setText(byId('arbiter-words'), asked.words);
+    dialog.returnValue = '';
+    dialog.showModal();
+  }
+
+  /** Sends what was agreed to, line by line as long as each is taken; what is refused is told in words. */
+  async enter({ number, lines, button }) {
+    const card = this.cards.get(number);
+    if (!card) return;
+    const tell = (text) => this.tellCard(number, text);
+    tell('');
+    card.busy = true;
+    this.renderActs(card);
+    for (const line of lines) {
+      const answer = await this.app.wire.say(line), refusal = readRefusal(answer[0]);
+      if (!answer[0].startsWith('ok ')) {
+        if (refusal) tell(refusalWords(refusal));
+        else if (answer[0].startsWith('fallen')) tell('The flag had fallen: the game is over by that.');
+        else if (answer[0] === 'unsent') tell('There is no connection. Nothing was sent.');
+        else tell('The connection broke before the answer came. Look how the game stands before you enter it again.');
+        if (answer[0] !== 'unsent' && this.cards.has(number)) this.ask(number);
+        break;
+      }
+    }
+    card.busy = false;
+    if (!this.cards.has(number)) return;
+    this.renderActs(card);
+    const at = document.activeElement;
+    if (!at || at === document.body || at === button) (button.hidden || button.disabled ? card.title : button).focus();
+  }
+
+  tellCard(number, text) {
+    const card = this.cards.get(number);
+    if (!card) return;
+    setText(card.note, text);
+    card.note.classList.toggle('refused', Boolean(text));
+  }
+
+  /** Stops new games, and allows them. */
+  async entries(word) {
+    const answer = await this.app.wire.say(`${word} entries`), refusal = readRefusal(answer[0]);
+    if (answer[0].startsWith('ok ')) {
+      const words = word === 'pause' ? 'New games are stopped: arbiters alone open games.' : 'New games are allowed.';
+      this.note(words, 'news');
+    } else {
+      this.note(refusal ? refusalWords(refusal) : 'The connection broke before the answer came. Do it again.', 'refused');
+    }
+  }
+
+  note(text, kind = 'news') {
+    const note = byId('arbiter-note');
+    note.className = text ? `note ${kind}` : 'note';
+    setText(note, text);
+  }
+}
