@@ -79,7 +79,10 @@ impl Link {
     pub fn ask(&mut self, line: &str, front: &str) -> Result<Answer> {
         // (in one write: a second one would wait for the system's word on the first)
         let text = format!(in self.alloc; "{line}\n")?;
-        self.stream.get_mut().write_all(text.as_bytes()).map_err(told)?;
+        self.stream
+            .get_mut()
+            .write_all(text.as_bytes())
+            .map_err(told)?;
         let mut first = String::new(self.alloc);
         self.read_line(&mut first)?;
         first.pop();
