@@ -151,9 +151,14 @@ impl Client {
         let Some(bytes) = self.wire.next_piece(self.alloc, piece)? else {
             return Ok(false);
         };
-        if self.lines.feed(bytes.as_slice()).is_err() {
-            self.wire.is_lost = true;
-        }
+        let bytes = bytes.as_slice();
+        // (none is longer)
+        let is_fed = if bytes.len() <= PIECE_ROOM {
+            self.lines.feed(bytes).is_ok()
+        } else {
+            false
+        };
+        self.wire.is_lost |= !is_fed;
         Ok(true)
     }
 
