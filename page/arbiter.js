@@ -2,7 +2,7 @@
 
 import { Picture } from './board.js';
 import { Clock } from './clock.js';
-import { placementOf, readLine, readRefusal, readStanding, readWho, squaresOf } from './lines.js';
+import { isNoGame, placementOf, readLine, readRefusal, readStanding, readWho, squaresOf } from './lines.js';
 import { arrange, byId, make, setText } from './make.js';
 import { OTHER, SIDES, actWords, colourWord, refusalWords, resultWords } from './words.js';
 
@@ -162,7 +162,7 @@ export class ArbiterView {
     const answer = await this.app.watch(number), standing = answer[0].startsWith('ok ') && readStanding(answer.slice(1));
     if (!this.cards.has(number)) return;
     if (!standing) {
-      if (answer[0].startsWith('no ')) this.gone(number);
+      if (isNoGame(answer[0])) this.gone(number);
       return;
     }
     this.draw(number, standing);

@@ -2,7 +2,9 @@
 
 import { Board } from './board.js';
 import { Clock } from './clock.js';
-import { placementOf, readLine, readPgn, readRefusal, readStanding, readTimes, sideOf, squaresOf } from './lines.js';
+import {
+  isOfSeveral, placementOf, readLine, readPgn, readRefusal, readShow, readStanding, readTimes, sideOf, squaresOf,
+} from './lines.js';
 import { byId, copy, make, save, say, setText } from './make.js';
 import { drawActions, drawFacts, drawMoves, drawOutcome, drawPlayers } from './sheet.js';
 import { sound } from './sound.js';
@@ -32,6 +34,7 @@ const SHOWS = {
     return now.article === '9.2' || now.article === '9.3' || now.left[OTHER[act.side]] >= act.left + PENALTY;
   },
 };
+const ASKS_AGAIN = 5000;             // for a game that was not told
 const TAKEN_OFF = 'This game was taken off the table.';
 const PENALTY = 120000;              // milliseconds that a wrong claim gives to the opponent
 
@@ -98,7 +101,7 @@ export class GameView {
     if (number !== this.number) {
       this.close();
       Object.assign(this, { number, standing: null, line: [], tags: {}, gone: false });
-      Object.assign(this, { back: null, turned: null, unsure: null, pending: null, wasTaken: false });
+      Object.assign(this, { back: null, turned: null, unsure: null, pending: null, wasTaken: false, wasAway: false });
       this.note('');
       this.suggest(null);
       byId('move-text').value = '';
@@ -133,19 +136,47 @@ export class GameView {
     if (this.number !== number) return;
     if (refusal) {
       this.gone = refusal.number === NO_GAME;
+      this.wasAway = !this.gone;
+      if (!this.gone) this.refreshLater();
       this.wasTaken = this.gone && (this.wasTaken || Boolean(this.standing));      // (no number is given twice)
       this.note(refusalWords(refusal));
       if (this.gone) this.settleUnsure(null);
       this.render();
       return;
     }
-    if (ours(watched)) this.stand(readStanding(watched.slice(1)));
+    const standing = ours(watched) && readStanding(watched.slice(1));
+    if (standing) this.stand(standing);
     const line = ours(await asked[1]);
     if (line) this.line = readLine(line.slice(1));
     const pgn = ours(await asked[2]);
     if (pgn) this.tags = readPgn(pgn.slice(1)).tags;
-    if (ours(watched) && line) this.settleUnsure(this.standing);
+    if (this.number !== number) return;
+    if (standing && line) this.isThere();
+    else this.refreshLater();
     this.render();
+  }
+
+  isThere() {
+    if (this.wasAway) this.note('');
+    this.wasAway = false;
+    this.settleUnsure(this.standing);
+  }
+
+  /** Once more in a while: of a game whose server is gone, behind a lobby that is there, nobody tells when it is back. */
+  refreshLater() {
+    clearTimeout(this.again);
+    const number = this.number;
+    this.again = setTimeout(() => this.number === number && this.refresh(), ASKS_AGAIN);
+  }
+
+  /** Of a game of several servers nobody tells that its server was gone, and what was played before that. */
+  async askAnew() {
+    const { number, standing } = this;
+    if (!isOfSeveral(number) || document.hidden || !this.running() || !this.app.reachable()) return;
+    const answer = await this.app.wire.say(`show ${number}`, true), show = readShow(answer[0]);
+    if (this.number !== number || this.standing !== standing) return;
+    const isSame = show && show.ply === standing.ply && show.offer === standing.offer && show.article === standing.article;
+    if (!isSame) this.refresh();
   }
 
   async askLine() {

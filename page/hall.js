@@ -2,12 +2,13 @@
 
 import { Picture } from './board.js';
 import { Clock } from './clock.js';
-import { placementOf, readLine, readStanding, squaresOf } from './lines.js';
+import { isNoGame, placementOf, readLine, readStanding, squaresOf } from './lines.js';
 import { byId, make, read, setText, write } from './make.js';
 import { colourWord, resultWords } from './words.js';
 
 const STAYS = 45000;                  // how long a game that is over stays in its place
 const TURNS = 20000;
+const ASKS_AGAIN = 4000;              // for a game that was not told
 
 export class HallView {
   constructor(app, rows) {
@@ -80,6 +81,7 @@ export class HallView {
     const now = performance.now(), running = this.running(), most = this.most();
     if (this.first >= running.length) this.first = 0;
     for (const [number, card] of this.cards) {
+      if (!card.standing && card.askedAt < now - ASKS_AGAIN) this.ask(number);
       if (card.overAt && now - card.overAt > STAYS && running.length >= this.cards.size) this.remove(number);
     }
     for (const row of running.slice(this.first, this.first + most)) {
@@ -129,10 +131,11 @@ export class HallView {
   }
 
   async ask(number) {
+    this.cards.get(number).askedAt = performance.now();
     const answer = await this.app.watch(number);
     const standing = answer[0].startsWith('ok ') && readStanding(answer.slice(1));
     if (!standing) {
-      if (answer[0].startsWith('no ')) this.refused(number);
+      if (isNoGame(answer[0])) this.refused(number);
       return;
     }
     this.draw(number, standing, '', '');
@@ -143,7 +146,7 @@ export class HallView {
     this.draw(number, card.standing, '', '', card.at);
   }
 
-  /** The lobby does not let a game be watched. */
+  /** There is no such game. */
   refused() {}
 
   notice(number, sent, answer, standing) {

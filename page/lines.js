@@ -32,6 +32,16 @@ export function readStanding(lines) {
   return { ...show, fen: fen[1], check: words[1] === '+', moves: words.slice(2).filter((move) => move !== '') };
 }
 
+/** Whether the answer to `show G` says that there is no such game. */
+export function isNoGame(line) {
+  return /^no 3 /.test(line || '');
+}
+
+/** Whether a number is one of several servers' (docs/SERVERS.md, "Numbers"). */
+export function isOfSeveral(number) {
+  return number >= 10000000;
+}
+
 /** The rows behind `ok list K`. */
 export function readRows(lines) {
   return lines.map((line) => line.split(' ')).filter((f) => f.length === 5)

@@ -3,7 +3,7 @@
 import { ArbiterView } from './arbiter.js';
 import { GameView } from './game.js';
 import { HallView, wholeScreen } from './hall.js';
-import { readAct, readPlayers, readRefusal, readRows, readStanding } from './lines.js';
+import { isNoGame, isOfSeveral, readAct, readPlayers, readRefusal, readRows, readStanding } from './lines.js';
 import { byId, make, read, say, setText, write } from './make.js';
 import { setSound, wantsSound } from './sound.js';
 import { TableView } from './table.js';
@@ -13,6 +13,7 @@ import { BAD_TOKEN, refusalWords } from './words.js';
 const TOKEN = /^[A-Za-z0-9_-]{16,128}$/;
 const MOST_WATCHED = 14, LEAVE_AFTER = 3000;      // the lobby lets a connection watch 16 games
 const ASKS_ANEW = 15000;           // for games that were opened on the server past the lobby: nobody tells of them
+const ASKS_AGAIN = 3000;           // for the table, where it was not told
 const session = () => sessionStorage, local = () => localStorage;
 
 class Page {
@@ -145,12 +146,14 @@ class Page {
 
   /** Opens a game, and goes to it. Where the answer is lost, the table is asked. */
   async openGame(line, note) {
-    const after = this.table.greatest(), answer = await this.wire.say(line), refusal = readRefusal(answer[0]);
+    this.lostOpen = null;
+    const before = new Set(this.table.rows.keys()), answer = await this.wire.say(line), refusal = readRefusal(answer[0]);
     if (refusal) note(refusalWords(refusal));
     else if (answer[0] === 'unsent') note('There is no connection. Nothing was sent.');
     else if (answer[0] === 'lost') {
       note('The connection broke before the answer came. Looking for your game …');
-      this.lostOpen = { after, note, colour: line.split(' ')[1] };
+      this.lostOpen = { before, note, colour: line.split(' ')[1] };
+      setTimeout(() => this.lostOpen && this.loadTable(), ASKS_AGAIN);
     } else {
       this.table.opened();
       this.go(`/game/${answer[0].split(' ')[2]}`);
@@ -204,19 +207,29 @@ class Page {
       this.isAtTable = false;
       return;
     }
-    this.table.load(readRows(answer.slice(2)));
+    if (!this.tableTold(answer)) return;
     if (this.view === this.hall || this.view === this.desk) this.view.again();
+  }
+
+  /** Behind `ok lobby` stands the server's list; where it refused it, the table stays as it was, and is asked for again. */
+  tableTold(answer) {
+    if (!answer[1] || !answer[1].startsWith('ok list')) {
+      clearTimeout(this.again);
+      this.again = setTimeout(() => this.isAtTable && this.loadTable(), ASKS_AGAIN);
+      return false;
+    }
+    this.table.load(readRows(answer.slice(2)));
     if (this.lostOpen) this.findOpened();
     this.findBegun();
+    return true;
   }
 
   /** Who is in sight, and plays no game here, asks for the table anew. */
   async askAnew() {
+    if (this.view === this.game) this.game.askAnew();
     if (document.hidden || !this.player || !this.isAtTable || !this.reachable() || this.isPlaying()) return;
     const answer = await this.wire.say('lobby', true);
-    if (answer[0] !== 'ok lobby') return;
-    this.table.load(readRows(answer.slice(2)));
-    this.findBegun();
+    if (answer[0] === 'ok lobby') this.tableTold(answer);
   }
 
   /** Whether one is at the board of a game of one's own that goes on. */
@@ -251,11 +264,14 @@ class Page {
   }
 
   findOpened() {
-    const { after, note, colour } = this.lostOpen, me = this.me();
-    this.lostOpen = null;
-    const row = [...this.table.rows.values()].find((one) => one.number > after && one[colour] === me);
+    const { before, note, colour } = this.lostOpen, me = this.me(), rows = [...this.table.rows.values()];
+    const row = rows.find((one) => !before.has(one.number) && one[colour] === me);
+    const mayCome = [...before, ...rows.map((one) => one.number)].some(isOfSeveral);
+    this.lostOpen = !row && mayCome ? { ...this.lostOpen, note: () => {} } : null;
     if (row) this.go(`/game/${row.number}`);
-    else note('The connection broke, and your game has not been opened so far. Look, and open it again.');
+    else if (!mayCome) note('The connection broke, and your game has not been opened so far. Look, and open it again.');
+    else note('The connection broke, and your game is not on the table so far. Its server may be away, so that it comes '
+      + 'later: look again in some minutes before you open another.');
   }
 
   // ---- the connection
@@ -307,6 +323,10 @@ class Page {
     const number = Number(lines[0].split(' ')[1]), act = readAct(lines[1] || '');
     if (!act) return;
     const { by, sent } = act, answer = lines[2], standing = readStanding(lines.slice(3));
+    if (!standing && !isNoGame(lines[3])) {        // (its server was gone before it was asked how the game stands)
+      if (this.view === this.game && this.game.number === number) this.game.refreshLater();
+      return;
+    }
     this.table.notice(number, sent, standing);
     if (this.view === this.game && this.game.number === number) this.game.notice(act, answer, standing);
     if (this.view === this.hall) this.hall.notice(number, sent, answer, standing);

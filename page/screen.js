@@ -1,11 +1,12 @@
 // A page for a screen that nobody touches: `/board/G` shows one game as large as the screen allows, `/boards` all that run.
 
 import { HallView } from './hall.js';
-import { readLine, readPlayers, readRows, readStanding, sideOf } from './lines.js';
+import { isNoGame, readLine, readPlayers, readRows, readStanding, sideOf } from './lines.js';
 import { byId, make, setText } from './make.js';
 import { Wire } from './wire.js';
 import { resultWords } from './words.js';
 
+const ASKS_ANEW = 15000;             // for the table: nobody tells of games that were opened past the lobby
 const MOST_SHOWN = 6;                // so many of the last moves, of both sides together
 
 /** All running games, in pages that turn by themselves. */
@@ -141,17 +142,25 @@ class Screen {
     const players = await this.wire.say('players');
     if (players[0].startsWith('ok players')) this.players = readPlayers(players.slice(1));
     if (!(this.view instanceof OneBoard)) {
-      const answer = await this.wire.say('lobby');
-      if (answer[0] !== 'ok lobby') return;
-      this.rows = new Map(readRows(answer.slice(2)).map((row) => [row.number, row]));
+      await this.loadTable();
+      clearInterval(this.asking);
+      this.asking = setInterval(() => this.loadTable(), ASKS_ANEW);
     }
     this.view.again();
+  }
+
+  /** The table, unless the server refuses to tell it. */
+  async loadTable() {
+    const answer = await this.wire.say('lobby', true);
+    if (answer[0] !== 'ok lobby' || !(answer[1] || '').startsWith('ok list')) return;
+    this.rows = new Map(readRows(answer.slice(2)).map((row) => [row.number, row]));
   }
 
   notice(lines) {
     const number = Number(lines[0].split(' ')[1]), found = /^by (\S+) (.*)$/.exec(lines[1] || '');
     if (!found) return;
     const standing = readStanding(lines.slice(3));
+    if (!standing && !isNoGame(lines[3])) return;  // (its server was gone before it was asked how the game stands)
     if (standing) this.rows.set(number, standing);
     else this.rows.delete(number);
     this.view.notice(number, found[2], lines[2], standing);

@@ -61,10 +61,11 @@ def take_programs(folder, *more):
         if not found:
             sys.exit('there is no %s in %s' % (name, folder))
         os.environ[name.upper()] = os.path.realpath(found[0])
-    # (not each bench wants the archive)
-    for name in ('chess_archive', 'chess-archive'):
-        if os.path.isfile(os.path.join(folder, name)):
-            os.environ['CHESS_ARCHIVE'] = os.path.realpath(os.path.join(folder, name))
+    # (not each bench wants these)
+    for name in ('chess_archive', 'chess_switch'):
+        for path in (os.path.join(folder, name), os.path.join(folder, name.replace('_', '-'))):
+            if os.path.isfile(path):
+                os.environ[name.upper()] = os.path.realpath(path)
 
 
 def build_shim(folder):

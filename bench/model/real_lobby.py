@@ -5,11 +5,15 @@ two stands a relay, so that a test can bring about what goes wrong:
     here     it is started again, over its journal
     lose     the next act reaches the server, and the connection breaks before its answer
     drop     the connection breaks before the next act reaches the server
+    behind   the next act is answered, and the connection breaks before the lobby asks how the game stands then
     slow MS  each answer of the server comes MS milliseconds late
     silent   the lobby stands still, and its connections stay open
     beside WHITE BLACK   a game is opened and joined on the server, past the lobby
 
-The programs are those that CHESS_SERVER and CHESS_LOBBY name, or this repository's, which are built where they have to be."""
+`SeveralServers` are two servers, `chess_switch` before them, with a relay before the second, and a lobby before that.
+
+The programs are those that CHESS_SERVER, CHESS_LOBBY and CHESS_SWITCH name, or this repository's, which are built where they
+have to be."""
 
 import hashlib
 import os
@@ -26,12 +30,16 @@ ACTS = (b'open ', b'join ', b'move ', b'offer ', b'accept ', b'decline ', b'resi
 PATIENCE = 60
 
 
+def path_of(name):
+    """The program that an environment variable of its name in capitals tells, or this repository's."""
+    if name.upper() in os.environ:
+        return os.path.realpath(os.environ[name.upper()])
+    subprocess.run([os.path.join(TOP, name.replace('_', '-')), '--help'], stdout=subprocess.DEVNULL, check=True)
+    return os.path.join(TOP, 'crates', name, 'out', name)
+
+
 def lobby_path():
-    """The lobby that CHESS_LOBBY names, or this repository's."""
-    if 'CHESS_LOBBY' in os.environ:
-        return os.path.realpath(os.environ['CHESS_LOBBY'])
-    subprocess.run([os.path.join(TOP, 'chess-lobby'), '--help'], stdout=subprocess.DEVNULL, check=True)
-    return os.path.join(TOP, 'crates/chess_lobby/out/chess_lobby')
+    return path_of('chess_lobby')
 
 
 class GameServer:
@@ -107,6 +115,11 @@ class Relay:
         try:
             for line in lobby.makefile('rb'):
                 fault = self.fault if line.startswith(ACTS) else None
+                if fault == 'behind':
+                    self.fault = 'show'
+                elif self.fault == 'show' and line.startswith(b'show '):
+                    self.fault = None
+                    return self.hang_up()
                 if fault == 'drop':
                     self.fault = None
                     return self.hang_up()
@@ -163,10 +176,14 @@ class Programs:
                 name, role, token, full = row.split(' ', 3)
                 club.write('%s %s %s %s\n' % (name, role, hashlib.sha256(token.encode()).hexdigest(), full))
 
+    def before(self):
+        """The port on which the lobby finds its server."""
+        return (self.relay or self.server).port
+
     def start(self):
         self.process = subprocess.Popen(
             [self.program, 'serve', '--players', self.club,
-             '--server', '127.0.0.1:%d' % (self.relay or self.server).port,
+             '--server', '127.0.0.1:%d' % self.before(),
              '--port', str(self.port), '--page', os.path.join(TOP, 'page'), *self.more],
             stdout=subprocess.PIPE, stderr=subprocess.DEVNULL, text=True)
         self.address = self.process.stdout.readline().strip()
@@ -186,7 +203,7 @@ class Programs:
                 self.server.start()
             if self.relay.door.fileno() < 0:
                 self.relay.listen(self.relay.port)
-        elif word in ('lose', 'drop'):
+        elif word in ('lose', 'drop', 'behind'):
             self.relay.fault = word
         elif word == 'silent':
             self.process.send_signal(signal.SIGSTOP)
@@ -233,3 +250,35 @@ class Programs:
         if self.relay:
             self.relay.hang_up()
         self.server.kill()
+
+
+class SeveralServers(Programs):
+    """Two servers, the first with room for `room` games, behind `chess_switch`; faults are those of the second."""
+
+    def __init__(self, folder, players, room=1):
+        first, second = (os.path.join(folder, name) for name in ('one', 'two'))
+        for one in (first, second):
+            os.mkdir(one)
+        self.first = GameServer(first, room)
+        self.switch_program, self.switch_port = path_of('chess_switch'), 0
+        super().__init__(second, players)
+
+    def start(self):
+        self.switch = subprocess.Popen(
+            [self.switch_program, '--server', '127.0.0.1:%d' % self.first.port, '--server', '127.0.0.1:%d' % self.relay.port,
+             '--port', str(self.switch_port)], stdout=subprocess.PIPE, stderr=subprocess.DEVNULL, text=True)
+        self.switch_port = int(self.switch.stdout.readline().split()[1])
+        super().start()
+
+    def before(self):
+        return self.switch_port
+
+    def kill(self):
+        super().kill()
+        self.switch.send_signal(signal.SIGKILL)
+        self.switch.wait()
+        self.switch.stdout.close()
+
+    def stop(self):
+        super().stop()
+        self.first.kill()
