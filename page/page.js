@@ -13,6 +13,8 @@ import { BAD_TOKEN, refusalWords } from './words.js';
 const TOKEN = /^[A-Za-z0-9_-]{16,128}$/;
 const MOST_WATCHED = 14, LEAVE_AFTER = 3000;      // the lobby lets a connection watch 16 games
 const ASKS_ANEW = 15000;           // for games that were opened on the server past the lobby: nobody tells of them
+const TAKEN_AWAY = 'Your personal link holds no more: an arbiter has made another one, or closed it. You are watching. To play '
+  + 'on, open your new link, or ask your arbiter for it.';
 const session = () => sessionStorage, local = () => localStorage;
 
 class Page {
@@ -33,6 +35,7 @@ class Page {
     this.view = null;
     this.wire = new Wire(address.href, {
       opened: (server) => this.opened(server), notice: (lines) => this.notice(lines), changed: () => this.changed(),
+      unnamed: () => this.unnamed(),
     });
     this.table = new TableView(this);
     this.game = new GameView(this);
@@ -267,6 +270,7 @@ class Page {
     if (server !== 'here') return;
     const answer = await this.wire.say('players');
     if (answer[0].startsWith('ok players')) this.players = readPlayers(answer.slice(1));
+    this.desk.playersTold();
     await this.atTable();
     if (this.view === this.game) this.game.refresh();
     this.renderWho();
@@ -291,6 +295,26 @@ class Page {
     if (this.view) this.view.render && this.view.render();
   }
 
+  /** The lobby takes this connection for nobody's, though it had signed in: an arbiter has made another link or closed this one. */
+  async unnamed() {
+    if (!this.player || this.asksAgain) return;
+    this.asksAgain = true;
+    await this.login();
+    this.asksAgain = false;
+    if (this.player) return;
+    this.tell(TAKEN_AWAY);
+    if (this.view.render) this.view.render();
+  }
+
+  /** One's own link is another one now: kept where the one before it was. */
+  takeNewToken(token) {
+    const kept = read(local, 'token') === this.token;
+    this.token = token;
+    write(session, 'token', token);
+    if (kept) write(local, 'token', token);
+    this.login();
+  }
+
   /** A token that is not known goes; one that was kept before it is tried instead. */
   refused(token) {
     const kept = read(local, 'token');
@@ -306,22 +330,24 @@ class Page {
   notice(lines) {
     const number = Number(lines[0].split(' ')[1]), act = readAct(lines[1] || '');
     if (!act) return;
-    const { by, sent } = act, answer = lines[2], standing = readStanding(lines.slice(3));
+    const { sent } = act, answer = lines[2], standing = readStanding(lines.slice(3));
     this.table.notice(number, sent, standing);
     if (this.view === this.game && this.game.number === number) this.game.notice(act, answer, standing);
     if (this.view === this.hall) this.hall.notice(number, sent, answer, standing);
     if (this.view === this.desk) this.desk.notice(number, act, answer, standing);
-    if (standing) this.invite(number, by, sent.split(' ')[0], standing);
+    if (standing) this.invite(number, act, sent.split(' ')[0], standing);
   }
 
-  /** Somebody has joined one's own game, or the opponent of a game that is over has opened another. */
-  invite(number, by, word, standing) {
-    const me = this.me(), here = this.view === this.game && this.game.number === number;
-    if (by === me) this.begun.add(number);
-    if (!me || by === me || here) return;
-    if (word === 'open' && this.view === this.game && this.game.isOpponent(by)) this.game.suggest({ by, number });
+  /** Somebody has joined one's own game, or an arbiter for them; or the opponent of a game that is over has opened another. */
+  invite(number, { by, arbiter }, word, standing) {
+    const me = this.me(), here = this.view === this.game && this.game.number === number, own = by === me && !arbiter;
+    if (own) this.begun.add(number);
+    if (!me || own || here) return;
+    if (word === 'open' && !arbiter && this.view === this.game && this.game.isOpponent(by)) this.game.suggest({ by, number });
     if (word !== 'join' || standing.white !== me && standing.black !== me) return;
-    this.begin(number, `${this.nameWords(by)} has joined your game ${number}`);
+    const other = this.nameWords(standing.white === me ? standing.black : standing.white);
+    this.begin(number, arbiter ? `Your game ${number} against ${other}, paired by ${this.nameWords(arbiter)}, has begun`
+      : `${other} has joined your game ${number}`);
   }
 
   /** The state of the connection is another. */

@@ -4,7 +4,8 @@ files of page/ with the policy header. The game server behind it is the model of
 
     lobby_model.py --players FILE [--journal FILE] [--port P] [--page FOLDER] [--control]
 
-FILE of the players has lines `NAME ROLE TOKEN FULL NAME`. The journal keeps `MOMENT WHO LINE` of each entry, so that a
+FILE of the players has lines `NAME ROLE TOKEN FULL NAME`, with `-` for the token of who has none, and is written anew by
+`link` and `close`. The journal keeps `MOMENT WHO LINE` of each entry, so that a
 lobby that was killed comes back with its games. It prints its address once it listens. With --control it reads words
 from its standard input, and answers each by `ok` once it holds, so that a test can bring about what goes wrong:
 
@@ -14,6 +15,8 @@ from its standard input, and answers each by `ok` once it holds, so that a test 
     drop     the next act is not taken, and the connection breaks: `lost` too
     silent   nothing is answered any more, and the connections stay open
     slow MS  each answer comes MS milliseconds late
+    full     the players' file cannot be written any more
+    room     it can again
     beside WHITE BLACK   a game is opened and joined on the server, past the lobby: nobody is told
 
 Wants Debian's python3-websockets."""
@@ -24,6 +27,7 @@ import collections
 import http
 import os
 import re
+import secrets
 import sys
 import time
 
@@ -34,11 +38,13 @@ import model
 TOP = os.path.dirname(os.path.dirname(os.path.dirname(os.path.realpath(__file__))))
 READS = ('show', 'fen', 'pgn', 'list')
 IN_A_GAME = ('move', 'offer', 'accept', 'decline', 'resign', 'claim', 'flag')
-ACTS = ('open', 'join', 'drop', *IN_A_GAME)
+OF_OTHERS = ('open', 'join', *IN_A_GAME)
+ACTS = ('drop', *OF_OTHERS)
 OF_ARBITERS = ('who', 'pause entries', 'resume entries')
+OF_LINKS = ('link', 'close')
 OWN = ('login', 'players', 'lobby', 'watch', 'leave', 'line')
 REFUSED = {1: 'BadLine', 31: 'NoToken', 32: 'BadToken', 33: 'NotArbiter', 34: 'TooFast', 35: 'TooManyOpen',
-           36: 'NoServer', 37: 'TooManyWatched', 38: 'NoPlayer', 39: 'EntriesPaused'}
+           36: 'NoServer', 37: 'TooManyWatched', 38: 'NoPlayer', 39: 'EntriesPaused', 40: 'NotWritten'}
 POLICY = ("default-src 'none'; script-src 'self'; style-src 'self'; img-src 'self'; connect-src 'self'; "
           "base-uri 'none'; form-action 'none'; frame-ancestors 'none'")
 TYPES = {'html': 'text/html; charset=utf-8', 'css': 'text/css; charset=utf-8',
@@ -92,9 +98,11 @@ class Connection:
 
 
 class Lobby:
-    def __init__(self, server, players):
+    def __init__(self, server, path):
         self.server = server
-        self.players = players          # token -> (name, role, full name)
+        self.path = path
+        self.players = read_players(path)      # name -> (role, token or '-', full name)
+        self.full = False
         self.connections = set()
         self.here = True
         self.fault = None
@@ -125,10 +133,12 @@ class Lobby:
             return self.own(c, word, text), None
         if text in OF_ARBITERS:
             return self.of_arbiters(c, text), None
+        _, other, line = (text.split(' ', 2) + ['', ''])[:3]
+        if word in OF_LINKS:
+            return self.of_links(c, word, other, text), None
         if word not in (*READS, *ACTS, 'as'):
             refuse(1)
-        _, other, line = (text.split(' ', 2) + ['', ''])[:3]
-        if word == 'as' and line.split(' ')[0] not in IN_A_GAME:
+        if word == 'as' and line.split(' ')[0] not in OF_OTHERS:
             refuse(1)
         if word == 'drop' and not (re.fullmatch('drop ' + G, text) and int(text[5:]) <= model.TOP):
             refuse(1)
@@ -136,18 +146,19 @@ class Lobby:
             refuse(31)
         if word in ('drop', 'as') and c.player[1] != 'arbiter':
             refuse(33)
-        if word == 'as' and other not in [name for name, _, _ in self.players.values()]:
+        if word == 'as' and other not in self.players:
             refuse(38)
         if word == 'open' and self.paused and c.player[1] != 'arbiter':
             refuse(39)
         if not self.here:
             refuse(36)
         name = c.player[0] if c.player else None
-        if word == 'open' and len(self.waiting_of(name)) >= MOST_OPEN:
+        seat, line = (other, line) if word == 'as' else (name, text)
+        if line.split(' ')[0] == 'open' and len(self.waiting_of(seat)) >= MOST_OPEN:
             refuse(35)
-        return self.asked(c, word, name, text, *((other, line) if word == 'as' else (name, text)))
+        return self.asked(word, name, text, seat, line)
 
-    def asked(self, c, word, name, text, seat, line):
+    def asked(self, word, name, text, seat, line):
         """A player's message goes to the server as this line, under the name of who has the seat."""
         fault = self.fault if word in (*ACTS, 'as') else None
         if fault:
@@ -167,9 +178,10 @@ class Lobby:
         if word in READS or answer[0].startswith('no '):
             return answer, None
         number = int(answer[0].split(' ')[1 if answer[0].startswith('fallen') else 2])
-        if word == 'open':
-            self.opened[name].add(number)
-        return answer, (number, word, name, text, answer[0])
+        said = line.split(' ')[0]
+        if said == 'open':
+            self.opened[seat].add(number)
+        return answer, (number, said, name, text, answer[0])
 
     def waiting_of(self, name):
         games = self.server.table.games
@@ -183,20 +195,43 @@ class Lobby:
         if text != 'who':
             self.paused = text == 'pause entries'
             return ['ok ' + text]
-        acting = {one.player for one in self.connections}
-        names = [row[0] for row in self.players.values() if row in acting]
+        acting = {one.player[0] for one in self.connections if one.player}
+        names = [name for name in self.players if name in acting]
         return ['ok who %d' % len(names)] + names
+
+    def of_links(self, c, word, other, text):
+        """The token of a player goes, and so do the connections that act by it; there may be a new one."""
+        if text != '%s %s' % (word, other) or not re.fullmatch('[A-Za-z0-9_]{1,16}', other):
+            refuse(1)
+        if c.player is None:
+            refuse(31)
+        if c.player[1] != 'arbiter':
+            refuse(33)
+        if other not in self.players:
+            refuse(38)
+        if self.full:
+            refuse(40)
+        role, _, full = self.players[other]
+        token = secrets.token_hex(16) if word == 'link' else '-'
+        self.players[other] = (role, token, full)
+        with open(self.path, 'w') as file:
+            for name, row in self.players.items():
+                file.write('%s %s %s %s\n' % (name, *row))
+        for one in self.connections:
+            if one.player and one.player[0] == other:
+                one.player = None
+        return ['ok link %s %s' % (other, token) if word == 'link' else 'ok close ' + other]
 
     def own(self, c, word, text):
         if word == 'login':
-            token = text[6:]
-            if token not in self.players:
+            found = [(name, role, full) for name, (role, token, full) in self.players.items() if token == text[6:] != '-']
+            if not found:
                 refuse(32)
-            c.player = self.players[token]
+            c.player = found[0]
             return ['ok login %s %s %s' % c.player]
         if text == 'players':
-            rows = list(self.players.values())
-            return ['ok players %d' % len(rows)] + ['%s %s %s' % row for row in rows]
+            rows = self.players.items()
+            return ['ok players %d' % len(rows)] + ['%s %s %s' % (name, role, full) for name, (role, _, full) in rows]
         if text == 'leave lobby':
             c.at_table = False
             return ['ok leave lobby']
@@ -264,6 +299,8 @@ class Lobby:
             self.fault = word
         elif word == 'silent':
             self.silent = True
+        elif word in ('full', 'room'):
+            self.full = word == 'full'
         elif word.startswith('slow '):
             self.delay = int(word[5:]) / 1000
         elif word.startswith('beside '):
@@ -331,12 +368,12 @@ def read_players(path):
     with open(path) as file:
         for row in file.read().splitlines():
             name, role, token, full = row.split(' ', 3)
-            players[token] = (name, role, full)
+            players[name] = (role, token, full)
     return players
 
 
 async def listen(given):
-    lobby = Lobby(Server(given.journal), read_players(given.players))
+    lobby = Lobby(Server(given.journal), given.players)
 
     async def request(path, headers):
         return answer(path, headers)
