@@ -38,6 +38,9 @@ export class ArbiterView {
     byId('arbiter-on').addEventListener('click', () => this.page(1));
     byId('pause-entries').addEventListener('click', () => this.entries('pause'));
     byId('resume-entries').addEventListener('click', () => this.entries('resume'));
+    for (const id of ['pair-by-hand', 'players-and-links']) {
+      byId(id).addEventListener('toggle', (event) => event.target.open && this.app.askPlayers());
+    }
   }
 
   open() {

@@ -13,7 +13,6 @@ export class Links {
     this.app = desk.app;
     this.items = new Map();
     byId('links-find').addEventListener('input', () => this.render());
-    byId('players-and-links').addEventListener('toggle', () => this.render());
     byId('link-copy').addEventListener('click', async () => {
       const done = await copy(byId('link-made').value);
       setText(byId('link-copied'), done ? 'The link is copied.' : 'It could not be copied. Mark it, and copy it by hand.');

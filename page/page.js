@@ -268,12 +268,17 @@ class Page {
     this.isAtTable = undefined;
     if (this.token) await this.login();
     if (server !== 'here') return;
-    const answer = await this.wire.say('players');
-    if (answer[0].startsWith('ok players')) this.players = readPlayers(answer.slice(1));
-    this.desk.playersTold();
+    await this.askPlayers();
     await this.atTable();
     if (this.view === this.game) this.game.refresh();
     this.renderWho();
+  }
+
+  /** Who is who: the file of the players may be another meanwhile. */
+  async askPlayers() {
+    const answer = await this.wire.say('players');
+    if (answer[0].startsWith('ok players')) this.players = readPlayers(answer.slice(1));
+    this.desk.playersTold();
   }
 
   async login() {

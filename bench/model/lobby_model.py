@@ -135,7 +135,7 @@ class Lobby:
             return self.of_arbiters(c, text), None
         _, other, line = (text.split(' ', 2) + ['', ''])[:3]
         if word in OF_LINKS:
-            return self.of_links(c, word, other, text), None
+            return self.of_links(c, word, text.partition(' ')[2]), None
         if word not in (*READS, *ACTS, 'as'):
             refuse(1)
         if word == 'as' and line.split(' ')[0] not in OF_OTHERS:
@@ -199,10 +199,8 @@ class Lobby:
         names = [name for name in self.players if name in acting]
         return ['ok who %d' % len(names)] + names
 
-    def of_links(self, c, word, other, text):
-        """The token of a player goes, and so do the connections that act by it; there may be a new one."""
-        if text != '%s %s' % (word, other) or not re.fullmatch('[A-Za-z0-9_]{1,16}', other):
-            refuse(1)
+    def of_links(self, c, word, other):
+        """The token of a player goes, and connections act by it no more; there may be a new one."""
         if c.player is None:
             refuse(31)
         if c.player[1] != 'arbiter':
