@@ -4,8 +4,7 @@ files of page/ with the policy header. The game server behind it is the model of
 
     lobby_model.py --players FILE [--journal FILE] [--port P] [--page FOLDER] [--control]
 
-FILE of the players has lines `NAME ROLE TOKEN FULL NAME`, with `-` for the token of who has none, and is written anew by
-`link` and `close`. The journal keeps `MOMENT WHO LINE` of each entry, so that a
+FILE of the players has lines `NAME ROLE TOKEN FULL NAME`; `link` and `close` write it. The journal keeps `MOMENT WHO LINE` of each entry, so that a
 lobby that was killed comes back with its games. It prints its address once it listens. With --control it reads words
 from its standard input, and answers each by `ok` once it holds, so that a test can bring about what goes wrong:
 
@@ -15,8 +14,6 @@ from its standard input, and answers each by `ok` once it holds, so that a test 
     drop     the next act is not taken, and the connection breaks: `lost` too
     silent   nothing is answered any more, and the connections stay open
     slow MS  each answer comes MS milliseconds late
-    full     the players' file cannot be written any more
-    room     it can again
     beside WHITE BLACK   a game is opened and joined on the server, past the lobby: nobody is told
 
 Wants Debian's python3-websockets."""
@@ -38,8 +35,8 @@ import model
 TOP = os.path.dirname(os.path.dirname(os.path.dirname(os.path.realpath(__file__))))
 READS = ('show', 'fen', 'pgn', 'list')
 IN_A_GAME = ('move', 'offer', 'accept', 'decline', 'resign', 'claim', 'flag')
-OF_OTHERS = ('open', 'join', *IN_A_GAME)
-ACTS = ('drop', *OF_OTHERS)
+OPENING = ('open', 'join')
+ACTS = (*OPENING, 'drop', *IN_A_GAME)
 OF_ARBITERS = ('who', 'pause entries', 'resume entries')
 OF_LINKS = ('link', 'close')
 OWN = ('login', 'players', 'lobby', 'watch', 'leave', 'line')
@@ -98,11 +95,10 @@ class Connection:
 
 
 class Lobby:
-    def __init__(self, server, path):
+    def __init__(self, server, file):
         self.server = server
-        self.path = path
-        self.players = read_players(path)      # name -> (role, token or '-', full name)
-        self.full = False
+        self.file = file
+        self.players = read_players(file)  # token -> (name, role, full name)
         self.connections = set()
         self.here = True
         self.fault = None
@@ -131,14 +127,13 @@ class Lobby:
         word = text.split(' ')[0]
         if word in OWN:
             return self.own(c, word, text), None
-        if text in OF_ARBITERS:
+        if text in OF_ARBITERS or word in OF_LINKS:
             return self.of_arbiters(c, text), None
-        _, other, line = (text.split(' ', 2) + ['', ''])[:3]
-        if word in OF_LINKS:
-            return self.of_links(c, word, text.partition(' ')[2]), None
         if word not in (*READS, *ACTS, 'as'):
             refuse(1)
-        if word == 'as' and line.split(' ')[0] not in OF_OTHERS:
+        _, other, line = (text.split(' ', 2) + ['', ''])[:3]
+        act = line.split(' ')[0] if word == 'as' else word
+        if word == 'as' and act not in (*OPENING, *IN_A_GAME):
             refuse(1)
         if word == 'drop' and not (re.fullmatch('drop ' + G, text) and int(text[5:]) <= model.TOP):
             refuse(1)
@@ -146,21 +141,21 @@ class Lobby:
             refuse(31)
         if word in ('drop', 'as') and c.player[1] != 'arbiter':
             refuse(33)
-        if word == 'as' and other not in self.players:
+        if word == 'as' and other not in [name for name, _, _ in self.players.values()]:
             refuse(38)
         if word == 'open' and self.paused and c.player[1] != 'arbiter':
             refuse(39)
         if not self.here:
             refuse(36)
         name = c.player[0] if c.player else None
-        seat, line = (other, line) if word == 'as' else (name, text)
-        if line.split(' ')[0] == 'open' and len(self.waiting_of(seat)) >= MOST_OPEN:
+        seat = other if word == 'as' else name
+        if act == 'open' and len(self.waiting_of(seat)) >= MOST_OPEN:
             refuse(35)
-        return self.asked(word, name, text, seat, line)
+        return self.asked(c, act, name, text, seat, line if word == 'as' else text)
 
-    def asked(self, word, name, text, seat, line):
+    def asked(self, c, word, name, text, seat, line):
         """A player's message goes to the server as this line, under the name of who has the seat."""
-        fault = self.fault if word in (*ACTS, 'as') else None
+        fault = self.fault if word in ACTS else None
         if fault:
             self.fault = None
         if fault == 'drop':
@@ -178,10 +173,9 @@ class Lobby:
         if word in READS or answer[0].startswith('no '):
             return answer, None
         number = int(answer[0].split(' ')[1 if answer[0].startswith('fallen') else 2])
-        said = line.split(' ')[0]
-        if said == 'open':
+        if word == 'open':
             self.opened[seat].add(number)
-        return answer, (number, said, name, text, answer[0])
+        return answer, (number, word, name, text, answer[0])
 
     def waiting_of(self, name):
         games = self.server.table.games
@@ -192,44 +186,43 @@ class Lobby:
             refuse(31)
         if c.player[1] != 'arbiter':
             refuse(33)
+        if text.split(' ')[0] in OF_LINKS:
+            return self.linked(*text.split(' ', 1)) if ' ' in text else refuse(38)
         if text != 'who':
             self.paused = text == 'pause entries'
             return ['ok ' + text]
-        acting = {one.player[0] for one in self.connections if one.player}
-        names = [name for name in self.players if name in acting]
+        acting = {one.player for one in self.connections}
+        names = [row[0] for row in self.players.values() if row in acting]
         return ['ok who %d' % len(names)] + names
 
-    def of_links(self, c, word, other):
-        """The token of a player goes, and connections act by it no more; there may be a new one."""
-        if c.player is None:
-            refuse(31)
-        if c.player[1] != 'arbiter':
-            refuse(33)
-        if other not in self.players:
+    def linked(self, word, name):
+        """A player has another token in the file, which for `close` nobody is told; who acts by the old one acts no more."""
+        if name not in [one for one, _, _ in self.players.values()]:
             refuse(38)
-        if self.full:
+        token = secrets.token_hex(16)
+        rows = {token if row[0] == name else old: row for old, row in self.players.items()}
+        try:
+            with open(self.file + '.new', 'w') as file:
+                file.writelines('%s %s %s %s\n' % (one, role, old, full) for old, (one, role, full) in rows.items())
+            os.replace(self.file + '.new', self.file)
+        except OSError:
             refuse(40)
-        role, _, full = self.players[other]
-        token = secrets.token_hex(16) if word == 'link' else '-'
-        self.players[other] = (role, token, full)
-        with open(self.path, 'w') as file:
-            for name, row in self.players.items():
-                file.write('%s %s %s %s\n' % (name, *row))
+        self.players = rows
         for one in self.connections:
-            if one.player and one.player[0] == other:
+            if one.player and one.player[0] == name:
                 one.player = None
-        return ['ok link %s %s' % (other, token) if word == 'link' else 'ok close ' + other]
+        return ['ok %s %s' % (word, name) + (' ' + token if word == 'link' else '')]
 
     def own(self, c, word, text):
         if word == 'login':
-            found = [(name, role, full) for name, (role, token, full) in self.players.items() if token == text[6:] != '-']
-            if not found:
+            token = text[6:]
+            if token not in self.players:
                 refuse(32)
-            c.player = found[0]
+            c.player = self.players[token]
             return ['ok login %s %s %s' % c.player]
         if text == 'players':
-            rows = self.players.items()
-            return ['ok players %d' % len(rows)] + ['%s %s %s' % (name, role, full) for name, (role, _, full) in rows]
+            rows = list(self.players.values())
+            return ['ok players %d' % len(rows)] + ['%s %s %s' % row for row in rows]
         if text == 'leave lobby':
             c.at_table = False
             return ['ok leave lobby']
@@ -297,8 +290,6 @@ class Lobby:
             self.fault = word
         elif word == 'silent':
             self.silent = True
-        elif word in ('full', 'room'):
-            self.full = word == 'full'
         elif word.startswith('slow '):
             self.delay = int(word[5:]) / 1000
         elif word.startswith('beside '):
@@ -366,7 +357,7 @@ def read_players(path):
     with open(path) as file:
         for row in file.read().splitlines():
             name, role, token, full = row.split(' ', 3)
-            players[name] = (role, token, full)
+            players[token] = (name, role, full)
     return players
 
 
