@@ -148,12 +148,13 @@ class Page {
 
   /** Opens a game, and goes to it. Where the answer is lost, the table is asked. */
   async openGame(line, note) {
-    const after = this.table.greatest(), answer = await this.wire.say(line), refusal = readRefusal(answer[0]);
+    const known = new Set(this.table.rows.keys());
+    const answer = await this.wire.say(line), refusal = readRefusal(answer[0]);
     if (refusal) note(refusalWords(refusal));
     else if (answer[0] === 'unsent') note('There is no connection. Nothing was sent.');
     else if (answer[0] === 'lost') {
       note('The connection broke before the answer came. Looking for your game …');
-      this.lostOpen = { after, note, colour: line.split(' ')[1] };
+      this.lostOpen = { known, note, colour: line.split(' ')[1] };
     } else {
       this.table.opened();
       this.go(`/game/${answer[0].split(' ')[2]}`);
@@ -254,9 +255,9 @@ class Page {
   }
 
   findOpened() {
-    const { after, note, colour } = this.lostOpen, me = this.me();
+    const { known, note, colour } = this.lostOpen, me = this.me();
     this.lostOpen = null;
-    const row = [...this.table.rows.values()].find((one) => one.number > after && one[colour] === me);
+    const row = [...this.table.rows.values()].find((one) => !known.has(one.number) && one[colour] === me);
     if (row) this.go(`/game/${row.number}`);
     else note('The connection broke, and your game has not been opened so far. Look, and open it again.');
   }

@@ -116,15 +116,15 @@ export class Pairing {
     if (next) next.focus();
   }
 
-  /** Notes the greatest number on the table, and then opens the game: it has a greater one. */
+  /** Notes which games White has, and then opens the game: it is another one, since no number is given twice. */
   async begin(begun) {
     const answer = await this.app.wire.say('list');
     if (!answer[0].startsWith('ok list')) {
       this.note(this.wordsOf(answer[0]));
       return;
     }
-    const after = Math.max(0, ...readRows(answer.slice(1)).map((row) => row.number));
-    this.keep({ ...begun, after });
+    const known = readRows(answer.slice(1)).filter((row) => row.white === begun.white).map((row) => row.number);
+    this.keep({ ...begun, known });
     await this.open();
   }
 
@@ -244,16 +244,16 @@ export class Pairing {
     }
   }
 
-  /** Looks for the game that was opened: a newer one of White's, of these times and this position. The table is asked
+  /** Looks for the game that was opened: another one of White's, of these times and this position. The table is asked
    * twice, since what an earlier connection sent may be taken behind the first answer. */
   async findOpened(goesOn) {
-    const { white, black, line, after } = this.begun, wire = this.app.wire, found = [];
+    const { white, black, line, known } = this.begun, wire = this.app.wire, found = [];
     await wire.say('list');
     await new Promise((over) => setTimeout(over, SETTLES));
     const answer = await wire.say('list');
     if (!answer[0].startsWith('ok list')) return;
     for (const row of readRows(answer.slice(1))) {
-      if (row.number <= after || row.white !== white || row.black && row.black !== black) continue;
+      if (known.includes(row.number) || row.white !== white || row.black && row.black !== black) continue;
       const pgn = await wire.say(`pgn ${row.number}`);
       if (!pgn[0].startsWith('ok ')) return;
       if (isOf(readPgn(pgn.slice(1)).tags, line)) found.push(row.number);
@@ -314,7 +314,7 @@ export class Pairing {
 function readBegun() {
   try {
     const begun = JSON.parse(read(local, KEY) || 'null');
-    return begun && begun.white && begun.black && begun.line ? begun : null;
+    return begun && begun.white && begun.black && begun.line && begun.known ? begun : null;
   } catch (refused) {
     return null;
   }

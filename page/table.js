@@ -48,10 +48,6 @@ export class TableView {
     this.askTimes();
   }
 
-  greatest() {
-    return Math.max(0, ...this.rows.keys());
-  }
-
   notice(number, sent, standing) {
     if (!standing) {
       this.rows.delete(number);

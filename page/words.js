@@ -35,8 +35,8 @@ const REFUSALS = {
   37: 'This page watches sixteen games already.',
   38: 'No player of this name is known here.',
   39: 'An arbiter has stopped new games for the moment. Games that were begun go on.',
-  40: 'The lobby could not write the file of the players. Nothing has changed: the link that was there holds. Tell who runs '
-    + 'the lobby.',
+  40: 'The lobby could not change the file of the players, or another writes it at the moment. Try again; if that does not '
+    + 'help, tell who runs the lobby.',
 };
 
 /** What a refused line means to who sent it. */
