@@ -1,14 +1,18 @@
 // The arbiter's desk: all running games at a glance, and what is entered for their players.
 
+import { Adjournments, timesToGoOn, wordsToGoOn } from './adjourn.js';
 import { Picture } from './board.js';
 import { Clock } from './clock.js';
 import { isNoGame, placementOf, readLine, readRefusal, readStanding, readWho, squaresOf } from './lines.js';
+import { Links } from './links.js';
 import { arrange, byId, make, setText } from './make.js';
-import { OTHER, SIDES, actWords, colourWord, refusalWords, resultWords } from './words.js';
+import { Pairing } from './pairing.js';
+import { Question } from './question.js';
+import { Waits } from './waits.js';
+import { AGREED, OTHER, SIDES, actWords, colourWord, refusalWords, resultWords } from './words.js';
 
 const MOST = 12;                     // games on a page: each is watched
 const ASKS_WHO = 10000;
-const AGREED = 2;                    // both sides have moved then: a draw can be agreed on
 
 export class ArbiterView {
   /** rows(): the table's rows by number. */
@@ -21,6 +25,11 @@ export class ArbiterView {
     this.cards = new Map();
     this.first = 0;
     this.here = null;                  // the names of who is connected, once that was told
+    this.question = new Question();
+    this.waits = new Waits(this);
+    this.pairing = new Pairing(this, (key, number) => this.adjourned.goesOn(key, number));
+    this.adjourned = new Adjournments(this, (note) => this.pairing.fill({ ...note, times: timesToGoOn(note) }, wordsToGoOn(note)));
+    this.links = new Links(this);
     byId('arbiter-find').addEventListener('input', () => {
       this.first = 0;
       this.fill();
@@ -29,11 +38,9 @@ export class ArbiterView {
     byId('arbiter-on').addEventListener('click', () => this.page(1));
     byId('pause-entries').addEventListener('click', () => this.entries('pause'));
     byId('resume-entries').addEventListener('click', () => this.entries('resume'));
-    byId('arbiter-dialog').addEventListener('close', (event) => {
-      const asked = this.asked;
-      this.asked = null;
-      if (event.target.returnValue === 'yes' && asked) this.enter(asked);
-    });
+    for (const id of ['pair-by-hand', 'players-and-links']) {
+      byId(id).addEventListener('toggle', (event) => event.target.open && this.app.askPlayers());
+    }
   }
 
   open() {
@@ -45,13 +52,14 @@ export class ArbiterView {
     }, ASKS_WHO);
     this.askWho();
     this.render();
-    this.app.titled('Arbiter');
+    this.waits.open();
+    this.lookAgain();
   }
 
   close() {
     this.root.hidden = true;
     clearInterval(this.asking);
-    byId('arbiter-dialog').close();
+    for (const part of [this.question, this.waits, this.adjourned, this.links]) part.close();
     for (const number of [...this.cards.keys()]) this.remove(number);
     this.note('');
   }
@@ -66,6 +74,20 @@ export class ArbiterView {
     for (const number of this.cards.keys()) this.ask(number);
     this.askWho();
     this.fill();
+    this.lookAgain();
+  }
+
+  /** What was begun here and not ended. */
+  lookAgain() {
+    this.pairing.again();
+    this.adjourned.again();
+  }
+
+  /** The players of the club were told. */
+  playersTold() {
+    if (this.root.hidden) return;
+    this.pairing.fillPlayers();
+    this.links.render();
   }
 
   render() {
@@ -75,32 +97,61 @@ export class ArbiterView {
     byId('arbiter-desk').hidden = !may;
     for (const id of ['pause-entries', 'resume-entries']) byId(id).disabled = !this.app.wire.state.open;
     for (const card of this.cards.values()) this.renderActs(card);
+    for (const part of [this.pairing, this.adjourned, this.links]) part.render();
     this.fill();
   }
 
   // ---- which games
 
   running() {
+    return [...this.rows().values()].filter((row) => row.white && row.black && row.result === '*');
+  }
+
+  /** Of these, those of a player that is looked for. */
+  found() {
     const text = byId('arbiter-find').value.trim().toLowerCase();
     const has = (name) => `${name} ${this.app.nameWords(name)}`.toLowerCase().includes(text);
-    return [...this.rows().values()].filter((row) => row.white && row.black && row.result === '*'
-      && (!text || has(row.white) || has(row.black)));
+    return this.running().filter((row) => !text || has(row.white) || has(row.black));
+  }
+
+  /** Whether the desk is told of a game. */
+  has(number) {
+    return this.cards.has(number);
+  }
+
+  isHere(name) {
+    return !this.here || this.here.has(name);
   }
 
   page(step) {
-    const pages = Math.ceil(this.running().length / MOST);
-    if (pages < 2) return;
-    this.first = MOST * ((this.first / MOST + step + pages) % pages);
+    const pages = Math.ceil(this.found().length / MOST);
+    if (pages > 1) this.turnTo(MOST * ((this.first / MOST + step + pages) % pages));
+  }
+
+  turnTo(first) {
+    this.first = first;
     for (const [number, card] of [...this.cards]) {
       if (card.isOver) this.remove(number);
     }
     this.fill();
   }
 
+  /** Turns to the page that has a game, which has the keys then. */
+  showGame(number) {
+    const placeOf = () => this.found().findIndex((row) => row.number === number);
+    if (placeOf() < 0) byId('arbiter-find').value = '';
+    const place = placeOf();
+    if (place < 0) return;
+    if (!this.cards.has(number)) this.turnTo(place - place % MOST);
+    const card = this.cards.get(number);
+    card.root.scrollIntoView({ block: 'center' });
+    card.title.focus({ preventScroll: true });
+  }
+
   /** The games of this page, and those that ended on it. */
   fill() {
     if (this.root.hidden || !this.app.isArbiter()) return;
-    const running = this.running();
+    const running = this.found();
     if (this.first >= running.length) this.first = 0;
     const shown = running.slice(this.first, this.first + MOST).map((row) => row.number), wanted = new Set(shown);
     for (const [number, card] of [...this.cards]) {
@@ -113,6 +164,7 @@ export class ArbiterView {
     byId('arbiter-none').hidden = this.cards.size > 0;
     byId('arbiter-pages').hidden = running.length <= MOST;
     setText(byId('arbiter-place'), `${this.first + 1} to ${this.first + shown.length} of ${running.length}`);
+    this.waits.render();
   }
 
   // ---- a game
@@ -121,7 +173,7 @@ export class ArbiterView {
     const card = { number, board: new Picture(`Game ${number}`), clocks: {}, names: {}, away: {}, seats: {}, acts: {} };
     const player = (side) => {
       const clock = make('span', { class: 'clock', role: 'timer' });
-      card.clocks[side] = new Clock(clock);
+      card.clocks[side] = new Clock(clock, () => card.standing && setText(card.state, this.stateWords(card)));
       card.names[side] = make('span', { class: 'name' });
       card.away[side] = make('span', { class: 'away', hidden: true }, 'not connected');
       card.seats[side] = make('div', { class: `desk-player ${side === 'w' ? 'white' : 'black'}` },
@@ -130,8 +182,9 @@ export class ArbiterView {
       return card.seats[side];
     };
     const act = (kind, words) => {
-      card.acts[kind] = make('button', { type: 'button', 'data-key': `${kind}-${number}`,
-        onclick: () => this.askAbout(card, kind) }, words, make('span', { class: 'unseen' }, `, game ${number}`));
+      card.acts[kind] = make('button', { type: 'button', class: SIDES.includes(kind) ? 'wide' : '',
+        'data-key': `${kind}-${number}`, onclick: () => this.askAbout(card, kind) }, words,
+      make('span', { class: 'unseen' }, `, game ${number}`));
       return card.acts[kind];
     };
     card.title = make('a', { href: `#/game/${number}`, 'data-key': `game-${number}` }, `Game ${number}`);
@@ -142,7 +195,7 @@ export class ArbiterView {
       make('h2', {}, card.title), player('b'), card.state, card.last, player('w'),
       make('div', { class: 'desk-acts', role: 'group', 'aria-label': `Decide game ${number}` },
         act('w', 'White resigns'), act('b', 'Black resigns'), act('draw', 'Draw'), act('flag', 'Flag'),
-        act('drop', 'Take off')), card.note);
+        act('adjourn', 'Adjourn'), act('drop', 'Take off')), card.note);
     this.cards.set(number, card);
     this.renderActs(card);
     this.ask(number);
@@ -197,6 +250,7 @@ export class ArbiterView {
   draw(number, standing, at = performance.now()) {
     const card = this.cards.get(number), runs = !standing.article;
     Object.assign(card, { standing, at, isOver: !runs });
+    this.waits.told(number, runs ? standing : null, at);
     card.board.show({ fen: standing.fen, last: card.move, check: standing.check });
     card.board.root.setAttribute('aria-label', `Game ${number}, ${placementOf(standing.fen).size} men on the board`);
     for (const side of SIDES) {
@@ -205,7 +259,7 @@ export class ArbiterView {
       card.clocks[side].set({ left: standing.left[side], at, running: runs && standing.side === side });
       card.seats[side].classList.toggle('turn', runs && standing.side === side);
     }
-    setText(card.state, this.stateWords(standing));
+    setText(card.state, this.stateWords(card));
     setText(card.last, card.act ? `Last: ${card.act}` : '');
     card.root.classList.toggle('done', !runs);
     this.renderActs(card);
@@ -216,13 +270,14 @@ export class ArbiterView {
     return this.app.nameWords(side === 'w' ? card.standing.white : card.standing.black);
   }
 
-  stateWords({ side, offer, result, article }) {
+  stateWords({ standing: { side, offer, result, article }, clocks }) {
     if (article) {
       const words = resultWords(result, article);
       return `${words.score} ${words.result} ${words.reason}`;
     }
     const offers = [...offer].map((one) => `${colourWord(one)} offers a draw`);
-    return [`${colourWord(side)} to move`, ...offers].join(' · ');
+    const fallen = clocks[side].now() <= 0 ? `${colourWord(side)}’s flag has fallen` : `${colourWord(side)} to move`;
+    return [fallen, ...offers].join(' · ');
   }
 
   renderActs(card) {
@@ -244,20 +299,22 @@ export class ArbiterView {
     if (!answer[0].startsWith('ok who')) return;
     this.here = readWho(answer);
     for (const card of this.cards.values()) this.renderAway(card);
+    this.pairing.renderHints();
+    this.links.render();
   }
 
   renderAway(card) {
     if (!card.standing) return;
     for (const side of SIDES) {
       const name = side === 'w' ? card.standing.white : card.standing.black;
-      card.away[side].hidden = !this.here || this.here.has(name) || Boolean(card.standing.article);
+      card.away[side].hidden = this.isHere(name) || Boolean(card.standing.article);
     }
   }
 
   // ---- entering
 
   /** What is entered, as it is asked about: a title, what follows, and the lines. */
-  question(card, kind) {
+  asked(card, kind) {
     const { number, standing } = card, { white, black, side, offer } = standing;
     const seat = { w: white, b: black }, name = { w: this.nameOf(card, 'w'), b: this.nameOf(card, 'b') };
     if (kind === 'w' || kind === 'b') {
@@ -283,13 +340,15 @@ export class ArbiterView {
       lines: [`drop ${number}`] };
   }
 
-  askAbout(card, kind) {
-    const dialog = byId('arbiter-dialog'), asked = this.question(card, kind);
-    this.asked = { number: card.number, lines: asked.lines, button: card.acts[kind] };
-    setText(byId('arbiter-question'), asked.title);
-    setText(byId('arbiter-words'), asked.words);
-    dialog.returnValue = '';
-    dialog.showModal();
+  async askAbout(card, kind) {
+    const { number } = card, button = card.acts[kind];
+    if (kind === 'adjourn') {
+      const isTold = await this.adjourned.ask(number);
+      this.tellCard(number, isTold ? '' : 'The lobby did not tell how the game stands. Try again.');
+      return;
+    }
+    const asked = this.asked(card, kind);
+    this.question.ask(asked, () => this.enter({ number, lines: asked.lines, button }));
   }
 
   /** Sends what was agreed to, line by line as long as each is taken; what is refused is told in words. */

@@ -14,6 +14,8 @@ const TOKEN = /^[A-Za-z0-9_-]{16,128}$/;
 const MOST_WATCHED = 14, LEAVE_AFTER = 3000;      // the lobby lets a connection watch 16 games
 const ASKS_ANEW = 15000;           // for games that were opened on the server past the lobby: nobody tells of them
 const ASKS_AGAIN = 3000;           // for the table, where it was not told
+const TAKEN_AWAY = 'Your personal link holds no more: an arbiter has made another one, or closed it. You are watching. To play '
+  + 'on, open your new link, or ask your arbiter for it.';
 const session = () => sessionStorage, local = () => localStorage;
 
 class Page {
@@ -34,6 +36,7 @@ class Page {
     this.view = null;
     this.wire = new Wire(address.href, {
       opened: (server) => this.opened(server), notice: (lines) => this.notice(lines), changed: () => this.changed(),
+      unnamed: () => this.unnamed(),
     });
     this.table = new TableView(this);
     this.game = new GameView(this);
@@ -147,12 +150,12 @@ class Page {
   /** Opens a game, and goes to it. Where the answer is lost, the table is asked. */
   async openGame(line, note) {
     this.lostOpen = null;
-    const before = new Set(this.table.rows.keys()), answer = await this.wire.say(line), refusal = readRefusal(answer[0]);
+    const known = new Set(this.table.rows.keys()), answer = await this.wire.say(line), refusal = readRefusal(answer[0]);
     if (refusal) note(refusalWords(refusal));
     else if (answer[0] === 'unsent') note('There is no connection. Nothing was sent.');
     else if (answer[0] === 'lost') {
       note('The connection broke before the answer came. Looking for your game …');
-      this.lostOpen = { before, note, colour: line.split(' ')[1] };
+      this.lostOpen = { known, note, colour: line.split(' ')[1] };
       setTimeout(() => this.lostOpen && this.loadTable(), ASKS_AGAIN);
     } else {
       this.table.opened();
@@ -264,9 +267,9 @@ class Page {
   }
 
   findOpened() {
-    const { before, note, colour } = this.lostOpen, me = this.me(), rows = [...this.table.rows.values()];
-    const row = rows.find((one) => !before.has(one.number) && one[colour] === me);
-    const mayCome = [...before, ...rows.map((one) => one.number)].some(isOfSeveral);
+    const { known, note, colour } = this.lostOpen, me = this.me(), rows = [...this.table.rows.values()];
+    const row = rows.find((one) => !known.has(one.number) && one[colour] === me);
+    const mayCome = [...known, ...rows.map((one) => one.number)].some(isOfSeveral);
     this.lostOpen = !row && mayCome ? { ...this.lostOpen, note: () => {} } : null;
     if (row) this.go(`/game/${row.number}`);
     else if (!mayCome) note('The connection broke, and your game has not been opened so far. Look, and open it again.');
@@ -281,11 +284,17 @@ class Page {
     this.isAtTable = undefined;
     if (this.token) await this.login();
     if (server !== 'here') return;
-    const answer = await this.wire.say('players');
-    if (answer[0].startsWith('ok players')) this.players = readPlayers(answer.slice(1));
+    await this.askPlayers();
     await this.atTable();
     if (this.view === this.game) this.game.refresh();
     this.renderWho();
+  }
+
+  /** Who is who: the file of the players may be another meanwhile. */
+  async askPlayers() {
+    const answer = await this.wire.say('players');
+    if (answer[0].startsWith('ok players')) this.players = readPlayers(answer.slice(1));
+    this.desk.playersTold();
   }
 
   async login() {
@@ -307,6 +316,26 @@ class Page {
     if (this.view) this.view.render && this.view.render();
   }
 
+  /** The lobby takes this connection for nobody's, though it had signed in: an arbiter has made another link or closed this one. */
+  async unnamed() {
+    if (!this.player || this.asksAgain) return;
+    this.asksAgain = true;
+    await this.login();
+    this.asksAgain = false;
+    if (this.player) return;
+    this.tell(TAKEN_AWAY);
+    if (this.view.render) this.view.render();
+  }
+
+  /** One's own link is another one now: kept where the one before it was. */
+  takeNewToken(token) {
+    const kept = read(local, 'token') === this.token;
+    this.token = token;
+    write(session, 'token', token);
+    if (kept) write(local, 'token', token);
+    this.login();
+  }
+
   /** A token that is not known goes; one that was kept before it is tried instead. */
   refused(token) {
     const kept = read(local, 'token');
@@ -322,7 +351,7 @@ class Page {
   notice(lines) {
     const number = Number(lines[0].split(' ')[1]), act = readAct(lines[1] || '');
     if (!act) return;
-    const { by, sent } = act, answer = lines[2], standing = readStanding(lines.slice(3));
+    const { sent } = act, answer = lines[2], standing = readStanding(lines.slice(3));
     if (!standing && !isNoGame(lines[3])) {        // (its server was gone before it was asked how the game stands)
       if (this.view === this.game && this.game.number === number) this.game.refreshLater();
       return;
@@ -331,17 +360,19 @@ class Page {
     if (this.view === this.game && this.game.number === number) this.game.notice(act, answer, standing);
     if (this.view === this.hall) this.hall.notice(number, sent, answer, standing);
     if (this.view === this.desk) this.desk.notice(number, act, answer, standing);
-    if (standing) this.invite(number, by, sent.split(' ')[0], standing);
+    if (standing) this.invite(number, act, sent.split(' ')[0], standing);
   }
 
-  /** Somebody has joined one's own game, or the opponent of a game that is over has opened another. */
-  invite(number, by, word, standing) {
-    const me = this.me(), here = this.view === this.game && this.game.number === number;
-    if (by === me) this.begun.add(number);
-    if (!me || by === me || here) return;
-    if (word === 'open' && this.view === this.game && this.game.isOpponent(by)) this.game.suggest({ by, number });
+  /** Somebody has joined one's own game, or an arbiter for them; or the opponent of a game that is over has opened another. */
+  invite(number, { by, arbiter }, word, standing) {
+    const me = this.me(), here = this.view === this.game && this.game.number === number, own = by === me && !arbiter;
+    if (own) this.begun.add(number);
+    if (!me || own || here) return;
+    if (word === 'open' && !arbiter && this.view === this.game && this.game.isOpponent(by)) this.game.suggest({ by, number });
     if (word !== 'join' || standing.white !== me && standing.black !== me) return;
-    this.begin(number, `${this.nameWords(by)} has joined your game ${number}`);
+    const other = this.nameWords(standing.white === me ? standing.black : standing.white);
+    this.begin(number, arbiter ? `Your game ${number} against ${other}, paired by ${this.nameWords(arbiter)}, has begun`
+      : `${other} has joined your game ${number}`);
   }
 
   /** The state of the connection is another. */

@@ -2,10 +2,9 @@
 
 import { readPgn, readRefusal, readStanding, readTimes, timesOfOpen } from './lines.js';
 import { arrange, byId, make, setText } from './make.js';
-import { refusalWords, resultWords, timesInFull, timesWords } from './words.js';
+import { TimesField } from './times.js';
+import { NO_FEN, refusalWords, resultWords, timesInFull, timesWords } from './words.js';
 
-const PRESETS = ['1+0', '2+1', '3+0', '3+2', '5+0', '5+3', '10+0', '10+5', '15+10', '30+0', '30+20',
-  '90+30', '40/90+30, 30'];
 const FIRST_SHOWN = { open: 40, running: 40, over: 15 };
 const MOST_OWN = 10;
 
@@ -17,20 +16,12 @@ export class TableView {
     this.rows = new Map();
     this.all = new Set();
     this.items = new Map();            // what an element shows -> the element
-    this.makePresets();
+    this.times = new TimesField(byId('open-form'), byId('open-times'));
     byId('open-form').addEventListener('submit', (event) => {
       event.preventDefault();
       this.submit();
     });
-    byId('open-form').addEventListener('input', (event) => this.changed(event.target));
     byId('find').addEventListener('input', () => this.render());
-  }
-
-  makePresets() {
-    byId('presets').append(...PRESETS.map((words) => make('label', { class: 'preset' },
-      make('input', { type: 'radio', name: 'preset', value: words, class: 'unseen', checked: words === '5+3' }),
-      make('span', {}, words))));
-    this.preset('5+3');
   }
 
   open() {
@@ -225,25 +216,6 @@ export class TableView {
     }
   }
 
-  preset(words) {
-    const form = byId('open-form').elements;
-    const found = /^(?:(\d+)\/)?([\d.]+)\+(\d+)(?:, ([\d.]+))?$/.exec(words);
-    form.minutes.value = found[2];
-    form.increment.value = found[3];
-    form.second.checked = Boolean(found[1]);
-    if (found[1]) [form.moves.value, form.more.value] = [found[1], found[4]];
-    byId('second-fields').hidden = !form.second.checked;
-  }
-
-  changed(field) {
-    const form = byId('open-form').elements;
-    if (field.name === 'preset') this.preset(field.value);
-    else if (['minutes', 'increment', 'second', 'moves', 'more'].includes(field.name)) {
-      for (const preset of form.preset) preset.checked = false;
-    }
-    byId('second-fields').hidden = !form.second.checked;
-  }
-
   /** A position is for one game: the next begins from the usual one. */
   opened() {
     byId('open-form').elements.fen.value = '';
@@ -251,19 +223,15 @@ export class TableView {
   }
 
   submit() {
-    const form = byId('open-form').elements, seconds = (field) => Math.round(60 * Number(field.value));
-    const initial = seconds(form.minutes);
-    const second = form.second.checked, period = `${Number(form.moves.value)}/${initial}:${seconds(form.more)}`;
-    const times = second ? period : String(initial);
+    const form = byId('open-form').elements;
     const colour = form.colour.value || (crypto.getRandomValues(new Uint8Array(1))[0] % 2 ? 'white' : 'black');
     const fen = form.fen.value.trim();
     if (/[^\x20-\x7e]/.test(fen)) {
-      this.note('A FEN has letters, digits and the signs / and - alone.');
+      this.note(NO_FEN);
       return;
     }
     this.note('');
-    this.app.openGame(`open ${colour} ${times} ${Number(form.increment.value)}${fen ? ' ' + fen : ''}`,
-      (text) => this.note(text));
+    this.app.openGame(`open ${colour} ${this.times.line()}${fen ? ' ' + fen : ''}`, (text) => this.note(text));
   }
 }
 

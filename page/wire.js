@@ -10,6 +10,7 @@ const MOST_WAITING = 24;             // the lobby takes the next once it has ans
 const ANSWER_WITHIN = 12000;
 const SILENCE = 25000;
 const PROBE = 'leave 0';             // answered by the lobby alone: shows that the line still stands
+const NAMELESS = /^no 31 /;
 const STOOD = 5000;                  // a connection that stood so long begins the pauses anew
 
 /** What `say` answers where no answer came: `lost` where the line had gone out, `unsent` where it had not. */
@@ -17,7 +18,8 @@ export const LOST = Object.freeze(['lost']);
 export const UNSENT = Object.freeze(['unsent']);
 
 export class Wire {
-  /** told: {opened, notice(lines), changed}; changed() is called whenever `state` is another. */
+  /** told: {opened, notice(lines), changed, unnamed}; changed() is called whenever `state` is another, unnamed() where an
+   * answer says that the connection has shown no token. */
   constructor(address, told) {
     this.address = address;
     this.told = told;
@@ -90,6 +92,7 @@ export class Wire {
     } else {
       const waited = this.waiting.shift();
       if (waited) waited.answered(lines);
+      if (NAMELESS.test(lines[0])) this.told.unnamed();
       this.pump();
     }
   }

@@ -35,6 +35,8 @@ const REFUSALS = {
   37: 'This page watches sixteen games already.',
   38: 'No player of this name is known here.',
   39: 'An arbiter has stopped new games for the moment. Games that were begun go on.',
+  40: 'The lobby could not change the file of the players, or another writes it at the moment. Try again; if that does not '
+    + 'help, tell who runs the lobby.',
 };
 
 /** What a refused line means to who sent it. */
@@ -45,6 +47,8 @@ export function refusalWords(refusal) {
 /** `no 14 FlagUp` and the like: told to nobody, since they only say that a clock is a little ahead. */
 export const FLAG_UP = 14, OVER = 6, WRONG_PLY = 7;
 export const NO_GAME = 3, NOT_YOUR_MOVE = 8, BAD_TOKEN = 32;
+export const AGREED = 2;             // both sides have moved then: a draw can be agreed on
+export const NO_FEN = 'A FEN has letters, digits and the signs / and - alone.';
 
 const WINS = { '1-0': 'White wins', '0-1': 'Black wins', '1/2-1/2': 'Draw' };
 
@@ -72,7 +76,8 @@ export function resultWords(result, article) {
 }
 
 const ENTERED = {
-  move: 'a move', offer: 'an offer of a draw', accept: 'the agreement to a draw', decline: 'the refusal of a draw',
+  open: 'the opening of this game', join: 'the joining of this game', move: 'a move', offer: 'an offer of a draw',
+  accept: 'the agreement to a draw', decline: 'the refusal of a draw',
   resign: 'the resignation', claim: 'a claim of a draw', flag: 'the call of the flag',
 };
 

@@ -1,0 +1,315 @@
+// Adjourned games: a game that runs is noted in this browser and closed as a draw, and gone on with later as another game.
+// A note stands before the first line is sent, and each step is taken from how the game stands, so that what was broken off
+// can be done again.
+
+import { readPgn, readRefusal, readShow, readTimes, sideOf } from './lines.js';
+import { arrange, byId, copy, make, read, setText, write } from './make.js';
+import { AGREED, OTHER, SIDES, clockText, colourWord, refusalWords, resultWords, timesWords } from './words.js';
+
+const PREFIX = 'adjourned-';
+const DAY = 86400;                   // seconds: the longest first period that the server takes
+const AGREEMENT = '5.2.3';
+const local = () => localStorage;
+
+export class Adjournments {
+  /** desk: {app, question, ask(number)}; goOn(note) fills the form that pairs. */
+  constructor(desk, goOn) {
+    this.desk = desk;
+    this.app = desk.app;
+    this.goOn = goOn;
+    this.said = new Map();             // what is said of a note, by its key
+    this.items = new Map();
+    byId('adjourn-dialog').addEventListener('close', (event) => {
+      const note = this.asked;
+      this.asked = null;
+      if (event.target.returnValue === 'yes' && note) this.adjourn(note);
+    });
+    byId('adjourn-copy').addEventListener('click', () => this.copyNote(this.asked, byId('adjourn-copied')));
+    addEventListener('storage', (event) => (event.key || PREFIX).startsWith(PREFIX) && this.render());
+  }
+
+  close() {
+    byId('adjourn-dialog').close();
+  }
+
+  // ---- the notes
+
+  /** All notes of this browser, the latest first. */
+  notes() {
+    const keys = [];
+    try {
+      for (let place = 0; place < localStorage.length; place += 1) keys.push(localStorage.key(place));
+    } catch (refused) {
+      return [];
+    }
+    return keys.filter((key) => key.startsWith(PREFIX)).map(readNote).filter(Boolean).sort((a, b) => b.at - a.at);
+  }
+
+  /** Keeps a note; false where the browser does not. */
+  keep(note) {
+    const kept = write(local, note.key, JSON.stringify(note));
+    this.render();
+    return kept;
+  }
+
+  /** How a game stands, as a note has it. */
+  noteOf({ number, white, black, ply, left, article }, fen, times) {
+    const begun = this.notes().find((note) => !note.closed && note.game === number && note.white === white
+      && note.black === black);
+    const at = begun ? begun.at : Date.now();
+    return { ...begun, key: `${PREFIX}${number}-${at}`, at, game: number, white, black, ply, left, fen, times,
+      closed: article === AGREEMENT };
+  }
+
+  // ---- asking
+
+  /** Asks whether a game shall be adjourned, with all that will be noted; false where it is not told how it stands. */
+  async ask(number) {
+    const wire = this.app.wire, dialog = byId('adjourn-dialog');
+    const [shown, fen, pgn] = await Promise.all([`show ${number}`, `fen ${number}`, `pgn ${number}`].map((line) => wire.say(line)));
+    const note = this.read(shown, fen, pgn);
+    if (!note) return false;
+    if (document.querySelector('dialog[open]')) return true;
+    this.asked = note;
+    const why = whyNot(note);
+    setText(byId('adjourn-title'), `Adjourn game ${number}?`);
+    byId('adjourn-note').replaceChildren(...this.rows(note));
+    setText(byId('adjourn-cannot'), why);
+    setText(byId('adjourn-copied'), keeps() ? '' : 'This browser keeps nothing: copy the note, or write it down.');
+    byId('adjourn-yes').disabled = Boolean(why);
+    dialog.returnValue = '';
+    dialog.showModal();
+    return true;
+  }
+
+  /** The note of three answers, null where they do not tell of a game that is there. */
+  read(shown, fen, pgn) {
+    const show = readShow(shown[0]), position = /^ok fen \d+ (.+)$/.exec(fen[0]);
+    if (!show || !show.black || !show.white || !position || !pgn[0].startsWith('ok ')) return null;
+    return this.noteOf(show, position[1], readPgn(pgn.slice(1)).tags.TimeControl || '');
+  }
+
+  rows(note) {
+    const row = (head, text) => [make('dt', {}, head), make('dd', {}, text)];
+    return [...SIDES.flatMap((side) => row(colourWord(side), `${this.nameOf(note, side)}: ${clockOf(note, side)}`)),
+      ...row('Position', positionOf(note)), ...row('FEN', note.fen),
+      ...row('Times', `${timesWords(readTimes(note.times))} (${note.times})`)];
+  }
+
+  nameOf(note, side) {
+    const name = side === 'w' ? note.white : note.black, full = this.app.nameWords(name);
+    return full === name ? name : `${full} (${name})`;
+  }
+
+  /** A note as a text of its own. */
+  textOf(note) {
+    const times = `${timesWords(readTimes(note.times))} (${note.times})`;
+    return [`Game ${note.game}, ${note.closed ? 'adjourned' : 'as it stood'} ${momentOf(note)}`,
+      ...SIDES.map((side) => `${colourWord(side)}: ${this.nameOf(note, side)}, ${clockOf(note, side)} left`),
+      `Position: ${positionOf(note)}`, `FEN: ${note.fen}`, `Times: ${times}`, ''].join('\n');
+  }
+
+  async copyNote(note, place) {
+    if (note) setText(place, await copy(this.textOf(note)) ? 'The note is copied.' : 'It could not be copied: write it down.');
+  }
+
+  // ---- closing
+
+  async adjourn(note) {
+    this.keep(note);
+    byId('adjourned-games').open = true;
+    await this.settle(note, true);
+    const item = this.items.get(note.key);
+    if (item && document.activeElement === document.body) item.querySelector('button').focus();
+  }
+
+  /** From how the game stands: where it is over, the note is ended; else the steps that are left are entered, if `enters`
+   * says so: an offer for White, and its acceptance for Black, or the acceptance of an offer that stands. */
+  async settle(note, enters) {
+    if (this.busy) return;
+    this.busy = true;
+    this.render();
+    try {
+      const show = await this.standing(note);
+      if (show && !show.article && enters && await this.enter(note, show)) await this.standing(note);
+    } finally {
+      this.busy = false;
+      this.render();
+    }
+  }
+
+  /** Asks how the game stands, and writes into the note how it ended; null where that is not told. */
+  async standing(note) {
+    const [shown, fen] = await Promise.all([`show ${note.game}`, `fen ${note.game}`].map((line) => this.app.wire.say(line)));
+    const show = readShow(shown[0]), position = /^ok fen \d+ (.+)$/.exec(fen[0]), refusal = readRefusal(shown[0]);
+    if (!show || !position) {
+      this.say(note, refusal ? `Game ${note.game}: ${refusalWords(refusal)}` : 'The connection broke before the answer came.');
+      return null;
+    }
+    if (show.white !== note.white || show.black !== note.black) {
+      this.say(note, `Game ${note.game} is one of other players now.`);
+      return null;
+    }
+    const { left, ply, article, result } = show;
+    if (article === AGREEMENT) {
+      this.say(note, '');
+      this.keep({ ...note, left, ply, fen: position[1], closed: true });
+    } else if (article) {
+      const words = resultWords(result, article);
+      this.say(note, `It was not adjourned: the game has ended before. ${words.result} ${words.reason}.`);
+    } else {
+      this.say(note, 'It is not closed: the game goes on.');
+      this.keep({ ...note, left, ply, fen: position[1] });
+    }
+    return show;
+  }
+
+  /** Whether the draw was entered, or may have been. */
+  async enter(note, { offer }) {
+    const seat = { w: note.white, b: note.black }, by = offer.includes('w') || !offer ? 'w' : 'b', other = seat[OTHER[by]];
+    const lines = [...offer ? [] : [`as ${seat.w} offer ${note.game}`], `as ${other} accept ${note.game}`];
+    for (const line of lines) {
+      const answer = await this.app.wire.say(line), refusal = readRefusal(answer[0]);
+      if (answer[0].startsWith('ok ')) continue;
+      if (answer[0].startsWith('fallen')) return true;
+      if (refusal) this.say(note, `It is not closed. ${refusalWords(refusal)}`);
+      else if (answer[0] === 'unsent') this.say(note, 'It is not closed: there is no connection. Nothing was sent.');
+      else this.say(note, 'The connection broke before the answer came. Once it is there again, the game is looked at.');
+      return false;
+    }
+    return true;
+  }
+
+  /** The desk is come to, or there is a new connection: games that are not closed are looked at. */
+  async again() {
+    this.render();
+    if (!this.app.isArbiter()) return;
+    for (const note of this.notes().filter(({ closed }) => !closed)) await this.settle(note, false);
+  }
+
+  /** The game of a note goes on as another one. */
+  goesOn(key, number) {
+    const note = readNote(key);
+    if (note) this.keep({ ...note, later: number });
+  }
+
+  forget(note) {
+    this.desk.question.ask({ title: `Forget the note of game ${note.game}?`, yes: 'Forget it',
+      words: 'This browser knows its position and its clocks no more.' }, () => {
+      write(local, note.key, null);
+      this.said.delete(note.key);
+      this.render();
+      byId('adjourned-games').querySelector('summary').focus();
+    });
+  }
+
+  // ---- showing
+
+  say(note, words) {
+    this.said.set(note.key, words);
+  }
+
+  render() {
+    const notes = this.notes();
+    byId('adjourned-games').hidden = notes.length === 0;
+    setText(byId('adjourned-count'), notes.length ? String(notes.length) : '');
+    const had = document.activeElement, at = had && had.dataset.key;
+    const items = notes.map((note) => this.itemOf(note));
+    arrange(byId('adjourned-list'), items);
+    const again = at && !had.isConnected && byId('adjourned-list').querySelector(`[data-key="${at}"]`);
+    if (again) again.focus();
+  }
+
+  /** The same element as long as it shows the same. */
+  itemOf(note) {
+    const shows = JSON.stringify([note, this.said.get(note.key), this.busy, this.app.reachable(), this.nameOf(note, 'w'),
+      this.nameOf(note, 'b')]);
+    const before = this.items.get(note.key);
+    if (before && before.shows === shows) return before;
+    const item = this.item(note);
+    item.shows = shows;
+    this.items.set(note.key, item);
+    return item;
+  }
+
+  item(note) {
+    const copied = make('p', { class: 'small', role: 'status' }), may = this.app.reachable() && !this.busy;
+    const button = (kind, words, act, given = {}) => make('button', { type: 'button', 'data-key': `${kind}-${note.key}`,
+      onclick: act, ...given }, words, make('span', { class: 'unseen' }, `, game ${note.game}`));
+    const acts = [];
+    if (!note.closed) acts.push(button('close', 'Close it as a draw', () => this.settle(note, true), { disabled: !may }));
+    else if (!note.later) acts.push(button('on', 'Go on with it', () => this.goOn(note), { class: 'strong' }));
+    acts.push(button('copy', 'Copy the note', () => this.copyNote(note, copied)),
+      button('forget', 'Forget it', () => this.forget(note)));
+    return make('li', { class: 'adjourned' },
+      make('h3', {}, `Game ${note.game}: ${SIDES.map((side) => this.nameOf(note, side)).join(' – ')}`),
+      make('p', { class: 'adjourned-state' }, this.stateOf(note)), make('dl', { class: 'noted' }, ...this.rows(note)),
+      make('div', { class: 'desk-acts' }, ...acts), copied);
+  }
+
+  stateOf(note) {
+    const said = this.said.get(note.key) || '';
+    if (!note.closed) return said || 'It is not closed yet.';
+    const record = `Adjourned ${momentOf(note)}. Game ${note.game} stands in the record as a draw.`;
+    if (!note.later) return `${record} The game that goes on with it is the board’s.`;
+    return `${record} It goes on as game ${note.later}, which is the board’s: in a league’s round give --take BOARD=${note.later} to `
+      + 'chess-pairings start.';
+  }
+}
+
+/** What the form that pairs is filled with: one time for both sides, the greater of the two clocks in whole seconds; of a
+ * first period that goes on for either, as many moves as are left for who has made more. */
+export function timesToGoOn(note) {
+  const times = readTimes(note.times) || { initial: 0, increment: 0, moves: 0, second: 0 };
+  const initial = Math.min(DAY, Math.max(1, Math.ceil(Math.max(note.left.w, note.left.b) / 1000)));
+  const moves = Math.max(0, times.moves - Math.ceil(note.ply / 2));
+  return { initial, increment: times.increment, moves, second: moves ? times.second : 0 };
+}
+
+/** What is said of that at the form. */
+export function wordsToGoOn(note) {
+  const same = Math.ceil(note.left.w / 1000) === Math.ceil(note.left.b / 1000);
+  const clocks = SIDES.map((side) => `${colourWord(side)} had ${clockOf(note, side)}`).join(', ');
+  return `This goes on with game ${note.game}, which stands in the record as a draw; the game that is opened here is the board’s. `
+    + `The server has one time for both sides: ${same ? clocks : `${clocks}, so both get the greater of the two`}.`;
+}
+
+function readNote(key) {
+  try {
+    const note = JSON.parse(read(local, key) || 'null');
+    return note && note.white && note.black && note.fen && note.left ? { ...note, key } : null;
+  } catch (refused) {
+    return null;
+  }
+}
+
+/** Whether the browser keeps notes. */
+function keeps() {
+  const kept = write(local, `${PREFIX}try`, 'x');
+  write(local, `${PREFIX}try`, null);
+  return kept;
+}
+
+/** Why a game cannot be closed as a draw now, and what to do; empty where it can. */
+function whyNot({ ply, left, fen }) {
+  if (ply < AGREED) {
+    return 'A draw can be agreed on once both sides have made a move, so this game cannot be closed yet. Have both make their '
+      + 'first move; or enter a resignation, which ends it too, and pair the two anew.';
+  }
+  return left[sideOf(fen)] === 0 ? `${colourWord(sideOf(fen))}’s clock has run out: call the flag.` : '';
+}
+
+/** By the position's own number of the move. */
+function positionOf({ fen }) {
+  return `move ${fen.split(' ')[5]}, ${colourWord(sideOf(fen))} to move`;
+}
+
+function momentOf(note) {
+  return new Date(note.at).toLocaleString('en-GB', { dateStyle: 'long', timeStyle: 'short' });
+}
+
+/** A clock with its tenths, as it is written down. */
+function clockOf(note, side) {
+  const ms = note.left[side];
+  return ms < 10000 ? clockText(ms) : `${clockText(ms)}.${Math.floor(ms / 100) % 10}`;
+}

@@ -1,0 +1,120 @@
+// The players and their links: an arbiter makes a new one, which is shown once, or closes the one that a player has.
+
+import { readRefusal } from './lines.js';
+import { arrange, byId, copy, make, setText } from './make.js';
+import { refusalWords } from './words.js';
+
+const MOST_SHOWN = 40;
+
+export class Links {
+  /** desk: {app, question, isHere(name)}. */
+  constructor(desk) {
+    this.desk = desk;
+    this.app = desk.app;
+    this.items = new Map();
+    byId('links-find').addEventListener('input', () => this.render());
+    byId('link-copy').addEventListener('click', async () => {
+      const done = await copy(byId('link-made').value);
+      setText(byId('link-copied'), done ? 'The link is copied.' : 'It could not be copied. Mark it, and copy it by hand.');
+    });
+    byId('link-done').addEventListener('click', () => this.hide());
+  }
+
+  /** The link that was made is shown no more. */
+  hide() {
+    const had = byId('link-shown').contains(document.activeElement);
+    byId('link-made').value = '';
+    byId('link-shown').hidden = true;
+    if (had) byId('links-find').focus();
+  }
+
+  close() {
+    this.hide();
+    this.note('');
+  }
+
+  // ---- acting
+
+  askNew(name, full) {
+    const own = name === this.app.me();
+    this.desk.question.ask({ title: `Make a new link for ${full}?`, yes: 'Make it',
+      words: own ? 'That is your own. The link that you have holds no more; this page goes on with the new one.'
+        : `The link that ${full} has holds no more: a page that is open with it asks for the new one. Clocks run on.` },
+    () => this.makeNew(name, full));
+  }
+
+  async makeNew(name, full) {
+    this.hide();
+    this.note('');
+    const answer = await this.app.wire.say(`link ${name}`), found = /^ok link (\S+) (\S+)$/.exec(answer[0]);
+    if (!found) {
+      this.refused(answer[0], 'Make a link once more: it takes the place of one that was made.');
+      return;
+    }
+    if (name === this.app.me()) this.app.takeNewToken(found[2]);
+    setText(byId('link-words'), `The personal link of ${full}, shown this once. Who opens it plays as ${full}.`);
+    setText(byId('link-copied'), '');
+    byId('link-made').value = `${location.href.split('#')[0]}#${found[2]}`;
+    byId('link-shown').hidden = false;
+    byId('link-made').focus();
+    byId('link-made').select();
+  }
+
+  askClose(name, full) {
+    this.desk.question.ask({ title: `Close the link of ${full}?`, yes: 'Close it',
+      words: `${full} can do nothing here until a new link is made. Games go on, and clocks run on.` },
+    () => this.closeLink(name, full));
+  }
+
+  async closeLink(name, full) {
+    this.note('');
+    const answer = await this.app.wire.say(`close ${name}`);
+    if (answer[0].startsWith('ok close ')) this.note(`The link of ${full} is closed.`, 'news');
+    else this.refused(answer[0], 'Close it once more: that does no harm.');
+  }
+
+  refused(line, again) {
+    const refusal = readRefusal(line);
+    if (refusal) this.note(refusalWords(refusal), 'refused');
+    else if (line === 'unsent') this.note('There is no connection. Nothing was sent.', 'refused');
+    else this.note(`The connection broke before the answer came. ${again}`, 'refused');
+  }
+
+  note(text, kind = 'news') {
+    byId('links-note').className = text ? `note ${kind}` : 'note';
+    setText(byId('links-note'), text);
+  }
+
+  // ---- showing
+
+  render() {
+    if (!byId('players-and-links').open) return;
+    const text = byId('links-find').value.trim().toLowerCase();
+    const rows = [...this.app.players].map(([name, { role, full }]) => ({ name, role, full }))
+      .filter(({ name, full }) => `${name} ${full}`.toLowerCase().includes(text))
+      .sort((a, b) => a.full.localeCompare(b.full));
+    arrange(byId('links-list'), rows.slice(0, MOST_SHOWN).map((row) => this.itemOf(row)));
+    setText(byId('links-more'), rows.length > MOST_SHOWN ? `${MOST_SHOWN} of ${rows.length} are shown: find the others by name.`
+      : rows.length ? '' : 'No player has such a name.');
+  }
+
+  /** The element of a player, the same as long as the player is. */
+  itemOf({ name, role, full }) {
+    const key = `${name === this.app.me()} ${name} ${role} ${full}`;
+    if (!this.items.has(key)) this.items.set(key, this.item(name, role, full));
+    const item = this.items.get(key), may = this.app.wire.state.open;
+    item.querySelector('.away').hidden = this.desk.isHere(name);
+    for (const button of item.querySelectorAll('button')) button.disabled = !may;
+    return item;
+  }
+
+  item(name, role, full) {
+    const button = (kind, words, act) => make('button', { type: 'button', 'data-key': `${kind}-link-${name}`, onclick: act },
+      words, make('span', { class: 'unseen' }, ` for ${full}`));
+    return make('li', { class: 'link-row' }, make('span', { class: 'link-name' }, make('span', { class: 'name' }, full),
+      full !== name && make('span', { class: 'small' }, name), role === 'arbiter' && make('span', { class: 'small' }, 'arbiter'),
+      make('span', { class: 'away' }, 'not connected')),
+    button('new', 'New link', () => this.askNew(name, full)),
+    name !== this.app.me() && button('close', 'Close the link', () => this.askClose(name, full)));
+  }
+}

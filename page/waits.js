@@ -1,0 +1,124 @@
+// What waits for an arbiter, in any running game: an offer of a draw, and a clock that has run out without a word.
+
+import { readShow } from './lines.js';
+import { arrange, byId, make, say, setText } from './make.js';
+import { SIDES, colourWord } from './words.js';
+
+const STEP = 250;                    // a game is asked how it stands four times a second at most,
+const ANEW = 10000;                  // and the same game every ten seconds at most
+const MOST_SHOWN = 50;
+
+export class Waits {
+  /** desk: {app, root, running(), has(number), showGame(number)}; running() gives all rows of running games, has(number)
+   * whether the desk is told of a game. */
+  constructor(desk) {
+    this.desk = desk;
+    this.seen = new Map();             // number -> {standing, at, askedAt}
+    this.items = new Map();            // what is shown, by game and kind
+  }
+
+  open() {
+    clearInterval(this.timer);
+    this.timer = setInterval(() => this.step(), STEP);
+    this.render();
+  }
+
+  close() {
+    clearInterval(this.timer);
+    this.seen.clear();
+    this.items.clear();
+  }
+
+  /** How a running game stands was told at the moment `at`, or, by null, nothing of it. */
+  told(number, standing, at) {
+    this.seen.set(number, { standing, at, askedAt: at });
+    this.render();
+  }
+
+  forget(number) {
+    this.seen.delete(number);
+  }
+
+  // ---- asking
+
+  /** Asks the next game, unless an answer is still to come. */
+  async step() {
+    const app = this.desk.app;
+    if (this.busy || document.hidden || !app.isArbiter() || !app.reachable()) return;
+    const number = this.next();
+    if (number === undefined) return;
+    this.busy = true;
+    const answer = await app.wire.say(`show ${number}`, true), standing = readShow(answer[0]), at = performance.now();
+    this.busy = false;
+    this.told(number, standing && !standing.article ? standing : null, at);
+  }
+
+  /** Of all running games first one whose clock, as it was told last, has run out by now; then, of those that the desk
+   * is not told of, the one that was asked the longest ago. */
+  next() {
+    const now = performance.now(), numbers = this.desk.running().map((row) => row.number);
+    const hasRunOut = numbers.find((number) => this.isDue(this.seen.get(number), now));
+    if (hasRunOut !== undefined) return hasRunOut;
+    const askedAt = (number) => (this.seen.get(number) || { askedAt: -Infinity }).askedAt;
+    const others = numbers.filter((number) => !this.desk.has(number) && now - askedAt(number) >= ANEW);
+    return others.reduce((least, number) => (least === undefined || askedAt(number) < askedAt(least) ? number : least),
+      undefined);
+  }
+
+  isDue(seen, now) {
+    if (!seen || !seen.standing) return false;
+    const left = seen.standing.left[seen.standing.side];
+    return left > 0 && now - seen.at >= left;
+  }
+
+  // ---- showing
+
+  /** [{number, kind, words, row}]: a clock that the server tells as run out, and each offer. */
+  found() {
+    const found = [];
+    for (const row of this.desk.running()) {
+      const { standing } = this.seen.get(row.number) || {};
+      if (!standing) continue;
+      if (standing.left[standing.side] === 0) {
+        found.push({ row, kind: 'flag', words: `${colourWord(standing.side)}’s flag has fallen, and nobody has called it` });
+      }
+      const offers = SIDES.filter((side) => standing.offer.includes(side)).map(colourWord);
+      if (offers.length) {
+        const words = `${offers.join(' and ')} ${offers.length > 1 ? 'offer' : 'offers'} a draw`;
+        found.push({ row, kind: 'offer', words });
+      }
+    }
+    return found.sort((a, b) => (a.kind > b.kind) - (a.kind < b.kind) || a.row.number - b.row.number);
+  }
+
+  render() {
+    if (this.desk.root.hidden) return;
+    const found = this.found(), had = document.activeElement || document.body;
+    const keys = found.map(({ row, kind, words }) => `${row.number} ${kind} ${words}`);
+    this.tell(found.filter((one, place) => !this.items.has(keys[place])));
+    for (const key of this.items.keys()) {
+      if (!keys.includes(key)) this.items.delete(key);
+    }
+    found.forEach((one, place) => this.items.has(keys[place]) || this.items.set(keys[place], this.item(one)));
+    byId('arbiter-waits').hidden = found.length === 0;
+    arrange(byId('waits-list'), keys.slice(0, MOST_SHOWN).map((key) => this.items.get(key)));
+    setText(byId('waits-count'), found.length ? String(found.length) : '');
+    setText(byId('waits-more'), found.length > MOST_SHOWN ? `${MOST_SHOWN} of ${found.length} are shown.` : '');
+    if (!had.isConnected) (byId('waits-list').querySelector('button') || byId('arbiter-title')).focus();
+    this.desk.app.titled(found.length ? `Arbiter: ${found.length} ${found.length === 1 ? 'waits' : 'wait'}` : 'Arbiter');
+  }
+
+  /** What is new is said once. */
+  tell(found) {
+    if (found.length === 1) say(`Game ${found[0].row.number}: ${found[0].words}.`);
+    else if (found.length > 1) say(`${found.length} more things wait for an arbiter.`);
+  }
+
+  item({ row, kind, words }) {
+    const names = [row.white, row.black].map((name) => this.desk.app.nameWords(name)).join(' – ');
+    return make('li', { class: `wait ${kind}` }, make('span', { class: 'wait-words' }, words),
+      make('span', { class: 'wait-game' }, `Game ${row.number}: ${names}`),
+      make('button', { type: 'button', 'data-key': `show-${row.number}-${kind}`,
+        onclick: () => this.desk.showGame(row.number) }, 'Show it', make('span', { class: 'unseen' }, `, game ${row.number}`)));
+  }
+}
