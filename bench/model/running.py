@@ -9,20 +9,6 @@ SERVER = os.environ.get('CHESS_SERVER', os.path.join(TOP, 'chess-server'))
 PATIENCE = 300
 
 
-class Checks:
-    """How many comparisons came out as wanted, and how many not."""
-
-    def __init__(self):
-        self.good = self.bad = 0
-
-    def expect(self, what, found, wanted):
-        if found == wanted:
-            self.good += 1
-        else:
-            self.bad += 1
-            print(f'differs: {what}: {found!r} for {wanted!r}')
-
-
 def fault_of(error):
     """The fault that standard error tells of, if any."""
     faults = [line for line in error.splitlines() if line.startswith('fault ')]

@@ -1,11 +1,12 @@
-"""What benches say to a lobby over HTTP and its WebSocket: by blocking calls (Line), in an asyncio program (Browser), one
-request (fetch), and the figures of /health."""
+"""What benches say to a lobby over HTTP and its WebSocket: by blocking calls (Line), as a player who comes back (Seat), in an
+asyncio program (Browser), one request (fetch), and the figures of /health."""
 
 import asyncio
 import base64
 import os
 import re
 import socket
+import time
 
 TEXT, CLOSE, PING, PONG = 1, 8, 9, 10
 
@@ -80,6 +81,59 @@ class Line:
 
     def send(self, line):
         self.socket.sendall(frame(TEXT, line.encode()))
+
+
+class Seat:
+    """A player's connection to a lobby, by blocking calls, who comes back where it is gone. With a name it has the token
+    `token-of-NAME`. `port_of` answers the lobby's port."""
+
+    patience, timeout = 60, 5       # seconds: for coming back, and for one message
+    stays = False                   # whether it waits for its answer also where the lobby loses the server
+
+    def __init__(self, port_of, name=None):
+        self.port_of, self.name, self.line, self.has_server = port_of, name, None, False
+
+    def connect(self):
+        """Comes back, as often as that takes, until the lobby has its server."""
+        until = time.monotonic() + self.patience
+        while time.monotonic() < until:
+            try:
+                self.shake_hands()
+                self.wait_for_the_server()
+                if not self.name or self.say('login token-of-' + self.name).startswith('ok login '):
+                    return
+            except (OSError, Gone):
+                pass
+            time.sleep(0.05)
+        raise SystemExit('the lobby does not come back')
+
+    def shake_hands(self):
+        if self.line:
+            self.line.close()
+        self.has_server = False
+        self.line = Line(self.port_of(), self.timeout)
+
+    def wait_for_the_server(self):
+        while not self.has_server:
+            self.hear()
+
+    def hear(self):
+        """The next message of text."""
+        text = self.line.hear()
+        if text in ('server here\n', 'server gone\n'):
+            self.has_server = text == 'server here\n'
+        return text
+
+    def say(self, line):
+        """The answer to a line; it stays below the lobby's limit of messages."""
+        time.sleep(0.05)
+        self.line.send(line)
+        while True:
+            text = self.hear()
+            if text == 'server gone\n' and not self.stays:
+                raise Gone
+            if not text.startswith(('told ', 'server ')):
+                return text
 
 
 class Browser(asyncio.Protocol):
