@@ -4,7 +4,7 @@ use crate::command_line::Keeping;
 use crate::compared::has_game;
 use crate::figures::watched_games;
 use crate::log_reader::LogReader;
-use crate::rows::{first_of, rows_of};
+use crate::rows::rows_of;
 use crate::telling::Telling;
 use anyhow::{Context, Result, anyhow};
 use archive_file::{Archive, Step};
@@ -187,7 +187,7 @@ where
     fn read_log(&mut self, archive: &Archive<NamedFile>, rows: &[Row<'_>]) -> Result<()> {
         let is_asked = rows.iter().any(|row| row.is_over && !archive.has(row.game));
         if is_asked {
-            self.log.read_on(self.rt, first_of(rows))?;
+            self.log.read_on(self.rt, rows)?;
         }
         Ok(())
     }

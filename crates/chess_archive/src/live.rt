@@ -2,7 +2,7 @@
 use crate::asking::{Knowledge, pgn_of};
 use crate::command_line::Living;
 use crate::log_reader::LogReader;
-use crate::rows::{first_of, rows_of};
+use crate::rows::rows_of;
 use crate::telling::Telling;
 use anyhow::{Context, Result};
 use archive_file::{game_of, pgn_of as pgn_in};
@@ -97,7 +97,7 @@ where
         };
         let list = link.list()?;
         let rows = rows_of(alloc, list.as_str())?;
-        self.log.read_on(self.rt, first_of(rows.as_slice()))?;
+        self.log.read_on(self.rt, rows.as_slice())?;
         let known = Knowledge {
             players: self.players.as_slice(),
             heading: self.living.heading,

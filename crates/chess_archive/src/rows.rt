@@ -4,6 +4,9 @@ use server_link::{Row, row_of};
 use std::alloc::Global;
 use text_parts::parts;
 
+// Over several servers the numbers of server S are those from S times this on (`docs/SERVERS.md`); one server's own are below it.
+const GAMES_OF_A_SERVER: u32 = 10_000_000;
+
 /// The games of the server's list.
 pub fn rows_of(alloc: Global, list: &str) -> Result<Vec<Row<'_>>> {
     let mut rows = Vec::new(alloc);
@@ -16,7 +19,12 @@ pub fn rows_of(alloc: Global, list: &str) -> Result<Vec<Row<'_>>> {
     Ok(rows)
 }
 
-/// The least number of a game on the table: later games have greater ones.
-pub fn first_of(rows: &[Row<'_>]) -> Option<u32> {
-    rows.iter().map(|row| row.game).min()
+/// The least number on the table of a game's server: later games of that server have greater ones. `None` where the table has no game
+/// of that server.
+pub fn first_beside(rows: &[Row<'_>], game: u32) -> Option<u32> {
+    let server = game / GAMES_OF_A_SERVER;
+    rows.iter()
+        .map(|row| row.game)
+        .filter(|other| *other / GAMES_OF_A_SERVER == server)
+        .min()
 }

@@ -1,5 +1,5 @@
 -- The answers that come from the server.
-use Rattle.std.specs.Prelude.{ℕ, ◌≡◌, ◌-◌, ◌⊎◌, ◌==◌, ◌||◌, Bool, true, false, not, List, [], ◌∷◌, ◌++◌, codes, Option, Some, None, if◌then◌else◌}
+use Rattle.std.specs.Prelude.{ℕ, ◌≡◌, ◌-◌, ◌⊎◌, ◌==◌, ◌&&◌, ◌||◌, Bool, true, false, not, List, [], ◌∷◌, ◌++◌, codes, Option, Some, None, if◌then◌else◌}
 use Rattle.std.specs.List.{starts_with, ends_with, before_first}
 use Rattle.std.specs.Str.{bytes_eq}
 use Rattle.std.specs.String.{string_bytes}
@@ -77,9 +77,16 @@ game_in line =
 abbrev pub act_game : List ℕ → Option ℕ
 act_game answer = game_in (first_line answer)
 
--- whether a game is over, as the answer to `show` says: its last field is the article, and `-` while the game goes on
+-- whether a game goes on no more, as the answer to `show` says: it is shown, and its last field is the article by which it ended, which
+-- is `-` while it goes on; or there is no such game (any more). Any other refusal says nothing of it.
+abbrev pub is_ended : List ℕ → Bool
+is_ended shown = is_accepted shown && not (ends_with (λ a b. a == b) shown (codes " -\n"))
+
+abbrev pub is_no_game : List ℕ → Bool
+is_no_game shown = starts_with (λ a b. a == b) shown (codes "no 3 ")
+
 abbrev pub is_over : List ℕ → Bool
-is_over shown = not (ends_with (λ a b. a == b) shown (codes " -\n"))
+is_over shown = is_ended shown || is_no_game shown
 
 -- whether those who are told of the table are told of an act whatever comes of it
 abbrev pub is_table_act : List ℕ → Bool

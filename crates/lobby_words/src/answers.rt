@@ -2,7 +2,7 @@
 ghost use Rattle.std.specs.Prelude.{codes, ◌≡◌, ◌==◌, IfSome, IfNone};
 ghost use Rattle.std.specs.List.{ends_with};
 ghost use Rattle.rec_codec.specs.Name.{IsName};
-ghost use Rattle.lobby_words.specs.Answers.{IsSeated, IsFirstSeated, IsSeatless, first_line, act_game, is_table_act, is_accepted, is_over};
+ghost use Rattle.lobby_words.specs.Answers.{IsSeated, IsFirstSeated, IsSeatless, first_line, act_game, is_table_act, is_accepted, is_ended, is_no_game, is_over};
 
 use crate::words::{cut, number_named};
 use rec_codec::Name;
@@ -51,12 +51,30 @@ fn goes_on(shown: &str) -> bool
     shown.ends_with(" -\n")
 }
 
-/// Whether a game is over, as the answer to `show` says.
+// Whether a game is shown, with an article.
+fn is_ended(shown: &str) -> bool
+    ensures { result ≡ is_ended shown.now }
+{
+    let is_shown = is_accepted(shown);
+    let goes_on = goes_on(shown);
+    is_shown & !goes_on
+}
+
+// Whether there is no such game.
+fn is_no_game(shown: &str) -> bool
+    ensures { result ≡ is_no_game shown.now }
+{
+    shown.starts_with("no 3 ")
+}
+
+/// Whether a game goes on no more, as the answer to `show` says: it has ended, or there is no such game. Another refusal says nothing
+/// of it.
 pub fn is_over(shown: &str) -> bool
     ensures { result ≡ is_over shown.now }
 {
-    let goes_on = goes_on(shown);
-    !goes_on
+    let is_ended = is_ended(shown);
+    let is_gone = is_no_game(shown);
+    is_ended | is_gone
 }
 
 /// Whether the server does what it was asked.
