@@ -8,8 +8,6 @@ mod clerk;
 #[cfg(test)]
 mod moves;
 #[cfg(test)]
-mod parts;
-#[cfg(test)]
 mod players;
 #[cfg(test)]
 mod positions;

@@ -20,15 +20,6 @@ fn tells_a_check_and_the_moves_out_of_it(rt: HostRuntime) {
 }
 
 #[test]
-fn tells_each_promotion(rt: HostRuntime) {
-    let line = line_of(&rt, rt.alloc(), "8/P7/8/8/8/k1K5/8/8 w - - 0 1");
-    for text in [" a7a8q", " a7a8r", " a7a8b", " a7a8n"] {
-        assert!(rt; line.as_str().contains(text));
-    }
-    assert!(rt; line.as_str().starts_with("moves - "));
-}
-
-#[test]
 fn tells_of_mate_and_of_no_position(rt: HostRuntime) {
     let mate = "rnb1kbnr/pppp1ppp/8/4p3/6Pq/5P2/PPPPP2P/RNBQKBNR w KQkq - 1 3";
     let line = line_of(&rt, rt.alloc(), mate);

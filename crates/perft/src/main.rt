@@ -3,8 +3,6 @@
 
 mod answers;
 mod lines;
-#[cfg(test)]
-mod tests;
 
 use answers::{answer, name};
 use std::io;

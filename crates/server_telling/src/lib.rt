@@ -4,8 +4,6 @@
 mod device;
 mod streams;
 mod telling;
-#[cfg(test)]
-mod tests;
 
 pub use device::TellingDevice;
 pub use streams::{INPUT, OUTPUT, TellingReader, TellingWriter};

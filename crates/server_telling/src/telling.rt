@@ -1,6 +1,6 @@
 //! What an operator is told on standard error, a line for each: as the system's journal and a human read it, and without
 //! a time, which the journal puts before it.
-ghost use Rattle.std.specs.Prelude.{ℕ, ◌≡◌, ◌<◌, ◌+◌, ◌-◌, None, Some, IsSome, IfSome, IfNone};
+ghost use Rattle.std.specs.Prelude.{ℕ, ◌≡◌, ◌<◌, ◌≤◌, ◌+◌, ◌-◌, None, Some, IsSome, IfSome, IfNone};
 
 use std::io;
 use std::io::ErrorKind;
@@ -47,6 +47,7 @@ impl TurnedAway {
         ensures none { IfNone result (self.new ≡ self.old) }
         ensures rare { (last : ℕ) → self.old.at ≡ Some last → at < last + 60_000 → result ≡ None }
         ensures first { self.old.at ≡ None → self.old.told < count → IsSome result }
+        ensures due { (last : ℕ) → self.old.at ≡ Some last → last + 60_000 ≤ at → self.old.told < count → IsSome result }
     {
         let is_early = match self.at {
             Some(last) => at.saturating_sub(last) < MINUTE,

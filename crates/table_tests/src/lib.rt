@@ -6,8 +6,6 @@ mod answer;
 #[cfg(test)]
 mod game;
 #[cfg(test)]
-mod hub;
-#[cfg(test)]
 mod line;
 #[cfg(test)]
 mod snapshots;

@@ -1,2 +1,0 @@
-mod causes;
-mod ends;
