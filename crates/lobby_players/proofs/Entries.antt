@@ -1,17 +1,15 @@
 -- Lines, one after another.
-use Rattle.std.proofs.Common.{ℕ, suc, zero, ◌≡◌, ◌≢◌, ◌<◌, ◌+◌, Bool, true, false, not, cond, ◌||◌, List, [], ◌∷◌, ◌++◌, length, get_or, map, take, drop, refl, sym, ap, ◌∙◌, arith, Option, Some, None, inl, inr, ◌⊎◌, subst, append-nil}
+use Rattle.std.proofs.Common.{ℕ, suc, ◌≡◌, ◌<◌, ◌+◌, Bool, true, false, not, cond, ◌||◌, List, [], ◌∷◌, ◌++◌, length, get_or, map, take, drop, refl, sym, ap, ◌∙◌, arith, None, inl, inr, subst, append-nil}
 use Rattle.std.specs.Borrow.{Bor}
-use Rattle.std.specs.Str.{bytes_eq}
-use Rattle.std.specs.List.{All, AllZip, AllPairs, list_any, filter}
-use Rattle.std.proofs.lemmas.List.{map-append, take_more, drop_more, take-append-drop, get_or-map, length-map}
-use Rattle.std.proofs.lemmas.List.Elements.{All-nil, All-cons, All-from_get_or, All-push, filter-append}
+use Rattle.std.specs.List.{All, AllZip, AllPairs, list_any}
+use Rattle.std.proofs.lemmas.List.{take_more, drop_more, take-append-drop, get_or-map, length-map}
+use Rattle.std.proofs.lemmas.List.Elements.{All-from_get_or, All-push, filter-append}
 use Rattle.std.proofs.lemmas.List.Kept.{AllPairs-cons}
 use Rattle.std.proofs.lemmas.Slice.Eq.{bytes_eq-Decides}
 use Rattle.std.proofs.lemmas.Bool.{false≢true}
 use Rattle.lobby_desk.specs.declared.players.Player.{Player}
-use Rattle.lobby_players.specs.declared.faults.LineFault.{LineFault}
 use Rattle.lobby_players.specs.File.{Entry, IsLineOf, AreTwo, AreLinesOf, spoken, is_silent, has_name, has_sum, entry_of, entries_of}
-use Rattle.lobby_players.specs.Faults.{TakesLine, PutsPlayer}
+use Rattle.lobby_players.specs.Faults.{TakesLine}
 
 pub any_mapped : {A B : Type 0} (f : A → B) (p : B → Bool) (xs : List A) → list_any (λ x. p (f x)) xs ≡ list_any p (map f xs)
 any_mapped f p [] = refl

@@ -1,5 +1,5 @@
 -- A file that is written.
-use Rattle.std.proofs.Common.{ℕ, suc, ◌≡◌, ◌≢◌, ◌<◌, ◌+◌, Bool, true, false, not, cond, ◌&&◌, ◌||◌, List, [], ◌∷◌, ◌++◌, length, map, take, drop, refl, sym, ap, ◌∙◌, arith, subst, codes, Ok, append_assoc, append-nil}
+use Rattle.std.proofs.Common.{ℕ, suc, ◌≡◌, ◌≢◌, ◌+◌, Bool, true, false, not, cond, ◌&&◌, ◌||◌, List, [], ◌∷◌, ◌++◌, length, take, refl, sym, ap, ◌∙◌, arith, subst, Ok, append_assoc}
 use Rattle.std.specs.Prelude.{◌==◌, ◌-◌, nat_le, slice_index}
 use Rattle.std.specs.Str.{bytes_eq}
 use Rattle.std.specs.List.{All, AllZip, AllPairs, list_any, list_all, filter, onto_first, position_or_len}
@@ -18,7 +18,7 @@ use Rattle.lobby_words.specs.Words.{word_of}
 use Rattle.lobby_desk.specs.Lines.{ended, bytes_of}
 use Rattle.lobby_desk.specs.declared.players.Player.{Player}
 use Rattle.lobby_players.specs.File.{Entry, IsWord, IsLineOf, AreTwo, AreLinesOf, IsFileOf, lines_of, spoken, is_silent, is_full_name, is_shown_byte, role_text, has_name, has_sum, entry_of, entries_of}
-use Rattle.lobby_players.specs.Adding.{IsAdded, IsTaken, added_text, added_entries, in_place, is_of, is_other, line_of}
+use Rattle.lobby_players.specs.Adding.{IsAdded, added_text, added_entries, in_place, is_of, is_other, line_of}
 use Rattle.lobby_players.proofs.Told.{name_word}
 use Rattle.lobby_players.proofs.Words.{head_of}
 use Rattle.lobby_players.proofs.Entries.{any_mapped, or_first, or_second, pairs_head, pairs_tail, two_if}
@@ -193,7 +193,7 @@ place_end line e speaks told = rw speaks (told, tt)
 place_step : (line old : List ℕ) (e : Entry) (lines : List (List ℕ)) (es : List Entry) (is : Bool) → is_silent line ≡ false → IsLineOf line e →
     is_silent old ≡ is →
     ((rest : List Entry) → AllZip IsLineOf (spoken lines) rest →
-        AllZip IsLineOf (spoken (in_place (is_of e.name) line lines)) (in_place (has_name e.name) e rest)) →
+    AllZip IsLineOf (spoken (in_place (is_of e.name) line lines)) (in_place (has_name e.name) e rest)) →
     AllZip IsLineOf (cond (not is) (old ∷ spoken lines) (spoken lines)) es →
     AllZip IsLineOf (spoken (in_place (is_of e.name) line (old ∷ lines))) (in_place (has_name e.name) e es)
 place_step line old e lines es true speaks told silent rest zip =

@@ -1,9 +1,8 @@
-use Rattle.std.proofs.Common.{ℕ, true, false, List, ◌++◌, ◌∷◌, [], sym, ap, ◌∙◌, subst}
-use Rattle.std.specs.List.{filter}
+use Rattle.std.proofs.Common.{ℕ, true, false, List, ◌++◌, sym, ap, ◌∙◌, subst}
 use Rattle.sha2.specs.Sha256.{sha256}
 use Rattle.hex.specs.Hex.{decode_sized, encode_lower}
 use Rattle.std.proofs.Common.{◌≡◌, Ok}
-use Rattle.lobby_desk.specs.Lines.{ended, bytes_of}
+use Rattle.lobby_desk.specs.Lines.{bytes_of}
 use Rattle.rec_codec.specs.Name.{IsName}
 use Rattle.lobby_players.specs.File.{IsFileOf, lines_of, entries_of}
 use Rattle.lobby_players.specs.Adding.{entry_added, entry_with, in_place, is_of, line_of}
