@@ -1,17 +1,15 @@
 -- Lines, one after another.
-use Rattle.std.proofs.Common.{ℕ, suc, zero, ◌≡◌, ◌≢◌, ◌<◌, ◌+◌, Bool, true, false, not, cond, ◌||◌, List, [], ◌∷◌, ◌++◌, length, get_or, map, take, drop, refl, sym, ap, ◌∙◌, arith, Option, Some, None, inl, inr, ◌⊎◌, subst, append-nil}
+use Rattle.std.proofs.Common.{ℕ, suc, ◌≡◌, ◌<◌, ◌+◌, Bool, true, false, not, cond, ◌||◌, List, [], ◌∷◌, ◌++◌, length, get_or, map, take, drop, refl, sym, ap, ◌∙◌, arith, None, inl, inr, subst, append-nil}
 use Rattle.std.specs.Borrow.{Bor}
-use Rattle.std.specs.Str.{bytes_eq}
-use Rattle.std.specs.List.{All, AllZip, AllPairs, list_any, filter}
-use Rattle.std.proofs.lemmas.List.{map-append, take_more, drop_more, take-append-drop, get_or-map, length-map}
-use Rattle.std.proofs.lemmas.List.Elements.{All-nil, All-cons, All-from_get_or, All-push, filter-append}
+use Rattle.std.specs.List.{All, AllZip, AllPairs, list_any}
+use Rattle.std.proofs.lemmas.List.{take_more, drop_more, take-append-drop, get_or-map, length-map}
+use Rattle.std.proofs.lemmas.List.Elements.{All-from_get_or, All-push, filter-append}
 use Rattle.std.proofs.lemmas.List.Kept.{AllPairs-cons}
 use Rattle.std.proofs.lemmas.Slice.Eq.{bytes_eq-Decides}
 use Rattle.std.proofs.lemmas.Bool.{false≢true}
 use Rattle.lobby_desk.specs.declared.players.Player.{Player}
-use Rattle.lobby_players.specs.declared.faults.LineFault.{LineFault}
 use Rattle.lobby_players.specs.File.{Entry, IsLineOf, AreTwo, AreLinesOf, spoken, is_silent, has_name, has_sum, entry_of, entries_of}
-use Rattle.lobby_players.specs.Faults.{TakesLine, PutsPlayer}
+use Rattle.lobby_players.specs.Faults.{TakesLine}
 
 pub any_mapped : {A B : Type 0} (f : A → B) (p : B → Bool) (xs : List A) → list_any (λ x. p (f x)) xs ≡ list_any p (map f xs)
 any_mapped f p [] = refl
@@ -24,11 +22,11 @@ any_of p b is slice items told same answer =
     sym (any_mapped entry_of p items)
     ∙ (ap (λ (ps : List Player). list_any (λ x. p (entry_of x)) ps) (sym same) ∙ (sym told ∙ answer))
 
-or_first : (a b : Bool) → (a || b) ≡ false → a ≡ false
+pub or_first : (a b : Bool) → (a || b) ≡ false → a ≡ false
 or_first true b e = e
 or_first false b e = refl
 
-or_second : (a b : Bool) → (a || b) ≡ false → b ≡ false
+pub or_second : (a b : Bool) → (a || b) ≡ false → b ≡ false
 or_second true b e = absurd (false≢true (sym e))
 or_second false b e = e
 
@@ -39,10 +37,10 @@ zip_push R [] (b ∷ bs) x y h r = absurd h
 zip_push R (a ∷ as') [] x y h r = absurd h
 zip_push R (a ∷ as') (b ∷ bs) x y h r = (h.0, zip_push R as' bs x y h.1 r)
 
-pairs_head : {A : Type 0} (R : A → A → Type 0) (x : A) (xs : List A) → AllPairs R (x ∷ xs) → All (R x) xs
+pub pairs_head : {A : Type 0} (R : A → A → Type 0) (x : A) (xs : List A) → AllPairs R (x ∷ xs) → All (R x) xs
 pairs_head R x xs pairs = All-from_get_or (R x) xs x (λ i below. pairs 0 (suc i) x (omega arith) (omega arith))
 
-pairs_tail : {A : Type 0} (R : A → A → Type 0) (x : A) (xs : List A) → AllPairs R (x ∷ xs) → AllPairs R xs
+pub pairs_tail : {A : Type 0} (R : A → A → Type 0) (x : A) (xs : List A) → AllPairs R (x ∷ xs) → AllPairs R xs
 pairs_tail R x xs pairs = λ i j d less below. pairs (suc i) (suc j) d (omega arith) (omega arith)
 
 -- each before stands so to this one
@@ -55,7 +53,7 @@ pairs_push R [] y pairs all = λ i j d less below. absurd (omega arith)
 pairs_push R (x ∷ xs) y pairs all =
     AllPairs-cons R x (xs ++ y ∷ []) (All-push (R x) xs y (pairs_head R x xs pairs) all.0) (pairs_push R xs y (pairs_tail R x xs pairs) all.1)
 
-two_if : (one e : Entry) → has_name e.name one ≡ false → has_sum e.sum one ≡ false → AreTwo one e
+pub two_if : (one e : Entry) → has_name e.name one ≡ false → has_sum e.sum one ≡ false → AreTwo one e
 two_if one e named shown = record {
   names = λ same. false≢true (sym named ∙ (bytes_eq-Decides one.name e.name).1 same);
   sums = λ same. false≢true (sym shown ∙ (bytes_eq-Decides one.sum e.sum).1 same);
@@ -123,3 +121,13 @@ lines_around items i d below =
     sym (take-append-drop i lines)
     ∙ (ap (λ (ls : List (List ℕ)). take i lines ++ ls) (drop_more lines i d.now inside)
     ∙ ap (λ (line : List ℕ). take i lines ++ (line ∷ drop (i + 1) lines)) (get_or-map now items i d d.now below))
+
+-- the lines from one on
+pub lines_from : (items : List (Bor (List ℕ))) (i : ℕ) (d : Bor (List ℕ)) → i < length items →
+    drop i (map (λ (line : Bor (List ℕ)). line.now) items)
+    ≡ (get_or items i d).now ∷ drop (i + 1) (map (λ (line : Bor (List ℕ)). line.now) items)
+lines_from items i d below =
+    let now = λ (line : Bor (List ℕ)). line.now in
+    let lines = map now items in
+    let inside : i < length (map (λ (line : Bor (List ℕ)). line.now) items) = rw (length-map items now) below in
+    drop_more lines i d.now inside ∙ ap (λ (line : List ℕ). line ∷ drop (i + 1) lines) (get_or-map now items i d d.now below)

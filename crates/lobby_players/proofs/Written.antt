@@ -1,14 +1,15 @@
 -- A file that is written.
-use Rattle.std.proofs.Common.{ℕ, suc, ◌≡◌, ◌≢◌, ◌<◌, ◌+◌, Bool, true, false, not, cond, ◌&&◌, ◌||◌, List, [], ◌∷◌, ◌++◌, length, map, take, drop, refl, sym, ap, ◌∙◌, arith, subst, codes, Ok, append_assoc, append-nil}
+use Rattle.std.proofs.Common.{ℕ, suc, ◌≡◌, ◌≢◌, ◌+◌, Bool, true, false, not, cond, ◌&&◌, ◌||◌, List, [], ◌∷◌, ◌++◌, length, take, refl, sym, ap, ◌∙◌, arith, subst, Ok, append_assoc}
 use Rattle.std.specs.Prelude.{◌==◌, ◌-◌, nat_le, slice_index}
 use Rattle.std.specs.Str.{bytes_eq}
 use Rattle.std.specs.List.{All, AllZip, AllPairs, list_any, list_all, filter, onto_first, position_or_len}
 use Rattle.std.proofs.lemmas.Bool.{false≢true}
 use Rattle.std.proofs.lemmas.Bool.Decides.{Decides-eqb}
-use Rattle.std.proofs.lemmas.List.Elements.{All-weaker, filter-append, filter_passes}
-use Rattle.std.proofs.lemmas.List.Folds.{list_all-append, list_any_none}
+use Rattle.std.proofs.lemmas.List.Elements.{All-nil, All-cons, All-head, All-tail}
+use Rattle.std.proofs.lemmas.List.Folds.{list_all-append}
 use Rattle.std.proofs.lemmas.List.Sums.{list_all-from_AllPass}
-use Rattle.std.proofs.lemmas.List.Kept.{AllPairs-filter}
+use Rattle.std.proofs.lemmas.List.Kept.{AllPairs-cons}
+use Rattle.std.proofs.lemmas.Slice.Eq.{bytes_eq-Decides}
 use Rattle.text_parts.specs.Parts.{parts_of}
 use Rattle.hex.specs.Hex.{decode_sized, encode_lower, is_hex_digit}
 use Rattle.hex.proofs.HexLemmas.{IsOk-decode_sized}
@@ -17,9 +18,10 @@ use Rattle.lobby_words.specs.Words.{word_of}
 use Rattle.lobby_desk.specs.Lines.{ended, bytes_of}
 use Rattle.lobby_desk.specs.declared.players.Player.{Player}
 use Rattle.lobby_players.specs.File.{Entry, IsWord, IsLineOf, AreTwo, AreLinesOf, IsFileOf, lines_of, spoken, is_silent, is_full_name, is_shown_byte, role_text, has_name, has_sum, entry_of, entries_of}
-use Rattle.lobby_players.specs.Adding.{IsAdded, IsTaken, added_text, added_entries, is_other, is_others, line_of}
+use Rattle.lobby_players.specs.Adding.{IsAdded, added_text, added_entries, in_place, is_of, is_other, line_of}
 use Rattle.lobby_players.proofs.Told.{name_word}
-use Rattle.lobby_players.proofs.Entries.{any_mapped, one_more, two_each}
+use Rattle.lobby_players.proofs.Words.{head_of}
+use Rattle.lobby_players.proofs.Entries.{any_mapped, or_first, or_second, pairs_head, pairs_tail, two_if}
 
 -- no line feed stands in a text
 abbrev not_feed : ℕ → Bool
@@ -76,18 +78,14 @@ pub lines_free : (text : List ℕ) → HaveNoFeed (lines_of text)
 lines_free [] = tt
 lines_free (b ∷ bs) = free_by b bs (b == 10) refl (lines_free bs)
 
-filter_by : (p : List ℕ → Bool) (line : List ℕ) (kept : List (List ℕ)) (b : Bool) → HasNoFeed line → HaveNoFeed kept →
-    HaveNoFeed (cond b (line ∷ kept) kept)
-filter_by p line kept true free all = (free, all)
-filter_by p line kept false free all = all
+place_by : (p : List ℕ → Bool) (line old : List ℕ) (lines : List (List ℕ)) (b : Bool) → HasNoFeed line → HasNoFeed old → HaveNoFeed lines →
+    HaveNoFeed (in_place p line lines) → HaveNoFeed (cond b (line ∷ lines) (old ∷ in_place p line lines))
+place_by p line old lines true free here all more = (free, all)
+place_by p line old lines false free here all more = (here, more)
 
-filter_free : (p : List ℕ → Bool) (lines : List (List ℕ)) → HaveNoFeed lines → HaveNoFeed (filter p lines)
-filter_free p [] all = tt
-filter_free p (line ∷ lines) all = filter_by p line (filter p lines) (p line) all.0 (filter_free p lines all.1)
-
-push_free : (lines : List (List ℕ)) (line : List ℕ) → HaveNoFeed lines → HasNoFeed line → HaveNoFeed (lines ++ line ∷ [])
-push_free [] line all free = (free, tt)
-push_free (l ∷ ls) line all free = (all.0, push_free ls line all.1 free)
+place_free : (p : List ℕ → Bool) (line : List ℕ) (lines : List (List ℕ)) → HasNoFeed line → HaveNoFeed lines → HaveNoFeed (in_place p line lines)
+place_free p line [] free all = (free, tt)
+place_free p line (old ∷ lines) free all = place_by p line old lines (p old) free all.0 all.1 (place_free p line lines free all.1)
 
 -- a text of which a test that no line feed passes says yes
 feed_by : (p : ℕ → Bool) (b : ℕ) (is : Bool) → (b == 10) ≡ is → p 10 ≡ false → p b ≡ true → not_feed b ≡ true
@@ -150,45 +148,134 @@ line_word : (line : List ℕ) (e : Entry) → IsLineOf line e → word_of line �
 line_word line e is =
     ap word_of is.spelled ∙ word_first e.name (role_text e.is_arbiter ++ (32 ∷ (is.digits ++ (32 ∷ e.full_name)))) (name_word e.name is.name)
 
-same_test : (name line : List ℕ) (e : Entry) → IsLineOf line e → is_others name line ≡ is_other name e
-same_test name line e is = ap (λ (w : List ℕ). not (bytes_eq w name)) (line_word line e is)
+same_test : (name line : List ℕ) (e : Entry) → IsLineOf line e → is_of name line ≡ has_name name e
+same_test name line e is = ap (λ (w : List ℕ). bytes_eq w name) (line_word line e is)
 
-kept_silent : (line : List ℕ) (kept : List (List ℕ)) (b : Bool) → is_silent line ≡ true → spoken (cond b (line ∷ kept) kept) ≡ spoken kept
-kept_silent line kept true silent = rw silent refl
-kept_silent line kept false silent = refl
+-- a silent line is of no name
+word_head : (b : ℕ) (bs : List ℕ) → (b == 32) ≡ false → word_of (b ∷ bs) ≡ b ∷ word_of bs
+word_head b bs other =
+    let n = position_or_len (λ (c : ℕ). c == 32) bs in
+    rw other (ap (λ (k : ℕ). take k (b ∷ bs)) (one_more_than n))
 
-kept_spoken : (line : List ℕ) (kept : List (List ℕ)) (e : Entry) (es : List Entry) (b : Bool) → is_silent line ≡ false → IsLineOf line e →
-    AllZip IsLineOf (spoken kept) es → AllZip IsLineOf (spoken (cond b (line ∷ kept) kept)) (cond b (e ∷ es) es)
-kept_spoken line kept e es true speaks told zip = rw speaks (told, zip)
-kept_spoken line kept e es false speaks told zip = zip
+head_named : (name : List ℕ) → IsName name → is_name_byte (head_of name) ≡ true
+head_named [] name = absurd (omega (arith, name.some))
+head_named (b ∷ bs) name = and_first (is_name_byte b) (list_all is_name_byte bs) name.bytes
 
-others_by : (name line : List ℕ) (lines : List (List ℕ)) (es : List Entry) (is : Bool) → is_silent line ≡ is →
-    ((rest : List Entry) → AllZip IsLineOf (spoken lines) rest → AllZip IsLineOf (spoken (filter (is_others name) lines)) (filter (is_other name) rest)) →
-    AllZip IsLineOf (cond (not is) (line ∷ spoken lines) (spoken lines)) es →
-    AllZip IsLineOf (spoken (filter (is_others name) (line ∷ lines))) (filter (is_other name) es)
-others_by name line lines es true silent rest zip =
-    subst (λ (ls : List (List ℕ)). AllZip IsLineOf ls (filter (is_other name) es))
-    (sym (kept_silent line (filter (is_others name) lines) (is_others name line) silent)) (rest es zip)
-others_by name line lines [] false speaks rest zip = absurd zip
-others_by name line lines (e ∷ es) false speaks rest zip =
-    let kept = filter (is_others name) lines in
-    let more = filter (is_other name) es in
-    subst (λ (b : Bool). AllZip IsLineOf (spoken (cond (is_others name line) (line ∷ kept) kept)) (cond b (e ∷ more) more))
-    (same_test name line e zip.0)
-    (kept_spoken line kept e more (is_others name line) speaks zip.0 (rest es zip.1))
+silent_unnamed : (name line : List ℕ) → IsName name → is_silent line ≡ true → word_of line ≢ name
+silent_unnamed name [] is silent e = false≢true (ap is_name_byte (ap head_of e) ∙ head_named name is)
+silent_unnamed name (b ∷ bs) is silent e =
+    let same : b ≡ 35 = (Decides-eqb b 35).0 silent in
+    false≢true (ap is_name_byte (sym (ap head_of (word_head 35 bs refl)))
+    ∙ (ap (λ (c : ℕ). is_name_byte (head_of (word_of (c ∷ bs)))) (sym same) ∙ (ap is_name_byte (ap head_of e) ∙ head_named name is)))
 
-others_zip : (name : List ℕ) (lines : List (List ℕ)) (es : List Entry) → AllZip IsLineOf (spoken lines) es →
-    AllZip IsLineOf (spoken (filter (is_others name) lines)) (filter (is_other name) es)
-others_zip name [] [] zip = tt
-others_zip name [] (e ∷ es) zip = absurd zip
-others_zip name (line ∷ lines) es zip = others_by name line lines es (is_silent line) refl (others_zip name lines) zip
+not_of : (name line : List ℕ) (is : Bool) → is_of name line ≡ is → word_of line ≢ name → is ≡ false
+not_of name line true e other = absurd (other ((bytes_eq-Decides (word_of line) name).0 e))
+not_of name line false e other = refl
 
-pub others_lines : (name : List ℕ) (lines : List (List ℕ)) (es : List Entry) → AreLinesOf lines es →
-    AreLinesOf (filter (is_others name) lines) (filter (is_other name) es)
-others_lines name lines es are = record {
-  told = others_zip name lines es are.told;
-  apart = AllPairs-filter AreTwo (is_other name) es are.apart;
-}
+silent_not_of : (name line : List ℕ) → IsName name → is_silent line ≡ true → is_of name line ≡ false
+silent_not_of name line is silent = not_of name line (is_of name line) refl (silent_unnamed name line is silent)
+
+-- ---- a line in its place
+
+place_silent : (line old : List ℕ) (lines more : List (List ℕ)) (b : Bool) → b ≡ false → is_silent old ≡ true →
+    spoken (cond b (line ∷ lines) (old ∷ more)) ≡ spoken more
+place_silent line old lines more b other silent = rw other (rw silent refl)
+
+place_spoken : (line old : List ℕ) (lines more : List (List ℕ)) (e one : Entry) (es rest : List Entry) (b : Bool) → is_silent line ≡ false →
+    is_silent old ≡ false → IsLineOf line e → IsLineOf old one → AllZip IsLineOf (spoken lines) es → AllZip IsLineOf (spoken more) rest →
+    AllZip IsLineOf (spoken (cond b (line ∷ lines) (old ∷ more))) (cond b (e ∷ es) (one ∷ rest))
+place_spoken line old lines more e one es rest true speaks here told was zip next = rw speaks (told, zip)
+place_spoken line old lines more e one es rest false speaks here told was zip next = rw here (was, next)
+
+place_end : (line : List ℕ) (e : Entry) → is_silent line ≡ false → IsLineOf line e → AllZip IsLineOf (spoken (line ∷ [])) (e ∷ [])
+place_end line e speaks told = rw speaks (told, tt)
+
+place_step : (line old : List ℕ) (e : Entry) (lines : List (List ℕ)) (es : List Entry) (is : Bool) → is_silent line ≡ false → IsLineOf line e →
+    is_silent old ≡ is →
+    ((rest : List Entry) → AllZip IsLineOf (spoken lines) rest →
+    AllZip IsLineOf (spoken (in_place (is_of e.name) line lines)) (in_place (has_name e.name) e rest)) →
+    AllZip IsLineOf (cond (not is) (old ∷ spoken lines) (spoken lines)) es →
+    AllZip IsLineOf (spoken (in_place (is_of e.name) line (old ∷ lines))) (in_place (has_name e.name) e es)
+place_step line old e lines es true speaks told silent rest zip =
+    subst (λ (ls : List (List ℕ)). AllZip IsLineOf ls (in_place (has_name e.name) e es))
+    (sym (place_silent line old lines (in_place (is_of e.name) line lines) (is_of e.name old) (silent_not_of e.name old told.name silent) silent))
+    (rest es zip)
+place_step line old e lines [] false speaks told here rest zip = absurd zip
+place_step line old e lines (one ∷ es) false speaks told here rest zip =
+    let more = in_place (is_of e.name) line lines in
+    let next = in_place (has_name e.name) e es in
+    subst (λ (b : Bool). AllZip IsLineOf (spoken (cond (is_of e.name old) (line ∷ lines) (old ∷ more))) (cond b (e ∷ es) (one ∷ next)))
+    (same_test e.name old one zip.0)
+    (place_spoken line old lines more e one es next (is_of e.name old) speaks here told zip.0 zip.1 (rest es zip.1))
+
+place_zip : (line : List ℕ) (e : Entry) (lines : List (List ℕ)) (es : List Entry) → is_silent line ≡ false → IsLineOf line e →
+    AllZip IsLineOf (spoken lines) es → AllZip IsLineOf (spoken (in_place (is_of e.name) line lines)) (in_place (has_name e.name) e es)
+place_zip line e [] [] speaks told zip = place_end line e speaks told
+place_zip line e [] (one ∷ es) speaks told zip = absurd zip
+place_zip line e (old ∷ lines) es speaks told zip =
+    place_step line old e lines es (is_silent old) speaks told refl (λ rest z. place_zip line e lines rest speaks told z) zip
+
+-- ---- a player in the place of the one of the name
+
+place_all_by : {A : Type 0} (P : A → Type 0) (x y : A) (ys more : List A) (b : Bool) → P x → All P (y ∷ ys) → All P more →
+    All P (cond b (x ∷ ys) (y ∷ more))
+place_all_by P x y ys more true here all next = All-cons P x ys here (All-tail P y ys all)
+place_all_by P x y ys more false here all next = All-cons P y more (All-head P y ys all) next
+
+place_all : {A : Type 0} (P : A → Type 0) (p : A → Bool) (x : A) (xs : List A) → P x → All P xs → All P (in_place p x xs)
+place_all P p x [] here all = All-cons P x [] here (All-nil P)
+place_all P p x (y ∷ ys) here all = place_all_by P x y ys (in_place p x ys) (p y) here all (place_all P p x ys here (All-tail P y ys all))
+
+-- no other player has the sum
+abbrev IsOurs : Entry → List Entry → Type 0
+IsOurs e es = list_any (has_sum e.sum) (filter (is_other e.name) es) ≡ false
+
+ours_by : (e one : Entry) (es : List Entry) (b : Bool) → list_any (has_sum e.sum) (cond (not b) (one ∷ filter (is_other e.name) es)
+    (filter (is_other e.name) es)) ≡ false → IsOurs e es
+ours_by e one es true ours = ours
+ours_by e one es false ours = or_second (has_sum e.sum one) (list_any (has_sum e.sum) (filter (is_other e.name) es)) ours
+
+ours_more : (e one : Entry) (es : List Entry) → IsOurs e (one ∷ es) → IsOurs e es
+ours_more e one es ours = ours_by e one es (has_name e.name one) ours
+
+ours_first : (e one : Entry) (es : List Entry) → has_name e.name one ≡ false → IsOurs e (one ∷ es) → has_sum e.sum one ≡ false
+ours_first e one es other ours =
+    or_first (has_sum e.sum one) (list_any (has_sum e.sum) (filter (is_other e.name) es))
+    (subst (λ (b : Bool). list_any (has_sum e.sum) (cond (not b) (one ∷ filter (is_other e.name) es) (filter (is_other e.name) es)) ≡ false)
+    other ours)
+
+flipped_two : (a b : Entry) → AreTwo a b → AreTwo b a
+flipped_two a b two = record { names = λ e. two.names (sym e); sums = λ e. two.sums (sym e) }
+
+unnamed : (e one : Entry) (is : Bool) → has_name e.name one ≡ is → one.name ≢ e.name → has_name e.name one ≡ false
+unnamed e one true h other = absurd (other ((bytes_eq-Decides one.name e.name).0 h))
+unnamed e one false h other = h
+
+-- who stands apart from the one that had the name stands apart from the new one
+behind_apart : (e one : Entry) (es : List Entry) → one.name ≡ e.name → All (AreTwo one) es → IsOurs e es → All (AreTwo e) es
+behind_apart e one [] same all ours = All-nil (AreTwo e)
+behind_apart e one (two ∷ es) same all ours =
+    let apart = All-head (AreTwo one) two es all in
+    let other : has_name e.name two ≡ false = unnamed e two (has_name e.name two) refl (λ h. apart.names (same ∙ sym h)) in
+    All-cons (AreTwo e) two es (flipped_two two e (two_if two e other (ours_first e two es other ours)))
+    (behind_apart e one es same (All-tail (AreTwo one) two es all) (ours_more e two es ours))
+
+place_pairs_by : (e one : Entry) (es more : List Entry) (b : Bool) → has_name e.name one ≡ b → AllPairs AreTwo (one ∷ es) → IsOurs e (one ∷ es) →
+    AllPairs AreTwo more → (AreTwo one e → All (AreTwo one) more) → AllPairs AreTwo (cond b (e ∷ es) (one ∷ more))
+place_pairs_by e one es more true h pairs ours next all =
+    AllPairs-cons AreTwo e es
+    (behind_apart e one es ((bytes_eq-Decides one.name e.name).0 h) (pairs_head AreTwo one es pairs) (ours_more e one es ours))
+    (pairs_tail AreTwo one es pairs)
+place_pairs_by e one es more false h pairs ours next all =
+    AllPairs-cons AreTwo one more (all (two_if one e h (ours_first e one es h ours))) next
+
+place_pairs : (e : Entry) (es : List Entry) → AllPairs AreTwo es → IsOurs e es → AllPairs AreTwo (in_place (has_name e.name) e es)
+place_pairs e [] pairs ours = AllPairs-cons AreTwo e [] (All-nil (AreTwo e)) pairs
+place_pairs e (one ∷ es) pairs ours =
+    let more = in_place (has_name e.name) e es in
+    place_pairs_by e one es more (has_name e.name one) refl pairs ours
+    (place_pairs e es (pairs_tail AreTwo one es pairs) (ours_more e one es ours))
+    (λ two. place_all (AreTwo one) (has_name e.name) e es two (pairs_head AreTwo one es pairs))
 
 -- ---- the new file
 
@@ -213,12 +300,6 @@ taken_told players slice name who sum digest b is told same named summed answer 
     ∙ (ap (λ (s : List ℕ). list_any (λ player. is_other name (entry_of player) && has_sum s (entry_of player)) slice) (sym summed)
     ∙ (sym told ∙ answer)))))
 
-none_named : (name : List ℕ) (es : List Entry) → list_any (has_name name) (filter (is_other name) es) ≡ false
-none_named name es =
-    list_any_none (has_name name) (filter (is_other name) es)
-    (All-weaker (λ (e : Entry). is_other name e ≡ true) (λ (e : Entry). has_name name e ≡ false) (λ e h. flipped (has_name name e) h)
-    (filter (is_other name) es) (filter_passes (is_other name) es))
-
 line_is : (e : Entry) → IsName e.name → decode_sized (encode_lower e.sum) 32 ≡ Ok e.sum → is_full_name e.full_name ≡ true → IsLineOf (line_of e) e
 line_is e name sum full = record {
   name = name;
@@ -238,34 +319,73 @@ speaks_by : (name rest : List ℕ) → IsName name → is_silent (name ++ rest) 
 speaks_by [] rest name = absurd (omega (arith, name.some))
 speaks_by (b ∷ bs) rest name = named_speaks b (b == 35) refl (and_first (is_name_byte b) (list_all is_name_byte bs) name.bytes)
 
-bytes_append : (xs ys : List (List ℕ)) → bytes_of (xs ++ ys) ≡ bytes_of xs ++ bytes_of ys
-bytes_append [] ys = refl
-bytes_append (x ∷ xs) ys = ap (λ (t : List ℕ). ended x ++ t) (bytes_append xs ys) ∙ sym (append_assoc (ended x) (bytes_of xs) (bytes_of ys))
+-- ---- the lines of the new file
 
-pub bytes_push : (xs : List (List ℕ)) (x : List ℕ) → bytes_of (xs ++ x ∷ []) ≡ bytes_of xs ++ ended x
-bytes_push xs x = bytes_append xs (x ∷ []) ∙ ap (λ (t : List ℕ). bytes_of xs ++ t) (append-nil (ended x))
+-- what the lines that are left become: the line stands among those before, or is still to be put
+abbrev pub left : (List ℕ → Bool) → List ℕ → Bool → List (List ℕ) → List (List ℕ)
+left p line true lines = lines
+left p line false lines = in_place p line lines
 
--- one step over the lines of others
-pub others_more : (name : List ℕ) (lines : List (List ℕ)) (line : List ℕ) →
-    bytes_of (filter (is_others name) (lines ++ line ∷ [])) ≡ bytes_of (filter (is_others name) lines) ++ bytes_of (filter (is_others name) (line ∷ []))
-others_more name lines line =
-    ap bytes_of (filter-append (is_others name) lines (line ∷ []))
-    ∙ bytes_append (filter (is_others name) lines) (filter (is_others name) (line ∷ []))
+pub first_true : (put is : Bool) → true ≡ (not put && is) → (put ≡ false) × (is ≡ true)
+first_true true is h = absurd (false≢true (sym h))
+first_true false is h = (refl, sym h)
+
+pub first_false : (put is : Bool) → false ≡ (not put && is) → put ≡ false → is ≡ false
+first_false true is h e = absurd (false≢true (sym e))
+first_false false is h e = sym h
+
+left_other : (p : List ℕ → Bool) (line old : List ℕ) (lines : List (List ℕ)) (put : Bool) → (put ≡ false → p old ≡ false) →
+    left p line put (old ∷ lines) ≡ old ∷ left p line put lines
+left_other p line old lines true other = refl
+left_other p line old lines false other =
+    let away : p old ≡ false = other refl in
+    rw away refl
+
+left_here : (p : List ℕ → Bool) (line old : List ℕ) (lines : List (List ℕ)) (put : Bool) → put ≡ false → p old ≡ true →
+    left p line put (old ∷ lines) ≡ line ∷ lines
+left_here p line old lines true none here = absurd (false≢true (sym none))
+left_here p line old lines false none here = rw here refl
+
+one_line : (text line rest : List ℕ) → (text ++ ended line) ++ rest ≡ text ++ (ended line ++ rest)
+one_line text line rest = append_assoc text (ended line) rest
+
+-- the line is put in the place of one, or that one stays
+pub put_step : (p : List ℕ → Bool) (line old : List ℕ) (lines rest : List (List ℕ)) (put is_put : Bool) (text new all : List ℕ) →
+    lines ≡ old ∷ rest → put ≡ false → p old ≡ true → is_put ≡ true → new ≡ text ++ ended line →
+    text ++ bytes_of (left p line put lines) ≡ all → new ++ bytes_of (left p line is_put rest) ≡ all
+put_step p line old lines rest put is_put text new all cut none here now told before =
+    ap (λ (b : Bool). new ++ bytes_of (left p line b rest)) now
+    ∙ (ap (λ (t : List ℕ). t ++ bytes_of rest) told
+    ∙ (one_line text line (bytes_of rest)
+    ∙ (ap (λ (ls : List (List ℕ)). text ++ bytes_of ls) (sym (left_here p line old rest put none here))
+    ∙ (ap (λ (ls : List (List ℕ)). text ++ bytes_of (left p line put ls)) (sym cut) ∙ before))))
+
+pub keep_step : (p : List ℕ → Bool) (line old : List ℕ) (lines rest : List (List ℕ)) (put is_put : Bool) (text new all : List ℕ) →
+    lines ≡ old ∷ rest → (put ≡ false → p old ≡ false) → is_put ≡ put → new ≡ text ++ ended old →
+    text ++ bytes_of (left p line put lines) ≡ all → new ++ bytes_of (left p line is_put rest) ≡ all
+keep_step p line old lines rest put is_put text new all cut other same told before =
+    ap (λ (b : Bool). new ++ bytes_of (left p line b rest)) same
+    ∙ (ap (λ (t : List ℕ). t ++ bytes_of (left p line put rest)) told
+    ∙ (one_line text old (bytes_of (left p line put rest))
+    ∙ (ap (λ (ls : List (List ℕ)). text ++ bytes_of ls) (sym (left_other p line old rest put other))
+    ∙ (ap (λ (ls : List (List ℕ)). text ++ bytes_of (left p line put ls)) (sym cut) ∙ before))))
 
 pub file_added : (text : List ℕ) (es : List Entry) (e : Entry) (new : List ℕ) → IsFileOf text es → IsName e.name →
     decode_sized (encode_lower e.sum) 32 ≡ Ok e.sum → is_full_name e.full_name ≡ true →
     list_any (has_sum e.sum) (filter (is_other e.name) es) ≡ false → new ≡ added_text text e → IsAdded text e new
 file_added text es e new before name sum full shown written =
-    let kept = filter (is_others e.name) (lines_of text) in
     let line = line_of e in
+    let lines = in_place (is_of e.name) line (lines_of text) in
     let rest = 32 ∷ (role_text e.is_arbiter ++ (32 ∷ (encode_lower e.sum ++ (32 ∷ e.full_name)))) in
     record {
       entries = es;
       before = before;
       written = written;
       after = subst (λ (ls : List (List ℕ)). AreLinesOf ls (added_entries es e))
-          (sym (ap lines_of written ∙ lines_back (kept ++ line ∷ [])
-          (push_free kept line (filter_free (is_others e.name) (lines_of text) (lines_free text)) (line_free e name sum full))))
-          (one_more kept line (filter (is_other e.name) es) e (others_lines e.name (lines_of text) es before) (speaks_by e.name rest name)
-          (line_is e name sum full) (none_named e.name es) shown);
+          (sym (ap lines_of written
+          ∙ lines_back lines (place_free (is_of e.name) line (lines_of text) (line_free e name sum full) (lines_free text))))
+          (record {
+            told = place_zip line e (lines_of text) es (speaks_by e.name rest name) (line_is e name sum full) before.told;
+            apart = place_pairs e es before.apart shown;
+          });
     }

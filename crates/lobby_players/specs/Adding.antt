@@ -1,5 +1,5 @@
 -- A player is put into a players' file.
-use Rattle.std.specs.Prelude.{ℕ, ◌≡◌, Bool, true, false, not, List, [], ◌∷◌, ◌++◌, filter}
+use Rattle.std.specs.Prelude.{ℕ, ◌≡◌, Bool, true, false, not, List, [], ◌∷◌, ◌++◌, filter, if◌then◌else◌}
 use Rattle.std.specs.Str.{bytes_eq}
 use Rattle.std.specs.List.{list_any}
 use Rattle.hex.specs.Hex.{encode_lower}
@@ -28,23 +28,28 @@ entry_added who token = entry_with who (sha256 (encode_lower token))
 abbrev pub line_of : Entry → List ℕ
 line_of e = e.name ++ (32 ∷ (role_text e.is_arbiter ++ (32 ∷ (encode_lower e.sum ++ (32 ∷ e.full_name)))))
 
--- a line that is not this player's
-abbrev pub is_others : List ℕ → List ℕ → Bool
-is_others name line = not (bytes_eq (word_of line) name)
+-- the line of who has this name
+abbrev pub is_of : List ℕ → List ℕ → Bool
+is_of name line = bytes_eq (word_of line) name
 
--- the text's lines but that of this name, and the new line behind them
+-- one in the place of the first that a test picks, and behind all where it picks none
+abbrev pub in_place : {A : Type 0} → (A → Bool) → A → List A → List A
+in_place p x [] = x ∷ []
+in_place p x (y ∷ ys) = if p y then x ∷ ys else y ∷ in_place p x ys
+
+-- the text's lines with the player's: in the place of the line of this name, or behind all
 abbrev pub added_text : List ℕ → Entry → List ℕ
-added_text text e = bytes_of (filter (is_others e.name) (lines_of text) ++ (line_of e ∷ []))
+added_text text e = bytes_of (in_place (is_of e.name) (line_of e) (lines_of text))
+
+-- the players with this one: in the place of the one of this name, or behind all
+abbrev pub added_entries : List Entry → Entry → List Entry
+added_entries entries e = in_place (has_name e.name) e entries
 
 abbrev pub is_other : List ℕ → Entry → Bool
 is_other name one = not (has_name name one)
 
--- the players but the one of this name, and the new one behind them
-abbrev pub added_entries : List Entry → Entry → List Entry
-added_entries entries e = filter (is_other e.name) entries ++ (e ∷ [])
-
--- The new text is the file with the player: all lines of others stand in it as they did, and it is a file of the players with
--- this one.
+-- The new text is the file with the player: all other lines stand in it as they did and where they did, and it is a file of
+-- the players with this one.
 pub record IsAdded (text : List ℕ) (e : Entry) (new : List ℕ) : Type 0 where
   pub entries : List Entry
   pub before : IsFileOf text entries

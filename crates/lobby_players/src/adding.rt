@@ -1,11 +1,11 @@
 //! A player is put into a players' file.
-ghost use Rattle.std.specs.Prelude.{◌≡◌, ◌++◌, ◌∷◌, [], ◌&&◌, Ok, filter, IfOk, IfErr, OnOk};
+ghost use Rattle.std.specs.Prelude.{◌≡◌, ◌++◌, ◌∷◌, [], ◌&&◌, not, Ok, IfOk, IfErr, OnOk};
 ghost use Rattle.std.specs.List.{list_any};
 ghost use Rattle.std.specs.String.{string_bytes};
 ghost use Rattle.hex.specs.Hex.{decode_sized, encode_lower};
 ghost use Rattle.lobby_desk.specs.Lines.{ended, bytes_of};
-ghost use Rattle.lobby_players.specs.Adding.{IsAdded, IsAddFault, entry_added, entry_with, is_other, is_others, line_of};
-ghost use Rattle.lobby_players.specs.File.{has_sum, entry_of, lines_of};
+ghost use Rattle.lobby_players.specs.Adding.{IsAdded, IsAddFault, entry_added, entry_with, in_place, is_of, is_other, line_of};
+ghost use Rattle.lobby_players.specs.File.{has_sum, entry_of, lines_of, role_text};
 
 use crate::faults::{AddFault, PlayersFault};
 use crate::line::is_full_name;
@@ -35,56 +35,80 @@ fn is_taken(players: &[Player], name: &Name, sum: &[u8; 32]) -> bool
     })
 }
 
-// Appends the line of a player, with its line feed.
+// A role's word.
+fn role_word(is_arbiter: bool) -> &'static str
+    ensures { result.now ≡ role_text is_arbiter }
+{
+    if is_arbiter { "arbiter" } else { "player" }
+}
+
+// Appends a word, and the space behind it.
+fn push_word(text: &mut String, word: &str) -> Result<(), AllocError>
+    ensures { OnOk result (string_bytes text.new ≡ string_bytes text.old ++ (word.now ++ (32 ∷ []))) }
+{
+    text.push_str(word)?;
+    text.push(' ')?;
+    Ok(())
+}
+
+// Appends the line of a player, without a line feed.
 fn push_player(
     text: &mut String,
     alloc: Global,
     who: &Addition<'_>,
     sum: &[u8; 32],
 ) -> Result<(), AllocError>
-    ensures put { OnOk result (string_bytes text.new ≡ string_bytes text.old ++ ended (line_of (entry_with who.now sum.now))) }
+    ensures put { OnOk result (string_bytes text.new ≡ string_bytes text.old ++ line_of (entry_with who.now sum.now)) }
     ensures digits { OnOk result (decode_sized (encode_lower sum.now) 32 ≡ Ok sum.now) }
 {
-    text.push_str(who.name)?;
-    let role = if who.is_arbiter {
-        " arbiter "
-    } else {
-        " player "
-    };
-    text.push_str(role)?;
-    text.push_str(hex::encode(alloc, sum.as_slice())?.as_str())?;
-    text.push(' ')?;
+    push_word(text, who.name)?;
+    push_word(text, role_word(who.is_arbiter))?;
+    push_word(text, hex::encode(alloc, sum.as_slice())?.as_str())?;
     text.push_str(who.full_name)?;
+    Ok(())
+}
+
+// Appends a line with its line feed.
+fn push_line(text: &mut String, line: &str) -> Result<(), AllocError>
+    ensures { OnOk result (string_bytes text.new ≡ string_bytes text.old ++ ended line.now) }
+{
+    text.push_str(line)?;
     text.push('\n')?;
     Ok(())
 }
 
-// Appends a line with its line feed, where it is not of this name.
-fn push_other(text: &mut String, line: &str, name: &str) -> Result<(), AllocError>
-    ensures { OnOk result (string_bytes text.new ≡ string_bytes text.old ++ bytes_of (filter (is_others name.now) (line.now ∷ []))) }
+// Whether a line is the first of the name, where the new one stands nowhere yet.
+fn is_first(is_put: bool, old: &str, name: &str) -> bool
+    ensures { result ≡ (not is_put && is_of name.now old.now) }
 {
-    if word(line) != name {
-        text.push_str(line)?;
-        text.push('\n')?;
-    }
-    Ok(())
+    !is_put && word(old) == name
 }
 
-// The lines of a text that are not of this name, each with its line feed.
-fn others(alloc: Global, text: &str, name: &str) -> Result<String, AllocError>
-    ensures { IfOk result (λ kept. string_bytes kept ≡ bytes_of (filter (is_others name.now) (lines_of text.now))) }
+// The lines of a text, each with its line feed, and this line in the place of the first of the name, or behind all.
+fn with_line(alloc: Global, text: &str, name: &str, line: &str) -> Result<String, AllocError>
+    ensures { IfOk result (λ new. string_bytes new ≡ bytes_of (in_place (is_of name.now) line.now (lines_of text.now))) }
 {
     let lines = parts(alloc, text, '\n')?;
-    let mut kept = String::new(alloc);
-    for line in lines.as_slice() {
-        push_other(&mut kept, line, name)?;
+    let mut new = String::new(alloc);
+    let mut is_put = false;
+    for old in lines.as_slice() {
+        if is_first(is_put, old, name) {
+            push_line(&mut new, line)?;
+            is_put = true;
+        } else {
+            push_line(&mut new, old)?;
+        }
     }
-    Ok(kept)
+    if !is_put {
+        push_line(&mut new, line)?;
+    }
+    Ok(new)
 }
 
-/// The text of the file with the player's line behind it. A line that had the name is gone: a player who is there already has
-/// a new token, and this full name and role. It fails, and nothing is added, at the first of these: the file is none, the
-/// name or the full name is none, another player has the token; or where memory is refused.
+/// The text of the file with the player's line: in the place of the line that had the name, so that a player who is there
+/// already has a new token, and this full name and role; and behind all for a new one. It fails, and nothing is added, at
+/// the first of these: the file is none, the name or the full name is none, another player has the token; or where memory
+/// is refused.
 pub fn added(
     alloc: Global,
     text: &[u8],
@@ -112,7 +136,9 @@ pub fn added(
     if is_taken(players.as_slice(), &name, &sum) {
         return Err(AddFault::TokenTaken);
     }
-    let mut new = others(alloc, text, who.name)?;
-    push_player(&mut new, alloc, who, &sum)?;
+    let mut line = String::new(alloc);
+    push_player(&mut line, alloc, who, &sum)?;
+    let shown = line.as_str();
+    let new = with_line(alloc, text, who.name, shown)?;
     Ok(new)
 }

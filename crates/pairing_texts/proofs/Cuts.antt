@@ -16,15 +16,15 @@ use Rattle.pairing_texts.specs.Times.{front_of, rest_of}
 abbrev pub Lacks : ℕ → List ℕ → Type 0
 Lacks c text = list_any (λ b. b == c) text ≡ false
 
-or_first : (a b : Bool) → (a || b) ≡ false → a ≡ false
+pub or_first : (a b : Bool) → (a || b) ≡ false → a ≡ false
 or_first true b h = absurd (false≢true (sym h))
 or_first false b h = refl
 
-or_second : (a b : Bool) → (a || b) ≡ false → b ≡ false
+pub or_second : (a b : Bool) → (a || b) ≡ false → b ≡ false
 or_second true b h = absurd (false≢true (sym h))
 or_second false b h = h
 
-both_false : (a b : Bool) → a ≡ false → b ≡ false → (a || b) ≡ false
+pub both_false : (a b : Bool) → a ≡ false → b ≡ false → (a || b) ≡ false
 both_false true b h k = absurd (false≢true (sym h))
 both_false false b h k = k
 

@@ -1,4 +1,7 @@
 pub mod RowByRow
 pub mod Cuts
 pub mod TimesBack
+pub mod NumbersBack
 pub mod NotesBack
+pub mod RunsKept
+pub mod NewestKept

@@ -9,12 +9,10 @@ use Rattle.std.proofs.lemmas.Slice.Eq.{bytes_eq-Decides}
 use Rattle.rec_codec.specs.Name.{is_name_byte}
 use Rattle.lobby_words.specs.Words.{number_or_0}
 use Rattle.lobby_words.specs.Waiting.{is_name}
-use Rattle.pairing_texts.specs.declared.notes.Note.{Note}
-use Rattle.pairing_texts.specs.declared.notes.Stage.{Stage}
-use Rattle.pairing_texts.specs.declared.notes.Stage.TheVariants as stages
 use Rattle.pairing_texts.specs.Times.{front_of, rest_of}
 use Rattle.pairing_texts.specs.Rows.{name_in}
-use Rattle.pairing_texts.specs.Notes.{IsNote, stage_text, stage_in, quoted, member_text, note_text, value_of, unquoted, member_in, behind_one, behind_two, behind_three, board_in, white_in, black_in, last_stage, number_at_end, likely_of, likely_note, where_spelled, note_in}
+use Rattle.pairing_texts.specs.Notes.{Told, Reached, Opening, Opened, Joined, IsNote, IsReached, stage_word, value_text, numbers_text, quoted, member_text, note_text, value_of, unquoted, member_in, behind_one, behind_two, behind_three, board_in, white_in, black_in, last_value, stage_in, reached_in, likely_of, likely_note, where_spelled, note_in}
+use Rattle.pairing_texts.proofs.NumbersBack.{numbers_back, lacks_brace}
 use Rattle.pairing_texts.proofs.Cuts.{Lacks, lacks_more, lacks_both, lacks_below, lacks_above, front_at, rest_at, number_back}
 
 -- a byte that stands in no name stands in none of these names
@@ -69,17 +67,17 @@ lacks_comma front name low is =
 abbrev board_front : List ℕ
 board_front = 123 ∷ quoted (codes "board")
 
-abbrev last_of : List ℕ → ℕ → List ℕ
-last_of stage number = member_text stage (decimal number) ++ (125 ∷ [])
+abbrev end_of : Reached → List ℕ
+end_of stage = member_text (stage_word stage) (value_text stage) ++ (125 ∷ [])
 
-abbrev from_black : List ℕ → List ℕ → ℕ → List ℕ
-from_black black stage number = member_text (codes "black") (quoted black) ++ (44 ∷ last_of stage number)
+abbrev from_black : List ℕ → Reached → List ℕ
+from_black black stage = member_text (codes "black") (quoted black) ++ (44 ∷ end_of stage)
 
-abbrev from_white : List ℕ → List ℕ → List ℕ → ℕ → List ℕ
-from_white white black stage number = member_text (codes "white") (quoted white) ++ (44 ∷ from_black black stage number)
+abbrev from_white : List ℕ → List ℕ → Reached → List ℕ
+from_white white black stage = member_text (codes "white") (quoted white) ++ (44 ∷ from_black black stage)
 
-abbrev whole : ℕ → List ℕ → List ℕ → List ℕ → ℕ → List ℕ
-whole board white black stage number = (board_front ++ (58 ∷ decimal board)) ++ (44 ∷ from_white white black stage number)
+abbrev whole : ℕ → List ℕ → List ℕ → Reached → List ℕ
+whole board white black stage = (board_front ++ (58 ∷ decimal board)) ++ (44 ∷ from_white white black stage)
 
 lacks_board : (board : ℕ) → board < 2 ^ 32 → Lacks 44 (board_front ++ (58 ∷ decimal board))
 lacks_board board small =
@@ -113,61 +111,66 @@ black_back black rest is =
     (front_at 44 (member_text (codes "black") (quoted black)) rest (lacks_comma (quoted (codes "black")) black refl is))
     ∙ quoted_back (quoted (codes "black")) black refl is
 
-stage_back : (stage : Stage) (number : ℕ) → stage_in (unquoted (last_of (stage_text stage) number)) ≡ Some stage
-stage_back stages.Opening number =
-    let rest = 58 ∷ (decimal number ++ (125 ∷ [])) in
-    ap (λ (t : List ℕ). stage_in (front_of 34 t)) (rest_at 34 [] (codes "opening" ++ (34 ∷ rest)) refl) ∙ ap stage_in (front_at 34 (codes "opening") rest refl)
-stage_back stages.Opened number =
-    let rest = 58 ∷ (decimal number ++ (125 ∷ [])) in
-    ap (λ (t : List ℕ). stage_in (front_of 34 t)) (rest_at 34 [] (codes "opened" ++ (34 ∷ rest)) refl) ∙ ap stage_in (front_at 34 (codes "opened") rest refl)
-stage_back stages.Joined number =
-    let rest = 58 ∷ (decimal number ++ (125 ∷ [])) in
-    ap (λ (t : List ℕ). stage_in (front_of 34 t)) (rest_at 34 [] (codes "joined" ++ (34 ∷ rest)) refl) ∙ ap stage_in (front_at 34 (codes "joined") rest refl)
+word_by : (word rest : List ℕ) → Lacks 34 word → unquoted (34 ∷ (word ++ (34 ∷ rest))) ≡ word
+word_by word rest low = ap (front_of 34) (rest_at 34 [] (word ++ (34 ∷ rest)) refl) ∙ front_at 34 word rest low
 
-end_by : (front : List ℕ) (number : ℕ) → number < 2 ^ 32 → Lacks 58 front →
-    number_or_0 (front_of 125 (value_of (front ++ (58 ∷ (decimal number ++ (125 ∷ [])))))) ≡ number
-end_by front number small low =
-    ap (λ (t : List ℕ). number_or_0 (front_of 125 t)) (rest_at 58 front (decimal number ++ (125 ∷ [])) low)
-    ∙ (ap number_or_0 (front_at 125 (decimal number) [] (lacks_above 125 number (omega arith) small)) ∙ number_back number small)
+word_back : (stage : Reached) → unquoted (end_of stage) ≡ stage_word stage
+word_back (Opening games) = word_by (codes "opening") (58 ∷ (numbers_text games ++ (125 ∷ []))) refl
+word_back (Opened game) = word_by (codes "opened") (58 ∷ (decimal game ++ (125 ∷ []))) refl
+word_back (Joined game) = word_by (codes "joined") (58 ∷ (decimal game ++ (125 ∷ []))) refl
 
-end_back : (stage : Stage) (number : ℕ) → number < 2 ^ 32 → number_or_0 (front_of 125 (value_of (last_of (stage_text stage) number))) ≡ number
-end_back stages.Opening number small = end_by (quoted (codes "opening")) number small refl
-end_back stages.Opened number small = end_by (quoted (codes "opened")) number small refl
-end_back stages.Joined number small = end_by (quoted (codes "joined")) number small refl
+end_by : (front value : List ℕ) → Lacks 125 value → Lacks 58 front → front_of 125 (value_of (front ++ (58 ∷ (value ++ (125 ∷ []))))) ≡ value
+end_by front value high low =
+    ap (front_of 125) (rest_at 58 front (value ++ (125 ∷ [])) low) ∙ front_at 125 value [] high
+
+value_back : (stage : Reached) → IsReached stage → front_of 125 (value_of (end_of stage)) ≡ value_text stage
+value_back (Opening games) is = end_by (quoted (codes "opening")) (numbers_text games) (lacks_brace games is) refl
+value_back (Opened game) is = end_by (quoted (codes "opened")) (decimal game) (lacks_above 125 game (omega arith) is) refl
+value_back (Joined game) is = end_by (quoted (codes "joined")) (decimal game) (lacks_above 125 game (omega arith) is) refl
+
+reached_back : (stage : Reached) → IsReached stage → reached_in (stage_word stage) (value_text stage) ≡ Some stage
+reached_back (Opening games) is = ap (λ (ns : List ℕ). Some (Opening ns)) (numbers_back games is)
+reached_back (Opened game) is = ap (λ (n : ℕ). Some (Opened n)) (number_back game is)
+reached_back (Joined game) is = ap (λ (n : ℕ). Some (Joined n)) (number_back game is)
 
 -- where the members of a whole line are
-two_behind : (n : Note) → IsNote n → behind_two (whole n.board n.white n.black (stage_text n.stage) n.number) ≡ from_black n.black (stage_text n.stage) n.number
+two_behind : (n : Told) → IsNote n → behind_two (whole n.board n.white n.black n.stage) ≡ from_black n.black n.stage
 two_behind n is =
-    ap behind_one (behind_board n.board (from_white n.white n.black (stage_text n.stage) n.number) is.board)
-    ∙ behind_white n.white (from_black n.black (stage_text n.stage) n.number) is.white
+    ap behind_one (behind_board n.board (from_white n.white n.black n.stage) is.board) ∙ behind_white n.white (from_black n.black n.stage) is.white
 
-three_behind : (n : Note) → IsNote n → behind_three (whole n.board n.white n.black (stage_text n.stage) n.number) ≡ last_of (stage_text n.stage) n.number
-three_behind n is = ap behind_one (two_behind n is) ∙ behind_black n.black (last_of (stage_text n.stage) n.number) is.black
+three_behind : (n : Told) → IsNote n → behind_three (whole n.board n.white n.black n.stage) ≡ end_of n.stage
+three_behind n is = ap behind_one (two_behind n is) ∙ behind_black n.black (end_of n.stage) is.black
 
-likely_by : (board number : ℕ) (white black : Option (List ℕ)) (stage : Option Stage) (n : Note) → board ≡ n.board → number ≡ n.number →
-    white ≡ Some n.white → black ≡ Some n.black → stage ≡ Some n.stage → likely_of board number white black stage ≡ Some n
-likely_by board number white black stage n b m w k s =
-    ap (λ (x : ℕ). likely_of x number white black stage) b
-    ∙ (ap (λ (x : ℕ). likely_of n.board x white black stage) m
-    ∙ (ap (λ (x : Option (List ℕ)). likely_of n.board n.number x black stage) w
-    ∙ (ap (λ (x : Option (List ℕ)). likely_of n.board n.number (Some n.white) x stage) k
-    ∙ ap (λ (x : Option Stage). likely_of n.board n.number (Some n.white) (Some n.black) x) s)))
+stage_back : (n : Told) → IsNote n → stage_in (whole n.board n.white n.black n.stage) ≡ Some n.stage
+stage_back n is =
+    let line = whole n.board n.white n.black n.stage in
+    ap (λ (t : List ℕ). reached_in (unquoted t) (last_value line)) (three_behind n is)
+    ∙ (ap (λ (w : List ℕ). reached_in w (last_value line)) (word_back n.stage)
+    ∙ (ap (λ (t : List ℕ). reached_in (stage_word n.stage) (front_of 125 (value_of t))) (three_behind n is)
+    ∙ (ap (reached_in (stage_word n.stage)) (value_back n.stage is.stage) ∙ reached_back n.stage is.stage)))
 
-likely_back : (n : Note) → IsNote n → likely_note (note_text n) ≡ Some n
+likely_by : (board : ℕ) (white black : Option (List ℕ)) (stage : Option Reached) (n : Told) → board ≡ n.board →
+    white ≡ Some n.white → black ≡ Some n.black → stage ≡ Some n.stage → likely_of board white black stage ≡ Some n
+likely_by board white black stage n b w k s =
+    ap (λ (x : ℕ). likely_of x white black stage) b
+    ∙ (ap (λ (x : Option (List ℕ)). likely_of n.board x black stage) w
+    ∙ (ap (λ (x : Option (List ℕ)). likely_of n.board (Some n.white) x stage) k
+    ∙ ap (λ (x : Option Reached). likely_of n.board (Some n.white) (Some n.black) x) s))
+
+likely_back : (n : Told) → IsNote n → likely_note (note_text n) ≡ Some n
 unfolding likely_note note_text
 likely_back n is =
-    let rest = from_white n.white n.black (stage_text n.stage) n.number in
-    let line = whole n.board n.white n.black (stage_text n.stage) n.number in
-    likely_by (board_in line) (number_at_end line) (white_in line) (black_in line) (last_stage line) n
+    let rest = from_white n.white n.black n.stage in
+    let line = whole n.board n.white n.black n.stage in
+    likely_by (board_in line) (white_in line) (black_in line) (stage_in line) n
     (board_back n.board rest is.board)
-    (ap (λ (t : List ℕ). number_or_0 (front_of 125 (value_of t))) (three_behind n is) ∙ end_back n.stage n.number is.number)
     (ap (λ (t : List ℕ). name_in (unquoted (value_of (member_in t)))) (behind_board n.board rest is.board)
-    ∙ white_back n.white (from_black n.black (stage_text n.stage) n.number) is.white)
+    ∙ white_back n.white (from_black n.black n.stage) is.white)
     (ap (λ (t : List ℕ). name_in (unquoted (value_of (member_in t)))) (two_behind n is)
-    ∙ black_back n.black (last_of (stage_text n.stage) n.number) is.black)
-    (ap (λ (t : List ℕ). stage_in (unquoted t)) (three_behind n is) ∙ stage_back n.stage n.number)
+    ∙ black_back n.black (end_of n.stage) is.black)
+    (stage_back n is)
 
-pub note_back : (n : Note) → IsNote n → note_in (note_text n) ≡ Some n
+pub note_back : (n : Told) → IsNote n → note_in (note_text n) ≡ Some n
 note_back n is =
     ap (where_spelled (note_text n)) (likely_back n is)
     ∙ ap (λ (b : Bool). if b then Some n else None) ((bytes_eq-Decides (note_text n) (note_text n)).1 refl)

@@ -1,6 +1,7 @@
 -- A note of the round's file, an object of JSON in a line: how far the game of a board is.
-use Rattle.std.specs.Prelude.{ℕ, ◌≡◌, ◌<◌, ◌^◌, ◌==◌, ◌&&◌, Bool, true, List, [], ◌∷◌, ◌++◌, codes, decimal, Option, None, Some, if◌then◌else◌}
+use Rattle.std.specs.Prelude.{ℕ, ◌≡◌, ◌<◌, ◌^◌, ◌==◌, ◌&&◌, Bool, true, false, List, [], ◌∷◌, ◌++◌, codes, decimal, map, flat_map, Option, None, Some, if◌then◌else◌}
 use Rattle.std.specs.Str.{bytes_eq}
+use Rattle.text_parts.specs.Parts.{parts_of}
 use Rattle.lobby_words.specs.Words.{number_or_0}
 use Rattle.lobby_words.specs.Waiting.{is_name}
 use Rattle.pairing_texts.specs.declared.notes.Note.{Note}
@@ -9,16 +10,52 @@ use Rattle.pairing_texts.specs.declared.notes.Stage.TheVariants as stages
 use Rattle.pairing_texts.specs.Times.{front_of, rest_of}
 use Rattle.pairing_texts.specs.Rows.{name_in}
 
-abbrev pub stage_text : Stage → List ℕ
-stage_text stages.Opening = codes "opening"
-stage_text stages.Opened = codes "opened"
-stage_text stages.Joined = codes "joined"
+-- how far the game of a board is: about to be opened, newer than these games; opened with this number; joined by Black
+pub data Reached : Type 0 where
+  Opening : (games : List ℕ) → Reached
+  Opened : (game : ℕ) → Reached
+  Joined : (game : ℕ) → Reached
 
-abbrev pub stage_in : List ℕ → Option Stage
-stage_in text =
-    if bytes_eq text (codes "opening") then Some stages.Opening
-    else (if bytes_eq text (codes "opened") then Some stages.Opened
-    else (if bytes_eq text (codes "joined") then Some stages.Joined else None))
+abbrev pub reached : Stage → Reached
+reached (stages.Opening games) = Opening games.items
+reached (stages.Opened game) = Opened game
+reached (stages.Joined game) = Joined game
+
+-- the board's game, where that was opened
+abbrev pub game_in : Reached → Option ℕ
+game_in (Opening games) = None
+game_in (Opened game) = Some game
+game_in (Joined game) = Some game
+
+-- what a note tells
+pub record Told : Type 0 where
+  pub board : ℕ
+  pub white : List ℕ
+  pub black : List ℕ
+  pub stage : Reached
+
+abbrev pub told : Note → Told
+told n = record { board = n.board; white = n.white; black = n.black; stage = reached n.stage }
+
+abbrev pub stage_word : Reached → List ℕ
+stage_word (Opening games) = codes "opening"
+stage_word (Opened game) = codes "opened"
+stage_word (Joined game) = codes "joined"
+
+-- each behind a comma
+abbrev pub behind_commas : List ℕ → List ℕ
+behind_commas numbers = flat_map (λ n. 44 ∷ decimal n) numbers
+
+-- an array of numbers; one alone stands without brackets
+abbrev pub numbers_text : List ℕ → List ℕ
+numbers_text [] = codes "[]"
+numbers_text (n ∷ []) = decimal n
+numbers_text (n ∷ m ∷ more) = 91 ∷ (decimal n ++ (behind_commas (m ∷ more) ++ (93 ∷ [])))
+
+abbrev pub value_text : Reached → List ℕ
+value_text (Opening games) = numbers_text games
+value_text (Opened game) = decimal game
+value_text (Joined game) = decimal game
 
 abbrev pub quoted : List ℕ → List ℕ
 quoted text = 34 ∷ (text ++ (34 ∷ []))
@@ -28,10 +65,10 @@ abbrev pub member_text : List ℕ → List ℕ → List ℕ
 member_text name value = quoted name ++ (58 ∷ value)
 
 -- `{"board":3,"white":"ann","black":"bob","opened":17}`
-unfoldable pub note_text : Note → List ℕ
+unfoldable pub note_text : Told → List ℕ
 note_text n =
     123 ∷ (member_text (codes "board") (decimal n.board) ++ (44 ∷ (member_text (codes "white") (quoted n.white)
-    ++ (44 ∷ (member_text (codes "black") (quoted n.black) ++ (44 ∷ (member_text (stage_text n.stage) (decimal n.number) ++ (125 ∷ []))))))))
+    ++ (44 ∷ (member_text (codes "black") (quoted n.black) ++ (44 ∷ (member_text (stage_word n.stage) (value_text n.stage) ++ (125 ∷ []))))))))
 
 -- what stands behind a member's name, and what stands in its first quotes
 abbrev pub value_of : List ℕ → List ℕ
@@ -62,35 +99,65 @@ white_in line = name_in (unquoted (value_of (member_in (behind_one line))))
 abbrev pub black_in : List ℕ → Option (List ℕ)
 black_in line = name_in (unquoted (value_of (member_in (behind_two line))))
 
-abbrev pub last_stage : List ℕ → Option Stage
-last_stage line = stage_in (unquoted (behind_three line))
+-- the numbers of an array, or a number alone
+abbrev pub is_array : List ℕ → Bool
+is_array [] = false
+is_array (b ∷ bs) = b == 91
 
-abbrev pub number_at_end : List ℕ → ℕ
-number_at_end line = number_or_0 (front_of 125 (value_of (behind_three line)))
+abbrev pub array_in : List ℕ → List ℕ
+array_in text = map number_or_0 (parts_of 44 (front_of 93 (rest_of 91 text)))
+
+abbrev pub numbers_in : List ℕ → List ℕ
+numbers_in text = if is_array text then array_in text else number_or_0 text ∷ []
+
+-- how far a game is by a word and what stands for it
+abbrev pub reached_in : List ℕ → List ℕ → Option Reached
+reached_in word value =
+    if bytes_eq word (codes "opening") then Some (Opening (numbers_in value))
+    else (if bytes_eq word (codes "opened") then Some (Opened (number_or_0 value))
+    else (if bytes_eq word (codes "joined") then Some (Joined (number_or_0 value)) else None))
+
+abbrev pub last_word : List ℕ → List ℕ
+last_word line = unquoted (behind_three line)
+
+abbrev pub last_value : List ℕ → List ℕ
+last_value line = front_of 125 (value_of (behind_three line))
+
+abbrev pub stage_in : List ℕ → Option Reached
+stage_in line = reached_in (last_word line) (last_value line)
 
 -- the note of which a line may be that
-abbrev pub likely_of : ℕ → ℕ → Option (List ℕ) → Option (List ℕ) → Option Stage → Option Note
-likely_of board number (Some white) (Some black) (Some stage) =
-    Some (record { board = board; white = white; black = black; stage = stage; number = number })
-likely_of board number (Some white) (Some black) None = None
-likely_of board number (Some white) None stage = None
-likely_of board number None black stage = None
+abbrev pub likely_of : ℕ → Option (List ℕ) → Option (List ℕ) → Option Reached → Option Told
+likely_of board (Some white) (Some black) (Some stage) = Some (record { board = board; white = white; black = black; stage = stage })
+likely_of board (Some white) (Some black) None = None
+likely_of board (Some white) None stage = None
+likely_of board None black stage = None
 
-unfoldable pub likely_note : List ℕ → Option Note
-likely_note line = likely_of (board_in line) (number_at_end line) (white_in line) (black_in line) (last_stage line)
+unfoldable pub likely_note : List ℕ → Option Told
+likely_note line = likely_of (board_in line) (white_in line) (black_in line) (stage_in line)
 
-abbrev pub where_spelled : List ℕ → Option Note → Option Note
+abbrev pub where_spelled : List ℕ → Option Told → Option Told
 where_spelled line None = None
 where_spelled line (Some note) = if bytes_eq (note_text note) line then Some note else None
 
--- the note of a line; none where it is that of none
-abbrev pub note_in : List ℕ → Option Note
+-- what the note of a line tells; none where it is that of none
+abbrev pub note_in : List ℕ → Option Told
 note_in line = where_spelled line (likely_note line)
 
+-- numbers of games
+abbrev pub AreNumbers : List ℕ → Type 0
+AreNumbers [] = Unit {0}
+AreNumbers (n ∷ ns) = (n < 2 ^ 32) × AreNumbers ns
+
+abbrev pub IsReached : Reached → Type 0
+IsReached (Opening games) = AreNumbers games
+IsReached (Opened game) = game < 2 ^ 32
+IsReached (Joined game) = game < 2 ^ 32
+
 -- a note of players with names, whose numbers are those of games and boards
-pub record IsNote (n : Note) : Type 0 where
+pub record IsNote (n : Told) : Type 0 where
   pub board : n.board < 2 ^ 32
-  pub number : n.number < 2 ^ 32
+  pub stage : IsReached n.stage
   pub white : is_name n.white ≡ true
   pub black : is_name n.black ≡ true
 

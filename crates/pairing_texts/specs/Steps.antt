@@ -1,10 +1,12 @@
 -- What is to be done about a board.
-use Rattle.std.specs.Prelude.{ℕ, ◌==◌, ◌&&◌, ◌||◌, Bool, true, false, not, nat_lt, List, [], ◌∷◌, flat_map, Option, None, Some, if◌then◌else◌}
+use Rattle.std.specs.Prelude.{ℕ, ◌&&◌, Bool, true, false, not, List, [], ◌∷◌, flat_map, map, Option, None, Some, if◌then◌else◌}
 use Rattle.std.specs.Str.{bytes_eq}
 use Rattle.pairing_texts.specs.declared.steps.Seats.{Seats}
 use Rattle.pairing_texts.specs.declared.steps.Step.{Step}
 use Rattle.pairing_texts.specs.declared.steps.Step.TheVariants as steps
 use Rattle.pairing_texts.specs.declared.steps.Row.{Row}
+use Rattle.pairing_texts.specs.Newer.{is_newer}
+use Rattle.pairing_texts.specs.Notes.{Reached, Opening, Opened, Joined}
 
 -- nobody sits there, or this player
 abbrev pub is_free_for : List ℕ → Option (List ℕ) → Bool
@@ -16,14 +18,18 @@ sits name None = false
 sits name (Some other) = bytes_eq other name
 
 -- A game that may be the board's: opened since that was noted, and White's own, whoever has joined it.
-abbrev pub may_be : ℕ → List ℕ → Row → Bool
-may_be after white row = nat_lt after row.game && sits white row.white
+abbrev pub may_be : List ℕ → List ℕ → Row → Bool
+may_be noted white row = is_newer noted row.game && sits white row.white
 
-abbrev pub game_where : ℕ → List ℕ → Row → List ℕ
-game_where after white row = if may_be after white row then row.game ∷ [] else []
+abbrev pub game_where : List ℕ → List ℕ → Row → List ℕ
+game_where noted white row = if may_be noted white row then row.game ∷ [] else []
 
-abbrev pub candidates_in : ℕ → List ℕ → List Row → List ℕ
-candidates_in after white rows = flat_map (game_where after white) rows
+abbrev pub candidates_in : List ℕ → List ℕ → List Row → List ℕ
+candidates_in noted white rows = flat_map (game_where noted white) rows
+
+-- the games of the table
+abbrev pub numbers_of : List Row → List ℕ
+numbers_of rows = map (λ row. row.game) rows
 
 -- Of games that may be the board's and have its times: it is opened where there is none, the one is its, and of several
 -- nobody knows which.
@@ -39,3 +45,11 @@ step_of_seats game white black (Some seats) =
     if not (sits white seats.white) then steps.Ask
     else (if sits black seats.black then steps.Note game
     else (if is_free_for black seats.black then steps.Join game else steps.Ask))
+
+-- What is to be done, by how far the board's last note says it is: by the games that may be its and have its times where it
+-- is about to be opened, by the seats of its game where that was opened.
+abbrev pub step_of : List ℕ → List ℕ → Option Reached → List ℕ → Option Seats → Step
+step_of white black None games seats = steps.Begin
+step_of white black (Some (Opening noted)) games seats = step_of_games games
+step_of white black (Some (Opened game)) games seats = step_of_seats game white black seats
+step_of white black (Some (Joined game)) games seats = steps.Has game

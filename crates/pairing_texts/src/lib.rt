@@ -14,10 +14,10 @@ mod tests;
 mod times;
 
 pub use faults::{Fault, RowFault};
-pub use law::{law_of_notes, law_of_times};
-pub use notes::{Note, Stage, last_of, note_of, note_text};
+pub use law::{law_of_notes, law_of_runs, law_of_times};
+pub use notes::{Note, Stage, game_in, last_of, note_of, note_text};
 pub use outcomes::{Outcome, results};
 pub use reading::read;
 pub use rows::{Game, Pairing};
-pub use steps::{Row, Seats, Step, candidates, step_of_games, step_of_seats};
+pub use steps::{Row, Seats, Step, candidates, is_newer, newest, step_of, with_newest};
 pub use times::{Period, Times, times_of, times_text};

@@ -1,9 +1,15 @@
 //! What is to be done about a board.
-ghost use Rattle.std.specs.Prelude.{◌≡◌, ◌++◌, IfOk, OnOk};
+ghost use Rattle.std.specs.Prelude.{◌≡◌, ◌++◌, ◌∷◌, [], ℕ, not, filter, option_map, IfOk, OnOk};
+ghost use Rattle.pairing_texts.specs.Newer as newer;
+ghost use Rattle.pairing_texts.specs.Notes.{reached};
 ghost use Rattle.pairing_texts.specs.Steps as spec;
 
+use crate::notes::Stage;
 use rec_codec::Name;
 use std::alloc::{AllocError, Global};
+
+// How many numbers a server's games have over a switch (docs/SERVERS.md, "Numbers").
+const SERVER: u32 = 10_000_000;
 
 /// A game of the table, and who sits in it.
 #[derive(Clone, Copy, Debug, PartialEq, Eq)]
@@ -23,6 +29,8 @@ pub struct Seats {
 /// What is to be done about a board.
 #[derive(Clone, Copy, Debug, PartialEq, Eq)]
 pub enum Step {
+    /// It is to be noted that its game is about to be opened, and which games are older, and then White is to open it.
+    Begin,
     /// White is to open its game.
     Open,
     /// This is its game, which is to be noted.
@@ -31,6 +39,8 @@ pub enum Step {
     Join(u32),
     /// Black has joined its game, which is to be noted.
     Note(u32),
+    /// This is its game, and nothing more is to be done.
+    Has(u32),
     /// The arbiter is to say which game is its, or that it is to be opened.
     Ask,
 }
@@ -53,41 +63,96 @@ fn sits(name: &Name, seat: Option<Name>) -> bool
     }
 }
 
-fn may_be(after: u32, white: &Name, row: &Row) -> bool
-    ensures { result ≡ spec.may_be after white.now row.now }
+// Whether two games have numbers of one server.
+fn is_same_server(one: u32, other: u32) -> bool
+    ensures { result ≡ newer.is_same_server one other }
 {
-    after < row.game && sits(white, row.white)
+    one / SERVER == other / SERVER
 }
 
-fn push_where(games: &mut Vec<u32>, after: u32, white: &Name, row: &Row) -> Result<(), AllocError>
-    ensures { OnOk result (games.new.items ≡ games.old.items ++ spec.game_where after white.now row.now) }
+fn is_past(one: u32, number: u32) -> bool
+    ensures { result ≡ newer.is_past one number }
 {
-    if may_be(after, white, row) {
+    !is_same_server(one, number) || one < number
+}
+
+/// Whether a game is newer than each of these that is of its server.
+pub fn is_newer(games: &[u32], number: u32) -> bool
+    ensures { result ≡ newer.is_newer games.now number }
+{
+    games.iter().all(|one| is_past(*one, number))
+}
+
+/// The table's newest game of each server: whatever is newer than these is newer than all of the table.
+pub fn newest(alloc: Global, rows: &[Row]) -> Result<Vec<u32>, AllocError>
+    ensures { IfOk result (λ games. (n : ℕ) → newer.is_newer games.items n ≡ newer.is_newer (spec.numbers_of rows.now) n) }
+{
+    let mut games = Vec::new(alloc);
+    // (a list is by rising number: so from its end on each server's first is its newest)
+    let mut left = rows.len();
+    while left > 0 {
+        left -= 1;
+        let game = rows[left].game;
+        if is_newer(games.as_slice(), game) {
+            games.push(game)?;
+        }
+    }
+    Ok(games)
+}
+
+/// These games, with this one in the place of those of its server.
+pub fn with_newest(alloc: Global, games: &[u32], game: u32) -> Result<Vec<u32>, AllocError>
+    ensures { IfOk result (λ with. with.items ≡ filter (λ one. not (newer.is_same_server one game)) games.now ++ (game ∷ [])) }
+{
+    let mut with: Vec<u32> = games
+        .iter()
+        .copied()
+        .filter(|one| !is_same_server(*one, game))
+        .collect(alloc)?;
+    with.push(game)?;
+    Ok(with)
+}
+
+fn may_be(noted: &[u32], white: &Name, row: &Row) -> bool
+    ensures { result ≡ spec.may_be noted.now white.now row.now }
+{
+    is_newer(noted, row.game) && sits(white, row.white)
+}
+
+fn push_where(
+    games: &mut Vec<u32>,
+    noted: &[u32],
+    white: &Name,
+    row: &Row,
+) -> Result<(), AllocError>
+    ensures { OnOk result (games.new.items ≡ games.old.items ++ spec.game_where noted.now white.now row.now) }
+{
+    if may_be(noted, white, row) {
         games.push(row.game)?;
     }
     Ok(())
 }
 
-/// The games of the table that may be a board's, of which it was noted that its number is greater than `after`. One that
-/// somebody else has joined is among them: another is not to be opened in its place.
+/// The games of the table that may be a board's, of which it was noted that it is newer than these. One that somebody else has
+/// joined is among them: another is not to be opened in its place.
 pub fn candidates(
     alloc: Global,
-    after: u32,
+    noted: &[u32],
     white: &Name,
     rows: &[Row],
 ) -> Result<Vec<u32>, AllocError>
-    ensures { IfOk result (λ games. games.items ≡ spec.candidates_in after white.now rows.now) }
+    ensures { IfOk result (λ games. games.items ≡ spec.candidates_in noted.now white.now rows.now) }
 {
     let mut games = Vec::new(alloc);
     for row in rows {
-        push_where(&mut games, after, white, row)?;
+        push_where(&mut games, noted, white, row)?;
     }
     Ok(games)
 }
 
-/// What is to be done about a board of which it was noted that its game is about to be opened, by the games that may be its
-/// and have its times.
-pub fn step_of_games(games: &[u32]) -> Step
+// What is to be done about a board of which it was noted that its game is about to be opened, by the games that may be its
+// and have its times.
+fn step_of_games(games: &[u32]) -> Step
     ensures { result ≡ spec.step_of_games games.now }
 {
     match games {
@@ -97,8 +162,8 @@ pub fn step_of_games(games: &[u32]) -> Step
     }
 }
 
-/// What is to be done about a board whose game was noted, by who sits in it; `None` where it is not on the table.
-pub fn step_of_seats(game: u32, white: &Name, black: &Name, seats: Option<Seats>) -> Step
+// What is to be done about a board whose game was noted, by who sits in it; `None` where it is not on the table.
+fn step_of_seats(game: u32, white: &Name, black: &Name, seats: Option<Seats>) -> Step
     ensures { result ≡ spec.step_of_seats game white.now black.now seats }
 {
     let Some(seats) = seats else {
@@ -112,5 +177,24 @@ pub fn step_of_seats(game: u32, white: &Name, black: &Name, seats: Option<Seats>
         Step::Join(game)
     } else {
         Step::Ask
+    }
+}
+
+/// What is to be done about a board, by its last note. `games` are those that may be its and have its times, where it was
+/// noted that it is about to be opened; `seats` those of its game, where that was opened and is on the table.
+pub fn step_of(
+    white: &Name,
+    black: &Name,
+    stage: Option<&Stage>,
+    games: &[u32],
+    seats: Option<Seats>,
+) -> Step
+    ensures { result ≡ spec.step_of white.now black.now (option_map (λ s. reached s.now) stage.entry) games.now seats }
+{
+    match stage {
+        None => Step::Begin,
+        Some(Stage::Opening(_)) => step_of_games(games),
+        Some(Stage::Opened(game)) => step_of_seats(*game, white, black, seats),
+        Some(Stage::Joined(game)) => Step::Has(*game),
     }
 }

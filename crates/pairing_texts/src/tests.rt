@@ -1,7 +1,7 @@
 //! The texts of a round, and what is to be done about boards.
 use crate::{
-    Fault, Note, Outcome, Row, RowFault, Seats, Stage, Step, candidates, last_of, note_of,
-    note_text, read, results, step_of_games, step_of_seats, times_of, times_text,
+    Fault, Note, Outcome, Row, RowFault, Seats, Stage, Step, candidates, game_in, is_newer, last_of,
+    newest, note_of, note_text, read, results, step_of, times_of, times_text, with_newest,
 };
 use rec_codec::Name;
 use std::test::Fail;
@@ -59,15 +59,66 @@ fn notes(rt: HostRuntime) -> Result<(), Fail> {
         board: 3,
         white,
         black,
-        stage: Stage::Opened,
-        number: 17,
+        stage: Stage::Opened(17),
     };
     let line = "{\"board\":3,\"white\":\"ann\",\"black\":\"bob\",\"opened\":17}";
     assert!(rt; note_text(rt.alloc(), &note)?.as_str() == line);
-    assert!(rt; note_of(rt.alloc(), line)? == Some(note));
+    assert!(rt; note_of(rt.alloc(), line)?.as_ref() == Some(&note));
     assert!(rt; note_of(rt.alloc(), "{\"board\":3}")?.is_none());
-    assert!(rt; last_of(&[note], 3) == Some(note));
-    assert!(rt; last_of(&[note], 4).is_none());
+    assert!(rt; game_in(&note.stage) == Some(17));
+    let notes = [note];
+    assert!(rt; last_of(&notes, 3).is_some());
+    assert!(rt; last_of(&notes, 4).is_none());
+    Ok(())
+}
+
+#[test]
+fn older_games(rt: HostRuntime) -> Result<(), Fail> {
+    for (told, is_noted) in [
+        ("[]", true),
+        ("16", true),
+        ("[20000003,16]", true),
+        ("[16]", false),
+        ("[016,17]", false),
+        ("[16,17", false),
+        ("16,17", false),
+    ] {
+        let mut line = String::from_str(
+            rt.alloc(),
+            "{\"board\":3,\"white\":\"ann\",\"black\":\"bob\",\"opening\":",
+        )?;
+        line.push_str(told)?;
+        line.push('}')?;
+        let note = note_of(rt.alloc(), line.as_str())?;
+        assert!(rt; note.is_some() == is_noted);
+        if let Some(note) = note {
+            assert!(rt; note_text(rt.alloc(), &note)? == line);
+        }
+    }
+    Ok(())
+}
+
+#[test]
+fn newer_games(rt: HostRuntime) -> Result<(), Fail> {
+    let rows = [
+        row(9, "ann", ""),
+        row(16, "ann", ""),
+        row(20_000_002, "ann", ""),
+        row(20_000_003, "ann", ""),
+    ];
+    let games = newest(rt.alloc(), &rows)?;
+    assert!(rt; games.as_slice() == [20_000_003, 16].as_slice());
+    for (number, is) in [
+        (16, false),
+        (17, true),
+        (20_000_003, false),
+        (20_000_004, true),
+        (30_000_001, true),
+    ] {
+        assert!(rt; is_newer(games.as_slice(), number) == is);
+    }
+    let with = with_newest(rt.alloc(), games.as_slice(), 20)?;
+    assert!(rt; with.as_slice() == [20_000_003, 20].as_slice());
     Ok(())
 }
 
@@ -100,15 +151,22 @@ fn boards(rt: HostRuntime) -> Result<(), Fail> {
         row(19, "cid", "ann"),
         row(20, "ann", "bob"),
     ];
-    let games = candidates(rt.alloc(), 16, &ann, &rows)?;
+    let games = candidates(rt.alloc(), &[16], &ann, &rows)?;
     assert!(rt; games.as_slice() == [17, 18, 20].as_slice());
-    assert!(rt; step_of_games(&[]) == Step::Open);
-    assert!(rt; step_of_games(&[17]) == Step::Take(17));
-    assert!(rt; step_of_games(&[17, 19]) == Step::Ask);
-    assert!(rt; step_of_seats(17, &ann, &bob, seats("ann", "")) == Step::Join(17));
-    assert!(rt; step_of_seats(17, &ann, &bob, seats("ann", "bob")) == Step::Note(17));
-    assert!(rt; step_of_seats(17, &ann, &bob, seats("ann", "ann")) == Step::Ask);
-    assert!(rt; step_of_seats(17, &ann, &bob, None) == Step::Ask);
+    let step = |stage: Option<&Stage>, games: &[u32], seats: Option<Seats>| {
+        step_of(&ann, &bob, stage, games, seats)
+    };
+    let opening = Stage::Opening(games);
+    let opened = Stage::Opened(17);
+    assert!(rt; step(None, &[], None) == Step::Begin);
+    assert!(rt; step(Some(&opening), &[], None) == Step::Open);
+    assert!(rt; step(Some(&opening), &[17], None) == Step::Take(17));
+    assert!(rt; step(Some(&opening), &[17, 19], None) == Step::Ask);
+    assert!(rt; step(Some(&opened), &[], seats("ann", "")) == Step::Join(17));
+    assert!(rt; step(Some(&opened), &[], seats("ann", "bob")) == Step::Note(17));
+    assert!(rt; step(Some(&opened), &[], seats("ann", "ann")) == Step::Ask);
+    assert!(rt; step(Some(&opened), &[], None) == Step::Ask);
+    assert!(rt; step(Some(&Stage::Joined(17)), &[], None) == Step::Has(17));
     Ok(())
 }
 

@@ -1,0 +1,317 @@
+-- What holds of a board from the first call on, whatever happens.
+use Rattle.std.proofs.Common.{ℕ, ◌≡◌, ◌≤◌, ◌+◌, ◌==◌, ◌&&◌, ◌||◌, Bool, true, false, not, List, [], ◌∷◌, ◌++◌, length, filter, map, Option, Some, None, refl, sym, ap, ◌∙◌, subst, arith, inl, inr, ◌⊎◌, if◌then◌else◌}
+use Rattle.std.specs.List.{list_any, list_all}
+use Rattle.std.specs.Str.{bytes_eq}
+use Rattle.std.proofs.lemmas.Bool.{false≢true}
+use Rattle.std.proofs.lemmas.Bool.Decides.{Decides-eqb}
+use Rattle.std.proofs.lemmas.List.{map-append}
+use Rattle.std.proofs.lemmas.List.Folds.{list_all-append}
+use Rattle.std.proofs.lemmas.Slice.Eq.{bytes_eq-Decides}
+use Rattle.pairing_texts.specs.declared.steps.Seats.{Seats}
+use Rattle.pairing_texts.specs.declared.steps.Step.{Step}
+use Rattle.pairing_texts.specs.declared.steps.Step.TheVariants as steps
+use Rattle.pairing_texts.specs.declared.steps.Row.{Row}
+use Rattle.pairing_texts.specs.Newer.{is_newer, is_past}
+use Rattle.pairing_texts.specs.Notes.{Reached, Opening, Opened, Joined}
+use Rattle.pairing_texts.specs.Steps.{sits, is_free_for, may_be, candidates_in, numbers_of, step_of, step_of_games, step_of_seats}
+use Rattle.pairing_texts.specs.Runs.{Board, Standing, Event, Looks, Acts, Dies, Passes, games_at, looked, noted, row_of, with_game, acted, happened, TellNewer, IsDone, is_there, has_game, Stays, IsAllowed, after_all, AreAllowed, IsBeginning, game_noted, HasOneGame}
+
+-- ---- the games that may be the board's
+
+and_true : (x : Bool) → (x && true) ≡ x
+and_true true = refl
+and_true false = refl
+
+and_false : (x : Bool) → (x && false) ≡ false
+and_false true = refl
+and_false false = refl
+
+or_false : (x : Bool) → (x || false) ≡ x
+or_false true = refl
+or_false false = refl
+
+and_first : (a b : Bool) → (a && b) ≡ true → a ≡ true
+and_first true b h = refl
+and_first false b h = absurd (false≢true h)
+
+and_second : (a b : Bool) → (a && b) ≡ true → b ≡ true
+and_second true b h = h
+and_second false b h = absurd (false≢true h)
+
+both_true : (a b : Bool) → a ≡ true → b ≡ true → (a && b) ≡ true
+both_true a b h k = rw h k
+
+-- one row more
+one_more : (game n : ℕ) (fits : ℕ → Bool) (m f : Bool) (more : List ℕ) (rest : Bool) → fits n ≡ f →
+    list_any (λ x. x == game) (filter fits more) ≡ rest →
+    list_any (λ x. x == game) (filter fits ((if m then n ∷ [] else []) ++ more)) ≡ (((n == game) && (m && fits n)) || rest)
+one_more game n fits true true more rest e r = rw e (rw r (ap (λ (b : Bool). b || rest) (sym (and_true (n == game)))))
+one_more game n fits true false more rest e r = rw e (rw r (ap (λ (b : Bool). b || rest) (sym (and_false (n == game)))))
+one_more game n fits false f more rest e r = rw r (ap (λ (b : Bool). b || rest) (sym (and_false (n == game))))
+
+-- a game that may be the board's is among those that `start` finds
+found : (b : Board) (noted : List ℕ) (game : ℕ) (rows : List Row) →
+    list_any (λ x. x == game) (filter b.fits (candidates_in noted b.white rows)) ≡ has_game b noted game rows
+found b noted game [] = refl
+found b noted game (row ∷ rows) =
+    one_more game row.game b.fits (may_be noted b.white row) (b.fits row.game) (candidates_in noted b.white rows) (has_game b noted game rows) refl
+    (found b noted game rows)
+
+not_none : (b : Board) (noted : List ℕ) (game : ℕ) (rows : List Row) → filter b.fits (candidates_in noted b.white rows) ≡ [] →
+    has_game b noted game rows ≡ true → ⊥
+not_none b noted game rows none there =
+    false≢true (ap (list_any (λ x. x == game)) (sym none) ∙ (found b noted game rows ∙ there))
+
+the_one : (b : Board) (noted : List ℕ) (game one : ℕ) (rows : List Row) → filter b.fits (candidates_in noted b.white rows) ≡ one ∷ [] →
+    has_game b noted game rows ≡ true → game ≡ one
+the_one b noted game one rows alone there =
+    let among : list_any (λ x. x == game) (one ∷ []) ≡ true = ap (list_any (λ x. x == game)) (sym alone) ∙ (found b noted game rows ∙ there) in
+    sym ((Decides-eqb one game).0 (sym (or_false (one == game)) ∙ among))
+
+either : (a b : Bool) → b ≡ true → (a || b) ≡ true
+either true b h = refl
+either false b h = h
+
+any_append : {A : Type 0} (p : A → Bool) (xs : List A) (x : A) → p x ≡ true → list_any p (xs ++ x ∷ []) ≡ true
+any_append p [] x h = or_false (p x) ∙ h
+any_append p (y ∷ ys) x h = either (p y) (list_any p (ys ++ x ∷ [])) (any_append p ys x h)
+
+-- ---- what always holds
+
+abbrev IsNoneOr : List ℕ → ℕ → Type 0
+IsNoneOr opened game = (opened ≡ []) ⊎ (opened ≡ game ∷ [])
+
+record IsThere (b : Board) (noted : List ℕ) (rows : List Row) (opened : List ℕ) : Type 0 where
+  game : ℕ
+  one : opened ≡ game ∷ []
+  there : has_game b noted game rows ≡ true
+
+abbrev NoteHolds : Board → Option Reached → List ℕ → List Row → List ℕ → Type 0
+NoteHolds b None given rows opened = opened ≡ []
+NoteHolds b (Some (Opening noted)) given rows opened = TellNewer given noted × ((opened ≡ []) ⊎ IsThere b noted rows opened)
+NoteHolds b (Some (Opened game)) given rows opened = IsNoneOr opened game
+NoteHolds b (Some (Joined game)) given rows opened = IsNoneOr opened game
+
+record IsOpening (note : Option Reached) : Type 0 where
+  noted : List ℕ
+  is : note ≡ Some (Opening noted)
+
+abbrev DoesHold : Option Step → Option Reached → List ℕ → List Row → List ℕ → Type 0
+DoesHold None note given seen opened = Unit {0}
+DoesHold (Some steps.Begin) note given seen opened = (note ≡ None) × TellNewer given (numbers_of seen)
+DoesHold (Some steps.Open) note given seen opened = IsOpening note × (opened ≡ [])
+DoesHold (Some (steps.Take game)) note given seen opened = IsNoneOr opened game
+DoesHold (Some (steps.Join game)) note given seen opened = Unit {0}
+DoesHold (Some (steps.Note game)) note given seen opened = IsNoneOr opened game
+DoesHold (Some (steps.Has game)) note given seen opened = Unit {0}
+DoesHold (Some steps.Ask) note given seen opened = Unit {0}
+
+record IsSound (b : Board) (s : Standing) : Type 0 where
+  given : TellNewer s.given (numbers_of s.rows)
+  note : NoteHolds b s.note s.given s.rows s.opened
+  does : DoesHold s.does s.note s.given s.seen s.opened
+
+-- ---- it looks
+
+games_hold : (b : Board) (noted given : List ℕ) (rows : List Row) (opened games : List ℕ) →
+    filter b.fits (candidates_in noted b.white rows) ≡ games → NoteHolds b (Some (Opening noted)) given rows opened →
+    DoesHold (Some (step_of_games games)) (Some (Opening noted)) given rows opened
+games_hold b noted given rows opened [] e holds =
+    (record { noted = noted; is = refl },
+        elim holds.1 [ inl none ↦ none | inr there ↦ absurd (not_none b noted there.game rows e there.there) ])
+games_hold b noted given rows opened (one ∷ []) e holds =
+    elim holds.1 [
+      | inl none ↦ inl none
+      | inr there ↦ inr (there.one ∙ ap (λ (n : ℕ). n ∷ []) (the_one b noted there.game one rows e there.there))
+    ]
+games_hold b noted given rows opened (one ∷ two ∷ more) e holds = tt
+
+if_holds : (game : ℕ) (note : Option Reached) (given : List ℕ) (rows : List Row) (opened : List ℕ) (x y z : Bool) → IsNoneOr opened game →
+    DoesHold (Some (if x then steps.Ask else (if y then steps.Note game else (if z then steps.Join game else steps.Ask)))) note given rows opened
+if_holds game note given rows opened true y z h = tt
+if_holds game note given rows opened false true z h = h
+if_holds game note given rows opened false false true h = tt
+if_holds game note given rows opened false false false h = tt
+
+seats_hold : (white black : List ℕ) (game : ℕ) (note : Option Reached) (given : List ℕ) (rows : List Row) (opened : List ℕ) (seats : Option Seats) →
+    IsNoneOr opened game → DoesHold (Some (step_of_seats game white black seats)) note given rows opened
+seats_hold white black game note given rows opened None h = tt
+seats_hold white black game note given rows opened (Some seats) h =
+    if_holds game note given rows opened (not (sits white seats.white)) (sits black seats.black) (is_free_for black seats.black) h
+
+look_holds : (b : Board) (note : Option Reached) (given : List ℕ) (rows : List Row) (opened : List ℕ) (seats : Option Seats) →
+    TellNewer given (numbers_of rows) → NoteHolds b note given rows opened →
+    DoesHold (Some (step_of b.white b.black note (games_at b note rows) seats)) note given rows opened
+look_holds b None given rows opened seats tell holds = (refl, tell)
+look_holds b (Some (Opening noted)) given rows opened seats tell holds =
+    games_hold b noted given rows opened (filter b.fits (candidates_in noted b.white rows)) refl holds
+look_holds b (Some (Opened game)) given rows opened seats tell holds =
+    seats_hold b.white b.black game (Some (Opened game)) given rows opened seats holds
+look_holds b (Some (Joined game)) given rows opened seats tell holds = tt
+
+-- ---- it does
+
+more_given : (given more these : List ℕ) → TellNewer given these → TellNewer (given ++ more) these
+more_given given more these tell n h =
+    tell n (and_first (is_newer given n) (is_newer more n) (sym (list_all-append (λ one. is_past one n) given more) ∙ h))
+
+one_given : (given : List ℕ) (rows : List Row) (row : Row) → TellNewer given (numbers_of rows) →
+    TellNewer (given ++ row.game ∷ []) (numbers_of (rows ++ row ∷ []))
+one_given given rows row tell n h =
+    let both = sym (list_all-append (λ one. is_past one n) given (row.game ∷ [])) ∙ h in
+    ap (λ ns. is_newer ns n) (map-append (λ (r : Row). r.game) rows (row ∷ []))
+    ∙ (list_all-append (λ one. is_past one n) (numbers_of rows) (row.game ∷ [])
+    ∙ both_true (is_newer (numbers_of rows) n) (is_newer (row.game ∷ []) n)
+    (tell n (and_first (is_newer given n) (is_newer (row.game ∷ []) n) both))
+    (and_second (is_newer given n) (is_newer (row.game ∷ []) n) both))
+
+row_there : (b : Board) (noted : List ℕ) (game : ℕ) → is_newer noted game ≡ true → b.fits game ≡ true → is_there b noted game (row_of b game) ≡ true
+row_there b noted game new fits =
+    both_true (game == game) ((is_newer noted game && bytes_eq b.white b.white) && b.fits game) ((Decides-eqb game game).1 refl)
+    (both_true (is_newer noted game && bytes_eq b.white b.white) (b.fits game)
+    (both_true (is_newer noted game) (bytes_eq b.white b.white) new ((bytes_eq-Decides b.white b.white).1 refl)) fits)
+
+one_opened : (opened : List ℕ) (game : ℕ) → opened ≡ [] → opened ++ game ∷ [] ≡ game ∷ []
+one_opened opened game none = ap (λ (xs : List ℕ). xs ++ game ∷ []) none
+
+-- the game is opened, and the note stays
+open_holds : (b : Board) (note : Option Reached) (given : List ℕ) (rows : List Row) (opened : List ℕ) (game : ℕ) (is : IsOpening note) →
+    opened ≡ [] → NoteHolds b note given rows opened → is_newer given game ≡ true → b.fits game ≡ true →
+    NoteHolds b note (given ++ game ∷ []) (rows ++ row_of b game ∷ []) (opened ++ game ∷ [])
+open_holds b note given rows opened game is none holds new fits =
+    let at : NoteHolds b (Some (Opening is.noted)) given rows opened = subst (λ (n : Option Reached). NoteHolds b n given rows opened) is.is holds in
+    subst (λ (n : Option Reached). NoteHolds b n (given ++ game ∷ []) (rows ++ row_of b game ∷ []) (opened ++ game ∷ [])) (sym is.is)
+    (more_given given (game ∷ []) is.noted at.0,
+        inr (record {
+          game = game;
+          one = one_opened opened game none;
+          there = any_append (is_there b is.noted game) rows (row_of b game) (row_there b is.noted game (at.0 game new) fits);
+        }))
+
+none_opened : (b : Board) (note : Option Reached) (given : List ℕ) (rows : List Row) (opened : List ℕ) → note ≡ None →
+    NoteHolds b note given rows opened → opened ≡ []
+none_opened b note given rows opened none holds = subst (λ (n : Option Reached). NoteHolds b n given rows opened) none holds
+
+acted_sound : (b : Board) (s : Standing) (older : List ℕ) (game : ℕ) (is_noted : Bool) (does : Option Step) → IsSound b s →
+    DoesHold does s.note s.given s.seen s.opened → IsDone b older game does s → IsSound b (acted b older game is_noted does s)
+acted_sound b s older game is_noted None sound holds done = sound
+acted_sound b s older game is_noted (Some steps.Begin) sound holds done =
+    let none = none_opened b s.note s.given s.rows s.opened holds.0 sound.note in
+    record {
+      given = sound.given;
+      note = (λ n h. done n (holds.1 n h), inl none);
+      does = (record { noted = older; is = refl }, none);
+    }
+acted_sound b s older game true (Some steps.Open) sound holds done = record {
+  given = one_given s.given s.rows (row_of b game) sound.given;
+  note = inr (one_opened s.opened game holds.1);
+  does = tt;
+}
+acted_sound b s older game false (Some steps.Open) sound holds done = record {
+  given = one_given s.given s.rows (row_of b game) sound.given;
+  note = open_holds b s.note s.given s.rows s.opened game holds.0 holds.1 sound.note done.0 done.1;
+  does = tt;
+}
+acted_sound b s older game is_noted (Some (steps.Take one)) sound holds done = record { given = sound.given; note = holds; does = tt }
+acted_sound b s older game is_noted (Some (steps.Join one)) sound holds done = record { given = sound.given; note = sound.note; does = tt }
+acted_sound b s older game is_noted (Some (steps.Note one)) sound holds done = record { given = sound.given; note = holds; does = tt }
+acted_sound b s older game is_noted (Some (steps.Has one)) sound holds done = record { given = sound.given; note = sound.note; does = tt }
+acted_sound b s older game is_noted (Some steps.Ask) sound holds done = record { given = sound.given; note = sound.note; does = tt }
+
+-- ---- the table changes
+
+pass_note : (b : Board) (note : Option Reached) (given more : List ℕ) (old new : List Row) (opened : List ℕ) → Stays b note old new →
+    NoteHolds b note given old opened → NoteHolds b note (given ++ more) new opened
+pass_note b None given more old new opened stays holds = holds
+pass_note b (Some (Opening noted)) given more old new opened stays holds =
+    (more_given given more noted holds.0,
+        elim holds.1 [
+          | inl none ↦ inl none
+          | inr there ↦ inr (record { game = there.game; one = there.one; there = stays there.game there.there })
+        ])
+pass_note b (Some (Opened game)) given more old new opened stays holds = holds
+pass_note b (Some (Joined game)) given more old new opened stays holds = holds
+
+pass_does : (does : Option Step) (note : Option Reached) (given more : List ℕ) (seen : List Row) (opened : List ℕ) →
+    DoesHold does note given seen opened → DoesHold does note (given ++ more) seen opened
+pass_does None note given more seen opened holds = tt
+pass_does (Some steps.Begin) note given more seen opened holds = (holds.0, more_given given more (numbers_of seen) holds.1)
+pass_does (Some steps.Open) note given more seen opened holds = holds
+pass_does (Some (steps.Take game)) note given more seen opened holds = holds
+pass_does (Some (steps.Join game)) note given more seen opened holds = tt
+pass_does (Some (steps.Note game)) note given more seen opened holds = holds
+pass_does (Some (steps.Has game)) note given more seen opened holds = tt
+pass_does (Some steps.Ask) note given more seen opened holds = tt
+
+-- ---- all of it
+
+sound_more : (b : Board) (event : Event) (s : Standing) → IsSound b s → IsAllowed b event s → IsSound b (happened b event s)
+sound_more b (Looks seats) s sound allowed = record {
+  given = sound.given;
+  note = sound.note;
+  does = look_holds b s.note s.given s.rows s.opened seats sound.given sound.note;
+}
+sound_more b (Acts older game is_noted) s sound allowed = acted_sound b s older game is_noted s.does sound sound.does allowed
+sound_more b Dies s sound allowed = record { given = sound.given; note = sound.note; does = tt }
+sound_more b (Passes rows more) s sound allowed = record {
+  given = allowed.0;
+  note = pass_note b s.note s.given more s.rows rows s.opened allowed.1 sound.note;
+  does = pass_does s.does s.note s.given more s.seen s.opened sound.does;
+}
+
+sound_all : (b : Board) (events : List Event) (s : Standing) → IsSound b s → AreAllowed b events s → IsSound b (after_all b events s)
+sound_all b [] s sound allowed = sound
+sound_all b (event ∷ events) s sound allowed = sound_all b events (happened b event s) (sound_more b event s sound allowed.0) allowed.1
+
+sound_first : (b : Board) (s : Standing) → IsBeginning s → IsSound b s
+sound_first b s is = record {
+  given = is.given;
+  note = subst (λ (n : Option Reached). NoteHolds b n s.given s.rows s.opened) (sym is.note) is.opened;
+  does = subst (λ (d : Option Step). DoesHold d s.note s.given s.seen s.opened) (sym is.does) tt;
+}
+
+-- ---- what is promised
+
+short_none : (opened : List ℕ) → opened ≡ [] → length opened ≤ 1
+short_none opened none = subst (λ (xs : List ℕ). length xs ≤ 1) (sym none) (omega arith)
+
+short_one : (opened : List ℕ) (game : ℕ) → opened ≡ game ∷ [] → length opened ≤ 1
+short_one opened game one = subst (λ (xs : List ℕ). length xs ≤ 1) (sym one) (omega arith)
+
+short : (opened : List ℕ) (game : ℕ) → IsNoneOr opened game → length opened ≤ 1
+short opened game holds = elim holds [ inl none ↦ short_none opened none | inr one ↦ short_one opened game one ]
+
+once_by : (b : Board) (note : Option Reached) (given : List ℕ) (rows : List Row) (opened : List ℕ) → NoteHolds b note given rows opened → length opened ≤ 1
+once_by b None given rows opened holds = short_none opened holds
+once_by b (Some (Opening noted)) given rows opened holds =
+    elim holds.1 [ inl none ↦ short_none opened none | inr there ↦ short_one opened there.game there.one ]
+once_by b (Some (Opened game)) given rows opened holds = short opened game holds
+once_by b (Some (Joined game)) given rows opened holds = short opened game holds
+
+no_other : (opened : List ℕ) (game : ℕ) → IsNoneOr opened game → list_any (λ one. not (one == game)) opened ≡ false
+no_other opened game holds =
+    let P : List ℕ → Type 0 = λ xs. list_any (λ one. not (one == game)) xs ≡ false in
+    elim holds [
+      | inl none ↦ subst P (sym none) refl
+      | inr one ↦ subst P (sym one) (or_false (not (game == game)) ∙ ap not ((Decides-eqb game game).1 refl))
+    ]
+
+noted_by : (b : Board) (note : Option Reached) (given : List ℕ) (rows : List Row) (opened : List ℕ) → NoteHolds b note given rows opened →
+    (game : ℕ) → game_noted note ≡ Some game → list_any (λ one. not (one == game)) opened ≡ false
+noted_by b None given rows opened holds game e = cc
+noted_by b (Some (Opening noted)) given rows opened holds game e = cc
+noted_by b (Some (Opened one)) given rows opened holds game e =
+    let same : one ≡ game = cc in
+    subst (λ (g : ℕ). list_any (λ x. not (x == g)) opened ≡ false) same (no_other opened one holds)
+noted_by b (Some (Joined one)) given rows opened holds game e =
+    let same : one ≡ game = cc in
+    subst (λ (g : ℕ). list_any (λ x. not (x == g)) opened ≡ false) same (no_other opened one holds)
+
+pub one_game : (b : Board) (s : Standing) (events : List Event) → IsBeginning s → AreAllowed b events s → HasOneGame (after_all b events s)
+one_game b s events is allowed =
+    let end = after_all b events s in
+    let sound = sound_all b events s (sound_first b s is) allowed in
+    record {
+      once = once_by b end.note end.given end.rows end.opened sound.note;
+      noted = noted_by b end.note end.given end.rows end.opened sound.note;
+    }
