@@ -28,7 +28,8 @@ export class ArbiterView {
     this.question = new Question();
     this.waits = new Waits(this);
     this.pairing = new Pairing(this, (key, number) => this.adjourned.goesOn(key, number));
-    this.adjourned = new Adjournments(this, (note) => this.pairing.fill({ ...note, times: timesToGoOn(note) }, wordsToGoOn(note)));
+    this.adjourned = new Adjournments(this, (note) => this.pairing.fill({ ...note, times: timesToGoOn(note) },
+      wordsToGoOn(note)));
     this.links = new Links(this);
     byId('arbiter-find').addEventListener('input', () => {
       this.first = 0;

@@ -112,8 +112,9 @@ export class Pairing {
     }
     const at = document.activeElement;
     if (at && at !== document.body && !at.disabled && at.getClientRects().length) return;
-    const next = ['pair-again', 'pair-leave', 'pair-open'].map(byId).find((one) => one.getClientRects().length && !one.disabled);
-    if (next) next.focus();
+    const next = ['pair-again', 'pair-leave', 'pair-open'].map(byId);
+    const found = next.find((one) => one.getClientRects().length && !one.disabled);
+    if (found) found.focus();
   }
 
   /** Notes which games White has, and then opens the game: it is another one, since no number is given twice. */
@@ -260,9 +261,10 @@ export class Pairing {
     }
     this.unsure = false;
     this.several = found.length > 1;
+    const numbers = found.join(', ');
     if (found.length === 1) this.opened(found[0]);
-    else if (!this.several && !goesOn) this.step('No game has been opened so far.', false);
-    else if (this.several) this.step(`It may be any of these games: ${found.join(', ')}. Look at them, and leave this pairing.`, false);
+    else if (this.several) this.step(`It may be any of these games: ${numbers}. Look at them, and leave this pairing.`, false);
+    else if (!goesOn) this.step('No game has been opened so far.', false);
   }
 
   // ---- showing
