@@ -4,7 +4,7 @@
 
 import { readPgn, readRefusal, readShow, readTimes, sideOf } from './lines.js';
 import { arrange, byId, copy, make, read, setText, write } from './make.js';
-import { AGREED, NO_GAME, OTHER, SIDES, clockText, colourWord, refusalWords, resultWords, timesWords } from './words.js';
+import { AGREED, NO_GAME, OTHER, SIDES, arbiterWords, clockText, colourWord, resultWords, timesWords } from './words.js';
 
 const PREFIX = 'adjourned-';
 const DAY = 86400;                   // seconds: the longest first period that the server takes
@@ -124,10 +124,16 @@ export class Adjournments {
     if (item && document.activeElement === document.body) item.querySelector('button').focus();
   }
 
+  /** One note after another. */
+  settle(note, enters) {
+    const before = this.working || Promise.resolve();
+    this.working = before.catch(() => {}).then(() => this.work(note, enters));
+    return this.working;
+  }
+
   /** From how the game stands: where it is over, the note is ended; else the steps that are left are entered, if `enters`
    * says so: an offer for White, and its acceptance for Black, or the acceptance of an offer that stands. */
-  async settle(note, enters) {
-    if (this.busy) return;
+  async work(note, enters) {
     this.busy = true;
     this.render();
     try {
@@ -147,7 +153,7 @@ export class Adjournments {
       this.say(note, '');
       this.keep({ ...note, gone: true });
     } else if (!show || !position) {
-      this.say(note, refusal ? refusalWords(refusal) : 'The connection broke before the answer came.');
+      this.say(note, refusal ? arbiterWords(refusal) : 'The connection broke before the answer came.');
     }
     if (!show || !position) return null;
     if (show.white !== note.white || show.black !== note.black) {
@@ -176,7 +182,7 @@ export class Adjournments {
       const answer = await this.app.wire.say(line), refusal = readRefusal(answer[0]);
       if (answer[0].startsWith('ok ')) continue;
       if (answer[0].startsWith('fallen')) return true;
-      if (refusal) this.say(note, `It is not closed. ${refusalWords(refusal)}`);
+      if (refusal) this.say(note, `It is not closed. ${arbiterWords(refusal)}`);
       else if (answer[0] === 'unsent') this.say(note, 'It is not closed: there is no connection. Nothing was sent.');
       else this.say(note, 'The connection broke before the answer came. Once it is there again, the game is looked at.');
       return false;

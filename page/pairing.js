@@ -4,14 +4,11 @@
 import { readPgn, readRefusal, readRows, readShow, timesOfOpen } from './lines.js';
 import { byId, make, read, setText, write } from './make.js';
 import { TimesField } from './times.js';
-import { NO_FEN, NO_GAME, refusalWords } from './words.js';
+import { NO_FEN, NO_GAME, arbiterWords } from './words.js';
 
 const KEY = 'pairing';
 const LONGEST = 255;                 // bytes of a message to the lobby
 const SETTLES = 700;                 // milliseconds between two looks at the table
-const OF_A_PLAYER = {
-  35: 'Sixteen games of this player wait for an opponent already: one of them has to be joined or taken off first.',
-};
 const local = () => localStorage;
 
 export class Pairing {
@@ -271,7 +268,7 @@ export class Pairing {
 
   wordsOf(line) {
     const refusal = readRefusal(line);
-    if (refusal) return OF_A_PLAYER[refusal.number] || refusalWords(refusal);
+    if (refusal) return arbiterWords(refusal);
     return line === 'unsent' ? 'There is no connection. Nothing was sent.' : 'The connection broke before the answer came.';
   }
 
