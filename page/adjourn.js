@@ -4,7 +4,7 @@
 
 import { readPgn, readRefusal, readShow, readTimes, sideOf } from './lines.js';
 import { arrange, byId, copy, make, read, setText, write } from './make.js';
-import { AGREED, OTHER, SIDES, clockText, colourWord, refusalWords, resultWords, timesWords } from './words.js';
+import { AGREED, NO_GAME, OTHER, SIDES, arbiterWords, clockText, colourWord, resultWords, timesWords } from './words.js';
 
 const PREFIX = 'adjourned-';
 const DAY = 86400;                   // seconds: the longest first period that the server takes
@@ -54,7 +54,7 @@ export class Adjournments {
 
   /** How a game stands, as a note has it. */
   noteOf({ number, white, black, ply, left, article }, fen, times) {
-    const begun = this.notes().find((note) => !note.closed && note.game === number && note.white === white
+    const begun = this.notes().find((note) => !note.closed && !note.gone && note.game === number && note.white === white
       && note.black === black);
     const at = begun ? begun.at : Date.now();
     return { ...begun, key: `${PREFIX}${number}-${at}`, at, game: number, white, black, ply, left, fen, times,
@@ -66,7 +66,8 @@ export class Adjournments {
   /** Asks whether a game shall be adjourned, with all that will be noted; false where it is not told how it stands. */
   async ask(number) {
     const wire = this.app.wire, dialog = byId('adjourn-dialog');
-    const [shown, fen, pgn] = await Promise.all([`show ${number}`, `fen ${number}`, `pgn ${number}`].map((line) => wire.say(line)));
+    const lines = [`show ${number}`, `fen ${number}`, `pgn ${number}`];
+    const [shown, fen, pgn] = await Promise.all(lines.map((line) => wire.say(line)));
     const note = this.read(shown, fen, pgn);
     if (!note) return false;
     if (document.querySelector('dialog[open]')) return true;
@@ -123,10 +124,16 @@ export class Adjournments {
     if (item && document.activeElement === document.body) item.querySelector('button').focus();
   }
 
+  /** One note after another. */
+  settle(note, enters) {
+    const before = this.working || Promise.resolve();
+    this.working = before.catch(() => {}).then(() => this.work(note, enters));
+    return this.working;
+  }
+
   /** From how the game stands: where it is over, the note is ended; else the steps that are left are entered, if `enters`
    * says so: an offer for White, and its acceptance for Black, or the acceptance of an offer that stands. */
-  async settle(note, enters) {
-    if (this.busy) return;
+  async work(note, enters) {
     this.busy = true;
     this.render();
     try {
@@ -142,10 +149,13 @@ export class Adjournments {
   async standing(note) {
     const [shown, fen] = await Promise.all([`show ${note.game}`, `fen ${note.game}`].map((line) => this.app.wire.say(line)));
     const show = readShow(shown[0]), position = /^ok fen \d+ (.+)$/.exec(fen[0]), refusal = readRefusal(shown[0]);
-    if (!show || !position) {
-      this.say(note, refusal ? `Game ${note.game}: ${refusalWords(refusal)}` : 'The connection broke before the answer came.');
-      return null;
+    if (refusal && refusal.number === NO_GAME) {
+      this.say(note, '');
+      this.keep({ ...note, gone: true });
+    } else if (!show || !position) {
+      this.say(note, refusal ? arbiterWords(refusal) : 'The connection broke before the answer came.');
     }
+    if (!show || !position) return null;
     if (show.white !== note.white || show.black !== note.black) {
       this.say(note, `Game ${note.game} is one of other players now.`);
       return null;
@@ -172,7 +182,7 @@ export class Adjournments {
       const answer = await this.app.wire.say(line), refusal = readRefusal(answer[0]);
       if (answer[0].startsWith('ok ')) continue;
       if (answer[0].startsWith('fallen')) return true;
-      if (refusal) this.say(note, `It is not closed. ${refusalWords(refusal)}`);
+      if (refusal) this.say(note, `It is not closed. ${arbiterWords(refusal)}`);
       else if (answer[0] === 'unsent') this.say(note, 'It is not closed: there is no connection. Nothing was sent.');
       else this.say(note, 'The connection broke before the answer came. Once it is there again, the game is looked at.');
       return false;
@@ -184,7 +194,7 @@ export class Adjournments {
   async again() {
     this.render();
     if (!this.app.isArbiter()) return;
-    for (const note of this.notes().filter(({ closed }) => !closed)) await this.settle(note, false);
+    for (const note of this.notes().filter(({ closed, gone }) => !closed && !gone)) await this.settle(note, false);
   }
 
   /** The game of a note goes on as another one. */
@@ -237,8 +247,11 @@ export class Adjournments {
     const button = (kind, words, act, given = {}) => make('button', { type: 'button', 'data-key': `${kind}-${note.key}`,
       onclick: act, ...given }, words, make('span', { class: 'unseen' }, `, game ${note.game}`));
     const acts = [];
-    if (!note.closed) acts.push(button('close', 'Close it as a draw', () => this.settle(note, true), { disabled: !may }));
-    else if (!note.later) acts.push(button('on', 'Go on with it', () => this.goOn(note), { class: 'strong' }));
+    if (!note.closed && !note.gone) {
+      acts.push(button('close', 'Close it as a draw', () => this.settle(note, true), { disabled: !may }));
+    } else if (!note.later) {
+      acts.push(button('on', 'Go on with it', () => this.goOn(note), { class: 'strong' }));
+    }
     acts.push(button('copy', 'Copy the note', () => this.copyNote(note, copied)),
       button('forget', 'Forget it', () => this.forget(note)));
     return make('li', { class: 'adjourned' },
@@ -249,11 +262,12 @@ export class Adjournments {
 
   stateOf(note) {
     const said = this.said.get(note.key) || '';
-    if (!note.closed) return said || 'It is not closed yet.';
-    const record = `Adjourned ${momentOf(note)}. Game ${note.game} stands in the record as a draw.`;
+    if (!note.closed && !note.gone) return said || 'It is not closed yet.';
+    const record = note.closed ? `Adjourned ${momentOf(note)}. Game ${note.game} stands in the record as a draw.`
+      : `Game ${note.game} has left the table before it was seen how it ended: its PGN tells. It stood so ${momentOf(note)}.`;
     if (!note.later) return `${record} The game that goes on with it is the board’s.`;
-    return `${record} It goes on as game ${note.later}, which is the board’s: in a league’s round give --take BOARD=${note.later} to `
-      + 'chess-pairings start.';
+    return `${record} It goes on as game ${note.later}, which is the board’s: in a league’s round give `
+      + `--take BOARD=${note.later} to chess-pairings start.`;
   }
 }
 
@@ -268,10 +282,11 @@ export function timesToGoOn(note) {
 
 /** What is said of that at the form. */
 export function wordsToGoOn(note) {
-  const same = Math.ceil(note.left.w / 1000) === Math.ceil(note.left.b / 1000);
+  const record = note.closed ? 'stands in the record as a draw' : 'is on the table no more';
   const clocks = SIDES.map((side) => `${colourWord(side)} had ${clockOf(note, side)}`).join(', ');
-  return `This goes on with game ${note.game}, which stands in the record as a draw; the game that is opened here is the board’s. `
-    + `The server has one time for both sides: ${same ? clocks : `${clocks}, so both get the greater of the two`}.`;
+  const same = Math.ceil(note.left.w / 1000) === Math.ceil(note.left.b / 1000);
+  return `This goes on with game ${note.game}, which ${record}; the game that is opened here is the board’s. The server `
+    + `has one time for both sides: ${clocks}${same ? '' : ', so both get the greater of the two'}.`;
 }
 
 function readNote(key) {

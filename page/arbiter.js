@@ -9,7 +9,7 @@ import { arrange, byId, make, setText } from './make.js';
 import { Pairing } from './pairing.js';
 import { Question } from './question.js';
 import { Waits } from './waits.js';
-import { AGREED, OTHER, SIDES, actWords, colourWord, refusalWords, resultWords } from './words.js';
+import { AGREED, OTHER, SIDES, actWords, arbiterWords, colourWord, refusalWords, resultWords } from './words.js';
 
 const MOST = 12;                     // games on a page: each is watched
 const ASKS_WHO = 10000;
@@ -28,7 +28,8 @@ export class ArbiterView {
     this.question = new Question();
     this.waits = new Waits(this);
     this.pairing = new Pairing(this, (key, number) => this.adjourned.goesOn(key, number));
-    this.adjourned = new Adjournments(this, (note) => this.pairing.fill({ ...note, times: timesToGoOn(note) }, wordsToGoOn(note)));
+    this.adjourned = new Adjournments(this, (note) => this.pairing.fill({ ...note, times: timesToGoOn(note) },
+      wordsToGoOn(note)));
     this.links = new Links(this);
     byId('arbiter-find').addEventListener('input', () => {
       this.first = 0;
@@ -362,7 +363,7 @@ export class ArbiterView {
     for (const line of lines) {
       const answer = await this.app.wire.say(line), refusal = readRefusal(answer[0]);
       if (!answer[0].startsWith('ok ')) {
-        if (refusal) tell(refusalWords(refusal));
+        if (refusal) tell(arbiterWords(refusal));
         else if (answer[0].startsWith('fallen')) tell('The flag had fallen: the game is over by that.');
         else if (answer[0] === 'unsent') tell('There is no connection. Nothing was sent.');
         else tell('The connection broke before the answer came. Look how the game stands before you enter it again.');

@@ -112,7 +112,8 @@ export class Links {
     const button = (kind, words, act) => make('button', { type: 'button', 'data-key': `${kind}-link-${name}`, onclick: act },
       words, make('span', { class: 'unseen' }, ` for ${full}`));
     return make('li', { class: 'link-row' }, make('span', { class: 'link-name' }, make('span', { class: 'name' }, full),
-      full !== name && make('span', { class: 'small' }, name), role === 'arbiter' && make('span', { class: 'small' }, 'arbiter'),
+      full !== name && make('span', { class: 'small' }, name),
+      role === 'arbiter' && make('span', { class: 'small' }, 'arbiter'),
       make('span', { class: 'away' }, 'not connected')),
     button('new', 'New link', () => this.askNew(name, full)),
     name !== this.app.me() && button('close', 'Close the link', () => this.askClose(name, full)));

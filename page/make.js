@@ -67,7 +67,7 @@ export async function copy(text) {
   } catch (refused) {
     const area = make('textarea', { class: 'unseen', readOnly: true });
     area.value = text;
-    document.body.append(area);
+    (document.querySelector('dialog[open]') || document.body).append(area);       // (else a dialog keeps it from the keys)
     area.select();
     const done = document.execCommand('copy');
     area.remove();

@@ -316,7 +316,8 @@ class Page {
     if (this.view) this.view.render && this.view.render();
   }
 
-  /** The lobby takes this connection for nobody's, though it had signed in: an arbiter has made another link or closed this one. */
+  /** The lobby takes this connection for nobody's, though it had signed in: an arbiter has made another link, or closed
+   * this one. */
   async unnamed() {
     if (!this.player || this.asksAgain) return;
     this.asksAgain = true;

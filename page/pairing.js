@@ -4,14 +4,11 @@
 import { readPgn, readRefusal, readRows, readShow, timesOfOpen } from './lines.js';
 import { byId, make, read, setText, write } from './make.js';
 import { TimesField } from './times.js';
-import { NO_FEN, NO_GAME, refusalWords } from './words.js';
+import { NO_FEN, NO_GAME, arbiterWords } from './words.js';
 
 const KEY = 'pairing';
 const LONGEST = 255;                 // bytes of a message to the lobby
 const SETTLES = 700;                 // milliseconds between two looks at the table
-const OF_A_PLAYER = {
-  35: 'Sixteen games of this player wait for an opponent already: one of them has to be joined or taken off first.',
-};
 const local = () => localStorage;
 
 export class Pairing {
@@ -112,8 +109,9 @@ export class Pairing {
     }
     const at = document.activeElement;
     if (at && at !== document.body && !at.disabled && at.getClientRects().length) return;
-    const next = ['pair-again', 'pair-leave', 'pair-open'].map(byId).find((one) => one.getClientRects().length && !one.disabled);
-    if (next) next.focus();
+    const next = ['pair-again', 'pair-leave', 'pair-open'].map(byId);
+    const found = next.find((one) => one.getClientRects().length && !one.disabled);
+    if (found) found.focus();
   }
 
   /** Notes which games White has, and then opens the game: it is another one, since no number is given twice. */
@@ -260,16 +258,17 @@ export class Pairing {
     }
     this.unsure = false;
     this.several = found.length > 1;
+    const numbers = found.join(', ');
     if (found.length === 1) this.opened(found[0]);
-    else if (!this.several && !goesOn) this.step('No game has been opened so far.', false);
-    else if (this.several) this.step(`It may be any of these games: ${found.join(', ')}. Look at them, and leave this pairing.`, false);
+    else if (this.several) this.step(`It may be any of these games: ${numbers}. Look at them, and leave this pairing.`, false);
+    else if (!goesOn) this.step('No game has been opened so far.', false);
   }
 
   // ---- showing
 
   wordsOf(line) {
     const refusal = readRefusal(line);
-    if (refusal) return OF_A_PLAYER[refusal.number] || refusalWords(refusal);
+    if (refusal) return arbiterWords(refusal);
     return line === 'unsent' ? 'There is no connection. Nothing was sent.' : 'The connection broke before the answer came.';
   }
 

@@ -39,9 +39,21 @@ const REFUSALS = {
     + 'help, tell who runs the lobby.',
 };
 
+const OF_ANOTHER = {
+  4: 'This player does not play in this game.',
+  8: 'It is not this player’s turn.',
+  11: 'No offer of a draw stands: it was declined, or a move was made.',
+  35: 'Sixteen games of this player wait for an opponent already: one of them has to be joined or taken off first.',
+};
+
 /** What a refused line means to who sent it. */
 export function refusalWords(refusal) {
   return REFUSALS[refusal.number] || `The server refused it: ${refusal.name} (number ${refusal.number}).`;
+}
+
+/** The same to an arbiter, who entered it for another. */
+export function arbiterWords(refusal) {
+  return OF_ANOTHER[refusal.number] || refusalWords(refusal);
 }
 
 /** `no 14 FlagUp` and the like: told to nobody, since they only say that a clock is a little ahead. */
