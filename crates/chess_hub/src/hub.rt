@@ -3,7 +3,7 @@ ghost use Rattle.std.specs.Prelude.{ℕ, ◌≡◌, ◌≤◌, ◌↔◌, true, 
 ghost use Rattle.session_lines.specs.Heard.{heard_more};
 ghost use Rattle.chess_sessions.specs.Session.{said, fresh, session_at, session_count, Changes, IsUnchanged, due, first_due, given_one};
 ghost use Rattle.chess_store.specs.Batch.{AreAnswered};
-ghost use Rattle.table_commits.specs.Means.{IsKept};
+ghost use Rattle.chess_store.specs.Kept.{IsStoreKept};
 ghost use Rattle.chess_hub.specs.Faults.{IsConnectFault, IsFeedFault, refusals_after};
 ghost use Rattle.chess_hub.specs.Turning.{HasTurned, AsksFor, MayBeAsked, AreRefused, IsTurnFault, Lasts, IsTried};
 
@@ -52,8 +52,7 @@ fn ask<D: Device>(
         store.old.table.entries commands.now) }
     ensures fault { IfErr result (λ fault. IsTurnFault fault ⊥ (λ refused. AreRefused refused
         store.old.journal.header.seq store.old.failed store.old.table store.new.table commands.now)) }
-    ensures lasts { IsKept (D.state store.old.journal.device) store.old.journal.header store.old.journal.compaction
-        store.old.table → Lasts result (D.state store.old.journal.device) (D.state store.new.journal.device)
+    ensures lasts { IsStoreKept store.old → Lasts result (D.state store.old.journal.device) (D.state store.new.journal.device)
         store.new.journal.header store.new.journal.compaction store.old.table store.new.table }
     ensures tried { IsTried D.state D.sector_count D.failures store.old.journal.device store.new.journal.device result
         store.old.table store.new.table store.old.failed store.new.failed }
@@ -148,8 +147,7 @@ impl<D: Device> Hub<D> {
         ensures fault { IfErr result (λ fault. IsTurnFault fault (self.new.store ≡ self.old.store)
             (λ refused. AsksFor at most self.old.sessions (AreRefused refused self.old.store.journal.header.seq
             self.old.store.failed self.old.store.table self.new.store.table))) }
-        ensures lasts { IsKept (D.state self.old.store.journal.device) self.old.store.journal.header
-            self.old.store.journal.compaction self.old.store.table
+        ensures lasts { IsStoreKept self.old.store
             → Lasts result (D.state self.old.store.journal.device) (D.state self.new.store.journal.device)
             self.new.store.journal.header self.new.store.journal.compaction self.old.store.table self.new.store.table }
         ensures refusals { self.new.refusals ≡ self.old.refusals }
@@ -191,8 +189,7 @@ impl<D: Device> Hub<D> {
         ensures fault { IfErr result (λ fault. IsTurnFault fault (self.new.store ≡ self.old.store)
             (λ refused. AsksFor at most self.old.sessions (AreRefused refused self.old.store.journal.header.seq
             self.old.store.failed self.old.store.table self.new.store.table))) }
-        ensures lasts { IsKept (D.state self.old.store.journal.device) self.old.store.journal.header
-            self.old.store.journal.compaction self.old.store.table
+        ensures lasts { IsStoreKept self.old.store
             → Lasts result (D.state self.old.store.journal.device) (D.state self.new.store.journal.device)
             self.new.store.journal.header self.new.store.journal.compaction self.old.store.table self.new.store.table }
         ensures counts { self.new.refusals ≡ refusals_after result self.old.refusals }

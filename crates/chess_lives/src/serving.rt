@@ -2,7 +2,8 @@
 ghost use Rattle.std.specs.Prelude.{◌≡◌, ◌≤◌, ◌+◌, ◌-◌, ◌↔◌, false, map, count_by, IfSome};
 ghost use Rattle.chess_board.specs.Legal.{EachOf};
 ghost use Rattle.chess_entry.specs.State.{TableState};
-ghost use Rattle.table_commits.specs.Means.{AllMean, IsKept};
+ghost use Rattle.table_commits.specs.Means.{AllMean};
+ghost use Rattle.chess_store.specs.Kept.{IsStoreKept};
 ghost use Rattle.chess_lives.specs.Courses.{IsSubmittable, is_unsent};
 ghost use Rattle.chess_lives.specs.Stops.{IsLivesFault};
 ghost use Rattle.chess_lives.specs.Serving.{IsTallied, HasRoomForPending, IsServed, CountsEnd, pending_of};
@@ -50,8 +51,7 @@ fn submit_all<D: Device>(store: &mut Store<D>, batches: &[Vec<Command>]) -> Tall
     requires works { store.old.failed ≡ false }
     requires batches { EachOf IsSubmittable (map (λ b. b.items) batches.now) }
     ensures tallied { IsTallied store.old.table (map (λ b. b.items) batches.now) result
-        (D.failures store.old.journal.device) (IsKept (D.state store.old.journal.device) store.old.journal.header
-        store.old.journal.compaction store.old.table) (D.state store.new.journal.device)
+        (D.failures store.old.journal.device) (IsStoreKept store.old) (D.state store.new.journal.device)
         (D.failures store.new.journal.device) }
     ensures room { HasRoomForPending result }
     ensures fault { IfSome result.fault IsLivesFault }

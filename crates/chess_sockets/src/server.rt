@@ -1,7 +1,7 @@
 //! The server.
 ghost use Rattle.std.specs.Prelude.{ℕ, ◌≡◌, ◌<◌, ◌+◌, ◌↔◌, ◌⊎◌, true, false, [], Some, None, Ok, IsTrue, IsSomeAnd, IfOk, IfErr, OnOk, length};
 ghost use Rattle.std.specs.Bool.{OnTrue, OnFalse};
-ghost use Rattle.table_commits.specs.Means.{IsKept};
+ghost use Rattle.chess_store.specs.Kept.{IsStoreKept};
 ghost use Rattle.chess_hub.specs.Faults.{CountsFault, refusals_after};
 ghost use Rattle.chess_hub.specs.Turning.{MayBeAsked, Lasts, IsTried};
 ghost use Rattle.chess_sockets.specs.Serving.{state_of, Welcomes, IsWelcomed, IsAskedFor, HasServed, HasGoneRound, open_in};
@@ -101,8 +101,7 @@ pub(crate) fn serve_clients<S: Read + Write, D: Device>(
         hub.new.store.failed) }
     ensures cause_err { IfErr result (λ fault. CountsFault fault (D.failures hub.old.store.journal.device)
         (D.failures hub.new.store.journal.device)) }
-    ensures lasts { IsKept (D.state hub.old.store.journal.device) hub.old.store.journal.header
-        hub.old.store.journal.compaction hub.old.store.table
+    ensures lasts { IsStoreKept hub.old.store
         → Lasts result (D.state hub.old.store.journal.device) (D.state hub.new.store.journal.device)
         hub.new.store.journal.header hub.new.store.journal.compaction hub.old.store.table hub.new.store.table }
 {
@@ -312,8 +311,7 @@ impl<D: Device, S: Read + Write + From<TcpStream> + Drop> Server<D, S> {
         ensures silence { self.new.silence ≡ self.old.silence }
         ensures waits { self.new.watch.calm_waits ≡ self.old.watch.calm_waits }
         ensures blind { self.old.watch.is_blind ≡ true → self.new.watch.is_blind ≡ true }
-        ensures lasts { IsKept (D.state self.old.hub.store.journal.device) self.old.hub.store.journal.header
-            self.old.hub.store.journal.compaction self.old.hub.store.table
+        ensures lasts { IsStoreKept self.old.hub.store
             → Lasts result (D.state self.old.hub.store.journal.device) (D.state self.new.hub.store.journal.device)
             self.new.hub.store.journal.header self.new.hub.store.journal.compaction self.old.hub.store.table
             self.new.hub.store.table }
