@@ -1,6 +1,6 @@
 //! Why a fault came, in words, where the system has not said it.
-ghost use Rattle.std.specs.Prelude.{◌↔◌, IsNone};
-ghost use Rattle.server_work.specs.Causes.{IsOfDevice, IsOfHubsDevice, IsOfSystem};
+ghost use Rattle.std.specs.Prelude.{◌≡◌, ◌↔◌, IsNone, IfSome};
+ghost use Rattle.server_work.specs.Causes.{IsOfDevice, IsOfHubsDevice, IsOfSystem, reason_of, reason_of_hub, reason_of_store};
 
 use crate::ends::Fault;
 use chess_hub::HubFault;
@@ -8,7 +8,8 @@ use chess_store::StoreFault;
 
 // Of a fault of the store.
 fn store_reason(fault: StoreFault) -> Option<&'static str>
-    ensures { IsNone result ↔ IsOfDevice fault }
+    ensures none { IsNone result ↔ IsOfDevice fault }
+    ensures said { IfSome result (λ said. said.now ≡ reason_of_store fault) }
 {
     match fault {
         StoreFault::Exists => {
@@ -28,7 +29,8 @@ fn store_reason(fault: StoreFault) -> Option<&'static str>
 
 // Of a fault of the hub.
 fn hub_reason(fault: HubFault) -> Option<&'static str>
-    ensures { IsNone result ↔ IsOfHubsDevice fault }
+    ensures none { IsNone result ↔ IsOfHubsDevice fault }
+    ensures said { IfSome result (λ said. said.now ≡ reason_of_hub fault) }
 {
     match fault {
         HubFault::Busy => Some("a session sends lines faster than they are answered"),
@@ -41,7 +43,8 @@ fn hub_reason(fault: HubFault) -> Option<&'static str>
 /// Why a fault came, to be told of the file or the stream that a word works on; `None` exactly where a call of the system
 /// failed, whose own error says it.
 pub(crate) fn reason(fault: Fault) -> Option<&'static str>
-    ensures { IsNone result ↔ IsOfSystem fault }
+    ensures none { IsNone result ↔ IsOfSystem fault }
+    ensures said { IfSome result (λ said. said.now ≡ reason_of fault) }
 {
     match fault {
         Fault::File => None,

@@ -6,8 +6,6 @@ mod ends;
 mod memory;
 mod opening;
 mod telling;
-#[cfg(test)]
-mod tests;
 
 pub use ends::{End, Fault, end_of_words, end_of_work, name, status};
 pub use memory::play_board;

@@ -1,0 +1,17 @@
+//! Tests of the journal, by what its crate exports alone: so it is not proved twice.
+#![tactic(auto)]
+
+#[cfg(test)]
+mod bytes;
+#[cfg(test)]
+mod calls;
+#[cfg(test)]
+mod contents;
+#[cfg(test)]
+mod cycles;
+#[cfg(test)]
+mod images;
+#[cfg(test)]
+mod memory;
+#[cfg(test)]
+mod versions;
