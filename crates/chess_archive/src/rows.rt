@@ -1,7 +1,7 @@
 //! The games of the server's list.
 use anyhow::{Result, bail};
 use server_link::{Row, row_of};
-use std::alloc::Global;
+use std::alloc::{AllocError, Global};
 use text_parts::parts;
 
 /// The games of the server's list.
@@ -19,4 +19,15 @@ pub fn rows_of(alloc: Global, list: &str) -> Result<Vec<Row<'_>>> {
 /// The least number of a game on the table: later games have greater ones.
 pub fn first_of(rows: &[Row<'_>]) -> Option<u32> {
     rows.iter().map(|row| row.game).min()
+}
+
+/// The games that are over, in the order of the list.
+pub fn games_over(alloc: Global, rows: &[Row<'_>]) -> Result<Vec<u32>, AllocError> {
+    let mut games = Vec::new(alloc);
+    for row in rows {
+        if row.is_over {
+            games.push(row.game)?;
+        }
+    }
+    Ok(games)
 }
