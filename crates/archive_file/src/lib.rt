@@ -9,7 +9,7 @@ mod reading;
 #[cfg(test)]
 mod tests;
 
-pub use archive::{Archive, Step};
+pub use archive::{Archive, games_of};
 pub use faults::Fault;
 pub use law::law_of_lines;
 pub use reading::{game_of, pgn_of};

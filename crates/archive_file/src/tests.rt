@@ -1,5 +1,5 @@
 //! Nights on a file in memory, with every kill.
-use crate::{Archive, Fault, Step, game_of, pgn_of};
+use crate::{Archive, Fault, game_of, pgn_of};
 use night_files::{AppendedFile, Fate, MemoryFile};
 use std::alloc::Global;
 use std::test::Fail;
@@ -67,18 +67,16 @@ fn keeps_each_game_once(rt: HostRuntime) -> Result<(), Fail> {
 }
 
 #[test]
-fn tells_what_is_to_be_done(rt: HostRuntime) -> Result<(), Fail> {
+fn tells_what_it_has(rt: HostRuntime) -> Result<(), Fail> {
     let file = MemoryFile::new(rt.alloc(), None);
     let Ok(mut archive) = Archive::open(rt.alloc(), file) else {
         assert!(rt; false);
         return Ok(());
     };
-    assert!(rt; archive.step_for(7, true, true) == Step::Keep);
-    assert!(rt; archive.step_for(7, false, true) == Step::Nothing);
-    assert!(rt; archive.keep(rt.alloc(), 7, b"*\n").is_ok());
+    assert!(rt; !archive.has(7));
+    assert!(rt; matches!(archive.keep(rt.alloc(), 7, b"*\n"), Ok(true)));
     assert!(rt; archive.has(7) && !archive.has(8));
-    assert!(rt; archive.step_for(7, true, true) == Step::Drop);
-    assert!(rt; archive.step_for(7, true, false) == Step::Nothing);
+    assert!(rt; matches!(archive.keep(rt.alloc(), 7, b"1. e4 *\n"), Ok(false)));
     Ok(())
 }
 

@@ -1,7 +1,7 @@
 //! The lines of an archive's file. Opening an archive cuts off what stands behind its last line, so a file that is no archive
 //! is refused before.
 use anyhow::{Context, Result, bail};
-use archive_file::game_of;
+use archive_file::{game_of, games_of};
 use night_files::{AppendedFile, NamedFile, whole_length};
 use std::alloc::Global;
 use std::fs;
@@ -52,18 +52,20 @@ fn leave_lines(alloc: Global, bytes: &mut Vec<u8>, file: &str) -> Result<()> {
     Ok(())
 }
 
-/// The lines of an archive's file; the last one may lack its line feed. It fails where one is no game's, or where what stands behind
-/// them is no front of such a line.
+// Fails where a line is no game's, and where a game has two.
+fn look_at_games(alloc: Global, text: &str) -> Result<()> {
+    let lines = parts(alloc, text, '\n')?;
+    games_of(alloc, lines.as_slice())?;
+    Ok(())
+}
+
+/// The lines of an archive's file; the last one may lack its line feed. It fails where one is no game's, where a game has two, or
+/// where what stands behind them is no front of such a line.
 pub fn lines_of<R: Files + AllocGlobal>(rt: &R, file: &str) -> Result<String> {
     let mut bytes = fs::read(rt, file).context(format_args!("reading {file}"))?;
     leave_lines(rt.alloc(), &mut bytes, file)?;
     let text = String::from_utf8(bytes).context(format_args!("{file}"))?;
-    for (at, line) in parts(rt.alloc(), text.as_str(), '\n')?.iter().enumerate() {
-        if game_of(rt.alloc(), line)?.is_none() {
-            let number = at.saturating_add(1);
-            bail!("{file} is no archive: line {number} is no game's");
-        }
-    }
+    look_at_games(rt.alloc(), text.as_str()).context(format_args!("{file} is no archive"))?;
     Ok(text)
 }
 

@@ -30,14 +30,16 @@ prints
   kept 12, dropped 0, in the archive 40";
 
 const HELP_OF_EXPORT: &str = "\
-It writes the PGN of each game of an archive, in the order in which they were kept. The
-archive is only read, also while another keeps games in it.
+It writes the PGN of each game of an archive, in the order in which they were kept; with
+--csv a row for each, as CSV: its number, how many moves were made, and the values of its
+tags. The archive is only read, also while another keeps games in it.
 
 Exit status: 0; 1 with what is wrong on standard error; 2 for words that the program does
 not know.
 
-Example:
-  chess-archive export --archive night.jsonl >night.pgn";
+Examples:
+  chess-archive export --archive night.jsonl >night.pgn
+  chess-archive export --archive night.jsonl --csv >games.csv";
 
 const HELP_OF_LIVE: &str = "\
 It writes the games that are played at the game server at --server to a file, each with all
@@ -59,8 +61,8 @@ Example:
 pub enum Word<'a> {
     /// To keep games that are over.
     Keep(Keeping<'a>),
-    /// To write the games of this archive.
-    Export(&'a str),
+    /// To write the games of an archive.
+    Export(Exporting<'a>),
     /// To write the games that are played.
     Live(Living<'a>),
 }
@@ -79,6 +81,14 @@ pub struct Keeping<'a> {
     pub lobby: Option<SocketAddr>,
     /// After how many seconds it is done again.
     pub every: Option<u32>,
+}
+
+/// Which archive's games are written, and how.
+#[derive(Clone, Copy)]
+pub struct Exporting<'a> {
+    pub archive: &'a str,
+    /// As CSV, and not as PGN.
+    pub is_csv: bool,
 }
 
 /// What is written where others fetch it.
@@ -173,9 +183,10 @@ fn live_command<'a>(alloc: Global) -> Result<Command<'a>, AllocError> {
 
 fn export_command<'a>(alloc: Global) -> Result<Command<'a>, AllocError> {
     Command::new(alloc, "export")
-        .about("Writes the games of an archive as PGN")
+        .about("Writes the games of an archive as PGN or CSV")
         .after_help(HELP_OF_EXPORT)
-        .arg(archive_option(alloc))
+        .arg(archive_option(alloc))?
+        .arg(flag(alloc, "csv", "Writes a row a game as CSV, and no PGN"))
 }
 
 /// The program's command line.
@@ -198,7 +209,7 @@ pub fn read_words<'a>(alloc: Global, words: &'a [String]) -> Result<Word<'a>, Er
     let matches = command.try_get_matches_from_mut(words)?;
     let word = match matches.subcommand() {
         Some(("keep", values)) => keeping_of(values).map(Word::Keep),
-        Some(("export", values)) => values.get_str("archive").map(Word::Export),
+        Some(("export", values)) => exporting_of(values).map(Word::Export),
         Some(("live", values)) => living_of(values).map(Word::Live),
         _ => None,
     };
@@ -244,6 +255,14 @@ fn keeping_of<'a>(values: &ArgMatches<'a>) -> Option<Keeping<'a>> {
         drops,
         lobby: lobby_of(values, drops)?,
         every: values.get_one("every"),
+    })
+}
+
+// What `export` asks for.
+fn exporting_of<'a>(values: &ArgMatches<'a>) -> Option<Exporting<'a>> {
+    Some(Exporting {
+        archive: values.get_str("archive")?,
+        is_csv: values.get_flag("csv"),
     })
 }
 

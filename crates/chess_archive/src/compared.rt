@@ -3,12 +3,13 @@ use archive_file::{game_of, pgn_of};
 use std::alloc::{AllocError, Global};
 use text_parts::parts;
 
-// Whether a line is a tag whose value is of the call that kept the game.
+// Whether a line is a tag that the call which kept the game has made.
 fn is_of_the_call(line: &str) -> bool {
     line.starts_with("[Event ")
         || line.starts_with("[Site ")
         || line.starts_with("[Date ")
         || line.starts_with("[Round ")
+        || line.starts_with("[Continues ")
 }
 
 // The words of a line of moves, but for the numbers of moves and the comments, which tell what clocks showed. It tells whether a
@@ -30,8 +31,8 @@ fn push_words<'a>(
     Ok(is_comment)
 }
 
-// The tags of a PGN and the words of its moves that say which game it is.
-fn telling_parts<'a>(alloc: Global, pgn: &'a str) -> Result<Vec<&'a str>, AllocError> {
+/// The tags of a PGN and the words of its moves that say which game it is.
+pub fn telling_parts<'a>(alloc: Global, pgn: &'a str) -> Result<Vec<&'a str>, AllocError> {
     let mut telling = Vec::new(alloc);
     let mut is_comment = false;
     for line in parts(alloc, pgn, '\n')?.as_slice() {
@@ -44,7 +45,7 @@ fn telling_parts<'a>(alloc: Global, pgn: &'a str) -> Result<Vec<&'a str>, AllocE
     Ok(telling)
 }
 
-// Whether two PGNs are of one game, whatever their events, sites, dates, rounds and clocks.
+// Whether two PGNs are of one game, whatever their events, sites, dates, rounds and clocks, and whatever game they continue.
 fn is_same(alloc: Global, one: &[u8], other: &[u8]) -> Result<bool, AllocError> {
     let (Ok(one), Ok(other)) = (str::from_utf8(one), str::from_utf8(other)) else {
         return Ok(false);

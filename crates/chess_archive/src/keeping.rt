@@ -1,157 +1,23 @@
 //! The word that keeps games that are over.
-use crate::asking::{Knowledge, pgn_of};
+use crate::asking::Knowledge;
 use crate::command_line::Keeping;
-use crate::compared::has_game;
-use crate::figures::watched_games;
+use crate::keeper::{Counts, Keeper, NOTHING};
 use crate::log_reader::LogReader;
-use crate::rows::rows_of;
+use crate::rows::{games_over, rows_of};
 use crate::telling::Telling;
-use anyhow::{Context, Result, anyhow};
-use archive_file::{Archive, Step};
+use anyhow::{Context, Result};
+use archive_file::Archive;
 use archive_lines::{end_last_line, lines_of};
+use lobby_archive::look;
 use lobby_desk::Player;
 use night_files::NamedFile;
 use players_file::players_of;
 use server_link::{Link, Row};
-use std::alloc::Global;
 use std::fs::{self, File};
 use std::net::{Net, TcpStream};
 use std::rt::{Clock, Files};
 use std::thread;
 use std::time::Duration;
-
-/// How many games were kept and dropped, and how many are in the archive.
-#[derive(Clone, Copy)]
-struct Counts {
-    kept: u32,
-    dropped: u32,
-    all: usize,
-}
-
-const NOTHING: Counts = Counts {
-    kept: 0,
-    dropped: 0,
-    all: 0,
-};
-
-/// An archive that is filled from a server.
-#[derive(Drop)]
-struct Keeper<'a, R> {
-    rt: &'a R,
-    keeping: &'a Keeping<'a>,
-    link: Link,
-    archive: Archive<NamedFile>,
-    // The archive's lines when it was opened.
-    lines: String,
-    known: Knowledge<'a>,
-    // Whether games are dropped still.
-    drops: bool,
-    counts: Counts,
-    // What went wrong first, though the work went on.
-    fault: Option<anyhow::Error>,
-}
-
-impl<R> Keeper<'_, R>
-where
-    R: Net<Stream = TcpStream> + AllocGlobal + Clock,
-{
-    // Notes what goes wrong.
-    fn note(&mut self, fault: anyhow::Error) {
-        if self.fault.is_none() {
-            self.fault = Some(fault);
-        }
-    }
-
-    // Asks for the PGN of a game, as the archive has it; none where the game has left the table since.
-    fn pgn_of(&mut self, row: Row<'_>) -> Result<Option<Vec<u8>>> {
-        pgn_of(self.rt.alloc(), &mut self.link, &self.known, row)
-    }
-
-    // Keeps a game that is over.
-    fn keep(&mut self, row: Row<'_>) -> Result<()> {
-        let game = row.game;
-        let Some(pgn) = self.pgn_of(row)? else {
-            return Ok(());
-        };
-        let is_new = self
-            .archive
-            .keep(self.rt.alloc(), game, pgn.as_slice())
-            .context(format_args!("game {game}"))?;
-        if is_new {
-            self.counts.kept = self.counts.kept.saturating_add(1);
-        }
-        Ok(())
-    }
-
-    // Whether a game that was in the archive already is on the table still, and is not another there.
-    fn is_compared(&mut self, row: Row<'_>) -> Result<bool> {
-        let game = row.game;
-        let Some(pgn) = self.pgn_of(row)? else {
-            return Ok(false);
-        };
-        let is_same = has_game(self.rt.alloc(), self.lines.as_str(), game, pgn.as_slice())?;
-        if !is_same {
-            self.note(anyhow!(
-                "the archive has another game {game} than the table: it is not dropped"
-            ));
-        }
-        Ok(is_same)
-    }
-
-    // Whether nobody watches a game, where a lobby tells who does. Where it does not, nothing more is dropped.
-    fn is_left(&mut self, row: Row<'_>) -> bool {
-        let Some(lobby) = self.keeping.lobby else {
-            return true;
-        };
-        match watched_games(self.rt, lobby) {
-            Ok(games) => !games.contains(&row.game),
-            Err(error) => {
-                self.drops = false;
-                self.note(error.context("nothing is dropped"));
-                false
-            }
-        }
-    }
-
-    // Drops a game, under the name of a player who has a seat in it.
-    fn drop_game(&mut self, row: Row<'_>) -> Result<()> {
-        let alloc = self.rt.alloc();
-        let game = row.game;
-        let white = row.white;
-        let name = format!(in alloc; "name {white}")?;
-        let drop = format!(in alloc; "drop {game}")?;
-        if self.link.is_done(name.as_str())? && self.link.is_done(drop.as_str())? {
-            self.counts.dropped = self.counts.dropped.saturating_add(1);
-        }
-        Ok(())
-    }
-
-    // Does what is to be done about a game.
-    fn look_at(&mut self, row: Row<'_>) -> Result<()> {
-        let drops = self.drops;
-        let was_there = self.archive.has(row.game);
-        if self.archive.step_for(row.game, row.is_over, drops) == Step::Keep {
-            self.keep(row)?;
-        }
-        let may_go = self.archive.step_for(row.game, row.is_over, drops) == Step::Drop;
-        // (who watches is asked last, so that it is true still)
-        if may_go && (!was_there || self.is_compared(row)?) && self.is_left(row) {
-            self.drop_game(row)?;
-        }
-        Ok(())
-    }
-
-    // What came of it.
-    fn end(self) -> (Counts, Result<()>) {
-        let mut counts = self.counts;
-        counts.all = self.archive.games().len();
-        let done = match self.fault {
-            Some(fault) => Err(fault),
-            None => Ok(()),
-        };
-        (counts, done)
-    }
-}
 
 // The archive of a file, and its lines when it was opened.
 fn archive_of<R>(rt: &R, path: &str) -> Result<(Archive<NamedFile>, String)>
@@ -195,11 +61,13 @@ where
     // Keeps the games that are over now, and drops them where that is asked. What went wrong though the work went on comes beside
     // the counts.
     fn look(&mut self) -> Result<(Counts, Result<()>)> {
+        let alloc = self.rt.alloc();
         let server = self.keeping.server;
         let mut link = Link::open(self.rt, server).context(format_args!("the server at {server}"))?;
         let list = link.list()?;
-        let rows = rows_of(self.rt.alloc(), list.as_str())?;
-        if self.has_looked && !rows.iter().any(|row| row.is_over) {
+        let rows = rows_of(alloc, list.as_str())?;
+        let over = games_over(alloc, rows.as_slice())?;
+        if self.has_looked && over.is_empty() {
             return Ok((NOTHING, Ok(())));
         }
         let (archive, lines) = archive_of(self.rt, self.keeping.archive)?;
@@ -211,18 +79,19 @@ where
             link,
             archive,
             lines,
+            kept: Vec::new(alloc),
             known: Knowledge {
                 players: self.players.as_slice(),
                 heading: self.keeping.heading,
                 records: self.log.records(),
             },
+            rows: rows.as_slice(),
+            gone: Vec::new(alloc),
             drops: self.keeping.drops,
             counts: NOTHING,
             fault: None,
         };
-        for row in rows.as_slice() {
-            keeper.look_at(*row)?;
-        }
+        look(&mut keeper, alloc, over.as_slice())?;
         Ok(keeper.end())
     }
 

@@ -6,10 +6,15 @@ mod command_line;
 mod compared;
 mod export;
 mod figures;
+mod halves;
+mod keeper;
 mod keeping;
+mod kept;
 mod live;
 mod log_reader;
 mod rows;
+mod spreadsheet;
+mod tags;
 mod telling;
 mod watched;
 
@@ -36,7 +41,7 @@ fn do_words(rt: &HostRuntime) -> Result<(), NotDone> {
 fn do_word(rt: &HostRuntime, word: Word<'_>) -> anyhow::Result<()> {
     match word {
         Word::Keep(keeping) => keep(rt, &keeping),
-        Word::Export(archive) => export(rt, archive),
+        Word::Export(exporting) => export(rt, &exporting),
         Word::Live(living) => live(rt, &living),
     }
 }

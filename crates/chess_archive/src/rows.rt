@@ -1,7 +1,7 @@
 //! The games of the server's list.
 use anyhow::{Result, bail};
 use server_link::{Row, row_of};
-use std::alloc::Global;
+use std::alloc::{AllocError, Global};
 use text_parts::parts;
 
 // Over several servers the numbers of server S are those from S times this on (`docs/SERVERS.md`); one server's own are below it.
@@ -27,4 +27,15 @@ pub fn first_beside(rows: &[Row<'_>], game: u32) -> Option<u32> {
         .map(|row| row.game)
         .filter(|other| *other / GAMES_OF_A_SERVER == server)
         .min()
+}
+
+/// The games that are over, in the order of the list.
+pub fn games_over(alloc: Global, rows: &[Row<'_>]) -> Result<Vec<u32>, AllocError> {
+    let mut games = Vec::new(alloc);
+    for row in rows {
+        if row.is_over {
+            games.push(row.game)?;
+        }
+    }
+    Ok(games)
 }

@@ -1,3 +1,4 @@
 pub mod Lists
 pub mod Stages
 pub mod Runs
+pub mod Nights

@@ -1,10 +1,10 @@
 -- Games among games, and lists that begin with others.
-use Rattle.std.proofs.Common.{ℕ, ◌≡◌, ◌⊎◌, inl, inr, Bool, true, false, ◌||◌, ◌==◌, List, [], ◌∷◌, ◌++◌, refl, sym, ap, subst, ◌∙◌, append_assoc}
+use Rattle.std.proofs.Common.{ℕ, ◌≡◌, Bool, true, false, ◌||◌, ◌==◌, List, [], ◌∷◌, ◌++◌, refl, sym, ap, subst, ◌∙◌, append_assoc}
 use Rattle.std.specs.Prelude.{if◌then◌else◌}
 use Rattle.std.proofs.lemmas.Bool.{false≢true}
 use Rattle.std.proofs.lemmas.Bool.Decides.{Decides-eqb}
 use Rattle.lobby_archive.specs.Files.{contains, IsFront}
-use Rattle.lobby_archive.specs.Laws.{IsOnce, IsWithin}
+use Rattle.lobby_archive.specs.Laws.{IsOnce}
 
 -- two tests that pass together are one
 pub same_test : (a b : Bool) → (a ≡ true → b ≡ true) → (b ≡ true → a ≡ true) → a ≡ b
@@ -86,17 +86,3 @@ once_more g (x ∷ xs) h k = (
       (or_false (g == x) false (eqb_swap g x ∙ or_false_first (x == g) (contains g xs) k) refl),
   once_more g xs h.1 (or_false_second (x == g) (contains g xs) k),
 )
-
--- lists of which some are left out
-pub within_more : {A : Type 0} → (xs ys : List A) (x : A) → IsWithin xs ys → IsWithin (xs ++ x ∷ []) (ys ++ x ∷ [])
-within_more [] [] x h = inl (refl, tt)
-within_more [] (y ∷ ys) x h = inr (within_more [] ys x tt)
-within_more (a ∷ xs) [] x h = absurd h
-within_more (a ∷ xs) (y ∷ ys) x (inl h) = inl (h.0, within_more xs ys x h.1)
-within_more (a ∷ xs) (y ∷ ys) x (inr h) = inr (within_more (a ∷ xs) ys x h)
-
-pub within_front : {A : Type 0} → (xs more ys : List A) → IsWithin (xs ++ more) ys → IsWithin xs ys
-within_front [] more ys h = tt
-within_front (x ∷ xs) more [] h = absurd h
-within_front (x ∷ xs) more (y ∷ ys) (inl h) = inl (h.0, within_front xs more ys h.1)
-within_front (x ∷ xs) more (y ∷ ys) (inr h) = inr (within_front (x ∷ xs) more ys h)

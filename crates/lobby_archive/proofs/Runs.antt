@@ -1,17 +1,15 @@
 -- What is promised holds of each run.
-use Rattle.std.proofs.Common.{ℕ, ◌≡◌, ◌⊎◌, inl, inr, Bool, true, false, not, ◌&&◌, ◌||◌, ◌==◌, List, [], ◌∷◌, ◌++◌, Option, None, Some, refl, sym, ap, subst, ◌∙◌, append_assoc}
+use Rattle.std.proofs.Common.{ℕ, ◌≡◌, ◌⊎◌, inl, inr, Bool, true, false, not, ◌&&◌, ◌||◌, ◌==◌, List, [], ◌∷◌, ◌++◌, Option, None, refl, sym, ap, ◌∙◌, append_assoc}
 use Rattle.std.specs.Prelude.{if◌then◌else◌, is_some, is_none}
 use Rattle.std.proofs.lemmas.Bool.{false≢true}
 use Rattle.std.proofs.lemmas.Bool.Decides.{Decides-eqb}
 use Rattle.lobby_archive.specs.declared.clerk.Stage.{Stage}
-use Rattle.lobby_archive.specs.declared.clerk.Stage.TheVariants.{Asked as AskedStage, Kept, Dropped}
-use Rattle.lobby_archive.specs.Steps.{Act, Step, Begun, Gone, Over, Came, Refused, Answered, Synced, Left, Asked}
-use Rattle.lobby_archive.specs.Files.{contains, archive_after, archive_in, log_after, log_in, safe_in, safe_log_in, fresh_in, is_quiet, IsFront, IsHonestStep, IsHonest}
-use Rattle.lobby_archive.specs.Answers.{is_accepted}
-use Rattle.lobby_archive.specs.Clerk.{View, is_asked, is_kept, asks, puts, drops, seen, come, left, IsStaged, IsCome, IsStep, IsNothing, IsRun}
-use Rattle.lobby_archive.specs.Laws.{IsOnce, IsWithin, is_seen, is_waiting, is_sent, is_dropped, was_over, was_put, IsHanded, IsDropStep, IsHandedStep, AllHanded, acts_in, accepted_in, AllRight, AllDrops, AllSafe}
-use Rattle.lobby_archive.proofs.Lists.{contains-append, contains_more, append_none, front_self, front_more, front_through, front_contains, once_front, once_more, within_more, within_front}
-use Rattle.lobby_archive.proofs.Stages.{is_settled, not_settled, waits_or_settled, pick, over_some, over_waits, over_settled, seen_over, waits_over, come_some, waits_come, come_settled, stays, seen_refused, waits_refused, left_some, left_asked, left_settled, kept_some, and_first, and_second, not_true, has_left, kept_is, none_not, asked_some, and_both, over_left, come_left, refused_left, left_left, sent_left}
+use Rattle.lobby_archive.specs.Steps.{Step, Begun, Over, Came, Refused, Synced, Left}
+use Rattle.lobby_archive.specs.Files.{contains, archive_in, safe_in, fresh_in, IsFront, IsHonestStep, IsHonest}
+use Rattle.lobby_archive.specs.Clerk.{View, is_asked, is_kept, asks, puts, drops, seen, come, left, IsStep, IsNothing, IsRun}
+use Rattle.lobby_archive.specs.Laws.{IsOnce, is_seen, is_waiting, is_matched, is_sent, is_dropped, was_over, was_put, IsHanded, IsDropStep, IsHandedStep, AllHanded, AllRight, AllDrops}
+use Rattle.lobby_archive.proofs.Lists.{contains-append, contains_more, append_none, front_self, front_more, front_through, front_contains, once_front, once_more}
+use Rattle.lobby_archive.proofs.Stages.{is_settled, not_settled, waits_or_settled, pick, over_some, over_waits, over_settled, over_left, over_matched, seen_over, waits_over, come_some, waits_come, come_settled, come_left, matched_come, stays, seen_refused, waits_refused, left_some, left_asked, left_settled, left_matched, kept_some, kept_matched, and_first, and_second, not_true, has_left, has_matched, kept_is, none_not, asked_some, and_both, refused_left, refused_matched, left_left, sent_left}
 
 -- what is so behind a past, by what the clerk knows then
 pub record Good (steps : List Step) (now : View) : Type 0 where
@@ -22,12 +20,9 @@ pub record Good (steps : List Step) (now : View) : Type 0 where
   pub seen_is : (g : ℕ) → is_seen steps g ≡ is_some (now.stage g)
   pub waits : (g : ℕ) → is_waiting steps g ≡ is_asked (now.stage g)
   pub settled : (g : ℕ) → is_settled (now.stage g) ≡ true → now.has g ≡ true
-  pub clean : now.is_clean ≡ true → (safe_in steps ≡ archive_in steps) × (safe_log_in steps ≡ log_in steps)
-  pub acts : log_in steps ≡ acts_in steps
   pub drops_right : AllDrops steps
-  pub said : AllSafe steps
   pub fresh_is : fresh_in steps ≡ now.fresh
-  pub quiet_is : is_quiet steps ≡ now.is_clean
+  pub matched_is : (g : ℕ) → is_matched steps g ≡ has_matched (now.stage g)
   pub sent_is : (g : ℕ) → is_sent steps g ≡ has_left (now.stage g)
   pub decided : AllRight steps
 
@@ -40,18 +35,15 @@ nothing_good now h = record {
   seen_is = λ g. sym (ap is_some (h.stage_is g));
   waits = λ g. sym (ap is_asked (h.stage_is g));
   settled = λ g k. absurd (not_settled (now.stage g) (h.stage_is g) k);
-  clean = λ k. absurd (false≢true (sym h.clean ∙ k));
-  acts = refl;
   drops_right = tt;
-  said = tt;
   fresh_is = sym h.fresh;
-  quiet_is = sym h.clean;
+  matched_is = λ g. sym (ap has_matched (h.stage_is g));
   sent_is = λ g. sym (ap has_left (h.stage_is g));
   decided = tt;
 }
 
-begun_good : (archive : List ℕ) (log : List Act) (past : List Step) (old new : View) → Good past old → IsStep old (Begun archive log) new → Good (Begun archive log ∷ past) new
-begun_good archive log past old new G h = record {
+begun_good : (archive : List ℕ) (past : List Step) (old new : View) → Good past old → IsStep old (Begun archive) new → Good (Begun archive ∷ past) new
+begun_good archive past old new G h = record {
   has = h.has;
   front = [];
   joined = sym h.fresh;
@@ -59,75 +51,56 @@ begun_good archive log past old new G h = record {
   seen_is = λ g. sym (ap is_some (h.stage_is g));
   waits = λ g. sym (ap is_asked (h.stage_is g));
   settled = λ g k. absurd (not_settled (new.stage g) (h.stage_is g) k);
-  clean = λ k. absurd (false≢true (sym h.clean ∙ k));
-  acts = refl;
   drops_right = (tt, G.drops_right);
-  said = (tt, G.said);
   fresh_is = sym h.fresh;
-  quiet_is = sym h.clean;
-  sent_is = λ g. sym (ap has_left (h.stage_is g));
-  decided = (tt, G.decided);
-}
-
-gone_good : (past : List Step) (old new : View) → Good past old → IsStep old Gone new → Good (Gone ∷ past) new
-gone_good past old new G h = record {
-  has = λ g. h.has g ∙ G.has g;
-  front = G.front;
-  joined = G.joined ∙ ap (λ (xs : List ℕ). G.front ++ xs) (sym h.fresh);
-  safe = G.safe;
-  seen_is = λ g. sym (ap is_some (h.stage_is g));
-  waits = λ g. sym (ap is_asked (h.stage_is g));
-  settled = λ g k. absurd (not_settled (new.stage g) (h.stage_is g) k);
-  clean = λ k. G.clean (sym h.clean ∙ k);
-  acts = G.acts;
-  drops_right = (tt, G.drops_right);
-  said = (tt, G.said);
-  fresh_is = G.fresh_is ∙ sym h.fresh;
-  quiet_is = G.quiet_is ∙ sym h.clean;
+  matched_is = λ g. sym (ap has_matched (h.stage_is g));
   sent_is = λ g. sym (ap has_left (h.stage_is g));
   decided = (tt, G.decided);
 }
 
 -- a game that is the same
-same_game : (game g : ℕ) → (game == g) ≡ true → game ≡ g
+pub same_game : (game g : ℕ) → (game == g) ≡ true → game ≡ g
 same_game game g h = (Decides-eqb game g).0 h
 
-over_good : (game : ℕ) (says : Bool) (past : List Step) (old new : View) → Good past old → IsStep old (Over game says) new → Good (Over game says ∷ past) new
-over_good game says past old new G h = record {
+over_good : (game : ℕ) (d says : Bool) (past : List Step) (old new : View) → Good past old → IsStep old (Over game d says) new → Good (Over game d says ∷ past) new
+over_good game d says past old new G h = record {
   has = λ g. h.1.has g ∙ G.has g;
   front = G.front;
   joined = G.joined ∙ ap (λ (xs : List ℕ). G.front ++ xs) (sym h.1.fresh);
   safe = G.safe;
   seen_is = λ g.
-      seen_over (game == g) (is_seen past g) (seen old game) (old.stage g) (over_some (old.stage game) (old.has game)) (G.seen_is g)
+      seen_over (game == g) (is_seen past g) (seen old game d) (old.stage g) (over_some (old.stage game) (d || not (old.has game))) (G.seen_is g)
       ∙ sym (ap is_some (h.1.stage_is g));
   waits = λ g.
-      waits_over (game == g) says (is_waiting past g) (seen old game) (old.stage g)
+      waits_over (game == g) says (is_waiting past g) (seen old game d) (old.stage g)
       (λ k. ap (λ (b : Bool). b || is_waiting past g) h.0
-      ∙ (ap (λ (b : Bool). asks old game || b) (G.waits g ∙ ap (λ (n : ℕ). is_asked (old.stage n)) (sym (same_game game g k)))
-      ∙ over_waits (old.stage game) (old.has game)))
+      ∙ (ap (λ (b : Bool). asks old game d || b) (G.waits g ∙ ap (λ (n : ℕ). is_asked (old.stage n)) (sym (same_game game g k)))
+      ∙ over_waits (old.stage game) (d || not (old.has game))))
       (G.waits g)
       ∙ sym (ap is_asked (h.1.stage_is g));
   settled = λ g k.
       h.1.has g
-      ∙ pick (λ (stage : Option Stage). is_settled stage ≡ true → old.has g ≡ true) (game == g) (seen old game) (old.stage g)
-      (λ same m. ap (λ (n : ℕ). old.has n) (sym (same_game game g same)) ∙ over_settled (old.stage game) (old.has game) (G.settled game) m)
+      ∙ pick (λ (stage : Option Stage). is_settled stage ≡ true → old.has g ≡ true) (game == g) (seen old game d) (old.stage g)
+      (λ same m. ap (λ (n : ℕ). old.has n) (sym (same_game game g same)) ∙ over_settled (old.stage game) d (old.has game) (G.settled game) m)
       (G.settled g) (sym (ap is_settled (h.1.stage_is g)) ∙ k);
-  clean = λ k. G.clean (sym h.1.clean ∙ k);
-  acts = G.acts;
   drops_right = (tt, G.drops_right);
-  said = (tt, G.said);
   fresh_is = G.fresh_is ∙ sym h.1.fresh;
-  quiet_is = G.quiet_is ∙ sym h.1.clean;
+  matched_is = λ g.
+      pick (λ (stage : Option Stage). is_matched past g ≡ has_matched stage) (game == g) (seen old game d) (old.stage g)
+      (λ same. G.matched_is g
+      ∙ (ap (λ (n : ℕ). has_matched (old.stage n)) (sym (same_game game g same)) ∙ over_matched (old.stage game) (d || not (old.has game))))
+      (G.matched_is g)
+      ∙ sym (ap has_matched (h.1.stage_is g));
   sent_is = λ g.
-      pick (λ (stage : Option Stage). is_sent past g ≡ has_left stage) (game == g) (seen old game) (old.stage g)
-      (λ same. G.sent_is g ∙ (ap (λ (n : ℕ). has_left (old.stage n)) (sym (same_game game g same)) ∙ over_left (old.stage game) (old.has game)))
+      pick (λ (stage : Option Stage). is_sent past g ≡ has_left stage) (game == g) (seen old game d) (old.stage g)
+      (λ same. G.sent_is g
+      ∙ (ap (λ (n : ℕ). has_left (old.stage n)) (sym (same_game game g same)) ∙ over_left (old.stage game) (d || not (old.has game))))
       (G.sent_is g)
       ∙ sym (ap has_left (h.1.stage_is g));
   decided = (
     h.0
-        ∙ and_both (is_none (old.stage game)) (not (is_seen past game)) (not (old.has game)) (not (contains game (archive_in past)))
-        (none_not (old.stage game) ∙ ap not (sym (G.seen_is game))) (ap not (G.has game)),
+        ∙ and_both (is_none (old.stage game)) (not (is_seen past game)) (d || not (old.has game)) (d || not (contains game (archive_in past)))
+        (none_not (old.stage game) ∙ ap not (sym (G.seen_is game))) (ap (λ (b : Bool). d || not b) (G.has game)),
     G.decided,
   );
 }
@@ -142,49 +115,46 @@ came_joined : (says : Bool) (game : ℕ) (archive front fresh : List ℕ) → ar
 came_joined true game archive front fresh h = ap (λ (xs : List ℕ). xs ++ game ∷ []) h ∙ append_assoc front fresh (game ∷ [])
 came_joined false game archive front fresh h = h
 
-came_clean : (says before : Bool) (game : ℕ) (archive safe : List ℕ) → (before ≡ true → safe ≡ archive) → (if says then false else before) ≡ true →
-    safe ≡ (if says then archive ++ game ∷ [] else archive)
-came_clean true before game archive safe f h = absurd (false≢true h)
-came_clean false before game archive safe f h = f h
-
 clean_before : (says before : Bool) → (if says then false else before) ≡ true → before ≡ true
 clean_before true before h = absurd (false≢true h)
 clean_before false before h = h
 
-came_good : (game : ℕ) (says : Bool) (past : List Step) (old new : View) → Good past old → IsStep old (Came game says) new → Good (Came game says ∷ past) new
-came_good game says past old new G h = record {
+came_good : (game : ℕ) (same says : Bool) (past : List Step) (old new : View) → Good past old → IsStep old (Came game same says) new → Good (Came game same says ∷ past) new
+came_good game same says past old new G h = record {
   has = λ g. h.1.has g ∙ came_has says game g (archive_in past) (old.has g) (G.has g);
   front = G.front;
   joined = came_joined says game (archive_in past) G.front old.fresh G.joined ∙ ap (λ (xs : List ℕ). G.front ++ xs) (sym h.1.fresh);
   safe = G.safe;
   seen_is = λ g.
-      pick (λ (stage : Option Stage). is_seen past g ≡ is_some stage) (game == g) (come old game) (old.stage g)
-      (λ same. G.seen_is g ∙ (ap (λ (n : ℕ). is_some (old.stage n)) (sym (same_game game g same)) ∙ come_some (old.stage game)))
+      pick (λ (stage : Option Stage). is_seen past g ≡ is_some stage) (game == g) (come old game same) (old.stage g)
+      (λ here. G.seen_is g
+      ∙ (ap (λ (n : ℕ). is_some (old.stage n)) (sym (same_game game g here)) ∙ come_some (old.stage game) (old.has game && not same)))
       (G.seen_is g)
       ∙ sym (ap is_some (h.1.stage_is g));
-  waits = λ g. waits_come (game == g) (is_waiting past g) (old.stage game) (old.stage g) (G.waits g) ∙ sym (ap is_asked (h.1.stage_is g));
+  waits = λ g.
+      waits_come (game == g) (is_waiting past g) (old.has game && not same) (old.stage game) (old.stage g) (G.waits g)
+      ∙ sym (ap is_asked (h.1.stage_is g));
   settled = λ g k.
       h.1.has g
       ∙ (ap (λ (b : Bool). if b && game == g then true else old.has g) h.0
       ∙ pick (λ (stage : Option Stage). is_settled stage ≡ true → (if puts old game && game == g then true else old.has g) ≡ true)
-      (game == g) (come old game) (old.stage g)
-      (λ same m. ap (λ (n : ℕ). if puts old game && game == g then true else old.has n) (sym (same_game game g same))
-      ∙ come_settled (old.stage game) (old.has game) (game == g) same (G.settled game) m)
+      (game == g) (come old game same) (old.stage g)
+      (λ here m. ap (λ (n : ℕ). if puts old game && game == g then true else old.has n) (sym (same_game game g here))
+      ∙ come_settled (old.stage game) (old.has game) same (game == g) here (G.settled game) m)
       (λ m. stays (puts old game && game == g) (old.has g) (G.settled g m))
       (sym (ap is_settled (h.1.stage_is g)) ∙ k));
-  clean = λ k.
-      let was : (if says then false else old.is_clean) ≡ true = sym h.1.clean ∙ k in (
-        came_clean says old.is_clean game (archive_in past) (safe_in past) (λ m. (G.clean m).0) was,
-        (G.clean (clean_before says old.is_clean was)).1,
-      );
-  acts = G.acts;
   drops_right = (tt, G.drops_right);
-  said = (tt, G.said);
   fresh_is = ap (λ (xs : List ℕ). if says then xs ++ game ∷ [] else xs) G.fresh_is ∙ sym h.1.fresh;
-  quiet_is = ap (λ (b : Bool). if says then false else b) G.quiet_is ∙ sym h.1.clean;
+  matched_is = λ g.
+      matched_come (game == g) (is_waiting past g) says (old.has game) same (is_matched past g) (old.stage game) (old.stage g)
+      (λ here. G.waits g ∙ ap (λ (n : ℕ). is_asked (old.stage n)) (sym (same_game game g here))) h.0
+      (λ here. G.matched_is g ∙ ap (λ (n : ℕ). has_matched (old.stage n)) (sym (same_game game g here)))
+      (G.matched_is g)
+      ∙ sym (ap has_matched (h.1.stage_is g));
   sent_is = λ g.
-      pick (λ (stage : Option Stage). is_sent past g ≡ has_left stage) (game == g) (come old game) (old.stage g)
-      (λ same. G.sent_is g ∙ (ap (λ (n : ℕ). has_left (old.stage n)) (sym (same_game game g same)) ∙ come_left (old.stage game)))
+      pick (λ (stage : Option Stage). is_sent past g ≡ has_left stage) (game == g) (come old game same) (old.stage g)
+      (λ here. G.sent_is g
+      ∙ (ap (λ (n : ℕ). has_left (old.stage n)) (sym (same_game game g here)) ∙ come_left (old.stage game) (old.has game && not same)))
       (G.sent_is g)
       ∙ sym (ap has_left (h.1.stage_is g));
   decided = (
@@ -207,43 +177,11 @@ refused_good game past old new G h = record {
       h.has g
       ∙ pick (λ (stage : Option Stage). is_settled stage ≡ true → old.has g ≡ true) (game == g) None (old.stage g)
       (λ same m. absurd (false≢true m)) (G.settled g) (sym (ap is_settled (h.stage_is g)) ∙ k);
-  clean = λ k. G.clean (sym h.clean ∙ k);
-  acts = G.acts;
   drops_right = (tt, G.drops_right);
-  said = (tt, G.said);
   fresh_is = G.fresh_is ∙ sym h.fresh;
-  quiet_is = G.quiet_is ∙ sym h.clean;
+  matched_is = λ g. refused_matched (game == g) (is_matched past g) (old.stage g) (G.matched_is g) ∙ sym (ap has_matched (h.stage_is g));
   sent_is = λ g. refused_left (game == g) (is_sent past g) (old.stage g) (G.sent_is g) ∙ sym (ap has_left (h.stage_is g));
   decided = (tt, G.decided);
-}
-
-logged_clean : (says before : Bool) (act : Act) (log safe : List Act) → (before ≡ true → safe ≡ log) → (if says then false else before) ≡ true →
-    safe ≡ (if says then log ++ act ∷ [] else log)
-logged_clean true before act log safe f h = absurd (false≢true h)
-logged_clean false before act log safe f h = f h
-
-answered_good : (act : Act) (says : Bool) (past : List Step) (old new : View) → Good past old → IsStep old (Answered act says) new → Good (Answered act says ∷ past) new
-answered_good act says past old new G h = record {
-  has = λ g. h.1.has g ∙ G.has g;
-  front = G.front;
-  joined = G.joined ∙ ap (λ (xs : List ℕ). G.front ++ xs) (sym h.1.fresh);
-  safe = G.safe;
-  seen_is = λ g. G.seen_is g ∙ sym (ap is_some (h.1.stage_is g));
-  waits = λ g. G.waits g ∙ sym (ap is_asked (h.1.stage_is g));
-  settled = λ g k. h.1.has g ∙ G.settled g (sym (ap is_settled (h.1.stage_is g)) ∙ k);
-  clean = λ k.
-      let was : (if says then false else old.is_clean) ≡ true = sym h.1.clean ∙ k in (
-        (G.clean (clean_before says old.is_clean was)).0,
-        logged_clean says old.is_clean act (log_in past) (safe_log_in past) (λ m. (G.clean m).1) was,
-      );
-  acts = ap (λ (b : Bool). if b then log_in past ++ act ∷ [] else log_in past) h.0
-      ∙ ap (λ (xs : List Act). if is_accepted act.answer then xs ++ act ∷ [] else xs) G.acts;
-  drops_right = (tt, G.drops_right);
-  said = (tt, G.said);
-  fresh_is = G.fresh_is ∙ sym h.1.fresh;
-  quiet_is = ap (λ (b : Bool). if says then false else b) G.quiet_is ∙ sym h.1.clean;
-  sent_is = λ g. G.sent_is g ∙ sym (ap has_left (h.1.stage_is g));
-  decided = (h.0, G.decided);
 }
 
 synced_good : (past : List Step) (old new : View) → Good past old → IsStep old Synced new → Good (Synced ∷ past) new
@@ -255,12 +193,9 @@ synced_good past old new G h = record {
   seen_is = λ g. G.seen_is g ∙ sym (ap is_some (h.stage_is g));
   waits = λ g. G.waits g ∙ sym (ap is_asked (h.stage_is g));
   settled = λ g k. h.has g ∙ G.settled g (sym (ap is_settled (h.stage_is g)) ∙ k);
-  clean = λ k. (refl, refl);
-  acts = G.acts;
   drops_right = (tt, G.drops_right);
-  said = (tt, G.said);
   fresh_is = sym h.fresh;
-  quiet_is = sym h.clean;
+  matched_is = λ g. G.matched_is g ∙ sym (ap has_matched (h.stage_is g));
   sent_is = λ g. G.sent_is g ∙ sym (ap has_left (h.stage_is g));
   decided = (tt, G.decided);
 }
@@ -299,19 +234,21 @@ left_good game says past old new G h =
           ∙ pick (λ (stage : Option Stage). is_settled stage ≡ true → old.has g ≡ true) (game == g) (left old game) (old.stage g)
           (λ same m. ap (λ (n : ℕ). old.has n) (sym (same_game game g same)) ∙ G.settled game (left_settled (old.stage game) t m))
           (G.settled g) (sym (ap is_settled (h.1.stage_is g)) ∙ k);
-      clean = λ k. G.clean (sym h.1.clean ∙ k);
-      acts = G.acts;
       drops_right = (
         λ k.
             let goes : drops old game ≡ true = sym h.0 ∙ k in (
               G.seen_is game ∙ kept_some (old.stage game) (and_first (is_kept (old.stage game)) t goes),
+              G.matched_is game ∙ kept_matched (old.stage game) (and_first (is_kept (old.stage game)) t goes),
               is_safe_now past old G game (and_second (is_kept (old.stage game)) t goes),
             ),
         G.drops_right,
       );
-      said = (tt, G.said);
       fresh_is = G.fresh_is ∙ sym h.1.fresh;
-      quiet_is = G.quiet_is ∙ sym h.1.clean;
+      matched_is = λ g.
+          pick (λ (stage : Option Stage). is_matched past g ≡ has_matched stage) (game == g) (left old game) (old.stage g)
+          (λ same. G.matched_is g ∙ (ap (λ (n : ℕ). has_matched (old.stage n)) (sym (same_game game g same)) ∙ left_matched (old.stage game) t))
+          (G.matched_is g)
+          ∙ sym (ap has_matched (h.1.stage_is g));
       sent_is = λ g.
           sent_left (game == g) says (is_sent past g) (left old game) (old.stage g)
           (λ same. ap (λ (b : Bool). b || is_sent past g) h.0
@@ -321,49 +258,24 @@ left_good game says past old new G h =
           ∙ sym (ap has_left (h.1.stage_is g));
       decided = (
         h.0
-            ∙ and_both (is_kept (old.stage game)) (is_seen past game && (not (is_waiting past game) && not (is_sent past game)))
+            ∙ and_both (is_kept (old.stage game)) (is_matched past game && not (is_sent past game))
             t (contains game (archive_in past) && not (contains game (fresh_in past)))
             (kept_is (old.stage game)
-            ∙ and_both (is_some (old.stage game)) (is_seen past game)
-            (not (is_asked (old.stage game)) && not (has_left (old.stage game))) (not (is_waiting past game) && not (is_sent past game))
-            (sym (G.seen_is game))
-            (and_both (not (is_asked (old.stage game))) (not (is_waiting past game)) (not (has_left (old.stage game))) (not (is_sent past game))
-            (ap not (sym (G.waits game))) (ap not (sym (G.sent_is game)))))
+            ∙ and_both (has_matched (old.stage game)) (is_matched past game) (not (has_left (old.stage game))) (not (is_sent past game))
+            (sym (G.matched_is game)) (ap not (sym (G.sent_is game))))
             (and_both (old.has game) (contains game (archive_in past)) (not (contains game old.fresh)) (not (contains game (fresh_in past)))
             (G.has game) (ap (λ (xs : List ℕ). not (contains game xs)) (sym G.fresh_is))),
         G.decided,
       );
     }
 
-asked_good : (says : Bool) (past : List Step) (old new : View) → Good past old → IsStep old (Asked says) new → Good (Asked says ∷ past) new
-asked_good says past old new G h = record {
-  has = λ g. h.1.has g ∙ G.has g;
-  front = G.front;
-  joined = G.joined ∙ ap (λ (xs : List ℕ). G.front ++ xs) (sym h.1.fresh);
-  safe = G.safe;
-  seen_is = λ g. G.seen_is g ∙ sym (ap is_some (h.1.stage_is g));
-  waits = λ g. G.waits g ∙ sym (ap is_asked (h.1.stage_is g));
-  settled = λ g k. h.1.has g ∙ G.settled g (sym (ap is_settled (h.1.stage_is g)) ∙ k);
-  clean = λ k. G.clean (sym h.1.clean ∙ k);
-  acts = G.acts;
-  drops_right = (tt, G.drops_right);
-  said = (λ k. G.clean (sym h.0 ∙ k), G.said);
-  fresh_is = G.fresh_is ∙ sym h.1.fresh;
-  quiet_is = G.quiet_is ∙ sym h.1.clean;
-  sent_is = λ g. G.sent_is g ∙ sym (ap has_left (h.1.stage_is g));
-  decided = (h.0 ∙ sym G.quiet_is, G.decided);
-}
-
 step_good : (s : Step) (past : List Step) (old new : View) → Good past old → IsStep old s new → Good (s ∷ past) new
-step_good (Begun archive log) past old new G h = begun_good archive log past old new G h
-step_good Gone past old new G h = gone_good past old new G h
-step_good (Over game says) past old new G h = over_good game says past old new G h
-step_good (Came game says) past old new G h = came_good game says past old new G h
+step_good (Begun archive) past old new G h = begun_good archive past old new G h
+step_good (Over game d says) past old new G h = over_good game d says past old new G h
+step_good (Came game same says) past old new G h = came_good game same says past old new G h
 step_good (Refused game) past old new G h = refused_good game past old new G h
-step_good (Answered act says) past old new G h = answered_good act says past old new G h
 step_good Synced past old new G h = synced_good past old new G h
 step_good (Left game says) past old new G h = left_good game says past old new G h
-step_good (Asked says) past old new G h = asked_good says past old new G h
 
 pub run_good : (steps : List Step) (now : View) → IsRun steps now → Good steps now
 run_good [] now run = nothing_good now run
@@ -386,62 +298,26 @@ put_front : (says : Bool) (a xs : List ℕ) (game : ℕ) → IsFront a xs → Is
 put_front true a xs game h = front_more a xs game h
 put_front false a xs game h = h
 
-log_front : (says : Bool) (a xs : List Act) (act : Act) → IsFront a xs → IsFront a (if says then xs ++ act ∷ [] else xs)
-log_front true a xs act h = front_more a xs act h
-log_front false a xs act h = h
-
 step_front : (s : Step) (past : List Step) → IsHonestStep s past → IsFront (safe_in past) (archive_in past) → IsFront (safe_in (s ∷ past)) (archive_in (s ∷ past))
-step_front (Begun archive log) past h f = h.0.0
-step_front Gone past h f = f
-step_front (Over game says) past h f = f
-step_front (Came game says) past h f = put_front says (safe_in past) (archive_in past) game f
+step_front (Begun archive) past h f = h.0
+step_front (Over game d says) past h f = f
+step_front (Came game same says) past h f = put_front says (safe_in past) (archive_in past) game f
 step_front (Refused game) past h f = f
-step_front (Answered act says) past h f = f
 step_front Synced past h f = front_self (archive_in past)
 step_front (Left game says) past h f = f
-step_front (Asked says) past h f = f
-
-step_log : (s : Step) (past : List Step) → IsHonestStep s past → IsFront (safe_log_in past) (log_in past) → IsFront (safe_log_in (s ∷ past)) (log_in (s ∷ past))
-step_log (Begun archive log) past h f = h.1.0
-step_log Gone past h f = f
-step_log (Over game says) past h f = f
-step_log (Came game says) past h f = f
-step_log (Refused game) past h f = f
-step_log (Answered act says) past h f = log_front says (safe_log_in past) (log_in past) act f
-step_log Synced past h f = front_self (log_in past)
-step_log (Left game says) past h f = f
-step_log (Asked says) past h f = f
 
 pub fronts : (steps : List Step) → IsHonest steps → IsFront (safe_in steps) (archive_in steps)
 fronts [] h = front_self []
 fronts (s ∷ past) h = step_front s past h.0 (fronts past h.1)
 
-pub log_fronts : (steps : List Step) → IsHonest steps → IsFront (safe_log_in steps) (log_in steps)
-log_fronts [] h = front_self []
-log_fronts (s ∷ past) h = step_log s past h.0 (log_fronts past h.1)
-
 -- what is safe stays
 step_safe : (s : Step) (past : List Step) → IsHonest past → IsFront (safe_in past) (safe_in (s ∷ past))
 step_safe Synced past h = fronts past h
-step_safe (Begun archive log) past h = front_self (safe_in past)
-step_safe Gone past h = front_self (safe_in past)
-step_safe (Over game says) past h = front_self (safe_in past)
-step_safe (Came game says) past h = front_self (safe_in past)
+step_safe (Begun archive) past h = front_self (safe_in past)
+step_safe (Over game d says) past h = front_self (safe_in past)
+step_safe (Came game same says) past h = front_self (safe_in past)
 step_safe (Refused game) past h = front_self (safe_in past)
-step_safe (Answered act says) past h = front_self (safe_in past)
 step_safe (Left game says) past h = front_self (safe_in past)
-step_safe (Asked says) past h = front_self (safe_in past)
-
-step_safe_log : (s : Step) (past : List Step) → IsHonest past → IsFront (safe_log_in past) (safe_log_in (s ∷ past))
-step_safe_log Synced past h = log_fronts past h
-step_safe_log (Begun archive log) past h = front_self (safe_log_in past)
-step_safe_log Gone past h = front_self (safe_log_in past)
-step_safe_log (Over game says) past h = front_self (safe_log_in past)
-step_safe_log (Came game says) past h = front_self (safe_log_in past)
-step_safe_log (Refused game) past h = front_self (safe_log_in past)
-step_safe_log (Answered act says) past h = front_self (safe_log_in past)
-step_safe_log (Left game says) past h = front_self (safe_log_in past)
-step_safe_log (Asked says) past h = front_self (safe_log_in past)
 
 safe_stays : (later earlier : List Step) → IsHonest (later ++ earlier) → IsFront (safe_in earlier) (safe_in (later ++ earlier))
 safe_stays [] earlier h = front_self (safe_in earlier)
@@ -449,19 +325,9 @@ safe_stays (s ∷ later) earlier h =
     front_through (safe_in earlier) (safe_in (later ++ earlier)) (safe_in (s ∷ (later ++ earlier)))
     (safe_stays later earlier h.1) (step_safe s (later ++ earlier) h.1)
 
-safe_log_stays : (later earlier : List Step) → IsHonest (later ++ earlier) → IsFront (safe_log_in earlier) (safe_log_in (later ++ earlier))
-safe_log_stays [] earlier h = front_self (safe_log_in earlier)
-safe_log_stays (s ∷ later) earlier h =
-    front_through (safe_log_in earlier) (safe_log_in (later ++ earlier)) (safe_log_in (s ∷ (later ++ earlier)))
-    (safe_log_stays later earlier h.1) (step_safe_log s (later ++ earlier) h.1)
-
 pub kept_ever : (later earlier : List Step) → IsHonest (later ++ earlier) → IsFront (safe_in earlier) (archive_in (later ++ earlier))
 kept_ever later earlier h =
     front_through (safe_in earlier) (safe_in (later ++ earlier)) (archive_in (later ++ earlier)) (safe_stays later earlier h) (fronts (later ++ earlier) h)
-
-pub logged_ever : (later earlier : List Step) → IsHonest (later ++ earlier) → IsFront (safe_log_in earlier) (log_in (later ++ earlier))
-logged_ever later earlier h =
-    front_through (safe_log_in earlier) (safe_log_in (later ++ earlier)) (log_in (later ++ earlier)) (safe_log_stays later earlier h) (log_fronts (later ++ earlier) h)
 
 -- no game stands in the archive twice
 once_put : (says : Bool) (game : ℕ) (archive : List ℕ) → (says ≡ true → contains game archive ≡ false) → IsOnce archive →
@@ -474,16 +340,13 @@ put_new past old game G h =
     sym (G.has game) ∙ not_true (old.has game) (and_second (is_asked (old.stage game)) (not (old.has game)) h)
 
 step_once : (s : Step) (past : List Step) (old new : View) → Good past old → IsStep old s new → IsHonestStep s past → IsOnce (archive_in past) → IsOnce (archive_in (s ∷ past))
-step_once (Begun archive log) past old new G h k f = once_front archive (archive_in past) k.0.1 f
-step_once Gone past old new G h k f = f
-step_once (Over game says) past old new G h k f = f
-step_once (Came game says) past old new G h k f =
+step_once (Begun archive) past old new G h k f = once_front archive (archive_in past) k.1 f
+step_once (Over game d says) past old new G h k f = f
+step_once (Came game same says) past old new G h k f =
     once_put says game (archive_in past) (λ m. put_new past old game G (sym h.0 ∙ m)) f
 step_once (Refused game) past old new G h k f = f
-step_once (Answered act says) past old new G h k f = f
 step_once Synced past old new G h k f = f
 step_once (Left game says) past old new G h k f = f
-step_once (Asked says) past old new G h k f = f
 
 pub once : (steps : List Step) (now : View) → IsRun steps now → IsHonest steps → IsOnce (archive_in steps)
 once [] now run h = tt
@@ -497,17 +360,14 @@ dropped_at false says before safe f k h = k h
 
 step_dropped : (s : Step) (past : List Step) → AllDrops (s ∷ past) → (game : ℕ) → (is_dropped past game ≡ true → contains game (safe_in past) ≡ true) →
     is_dropped (s ∷ past) game ≡ true → contains game (safe_in past) ≡ true
-step_dropped (Begun archive log) past d game f h = f h
-step_dropped Gone past d game f h = f h
-step_dropped (Over g says) past d game f h = f h
-step_dropped (Came g says) past d game f h = f h
+step_dropped (Begun archive) past d game f h = f h
+step_dropped (Over g b says) past d game f h = f h
+step_dropped (Came g same says) past d game f h = f h
 step_dropped (Refused g) past d game f h = f h
-step_dropped (Answered act says) past d game f h = f h
 step_dropped Synced past d game f h = f h
 step_dropped (Left g says) past d game f h =
     dropped_at (g == game) says (is_dropped past game) (contains game (safe_in past))
-    (λ same m. ap (λ (n : ℕ). contains n (safe_in past)) (sym (same_game g game same)) ∙ (d.0 m).1) f h
-step_dropped (Asked says) past d game f h = f h
+    (λ same m. ap (λ (n : ℕ). contains n (safe_in past)) (sym (same_game g game same)) ∙ (d.0 m).2) f h
 
 pub dropped_safe : (steps : List Step) → IsHonest steps → AllDrops steps → (game : ℕ) → is_dropped steps game ≡ true → contains game (safe_in steps) ≡ true
 dropped_safe [] h d game k = absurd (false≢true k)
@@ -531,15 +391,12 @@ put_by false g game archive w f h = not_put (g == game) w (f h)
 
 step_put : (s : Step) (past : List Step) → IsHonestStep s past → (game : ℕ) → (contains game (archive_in past) ≡ true → was_put past game ≡ true) →
     contains game (archive_in (s ∷ past)) ≡ true → was_put (s ∷ past) game ≡ true
-step_put (Begun archive log) past k game f m = f (front_contains game archive (archive_in past) k.0.1 m)
-step_put Gone past k game f m = f m
-step_put (Over g says) past k game f m = f m
-step_put (Came g says) past k game f m = put_by says g game (archive_in past) (was_put past game) f m
+step_put (Begun archive) past k game f m = f (front_contains game archive (archive_in past) k.1 m)
+step_put (Over g d says) past k game f m = f m
+step_put (Came g same says) past k game f m = put_by says g game (archive_in past) (was_put past game) f m
 step_put (Refused g) past k game f m = f m
-step_put (Answered act says) past k game f m = f m
 step_put Synced past k game f m = f m
 step_put (Left g says) past k game f m = f m
-step_put (Asked says) past k game f m = f m
 
 put_once : (steps : List Step) → IsHonest steps → (game : ℕ) → contains game (archive_in steps) ≡ true → was_put steps game ≡ true
 put_once [] h game m = m
@@ -553,29 +410,23 @@ handed_before s past game h =
 step_handed : (s : Step) (past : List Step) (game : ℕ) → IsHonest past → (contains game (safe_in past) ≡ true → IsHanded past game) →
     contains game (safe_in (s ∷ past)) ≡ true → IsHanded (s ∷ past) game
 step_handed Synced past game h f m = record { since = []; before = past; synced = refl; put = put_once past h game m; stands = m }
-step_handed (Begun archive log) past game h f m = handed_before (Begun archive log) past game (f m)
-step_handed Gone past game h f m = handed_before Gone past game (f m)
-step_handed (Over g says) past game h f m = handed_before (Over g says) past game (f m)
-step_handed (Came g says) past game h f m = handed_before (Came g says) past game (f m)
+step_handed (Begun archive) past game h f m = handed_before (Begun archive) past game (f m)
+step_handed (Over g d says) past game h f m = handed_before (Over g d says) past game (f m)
+step_handed (Came g same says) past game h f m = handed_before (Came g same says) past game (f m)
 step_handed (Refused g) past game h f m = handed_before (Refused g) past game (f m)
-step_handed (Answered act says) past game h f m = handed_before (Answered act says) past game (f m)
 step_handed (Left g says) past game h f m = handed_before (Left g says) past game (f m)
-step_handed (Asked says) past game h f m = handed_before (Asked says) past game (f m)
 
 handed : (past : List Step) → IsHonest past → (game : ℕ) → contains game (safe_in past) ≡ true → IsHanded past game
 handed [] h game m = absurd (false≢true m)
 handed (s ∷ past) h game m = step_handed s past game h.1 (handed past h.1 game) m
 
 drop_handed : (s : Step) (past : List Step) → IsHonest past → IsDropStep s past → IsHandedStep s past
-drop_handed (Begun archive log) past h d = tt
-drop_handed Gone past h d = tt
-drop_handed (Over g says) past h d = tt
-drop_handed (Came g says) past h d = tt
+drop_handed (Begun archive) past h d = tt
+drop_handed (Over g b says) past h d = tt
+drop_handed (Came g same says) past h d = tt
 drop_handed (Refused g) past h d = tt
-drop_handed (Answered act says) past h d = tt
 drop_handed Synced past h d = tt
-drop_handed (Left g says) past h d = λ m. handed past h g (d m).1
-drop_handed (Asked says) past h d = tt
+drop_handed (Left g says) past h d = λ m. handed past h g (d m).2
 
 pub all_handed : (steps : List Step) → IsHonest steps → AllDrops steps → AllHanded steps
 all_handed [] h d = tt
@@ -588,22 +439,19 @@ or_weaker false b c f h = f h
 
 step_ever : (s : Step) (past : List Step) (game : ℕ) → (is_seen past game ≡ true → was_over past game ≡ true) →
     is_seen (s ∷ past) game ≡ true → was_over (s ∷ past) game ≡ true
-step_ever (Begun archive log) past game f h = absurd (false≢true h)
-step_ever Gone past game f h = absurd (false≢true h)
-step_ever (Over g says) past game f h = or_weaker (g == game) (is_seen past game) (was_over past game) f h
-step_ever (Came g says) past game f h = f h
+step_ever (Begun archive) past game f h = absurd (false≢true h)
+step_ever (Over g d says) past game f h = or_weaker (g == game) (is_seen past game) (was_over past game) f h
+step_ever (Came g same says) past game f h = f h
 step_ever (Refused g) past game f h = f (clean_before (g == game) (is_seen past game) h)
-step_ever (Answered act says) past game f h = f h
 step_ever Synced past game f h = f h
 step_ever (Left g says) past game f h = f h
-step_ever (Asked says) past game f h = f h
 
 seen_ever : (steps : List Step) (game : ℕ) → is_seen steps game ≡ true → was_over steps game ≡ true
 seen_ever [] game h = h
 seen_ever (s ∷ past) game h = step_ever s past game (seen_ever past game) h
 
 -- none stands in the archive that was never over
-either : (b c w : Bool) → (b ≡ true → w ≡ true) → (c ≡ true → w ≡ true) → (if b then true else c) ≡ true → w ≡ true
+pub either : (b c w : Bool) → (b ≡ true → w ≡ true) → (c ≡ true → w ≡ true) → (if b then true else c) ≡ true → w ≡ true
 either true c w f k h = f refl
 either false c w f k h = k h
 
@@ -620,70 +468,21 @@ asked_ever past old g G h =
 step_finished : (s : Step) (past : List Step) (old new : View) → Good past old → IsStep old s new → IsHonestStep s past → (game : ℕ) →
     (contains game (archive_in past) ≡ true → was_over past game ≡ true) →
     contains game (archive_in (s ∷ past)) ≡ true → was_over (s ∷ past) game ≡ true
-step_finished (Begun archive log) past old new G h k game f m = f (front_contains game archive (archive_in past) k.0.1 m)
-step_finished Gone past old new G h k game f m = f m
-step_finished (Over g says) past old new G h k game f m = or_more (g == game) (was_over past game) (f m)
+step_finished (Begun archive) past old new G h k game f m = f (front_contains game archive (archive_in past) k.1 m)
+step_finished (Over g d says) past old new G h k game f m = or_more (g == game) (was_over past game) (f m)
   where
     or_more : (a b : Bool) → b ≡ true → (a || b) ≡ true
     or_more true b e = refl
     or_more false b e = e
-step_finished (Came g says) past old new G h k game f m =
+step_finished (Came g same says) past old new G h k game f m =
     put_ever says g game (archive_in past) (was_over past game)
     (λ e same. ap (λ (n : ℕ). was_over past n) (sym (same_game g game same)) ∙ asked_ever past old g G (sym h.0 ∙ e)) f m
 step_finished (Refused g) past old new G h k game f m = f m
-step_finished (Answered act says) past old new G h k game f m = f m
 step_finished Synced past old new G h k game f m = f m
 step_finished (Left g says) past old new G h k game f m = f m
-step_finished (Asked says) past old new G h k game f m = f m
 
 pub finished : (steps : List Step) (now : View) → IsRun steps now → IsHonest steps → (game : ℕ) → contains game (archive_in steps) ≡ true →
     was_over steps game ≡ true
 finished [] now run h game m = m
 finished (s ∷ past) now run h game m =
     step_finished s past run.0 now (run_good past run.0 run.1) run.2 h.0 game (finished past run.0 run.1 h.1 game) m
-
--- the log is what was accepted, of which some were left out
-log_both : (says accepts : Bool) (act : Act) (log all : List Act) → says ≡ accepts → IsWithin log all →
-    IsWithin (if says then log ++ act ∷ [] else log) (if accepts then all ++ act ∷ [] else all)
-log_both true true act log all e h = within_more log all act h
-log_both true false act log all e h = absurd (false≢true (sym e))
-log_both false true act log all e h = absurd (false≢true e)
-log_both false false act log all e h = h
-
-step_within : (s : Step) (past : List Step) (old new : View) → IsStep old s new → IsHonestStep s past →
-    IsWithin (log_in past) (accepted_in past) → IsWithin (log_in (s ∷ past)) (accepted_in (s ∷ past))
-step_within (Begun archive log) past old new h k f =
-    within_front log k.1.1.0 (accepted_in past) (subst (λ (xs : List Act). IsWithin xs (accepted_in past)) k.1.1.1 f)
-step_within Gone past old new h k f = f
-step_within (Over g says) past old new h k f = f
-step_within (Came g says) past old new h k f = f
-step_within (Refused g) past old new h k f = f
-step_within (Answered act says) past old new h k f = log_both says (is_accepted act.answer) act (log_in past) (accepted_in past) h.0 f
-step_within Synced past old new h k f = f
-step_within (Left g says) past old new h k f = f
-step_within (Asked says) past old new h k f = f
-
-pub within : (steps : List Step) (now : View) → IsRun steps now → IsHonest steps → IsWithin (log_in steps) (accepted_in steps)
-within [] now run h = tt
-within (s ∷ past) now run h = step_within s past run.0 now run.2 h.0 (within past run.0 run.1 h.1)
-
--- what was said to be safe stays
-run_behind : (later earlier : List Step) (now : View) → IsRun (later ++ earlier) now → (before : View) × IsRun earlier before
-run_behind [] earlier now run = (now, run)
-run_behind (s ∷ later) earlier now run = run_behind later earlier run.0 run.1
-
-pub told_games : (later earlier : List Step) (now : View) → IsRun (later ++ Asked true ∷ earlier) now → IsHonest (later ++ Asked true ∷ earlier) →
-    IsFront (archive_in earlier) (archive_in (later ++ Asked true ∷ earlier))
-told_games later earlier now run honest =
-    let there = run_behind later (Asked true ∷ earlier) now run in
-    let good = run_good (Asked true ∷ earlier) there.0 there.1 in
-    subst (λ (xs : List ℕ). IsFront xs (archive_in (later ++ Asked true ∷ earlier))) (good.said.0 refl).0
-    (kept_ever later (Asked true ∷ earlier) honest)
-
-pub told_acts : (later earlier : List Step) (now : View) → IsRun (later ++ Asked true ∷ earlier) now → IsHonest (later ++ Asked true ∷ earlier) →
-    IsFront (acts_in earlier) (log_in (later ++ Asked true ∷ earlier))
-told_acts later earlier now run honest =
-    let there = run_behind later (Asked true ∷ earlier) now run in
-    let good = run_good (Asked true ∷ earlier) there.0 there.1 in
-    subst (λ (xs : List Act). IsFront xs (log_in (later ++ Asked true ∷ earlier))) ((good.said.0 refl).1 ∙ good.acts)
-    (logged_ever later (Asked true ∷ earlier) honest)

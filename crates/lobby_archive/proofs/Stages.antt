@@ -1,15 +1,16 @@
 -- How far games are.
-use Rattle.std.proofs.Common.{ℕ, ◌≡◌, Bool, true, false, not, ◌&&◌, ◌||◌, ◌==◌, Option, None, Some, refl, sym, ap, ◌∙◌}
+use Rattle.std.proofs.Common.{◌≡◌, Bool, true, false, not, ◌&&◌, ◌||◌, Option, None, Some, refl, sym, ap, ◌∙◌}
 use Rattle.std.specs.Prelude.{if◌then◌else◌, is_some, is_none}
 use Rattle.std.proofs.lemmas.Bool.{false≢true}
 use Rattle.lobby_archive.specs.declared.clerk.Stage.{Stage}
-use Rattle.lobby_archive.specs.declared.clerk.Stage.TheVariants.{Asked, Kept, Dropped}
+use Rattle.lobby_archive.specs.declared.clerk.Stage.TheVariants.{Asked, Found, Kept, Dropped}
 use Rattle.lobby_archive.specs.Clerk.{is_asked, is_kept}
 
 -- a game is not waited for any more
 abbrev pub is_settled : Option Stage → Bool
 is_settled None = false
 is_settled (Some Asked) = false
+is_settled (Some Found) = true
 is_settled (Some Kept) = true
 is_settled (Some Dropped) = true
 
@@ -20,6 +21,7 @@ not_settled stage h k = false≢true (sym (ap is_settled h) ∙ k)
 pub waits_or_settled : (stage : Option Stage) → is_some stage ≡ true → is_asked stage ≡ false → is_settled stage ≡ true
 waits_or_settled None h k = h
 waits_or_settled (Some Asked) h k = sym k
+waits_or_settled (Some Found) h k = refl
 waits_or_settled (Some Kept) h k = refl
 waits_or_settled (Some Dropped) h k = refl
 
@@ -28,12 +30,26 @@ abbrev pub has_left : Option Stage → Bool
 has_left (Some Dropped) = true
 has_left _ = false
 
--- a game stays where it is that was seen, is not waited for, and for which no drop was sent
-pub kept_is : (stage : Option Stage) → is_kept stage ≡ (is_some stage && (not (is_asked stage) && not (has_left stage)))
+-- the table's PGN of a game was handed to the archive, or is the one that stands there
+abbrev pub has_matched : Option Stage → Bool
+has_matched (Some Kept) = true
+has_matched (Some Dropped) = true
+has_matched _ = false
+
+-- a game may go that was matched, and for which no drop was sent
+pub kept_is : (stage : Option Stage) → is_kept stage ≡ (has_matched stage && not (has_left stage))
 kept_is None = refl
 kept_is (Some Asked) = refl
+kept_is (Some Found) = refl
 kept_is (Some Kept) = refl
 kept_is (Some Dropped) = refl
+
+pub kept_matched : (stage : Option Stage) → is_kept stage ≡ true → has_matched stage ≡ true
+kept_matched None h = h
+kept_matched (Some Asked) h = h
+kept_matched (Some Found) h = h
+kept_matched (Some Kept) h = refl
+kept_matched (Some Dropped) h = refl
 
 pub none_not : (stage : Option Stage) → is_none stage ≡ not (is_some stage)
 none_not None = refl
@@ -52,22 +68,35 @@ pick P true x y f p = f refl
 pick P false x y f p = p
 
 -- a game is seen to be over
-pub over_some : (stage : Option Stage) (has : Bool) → is_some (if is_none stage then (if has then Some Kept else Some Asked) else stage) ≡ true
+pub over_some : (stage : Option Stage) (t : Bool) → is_some (if is_none stage then (if t then Some Asked else Some Found) else stage) ≡ true
 over_some None true = refl
 over_some None false = refl
-over_some (Some x) has = refl
+over_some (Some x) t = refl
 
-pub over_waits : (stage : Option Stage) (has : Bool) →
-    ((is_none stage && not has) || is_asked stage) ≡ is_asked (if is_none stage then (if has then Some Kept else Some Asked) else stage)
+pub over_waits : (stage : Option Stage) (t : Bool) →
+    ((is_none stage && t) || is_asked stage) ≡ is_asked (if is_none stage then (if t then Some Asked else Some Found) else stage)
 over_waits None true = refl
 over_waits None false = refl
-over_waits (Some x) has = refl
+over_waits (Some x) t = refl
 
-pub over_settled : (stage : Option Stage) (has : Bool) → (is_settled stage ≡ true → has ≡ true) →
-    is_settled (if is_none stage then (if has then Some Kept else Some Asked) else stage) ≡ true → has ≡ true
-over_settled None true f h = refl
-over_settled None false f h = h
-over_settled (Some x) has f h = f h
+pub over_settled : (stage : Option Stage) (d has : Bool) → (is_settled stage ≡ true → has ≡ true) →
+    is_settled (if is_none stage then (if d || not has then Some Asked else Some Found) else stage) ≡ true → has ≡ true
+over_settled None true has f h = absurd (false≢true h)
+over_settled None false true f h = refl
+over_settled None false false f h = h
+over_settled (Some x) d has f h = f h
+
+pub over_left : (stage : Option Stage) (t : Bool) →
+    has_left stage ≡ has_left (if is_none stage then (if t then Some Asked else Some Found) else stage)
+over_left None true = refl
+over_left None false = refl
+over_left (Some x) t = refl
+
+pub over_matched : (stage : Option Stage) (t : Bool) →
+    has_matched stage ≡ has_matched (if is_none stage then (if t then Some Asked else Some Found) else stage)
+over_matched None true = refl
+over_matched None false = refl
+over_matched (Some x) t = refl
 
 pub seen_over : (b before : Bool) (x y : Option Stage) → is_some x ≡ true → before ≡ is_some y → (b || before) ≡ is_some (if b then x else y)
 seen_over true before x y h k = sym h
@@ -79,30 +108,65 @@ waits_over true says before x y f k = f refl
 waits_over false says before x y f k = k
 
 -- its PGN comes
-pub come_some : (stage : Option Stage) → is_some stage ≡ is_some (if is_asked stage then Some Kept else stage)
-come_some None = refl
-come_some (Some Asked) = refl
-come_some (Some Kept) = refl
-come_some (Some Dropped) = refl
+pub come_some : (stage : Option Stage) (u : Bool) → is_some stage ≡ is_some (if is_asked stage then (if u then Some Found else Some Kept) else stage)
+come_some None u = refl
+come_some (Some Asked) true = refl
+come_some (Some Asked) false = refl
+come_some (Some Found) u = refl
+come_some (Some Kept) u = refl
+come_some (Some Dropped) u = refl
 
-come_asked : (stage : Option Stage) → false ≡ is_asked (if is_asked stage then Some Kept else stage)
-come_asked None = refl
-come_asked (Some Asked) = refl
-come_asked (Some Kept) = refl
-come_asked (Some Dropped) = refl
+come_asked : (stage : Option Stage) (u : Bool) → false ≡ is_asked (if is_asked stage then (if u then Some Found else Some Kept) else stage)
+come_asked None u = refl
+come_asked (Some Asked) true = refl
+come_asked (Some Asked) false = refl
+come_asked (Some Found) u = refl
+come_asked (Some Kept) u = refl
+come_asked (Some Dropped) u = refl
 
-pub waits_come : (b before : Bool) (stage y : Option Stage) → before ≡ is_asked y →
-    (if b then false else before) ≡ is_asked (if b then (if is_asked stage then Some Kept else stage) else y)
-waits_come true before stage y h = come_asked stage
-waits_come false before stage y h = h
+pub waits_come : (b before u : Bool) (stage y : Option Stage) → before ≡ is_asked y →
+    (if b then false else before) ≡ is_asked (if b then (if is_asked stage then (if u then Some Found else Some Kept) else stage) else y)
+waits_come true before u stage y h = come_asked stage u
+waits_come false before u stage y h = h
 
-pub come_settled : (stage : Option Stage) (has same : Bool) → same ≡ true → (is_settled stage ≡ true → has ≡ true) →
-    is_settled (if is_asked stage then Some Kept else stage) ≡ true → (if (is_asked stage && not has) && same then true else has) ≡ true
-come_settled None has same s f h = absurd (false≢true h)
-come_settled (Some Asked) true same s f h = refl
-come_settled (Some Asked) false same s f h = ap (λ (b : Bool). if b then true else false) s
-come_settled (Some Kept) has same s f h = f h
-come_settled (Some Dropped) has same s f h = f h
+pub come_settled : (stage : Option Stage) (has same b : Bool) → b ≡ true → (is_settled stage ≡ true → has ≡ true) →
+    is_settled (if is_asked stage then (if has && not same then Some Found else Some Kept) else stage) ≡ true →
+    (if (is_asked stage && not has) && b then true else has) ≡ true
+come_settled None has same b s f h = absurd (false≢true h)
+come_settled (Some Asked) true same b s f h = refl
+come_settled (Some Asked) false same b s f h = ap (λ (c : Bool). if c then true else false) s
+come_settled (Some Found) has same b s f h = f h
+come_settled (Some Kept) has same b s f h = f h
+come_settled (Some Dropped) has same b s f h = f h
+
+pub come_left : (stage : Option Stage) (u : Bool) → has_left stage ≡ has_left (if is_asked stage then (if u then Some Found else Some Kept) else stage)
+come_left None u = refl
+come_left (Some Asked) true = refl
+come_left (Some Asked) false = refl
+come_left (Some Found) u = refl
+come_left (Some Kept) u = refl
+come_left (Some Dropped) u = refl
+
+come_matched : (stage : Option Stage) (has same : Bool) →
+    ((is_asked stage && ((is_asked stage && not has) || same)) || has_matched stage)
+    ≡ has_matched (if is_asked stage then (if has && not same then Some Found else Some Kept) else stage)
+come_matched None has same = refl
+come_matched (Some Asked) true true = refl
+come_matched (Some Asked) true false = refl
+come_matched (Some Asked) false same = refl
+come_matched (Some Found) has same = refl
+come_matched (Some Kept) has same = refl
+come_matched (Some Dropped) has same = refl
+
+pub matched_come : (b waits puts has same before : Bool) (stage y : Option Stage) → (b ≡ true → waits ≡ is_asked stage) → puts ≡ (is_asked stage && not has) →
+    (b ≡ true → before ≡ has_matched stage) → before ≡ has_matched y →
+    ((b && (waits && (puts || same))) || before)
+    ≡ has_matched (if b then (if is_asked stage then (if has && not same then Some Found else Some Kept) else stage) else y)
+matched_come true waits puts has same before stage y w p f k =
+    ap (λ (c : Bool). (c && (puts || same)) || before) (w refl)
+    ∙ (ap (λ (c : Bool). (is_asked stage && (c || same)) || before) p
+    ∙ (ap (λ (c : Bool). (is_asked stage && ((is_asked stage && not has) || same)) || c) (f refl) ∙ come_matched stage has same))
+matched_come false waits puts has same before stage y w p f k = k
 
 pub stays : (t has : Bool) → has ≡ true → (if t then true else has) ≡ true
 stays true has h = refl
@@ -121,6 +185,7 @@ waits_refused false before y h = h
 pub left_some : (stage : Option Stage) (t : Bool) → is_some stage ≡ is_some (if is_kept stage && t then Some Dropped else stage)
 left_some None t = refl
 left_some (Some Asked) t = refl
+left_some (Some Found) t = refl
 left_some (Some Kept) true = refl
 left_some (Some Kept) false = refl
 left_some (Some Dropped) t = refl
@@ -128,6 +193,7 @@ left_some (Some Dropped) t = refl
 pub left_asked : (stage : Option Stage) (t : Bool) → is_asked stage ≡ is_asked (if is_kept stage && t then Some Dropped else stage)
 left_asked None t = refl
 left_asked (Some Asked) t = refl
+left_asked (Some Found) t = refl
 left_asked (Some Kept) true = refl
 left_asked (Some Kept) false = refl
 left_asked (Some Dropped) t = refl
@@ -135,6 +201,7 @@ left_asked (Some Dropped) t = refl
 pub left_settled : (stage : Option Stage) (t : Bool) → is_settled (if is_kept stage && t then Some Dropped else stage) ≡ true → is_settled stage ≡ true
 left_settled None t h = h
 left_settled (Some Asked) t h = h
+left_settled (Some Found) t h = h
 left_settled (Some Kept) t h = refl
 left_settled (Some Dropped) t h = refl
 
@@ -154,19 +221,19 @@ pub not_true : (a : Bool) → not a ≡ true → a ≡ false
 not_true true h = absurd (false≢true h)
 not_true false h = refl
 
+pub left_matched : (stage : Option Stage) (t : Bool) → has_matched stage ≡ has_matched (if is_kept stage && t then Some Dropped else stage)
+left_matched None t = refl
+left_matched (Some Asked) t = refl
+left_matched (Some Found) t = refl
+left_matched (Some Kept) true = refl
+left_matched (Some Kept) false = refl
+left_matched (Some Dropped) t = refl
+
+pub refused_matched : (b before : Bool) (y : Option Stage) → before ≡ has_matched y → (if b then false else before) ≡ has_matched (if b then None else y)
+refused_matched true before y h = refl
+refused_matched false before y h = h
+
 -- whether a drop was sent, after each step
-pub over_left : (stage : Option Stage) (has : Bool) →
-    has_left stage ≡ has_left (if is_none stage then (if has then Some Kept else Some Asked) else stage)
-over_left None true = refl
-over_left None false = refl
-over_left (Some x) has = refl
-
-pub come_left : (stage : Option Stage) → has_left stage ≡ has_left (if is_asked stage then Some Kept else stage)
-come_left None = refl
-come_left (Some Asked) = refl
-come_left (Some Kept) = refl
-come_left (Some Dropped) = refl
-
 pub refused_left : (b before : Bool) (y : Option Stage) → before ≡ has_left y → (if b then false else before) ≡ has_left (if b then None else y)
 refused_left true before y h = refl
 refused_left false before y h = h

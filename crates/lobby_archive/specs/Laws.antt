@@ -1,20 +1,17 @@
 -- What is promised of whatever happens. The past is told from its newest step back.
-use Rattle.std.specs.Prelude.{ℕ, ◌≡◌, ◌⊎◌, Bool, true, false, not, ◌||◌, ◌&&◌, ◌==◌, List, [], ◌∷◌, ◌++◌, if◌then◌else◌}
-use Rattle.lobby_archive.specs.Steps.{Act, Step, Begun, Gone, Over, Came, Refused, Answered, Synced, Left, Asked}
-use Rattle.lobby_archive.specs.Files.{contains, archive_in, safe_in, fresh_in, is_quiet, log_in, safe_log_in}
-use Rattle.lobby_archive.specs.Answers.{is_accepted}
+use Rattle.std.specs.Prelude.{ℕ, ◌≡◌, Bool, true, false, not, ◌||◌, ◌&&◌, ◌==◌, List, [], ◌∷◌, ◌++◌, if◌then◌else◌}
+use Rattle.lobby_archive.specs.Steps.{Step, Begun, Over, Came, Refused, Synced, Left}
+use Rattle.lobby_archive.specs.Files.{contains, archive_in, safe_in, fresh_in}
 
 -- no game stands there twice
 abbrev pub IsOnce : List ℕ → Type 0
 IsOnce [] = Unit {0}
 IsOnce (game ∷ games) = (contains game games ≡ false) × IsOnce games
 
--- Whether a game was seen to be over, since the lobby began or since the server was there again, and nothing that was asked of it
--- was refused since.
+-- whether a game was seen to be over, since the clerk began, and nothing that was asked of it was refused since
 abbrev pub seen_after : Step → ℕ → Bool → Bool
-seen_after (Begun archive log) game before = false
-seen_after Gone game before = false
-seen_after (Over g asks) game before = g == game || before
+seen_after (Begun archive) game before = false
+seen_after (Over g droppable asks) game before = g == game || before
 seen_after (Refused g) game before = if g == game then false else before
 seen_after _ game before = before
 
@@ -24,10 +21,9 @@ is_seen (s ∷ past) game = seen_after s game (is_seen past game)
 
 -- whether its PGN was asked for, and has not come since, nor a refusal
 abbrev pub waiting_after : Step → ℕ → Bool → Bool
-waiting_after (Begun archive log) game before = false
-waiting_after Gone game before = false
-waiting_after (Over g asks) game before = (g == game && asks) || before
-waiting_after (Came g puts) game before = if g == game then false else before
+waiting_after (Begun archive) game before = false
+waiting_after (Over g droppable asks) game before = (g == game && asks) || before
+waiting_after (Came g same puts) game before = if g == game then false else before
 waiting_after (Refused g) game before = if g == game then false else before
 waiting_after _ game before = before
 
@@ -35,10 +31,21 @@ abbrev pub is_waiting : List Step → ℕ → Bool
 is_waiting [] game = false
 is_waiting (s ∷ past) game = waiting_after s game (is_waiting past game)
 
--- whether a drop was sent for it, and not refused, since the lobby began or since the server was there again
+-- whether the table's PGN of it, which was waited for, was handed to the archive or is the one that stands there, and nothing was
+-- refused since
+abbrev pub matched_after : Step → ℕ → Bool → Bool → Bool
+matched_after (Begun archive) game waits before = false
+matched_after (Came g same puts) game waits before = (g == game && (waits && (puts || same))) || before
+matched_after (Refused g) game waits before = if g == game then false else before
+matched_after _ game waits before = before
+
+abbrev pub is_matched : List Step → ℕ → Bool
+is_matched [] game = false
+is_matched (s ∷ past) game = matched_after s game (is_waiting past game) (is_matched past game)
+
+-- whether a drop was sent for it, and not refused, since the clerk began
 abbrev pub sent_after : Step → ℕ → Bool → Bool
-sent_after (Begun archive log) game before = false
-sent_after Gone game before = false
+sent_after (Begun archive) game before = false
 sent_after (Left g drops) game before = (g == game && drops) || before
 sent_after (Refused g) game before = if g == game then false else before
 sent_after _ game before = before
@@ -47,30 +54,27 @@ abbrev pub is_sent : List Step → ℕ → Bool
 is_sent [] game = false
 is_sent (s ∷ past) game = sent_after s game (is_sent past game)
 
--- What is decided, by what happened before. The PGN of a game that is seen to be over is asked for where it was not seen before
--- and is not in the archive. What comes is handed to the archive where it is waited for and not there. An act is handed to the
--- log where its answer accepts it. A drop is sent for a game that was seen to be over, is not waited for, and stands in the
--- archive, of which a sync has answered since; and once. All is said to be safe where nothing was handed over since a sync.
+-- What is decided, by what happened before. The PGN of a game that is seen to be over is asked for where it was not seen before,
+-- and is not in the archive or may be dropped. What comes is handed to the archive where it is waited for and not there. A drop is
+-- sent for a game of which the table's PGN was handed to the archive or is the one that stands there, since before a sync that has
+-- answered; and once.
 abbrev pub may_go : List Step → ℕ → Bool
 may_go past game =
-    (is_seen past game && (not (is_waiting past game) && not (is_sent past game)))
-    && (contains game (archive_in past) && not (contains game (fresh_in past)))
+    (is_matched past game && not (is_sent past game)) && (contains game (archive_in past) && not (contains game (fresh_in past)))
 
 abbrev pub IsRightStep : Step → List Step → Type 0
-IsRightStep (Over game asks) past = asks ≡ (not (is_seen past game) && not (contains game (archive_in past)))
-IsRightStep (Came game puts) past = puts ≡ (is_waiting past game && not (contains game (archive_in past)))
-IsRightStep (Answered act logs) past = logs ≡ is_accepted act.answer
+IsRightStep (Over game droppable asks) past = asks ≡ (not (is_seen past game) && (droppable || not (contains game (archive_in past))))
+IsRightStep (Came game same puts) past = puts ≡ (is_waiting past game && not (contains game (archive_in past)))
 IsRightStep (Left game drops) past = drops ≡ may_go past game
-IsRightStep (Asked safe) past = safe ≡ is_quiet past
 IsRightStep _ past = Unit {0}
 
 abbrev pub AllRight : List Step → Type 0
 AllRight [] = Unit {0}
 AllRight (s ∷ past) = IsRightStep s past × AllRight past
 
--- whether a game was ever seen to be over, by this lobby or by one before it
+-- whether a game was ever seen to be over, by this clerk or by one before it
 abbrev pub over_after : Step → ℕ → Bool → Bool
-over_after (Over g asks) game before = g == game || before
+over_after (Over g droppable asks) game before = g == game || before
 over_after _ game before = before
 
 abbrev pub was_over : List Step → ℕ → Bool
@@ -86,9 +90,11 @@ abbrev pub is_dropped : List Step → ℕ → Bool
 is_dropped [] game = false
 is_dropped (s ∷ past) game = dropped_after s game (is_dropped past game)
 
--- a drop is sent for a game that was seen to be over and is safe in the archive
+-- a drop is sent for a game that was seen to be over, of which the table's PGN was handed to the archive or is the one that stands
+-- there, and that is safe there
 abbrev pub IsDropStep : Step → List Step → Type 0
-IsDropStep (Left game drops) past = drops ≡ true → (is_seen past game ≡ true) × (contains game (safe_in past) ≡ true)
+IsDropStep (Left game drops) past =
+    drops ≡ true → (is_seen past game ≡ true) × (is_matched past game ≡ true) × (contains game (safe_in past) ≡ true)
 IsDropStep _ past = Unit {0}
 
 abbrev pub AllDrops : List Step → Type 0
@@ -97,7 +103,7 @@ AllDrops (s ∷ past) = IsDropStep s past × AllDrops past
 
 -- whether the PGN of a game was ever handed to the archive
 abbrev pub put_after : Step → ℕ → Bool → Bool
-put_after (Came g puts) game before = (g == game && puts) || before
+put_after (Came g same puts) game before = (g == game && puts) || before
 put_after _ game before = before
 
 abbrev pub was_put : List Step → ℕ → Bool
@@ -119,37 +125,3 @@ IsHandedStep _ past = Unit {0}
 abbrev pub AllHanded : List Step → Type 0
 AllHanded [] = Unit {0}
 AllHanded (s ∷ past) = IsHandedStep s past × AllHanded past
-
--- the accepted acts, in the order of their answers, behind those that the log showed when the lobby began
-abbrev pub acts_after : Step → List Act → List Act
-acts_after (Begun archive log) acts = log
-acts_after (Answered act logs) acts = if is_accepted act.answer then acts ++ act ∷ [] else acts
-acts_after _ acts = acts
-
-abbrev pub acts_in : List Step → List Act
-acts_in [] = []
-acts_in (s ∷ past) = acts_after s (acts_in past)
-
--- where it is said that all is safe, all that was handed over is
-abbrev pub IsSafeStep : Step → List Step → Type 0
-IsSafeStep (Asked safe) past = safe ≡ true → (safe_in past ≡ archive_in past) × (safe_log_in past ≡ log_in past)
-IsSafeStep _ past = Unit {0}
-
-abbrev pub AllSafe : List Step → Type 0
-AllSafe [] = Unit {0}
-AllSafe (s ∷ past) = IsSafeStep s past × AllSafe past
-
--- all acts that were accepted, in the order of their answers, of all lobbies one after the other
-abbrev pub accepted_after : Step → List Act → List Act
-accepted_after (Answered act logs) acts = if is_accepted act.answer then acts ++ act ∷ [] else acts
-accepted_after _ acts = acts
-
-abbrev pub accepted_in : List Step → List Act
-accepted_in [] = []
-accepted_in (s ∷ past) = accepted_after s (accepted_in past)
-
--- a list is what another is when some of it are left out
-abbrev pub IsWithin : {A : Type 0} → List A → List A → Type 0
-IsWithin [] ys = Unit {0}
-IsWithin (x ∷ xs) [] = ⊥
-IsWithin (x ∷ xs) (y ∷ ys) = ((x ≡ y) × IsWithin xs ys) ⊎ IsWithin (x ∷ xs) ys

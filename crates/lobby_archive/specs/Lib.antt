@@ -1,5 +1,5 @@
 pub mod Steps
 pub mod Files
-pub mod Answers
 pub mod Clerk
 pub mod Laws
+pub mod Night

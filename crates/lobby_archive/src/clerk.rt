@@ -1,12 +1,11 @@
-//! The clerk: what is handed to the archive and to the log, and what may leave the table.
-ghost use Rattle.std.specs.Prelude.{ℕ, List, ◌≡◌, ◌==◌, Bool, true, OnOk, IfOk, Option, Some, None, if◌then◌else◌};
+//! The clerk: whose PGNs are asked for, what is handed to the archive, and what may leave the table.
+ghost use Rattle.std.specs.Prelude.{ℕ, ◌≡◌, ◌==◌, true, OnOk, IfOk, Option, Some, None, if◌then◌else◌};
 ghost use Rattle.std.specs.BTreeMap as map;
 ghost use Rattle.std.specs.BTreeSet as set;
 ghost use Rattle.std.specs.Ordering.{nat_cmp};
-ghost use Rattle.lobby_archive.specs.Steps.{Act, Begun, Gone, Over, Came, Refused, Answered, Synced, Left, Asked};
+ghost use Rattle.lobby_archive.specs.Steps.{Begun, Over, Came, Refused, Synced, Left};
 ghost use Rattle.lobby_archive.specs.Files.{contains};
-ghost use Rattle.lobby_archive.specs.Answers as answers;
-ghost use Rattle.lobby_archive.specs.Clerk.{View, view, is_asked, is_kept, IsStep};
+ghost use Rattle.lobby_archive.specs.Clerk.{View, view, IsStep, drops};
 
 use std::alloc::{AllocError, Global};
 use std::collections::{BTreeMap, BTreeSet};
@@ -16,7 +15,9 @@ use std::collections::{BTreeMap, BTreeSet};
 pub enum Stage {
     /// Its PGN was asked for.
     Asked,
-    /// It was handed to the archive, or stood there before.
+    /// It stood in the archive before. That the table has the same PGN of it is not known.
+    Found,
+    /// It was handed to the archive, or it stood there before, and the table has the same PGN of it.
     Kept,
     /// A drop was sent for it.
     Dropped,
@@ -25,26 +26,12 @@ pub enum Stage {
 /// The clerk. After an error it is fit for nothing but to be dropped.
 #[derive(Drop)]
 pub struct Clerk {
-    alloc: Global,
     // The games of the archive.
     kept: BTreeSet<u32>,
     // Those that were handed to it since the last sync.
     fresh: Vec<u32>,
     // The games of the table that were seen to be over.
     stages: BTreeMap<u32, Stage>,
-    // Whether nothing was handed over since the last sync.
-    is_clean: bool,
-}
-
-// Whether an answer accepts an act.
-fn is_accepted(answer: &str) -> bool
-    ensures { result ≡ answers.is_accepted answer.now }
-{
-    let word = match answer.split_once(' ') {
-        Some((word, _)) => word,
-        None => answer,
-    };
-    word == "ok" || word == "fallen"
 }
 
 // The games of the archive, in their order.
@@ -107,61 +94,64 @@ fn set_of(alloc: Global, archive: &[u32]) -> Result<BTreeSet<u32>, AllocError>
     Ok(kept)
 }
 
+// How far a game is that is seen to be over for the first time.
+fn first_stage(asks: bool) -> Stage
+    ensures { result ≡ (if asks then Stage.Asked else Stage.Found) }
+{
+    if asks { Stage::Asked } else { Stage::Found }
+}
+
+// How far a game is whose PGN has come.
+fn next_stage(is_other: bool) -> Stage
+    ensures { result ≡ (if is_other then Stage.Found else Stage.Kept) }
+{
+    if is_other { Stage::Found } else { Stage::Kept }
+}
+
 impl Clerk {
     /// A clerk for an archive that shows these games, each record whole, in their order. Of them none counts as safe before a
     /// sync has answered.
     pub fn new(alloc: Global, archive: &[u32]) -> Result<Clerk, AllocError>
-        ensures { IfOk result (λ clerk. (log : List Act) (old : View) → IsStep old (Begun archive.now log) (view clerk)) }
+        ensures { IfOk result (λ clerk. (old : View) → IsStep old (Begun archive.now) (view clerk)) }
     {
         let kept = set_of(alloc, archive)?;
         let fresh = list_of(alloc, archive)?;
         Ok(Clerk {
-            alloc,
             kept,
             fresh,
             stages: BTreeMap::new(alloc),
-            is_clean: false,
         })
     }
 
-    /// The connection to the server is lost. Which games are over is to be told anew when it is there again.
-    pub fn gone(&mut self)
-        ensures { IsStep (view self.old) Gone (view self.new) }
-    {
-        self.stages = BTreeMap::new(self.alloc);
-    }
-
-    /// A game is seen to be over, as an answer or a row of `list` tells. It answers whether its PGN is to be asked for.
-    pub fn over(&mut self, game: u32) -> Result<bool, AllocError>
-        ensures { IfOk result (λ asks. IsStep (view self.old) (Over game asks) (view self.new)) }
+    /// A game is seen to be over, and may be dropped or not. It answers whether its PGN is to be asked for: to be handed to the
+    /// archive, or to be compared with what stands there.
+    pub fn over(&mut self, game: u32, droppable: bool) -> Result<bool, AllocError>
+        ensures { IfOk result (λ asks. IsStep (view self.old) (Over game droppable asks) (view self.new)) }
     {
         if stage_of(&self.stages, game).is_some() {
             return Ok(false);
         }
-        let has = self.kept.contains(&game);
-        put(
-            &mut self.stages,
-            game,
-            if has { Stage::Kept } else { Stage::Asked },
-        )?;
-        Ok(!has)
+        let asks = droppable || !self.kept.contains(&game);
+        put(&mut self.stages, game, first_stage(asks))?;
+        Ok(asks)
     }
 
-    /// The PGN of a game has come. It answers whether that is to be handed to the archive.
-    pub fn came(&mut self, game: u32) -> Result<bool, AllocError>
-        ensures { IfOk result (λ puts. IsStep (view self.old) (Came game puts) (view self.new)) }
+    /// The PGN of a game has come; `is_same` says that the archive has the game with just this one. It answers whether it is to
+    /// be handed to the archive.
+    pub fn came(&mut self, game: u32, is_same: bool) -> Result<bool, AllocError>
+        ensures { IfOk result (λ puts. IsStep (view self.old) (Came game is_same puts) (view self.new)) }
     {
         let is_asked = matches!(stage_of(&self.stages, game), Some(Stage::Asked));
         if !is_asked {
             return Ok(false);
         }
-        put(&mut self.stages, game, Stage::Kept)?;
-        if self.kept.contains(&game) {
+        let has = self.kept.contains(&game);
+        put(&mut self.stages, game, next_stage(has && !is_same))?;
+        if has {
             return Ok(false);
         }
         keep(&mut self.kept, game)?;
         self.fresh.push(game)?;
-        self.is_clean = false;
         Ok(true)
     }
 
@@ -172,42 +162,30 @@ impl Clerk {
         take_off(&mut self.stages, game);
     }
 
-    /// An act is answered. It answers whether the act is to be handed to the log.
-    pub fn answered(&mut self, answer: &str) -> bool
-        ensures { (act : Act) → act.answer ≡ answer.now → IsStep (view self.old) (Answered act result) (view self.new) }
-    {
-        let logs = is_accepted(answer);
-        if logs {
-            self.is_clean = false;
-        }
-        logs
-    }
-
-    /// Archive and log were synced after all that was handed to them, and the sync has answered that it is done.
+    /// The archive was synced after all that was handed to it, and the sync has answered that it is done.
     pub fn synced(&mut self)
         ensures { IsStep (view self.old) Synced (view self.new) }
     {
         self.fresh.clear();
-        self.is_clean = true;
+    }
+
+    /// Whether a drop would be sent for a game if nobody looked at it now.
+    pub fn may_go(&self, game: u32) -> bool
+        ensures { result ≡ drops (view self.now) game }
+    {
+        let is_kept = matches!(stage_of(&self.stages, game), Some(Stage::Kept));
+        let has = self.kept.contains(&game);
+        is_kept && has && !is_among(self.fresh.as_slice(), game)
     }
 
     /// Nobody looks at a game. It answers whether a drop is to be sent for it.
     pub fn left(&mut self, game: u32) -> Result<bool, AllocError>
         ensures { IfOk result (λ drops. IsStep (view self.old) (Left game drops) (view self.new)) }
     {
-        let is_kept = matches!(stage_of(&self.stages, game), Some(Stage::Kept));
-        let has = self.kept.contains(&game);
-        let drops = is_kept && has && !is_among(self.fresh.as_slice(), game);
+        let drops = self.may_go(game);
         if drops {
             put(&mut self.stages, game, Stage::Dropped)?;
         }
         Ok(drops)
-    }
-
-    /// Whether all that was handed to archive and log is safe: what is told then was not told too early.
-    pub fn is_safe(&self) -> bool
-        ensures { IsStep (view self.now) (Asked result) (view self.now) }
-    {
-        self.is_clean
     }
 }

@@ -1,11 +1,11 @@
-//! The clerk of a lobby: which games are handed to the archive, which acts to the log, and which games may leave the table. It
-//! has no files and no sockets: what happened goes in, and what is to be done comes out.
+//! The clerk of an archive: which games' PGNs are asked for, which are handed to the archive, and which games may leave the table. It
+//! has no files and no sockets: what happened goes in, and what is to be done comes out. What is done then is done on a `Night`.
 #![tactic(auto)]
 
 mod clerk;
 mod law;
+mod night;
 
 pub use clerk::{Clerk, Stage};
-pub use law::{
-    law_of_decisions, law_of_drops, law_of_games, law_of_log, law_of_safety, law_of_telling,
-};
+pub use law::{law_of_decisions, law_of_drops, law_of_games, law_of_safety};
+pub use night::{Night, look};

@@ -6,35 +6,28 @@ use std::process::Abort;
 // What happens, and what is decided then.
 #[derive(Clone, Copy)]
 enum Row {
-    Over(u32, bool),
-    Came(u32, bool),
+    Over(u32, bool, bool),
+    Came(u32, bool, bool),
     Refused(u32),
-    Answered(&'static str, bool),
     Synced,
     Left(u32, bool),
-    Safe(bool),
-    Gone,
 }
 
 // Whether the clerk decides so.
 fn is_so(rt: &impl Abort, clerk: &mut Clerk, row: &Row) -> bool {
     match row {
-        Row::Over(game, asks) => clerk.over(*game).expect(rt, "memory") == *asks,
-        Row::Came(game, puts) => clerk.came(*game).expect(rt, "memory") == *puts,
+        Row::Over(game, drops, asks) => clerk.over(*game, *drops).expect(rt, "memory") == *asks,
+        Row::Came(game, same, puts) => clerk.came(*game, *same).expect(rt, "memory") == *puts,
         Row::Refused(game) => {
             clerk.refused(*game);
             true
         }
-        Row::Answered(answer, logs) => clerk.answered(answer) == *logs,
         Row::Synced => {
             clerk.synced();
             true
         }
-        Row::Left(game, drops) => clerk.left(*game).expect(rt, "memory") == *drops,
-        Row::Safe(safe) => clerk.is_safe() == *safe,
-        Row::Gone => {
-            clerk.gone();
-            true
+        Row::Left(game, drops) => {
+            clerk.may_go(*game) == *drops && clerk.left(*game).expect(rt, "memory") == *drops
         }
     }
 }
@@ -48,45 +41,45 @@ fn check_rows(rt: &impl Abort, alloc: Global, archive: &[u32], rows: &[Row]) {
 }
 
 // A game ends, is archived, synced, and dropped when nobody looks at it; and each once.
-const EVENING: [Row; 14] = [
-    Row::Answered("ok move 7 41 Qh7#", true),
-    Row::Answered("no 9 BadMove", false),
-    Row::Answered("fallen 8 0-1 6.9", true),
-    Row::Safe(false),
-    Row::Over(7, true),
-    Row::Over(7, false),
+const EVENING: [Row; 9] = [
+    Row::Over(7, true, true),
+    Row::Over(7, true, false),
     Row::Left(7, false),
-    Row::Came(7, true),
-    Row::Came(7, false),
+    Row::Came(7, false, true),
+    Row::Came(7, true, false),
     Row::Left(7, false),
     Row::Synced,
-    Row::Safe(true),
     Row::Left(7, true),
     Row::Left(7, false),
 ];
 
-// A lobby that was killed: game 3 stands in the archive, game 4 does not, and both are on the table.
-const AFTER_A_KILL: [Row; 10] = [
-    Row::Over(3, false),
-    Row::Over(4, true),
+// A keeper that was killed: games 1 and 3 stand in the archive, game 4 does not, and all are on the table. Of game 1 the table
+// has another PGN.
+const AFTER_A_KILL: [Row; 12] = [
+    Row::Over(3, true, true),
+    Row::Came(3, true, false),
     Row::Left(3, false),
+    Row::Over(1, true, true),
+    Row::Came(1, false, false),
+    Row::Over(4, true, true),
     Row::Synced,
+    Row::Left(1, false),
     Row::Left(3, true),
     Row::Left(4, false),
-    Row::Gone,
-    Row::Came(4, false),
-    Row::Over(4, true),
-    Row::Came(4, true),
+    Row::Came(4, false, true),
+    Row::Left(4, false),
 ];
 
-// What was refused is asked for again; a game that is not over is never dropped.
-const REFUSED: [Row; 7] = [
-    Row::Over(5, true),
+// What was refused is asked for again; a game that is not over is never dropped, nor one that was not compared.
+const REFUSED: [Row; 9] = [
+    Row::Over(5, false, true),
     Row::Refused(5),
-    Row::Came(5, false),
-    Row::Over(5, true),
-    Row::Came(5, true),
+    Row::Came(5, false, false),
+    Row::Over(5, false, true),
+    Row::Came(5, false, true),
+    Row::Over(2, false, false),
     Row::Synced,
+    Row::Left(2, false),
     Row::Left(6, false),
 ];
 
@@ -94,7 +87,7 @@ const REFUSED: [Row; 7] = [
 fn a_clerk_decides_so(rt: HostRuntime) {
     check_rows(&rt, rt.alloc(), &[], &EVENING);
     check_rows(&rt, rt.alloc(), &[1, 3], &AFTER_A_KILL);
-    check_rows(&rt, rt.alloc(), &[], &REFUSED);
+    check_rows(&rt, rt.alloc(), &[2], &REFUSED);
 }
 
 // What happens to games 1, 2 and 3, which are over.
@@ -150,11 +143,12 @@ impl World {
         match step {
             Step::Over(game) => {
                 if self.table.contains(game) {
-                    assert!(rt; clerk.over(*game).is_ok());
+                    assert!(rt; clerk.over(*game, true).is_ok());
                 }
             }
             Step::Came(game) => {
-                if clerk.came(*game).expect(rt, "memory") {
+                let is_same = self.archive.contains(game);
+                if clerk.came(*game, is_same).expect(rt, "memory") {
                     assert!(rt; self.archive.push(*game).is_ok());
                 }
             }
@@ -171,7 +165,7 @@ impl World {
         }
     }
 
-    // A lobby lives through the first steps, and is killed then.
+    // A clerk lives through the first steps, and is killed then.
     fn live(&mut self, rt: &impl Abort, alloc: Global, steps: usize) {
         let mut clerk = Clerk::new(alloc, self.archive.as_slice()).expect(rt, "memory");
         for step in NIGHT.iter().take(steps) {
@@ -180,7 +174,7 @@ impl World {
     }
 }
 
-// A lobby is killed after so many steps, what was not synced stays or does not, and another one lives to the end.
+// A clerk is killed after so many steps, what was not synced stays or does not, and another one lives to the end.
 fn comes_out_right(rt: &impl Abort, alloc: Global, steps: usize, is_kept: bool) -> bool {
     let mut world = World::new(rt, alloc);
     world.live(rt, alloc, steps);

@@ -1,0 +1,24 @@
+//! Games that were kept.
+use anyhow::{Result, bail};
+use archive_file::{game_of, pgn_of};
+use std::alloc::Global;
+
+/// A game, as it was kept.
+#[derive(Drop)]
+pub struct Kept {
+    pub game: u32,
+    pub pgn: String,
+}
+
+/// The games of an archive's lines, in their order.
+pub fn kept_in(alloc: Global, lines: &[&str]) -> Result<Vec<Kept>> {
+    let mut games = Vec::new(alloc);
+    for line in lines {
+        let Some(game) = game_of(alloc, line)? else {
+            bail!("a line is no game's");
+        };
+        let pgn = String::from_utf8(pgn_of(alloc, line)?)?;
+        games.push(Kept { game, pgn })?;
+    }
+    Ok(games)
+}

@@ -1,0 +1,13 @@
+use Rattle.std.proofs.Common.{◌+◌, take, get_or, arith}
+use Rattle.std.proofs.lemmas.List.{take_more}
+use Rattle.lobby_archive.proofs.Nights.{done_more}
+use Rattle.lobby_archive.proofs.night.look.Goals as goal
+
+pub loop-game-preserved : goal.loop-game-preserved
+loop-game-preserved g c =
+    let i = c.loop-game.game-index in
+    let xs = c.args.over.now in (
+      c.in_ok-look_at.ensures.told,
+      done_more _ _ _ _ (get_or xs i 0) (take i xs) (take (i + 1) xs) c.in_ok-look_at.ensures.safe c.in_ok-look_at.ensures.later
+          c.loop-game.invariant.1 c.in_ok-look_at.ensures.done (take_more xs i 0 (omega arith)),
+    )
