@@ -2,7 +2,6 @@
 #![tactic(auto)]
 
 mod adding;
-mod clock;
 mod evidence;
 mod health;
 mod live;

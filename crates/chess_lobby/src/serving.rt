@@ -1,5 +1,4 @@
 //! The word that serves browsers.
-use crate::clock::Moments;
 use crate::health::Health;
 use crate::live::Live;
 use crate::log::FileLog;
@@ -7,6 +6,7 @@ use crate::page::{is_loopback, site_of};
 use anyhow::{Context, Result};
 use lobby_commands::Serving;
 use lobby_loop::{ActLog, Entrance, Lobby, NoActLog};
+use monotonic_clock::Moments;
 use players_file::players_of;
 use std::fs::File;
 use std::hash::RandomState;

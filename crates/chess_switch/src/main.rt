@@ -2,7 +2,6 @@
 #![tactic(auto)]
 
 mod client;
-mod clock;
 mod command_line;
 mod hall;
 mod link;

@@ -1,8 +1,8 @@
 //! What the program does: it takes turns.
-use crate::clock::Moments;
 use crate::command_line::Serving;
 use crate::hall::Hall;
 use anyhow::Result;
+use monotonic_clock::Moments;
 use std::alloc::Global;
 use std::net::{IpAddr, Net, SocketAddr};
 use std::rt::Clock;
