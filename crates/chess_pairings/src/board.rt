@@ -3,7 +3,7 @@ use crate::round_file::RoundFile;
 use crate::table::{has_times, rows_of, show_game};
 use anyhow::Result;
 use pairing_texts::{
-    Game, Note, Pairing, Stage, Step, Times, candidates, step_of_games, step_of_seats, times_text,
+    Game, Note, Pairing, Row, Seats, Stage, Step, Times, candidates, newest, step_of, times_text,
 };
 use server_link::Link;
 use std::alloc::Global;
@@ -29,13 +29,12 @@ pub struct Board {
 
 impl Board {
     /// A note of it.
-    pub fn note(&self, stage: Stage, number: u32) -> Note {
+    pub fn note(&self, stage: Stage) -> Note {
         Note {
             board: self.pairing.board,
             white: self.pairing.white,
             black: self.game.black,
             stage,
-            number,
         }
     }
 
@@ -65,7 +64,7 @@ impl Board {
         let Ok(game) = game.parse::<u32>() else {
             anyhow::bail!("the server does not tell the game: {first}");
         };
-        file.put(self.note(Stage::Opened, game))?;
+        file.put(self.note(Stage::Opened(game)))?;
         Ok(game)
     }
 
@@ -79,14 +78,24 @@ impl Board {
         Ok(())
     }
 
-    // The games that may be its, since it was noted that it is about to be opened.
-    fn games(&self, link: &mut Link, after: u32) -> Result<Vec<u32>> {
-        // What an earlier connection sent is taken by the time that this one has an answer: so the second list shows it.
-        rows_of(self.alloc, link)?;
-        let rows = rows_of(self.alloc, link)?;
+    // The games of the table, with what an earlier connection has sent.
+    fn settled_rows(&self, link: &mut Link) -> Result<Vec<Row>> {
+        let mut rows = rows_of(self.alloc, link)?;
+        // What an earlier connection sent is taken by a server before the second answer on this one. Over a switch a line that
+        // opens a game goes on to the next server where one has no room: so twice for each that has games, and for one more.
+        let servers = newest(self.alloc, rows.as_slice())?.len();
+        for _ in 0..servers.saturating_mul(2).saturating_add(1) {
+            rows = rows_of(self.alloc, link)?;
+        }
+        Ok(rows)
+    }
+
+    // The games that may be its and have its times, since it was noted that it is about to be opened, and is newer than these.
+    fn games(&self, link: &mut Link, noted: &[u32]) -> Result<Vec<u32>> {
+        let rows = self.settled_rows(link)?;
         let white = self.pairing.white;
         let times = times_text(self.alloc, self.game.times)?;
-        let found = candidates(self.alloc, after, &white, rows.as_slice())?;
+        let found = candidates(self.alloc, noted, &white, rows.as_slice())?;
         let mut games = Vec::new(self.alloc);
         for game in found.as_slice() {
             if has_times(self.alloc, link, *game, times.as_str())? {
@@ -96,31 +105,42 @@ impl Board {
         Ok(games)
     }
 
-    // What is to be done about it now.
-    fn step(&self, link: &mut Link, note: Note) -> Result<Step> {
-        match note.stage {
-            Stage::Opening => Ok(step_of_games(self.games(link, note.number)?.as_slice())),
-            Stage::Opened | Stage::Joined => {
-                let seats = show_game(self.alloc, link, note.number)?.map(|shown| shown.seats);
-                // (of a game that has left the table the arbiter's word is all there is)
-                if seats.is_none() && self.taken == Some(note.number) {
-                    return Ok(Step::Note(note.number));
-                }
-                let (white, black) = (self.pairing.white, self.game.black);
-                Ok(step_of_seats(note.number, &white, &black, seats))
-            }
+    // Who sits in its game; none where that is not on the table. In one that White has just opened Black's seat is empty.
+    fn seats(&self, link: &mut Link, game: u32, opened: Option<u32>) -> Result<Option<Seats>> {
+        if opened == Some(game) {
+            return Ok(Some(Seats {
+                white: Some(self.pairing.white),
+                black: None,
+            }));
         }
+        Ok(show_game(self.alloc, link, game)?.map(|shown| shown.seats))
     }
 
-    // The note that its game is about to be opened, where nothing was noted of it yet.
-    fn first_note(&self, link: &mut Link, file: &mut RoundFile) -> Result<Note> {
-        let mut last = 0;
-        for row in rows_of(self.alloc, link)?.as_slice() {
-            last = last.max(row.game);
+    // What is to be done about it now.
+    fn step(&self, link: &mut Link, file: &RoundFile, opened: Option<u32>) -> Result<Step> {
+        let stage = file.stage_of(self.pairing.board);
+        let mut games = Vec::new(self.alloc);
+        let mut seats = None;
+        match stage {
+            Some(Stage::Opening(noted)) => games = self.games(link, noted.as_slice())?,
+            Some(Stage::Opened(game)) => {
+                seats = self.seats(link, *game, opened)?;
+                // (of a game that has left the table the arbiter's word is all there is)
+                if seats.is_none() && self.taken == Some(*game) {
+                    return Ok(Step::Note(*game));
+                }
+            }
+            Some(Stage::Joined(_)) | None => {}
         }
-        let note = self.note(Stage::Opening, last);
-        file.put(note)?;
-        Ok(note)
+        let (white, black) = (self.pairing.white, self.game.black);
+        Ok(step_of(&white, &black, stage, games.as_slice(), seats))
+    }
+
+    // Notes that its game is about to be opened, and is newer than the table's games.
+    fn begin(&self, link: &mut Link, file: &mut RoundFile) -> Result<()> {
+        let rows = rows_of(self.alloc, link)?;
+        let older = newest(self.alloc, rows.as_slice())?;
+        file.put(self.note(Stage::Opening(older)))
     }
 
     /// Goes on with its game until Black has joined it, or until it is the arbiter's to say which it is. Wherever it fails
@@ -128,24 +148,19 @@ impl Board {
     pub fn go_on(&self, link: &mut Link, file: &mut RoundFile) -> Result<Became> {
         let mut opened = None;
         for _ in 0..8 {
-            let last = file.last_of(self.pairing.board);
-            let step = match last {
-                None => {
-                    self.first_note(link, file)?;
-                    Step::Open
+            match self.step(link, file, opened)? {
+                Step::Begin => {
+                    self.begin(link, file)?;
+                    opened = Some(self.open(link, file)?);
                 }
-                Some(note) if note.stage == Stage::Joined => return Ok(Became::Has(note.number)),
-                Some(note) if opened == Some(note.number) => Step::Join(note.number),
-                Some(note) => self.step(link, note)?,
-            };
-            match step {
                 Step::Open => opened = Some(self.open(link, file)?),
-                Step::Take(game) => file.put(self.note(Stage::Opened, game))?,
+                Step::Take(game) => file.put(self.note(Stage::Opened(game)))?,
                 Step::Join(game) => {
                     opened = None;
                     self.join(link, game)?;
                 }
-                Step::Note(game) => file.put(self.note(Stage::Joined, game))?,
+                Step::Note(game) => file.put(self.note(Stage::Joined(game)))?,
+                Step::Has(game) => return Ok(Became::Has(game)),
                 Step::Ask => return Ok(Became::Asks),
             }
         }
@@ -155,14 +170,11 @@ impl Board {
     /// What is to be asked of the arbiter about it.
     pub fn question(&self, file: &RoundFile) -> Result<String> {
         let board = self.pairing.board;
-        let text = match file.last_of(board) {
-            Some(note) if note.stage != Stage::Opening => {
-                let game = note.number;
-                format!(in self.alloc;
-                    "board {board}: game {game} has other players, or left the table before Black was seen in it"
-                )?
-            }
-            _ => format!(in self.alloc; "board {board}: several games may be its")?,
+        let text = match file.game_of(board) {
+            Some(game) => format!(in self.alloc;
+                "board {board}: game {game} has other players, or left the table before Black was seen in it"
+            )?,
+            None => format!(in self.alloc; "board {board}: several games may be its")?,
         };
         Ok(text)
     }

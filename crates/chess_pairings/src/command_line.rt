@@ -156,7 +156,7 @@ fn start_command<'a>(alloc: Global) -> Result<Command<'a>, AllocError> {
         alloc,
         "after",
         "BOARD=GAME",
-        "No game up to this one is the board's; it may be given several times",
+        "No game up to this one of its server is the board's; it may be given several times",
     );
     with_round(
         alloc,

@@ -15,7 +15,7 @@ pub fn pairings_of<R: Files + AllocGlobal>(rt: &R, file: &str) -> Result<Vec<Pai
 const FRONT: &[u8] = b"{\"board\":";
 
 // More than the line of the longest note has.
-const MOST_BEHIND: usize = 256;
+const MOST_BEHIND: usize = 8192;
 
 // How many bytes are lines that have ended, before the first zero.
 fn ended(bytes: &[u8]) -> usize {

@@ -3,7 +3,7 @@ use crate::command_line::Asking;
 use crate::files::{check_notes, notes_of, pairings_of};
 use crate::outcomes::Outcomes;
 use anyhow::Result;
-use pairing_texts::{Note, Outcome, Pairing, Stage, last_of, results};
+use pairing_texts::{Note, Outcome, Pairing, game_in, last_of, results};
 use players_file::players_of;
 use std::alloc::Global;
 use std::io::{self, Write};
@@ -13,8 +13,8 @@ use std::rt::Files;
 /// The game of a board, where it was opened and noted.
 pub fn game_of(notes: &[Note], board: u32) -> Option<u32> {
     match last_of(notes, board) {
-        Some(note) if note.stage != Stage::Opening => Some(note.number),
-        _ => None,
+        Some(note) => game_in(&note.stage),
+        None => None,
     }
 }
 

@@ -5,7 +5,7 @@ use crate::files::{check_notes, pairings_of};
 use crate::round_file::RoundFile;
 use anyhow::{Context, Result};
 use lobby_desk::Player;
-use pairing_texts::{Pairing, Stage};
+use pairing_texts::{Pairing, Stage, is_newer, with_newest};
 use players_file::players_of;
 use rec_codec::Name;
 use server_link::Link;
@@ -139,27 +139,33 @@ fn board_of(boards: &[Board], number: u32) -> Result<Board> {
     anyhow::bail!("board {number} has no game to be opened")
 }
 
+// Whether no game up to this one of its server is a board's by its notes.
+fn is_after(file: &RoundFile, board: u32, game: u32) -> bool {
+    match file.stage_of(board) {
+        Some(Stage::Opening(older)) => !is_newer(older.as_slice(), game),
+        Some(Stage::Opened(noted)) | Some(Stage::Joined(noted)) => is_newer(&[game], *noted),
+        None => false,
+    }
+}
+
 // Notes what the arbiter said of boards, where that was not noted before.
-fn take_words(file: &mut RoundFile, boards: &[Board], starting: &Starting<'_>) -> Result<()> {
+fn take_words<R: AllocGlobal>(
+    rt: &R,
+    file: &mut RoundFile,
+    boards: &[Board],
+    starting: &Starting<'_>,
+) -> Result<()> {
     for (number, game) in starting.takes.as_slice() {
         let board = board_of(boards, *number)?;
-        let is_noted = match file.last_of(*number) {
-            Some(note) => note.stage != Stage::Opening && note.number == *game,
-            None => false,
-        };
-        if !is_noted {
-            file.put(board.note(Stage::Opened, *game))?;
+        if file.game_of(*number) != Some(*game) {
+            file.put(board.note(Stage::Opened(*game)))?;
         }
     }
     for (number, game) in starting.afters.as_slice() {
         let board = board_of(boards, *number)?;
-        let is_noted = match file.last_of(*number) {
-            Some(note) if note.stage == Stage::Opening => note.number >= *game,
-            Some(note) => note.number > *game,
-            None => false,
-        };
-        if !is_noted {
-            file.put(board.note(Stage::Opening, *game))?;
+        if !is_after(file, *number, *game) {
+            let older = with_newest(rt.alloc(), file.older_of(*number), *game)?;
+            file.put(board.note(Stage::Opening(older)))?;
         }
     }
     Ok(())
@@ -262,7 +268,7 @@ where
     let boards = boards_of(rt, pairings.as_slice(), starting.takes.as_slice())?;
     let mut file = RoundFile::open(rt, starting.round.games)?;
     check_notes(starting.round.games, file.notes(), pairings.as_slice())?;
-    take_words(&mut file, boards.as_slice(), starting)?;
+    take_words(rt, &mut file, boards.as_slice(), starting)?;
     let mut rounds = Rounds {
         file,
         asks: Vec::new(rt.alloc()),
