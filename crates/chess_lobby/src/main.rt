@@ -5,9 +5,12 @@ mod adding;
 mod clock;
 mod evidence;
 mod health;
+mod links;
 mod live;
 mod log;
+mod mark;
 mod page;
+mod players;
 mod serving;
 
 use adding::add_player;
