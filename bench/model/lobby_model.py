@@ -4,7 +4,7 @@ files of page/ with the policy header. The game server behind it is the model of
 
     lobby_model.py --players FILE [--journal FILE] [--port P] [--page FOLDER] [--control]
 
-FILE of the players has lines `NAME ROLE TOKEN FULL NAME`. The journal keeps `MOMENT WHO LINE` of each entry, so that a
+FILE of the players has lines `NAME ROLE TOKEN FULL NAME`; `link` and `close` write it. The journal keeps `MOMENT WHO LINE` of each entry, so that a
 lobby that was killed comes back with its games. It prints its address once it listens. With --control it reads words
 from its standard input, and answers each by `ok` once it holds, so that a test can bring about what goes wrong:
 
@@ -24,6 +24,7 @@ import collections
 import http
 import os
 import re
+import secrets
 import sys
 import time
 
@@ -34,11 +35,13 @@ import model
 TOP = os.path.dirname(os.path.dirname(os.path.dirname(os.path.realpath(__file__))))
 READS = ('show', 'fen', 'pgn', 'list')
 IN_A_GAME = ('move', 'offer', 'accept', 'decline', 'resign', 'claim', 'flag')
-ACTS = ('open', 'join', 'drop', *IN_A_GAME)
+OPENING = ('open', 'join')
+ACTS = (*OPENING, 'drop', *IN_A_GAME)
 OF_ARBITERS = ('who', 'pause entries', 'resume entries')
+OF_LINKS = ('link', 'close')
 OWN = ('login', 'players', 'lobby', 'watch', 'leave', 'line')
 REFUSED = {1: 'BadLine', 31: 'NoToken', 32: 'BadToken', 33: 'NotArbiter', 34: 'TooFast', 35: 'TooManyOpen',
-           36: 'NoServer', 37: 'TooManyWatched', 38: 'NoPlayer', 39: 'EntriesPaused'}
+           36: 'NoServer', 37: 'TooManyWatched', 38: 'NoPlayer', 39: 'EntriesPaused', 40: 'NotWritten'}
 POLICY = ("default-src 'none'; script-src 'self'; style-src 'self'; img-src 'self'; connect-src 'self'; "
           "base-uri 'none'; form-action 'none'; frame-ancestors 'none'")
 TYPES = {'html': 'text/html; charset=utf-8', 'css': 'text/css; charset=utf-8',
@@ -92,9 +95,10 @@ class Connection:
 
 
 class Lobby:
-    def __init__(self, server, players):
+    def __init__(self, server, file):
         self.server = server
-        self.players = players          # token -> (name, role, full name)
+        self.file = file
+        self.players = read_players(file)  # token -> (name, role, full name)
         self.connections = set()
         self.here = True
         self.fault = None
@@ -123,12 +127,13 @@ class Lobby:
         word = text.split(' ')[0]
         if word in OWN:
             return self.own(c, word, text), None
-        if text in OF_ARBITERS:
+        if text in OF_ARBITERS or word in OF_LINKS:
             return self.of_arbiters(c, text), None
         if word not in (*READS, *ACTS, 'as'):
             refuse(1)
         _, other, line = (text.split(' ', 2) + ['', ''])[:3]
-        if word == 'as' and line.split(' ')[0] not in IN_A_GAME:
+        act = line.split(' ')[0] if word == 'as' else word
+        if word == 'as' and act not in (*OPENING, *IN_A_GAME):
             refuse(1)
         if word == 'drop' and not (re.fullmatch('drop ' + G, text) and int(text[5:]) <= model.TOP):
             refuse(1)
@@ -143,13 +148,14 @@ class Lobby:
         if not self.here:
             refuse(36)
         name = c.player[0] if c.player else None
-        if word == 'open' and len(self.waiting_of(name)) >= MOST_OPEN:
+        seat = other if word == 'as' else name
+        if act == 'open' and len(self.waiting_of(seat)) >= MOST_OPEN:
             refuse(35)
-        return self.asked(c, word, name, text, *((other, line) if word == 'as' else (name, text)))
+        return self.asked(c, act, name, text, seat, line if word == 'as' else text)
 
     def asked(self, c, word, name, text, seat, line):
         """A player's message goes to the server as this line, under the name of who has the seat."""
-        fault = self.fault if word in (*ACTS, 'as') else None
+        fault = self.fault if word in ACTS else None
         if fault:
             self.fault = None
         if fault == 'drop':
@@ -168,7 +174,7 @@ class Lobby:
             return answer, None
         number = int(answer[0].split(' ')[1 if answer[0].startswith('fallen') else 2])
         if word == 'open':
-            self.opened[name].add(number)
+            self.opened[seat].add(number)
         return answer, (number, word, name, text, answer[0])
 
     def waiting_of(self, name):
@@ -180,12 +186,32 @@ class Lobby:
             refuse(31)
         if c.player[1] != 'arbiter':
             refuse(33)
+        if text.split(' ')[0] in OF_LINKS:
+            return self.linked(*text.split(' ', 1)) if ' ' in text else refuse(38)
         if text != 'who':
             self.paused = text == 'pause entries'
             return ['ok ' + text]
         acting = {one.player for one in self.connections}
         names = [row[0] for row in self.players.values() if row in acting]
         return ['ok who %d' % len(names)] + names
+
+    def linked(self, word, name):
+        """A player has another token in the file, which for `close` nobody is told; who acts by the old one acts no more."""
+        if name not in [one for one, _, _ in self.players.values()]:
+            refuse(38)
+        token = secrets.token_hex(16)
+        rows = {token if row[0] == name else old: row for old, row in self.players.items()}
+        try:
+            with open(self.file + '.new', 'w') as file:
+                file.writelines('%s %s %s %s\n' % (one, role, old, full) for old, (one, role, full) in rows.items())
+            os.replace(self.file + '.new', self.file)
+        except OSError:
+            refuse(40)
+        self.players = rows
+        for one in self.connections:
+            if one.player and one.player[0] == name:
+                one.player = None
+        return ['ok %s %s' % (word, name) + (' ' + token if word == 'link' else '')]
 
     def own(self, c, word, text):
         if word == 'login':
@@ -336,7 +362,7 @@ def read_players(path):
 
 
 async def listen(given):
-    lobby = Lobby(Server(given.journal), read_players(given.players))
+    lobby = Lobby(Server(given.journal), given.players)
 
     async def request(path, headers):
         return answer(path, headers)
