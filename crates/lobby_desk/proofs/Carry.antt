@@ -320,15 +320,20 @@ order_orders closes sort s None arbiter is same named = tt
 order_orders closes sort s (Some name) arbiter is same named =
     record { message = refl; arbiter = arbiter; sort_is = is; closes = same; named = named }
 
+allowed_at : (closes : Bool) (sort : Sort) (s : Standing) (who : Identity) → s.who ≡ Some who → is_link_sort sort ≡ true →
+    is_close_sort sort ≡ closes → (b : Bool) → who.is_arbiter ≡ b →
+    OfOrder (Orders true sort s) (if b then order_plan closes s.linked else plans.Refuse refusals.NotArbiter)
+allowed_at closes sort s who is link same true arbiter = order_orders closes sort s s.linked (subst IsArbiter (sym is) arbiter) link same refl
+allowed_at closes sort s who is link same false arbiter = tt
+
 arbiter_at : (closes : Bool) (sort : Sort) (s : Standing) (who : Option Identity) → s.who ≡ who → is_link_sort sort ≡ true →
     is_close_sort sort ≡ closes → OfOrder (Orders true sort s) (arbiter_plan who (order_plan closes s.linked))
 arbiter_at closes sort s None is link same = tt
-arbiter_at closes sort s (Some who) is link same = at who.is_arbiter refl
-  where
-    at : (b : Bool) → who.is_arbiter ≡ b →
-        OfOrder (Orders true sort s) (if b then order_plan closes s.linked else plans.Refuse refusals.NotArbiter)
-    at true arbiter = order_orders closes sort s s.linked (subst IsArbiter (sym is) arbiter) link same refl
-    at false arbiter = tt
+arbiter_at closes sort s (Some who) is link same = allowed_at closes sort s who is link same who.is_arbiter refl
+
+leave_orders : (s : Standing) (game : Option ℕ) → OfOrder (Orders true sorts.Leave s) (numbered_plan sorts.Leave s game)
+leave_orders s None = tt
+leave_orders s (Some game) = tt
 
 pub planned_orders : (m : Bool) (sort : Sort) (s : Standing) (game : Option ℕ) → OfOrder (Orders m sort s) (plan_of m sort s game)
 planned_orders false sort s game = tt
@@ -347,15 +352,11 @@ planned_orders true sorts.Lobby s game = asked_does (OfOrder (Orders true sorts.
 planned_orders true sorts.LeaveLobby s game = tt
 planned_orders true sorts.Watch s game = watch_does (OfOrder (Orders true sorts.Watch s)) s game (λ _. tt) (λ _. tt)
 planned_orders true sorts.Leave s game = leave_orders s game
-  where
-    leave_orders : (t : Standing) (g : Option ℕ) → OfOrder (Orders true sorts.Leave s) (numbered_plan sorts.Leave t g)
-    leave_orders t None = tt
-    leave_orders t (Some g) = tt
 planned_orders true sorts.Line s game = line_does (OfOrder (Orders true sorts.Line s)) s game (λ _. tt) (λ _. tt)
 planned_orders true sorts.Name s game = tt
 planned_orders true sorts.Nothing s game = tt
 
-or_this : Order → Option Order → Order
+abbrev or_this : Order → Option Order → Order
 or_this one None = one
 or_this one (Some order) = order
 

@@ -11,7 +11,7 @@ use std::collections::BTreeMap;
 
 // For whom a connection acts on that acted for a player of one list, where the other list has a player of the name.
 fn goes_on(before: Option<&Player>, after: Option<&Player>) -> Option<Identity>
-    ensures { result ≡ goes_on (option_copied before) (option_copied after) }
+    ensures { result ≡ goes_on (option_copied before.entry) (option_copied after.entry) }
 {
     match before {
         None => None,
@@ -32,32 +32,32 @@ fn goes_on(before: Option<&Player>, after: Option<&Player>) -> Option<Identity>
 }
 
 // For whom a connection acts when the players are others.
-fn renewed(old: &[Player], new: &[Player], who: Option<Identity>) -> Option<Identity>
-    ensures { result ≡ renewed old.now new.now who }
+fn renewed(before: &[Player], later: &[Player], who: Option<Identity>) -> Option<Identity>
+    ensures { result ≡ renewed before.now later.now who }
 {
     match who {
         None => None,
         Some(who) => {
             let name = who.name.as_str();
-            goes_on(named(old, name), named(new, name))
+            goes_on(named(before, name), named(later, name))
         }
     }
 }
 
 // The same, written where it stands. It tells that the connection stays.
-fn renew(visitor: &mut Visitor, old: &[Player], new: &[Player]) -> bool
+fn renew(visitor: &mut Visitor, before: &[Player], later: &[Player]) -> bool
     ensures stays { result ≡ true }
-    ensures renewed { visitor.new ≡ visitor_renewed old.now new.now visitor.old }
+    ensures renewed { visitor.new ≡ visitor_renewed before.now later.now visitor.old }
 {
-    visitor.who = renewed(old, new, visitor.who);
+    visitor.who = renewed(before, later, visitor.who);
     true
 }
 
 /// From now on each connection acts for whom it does when the players are others.
-pub fn renew_all(visitors: &mut BTreeMap<u64, Visitor>, old: &[Player], new: &[Player])
-    ensures who { (c : ℕ) → who_in visitors.new c ≡ renewed old.now new.now (who_in visitors.old c) }
+pub fn renew_all(visitors: &mut BTreeMap<u64, Visitor>, before: &[Player], later: &[Player])
+    ensures who { (c : ℕ) → who_in visitors.new c ≡ renewed before.now later.now (who_in visitors.old c) }
     ensures opens { (c : ℕ) → open_in_map visitors.new c ≡ open_in_map visitors.old c }
     ensures untils { (c : ℕ) → until_in visitors.new c ≡ until_in visitors.old c }
 {
-    visitors.retain(|_, visitor| renew(visitor, old, new));
+    visitors.retain(|_, visitor| renew(visitor, before, later));
 }

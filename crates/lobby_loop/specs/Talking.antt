@@ -1,6 +1,5 @@
 -- What the desk is told, and what goes from it.
-use Rattle.std.specs.Prelude.{ℕ, ◌≡◌, ◌≤◌, ◌+◌, true, false, List, [], Some}
-use Rattle.lobby_words.specs.declared.planning.Order.{Order}
+use Rattle.std.specs.Prelude.{ℕ, ◌≡◌, ◌≤◌, ◌+◌, true, false, List, [], is_some}
 use Rattle.lobby_desk.specs.declared.players.Player.{Player}
 use Rattle.lobby_desk.specs.Events.{Event, Opened, Said, Hurried, Linked, tellings}
 use Rattle.lobby_desk.specs.Pace.{is_too_fast}
@@ -54,7 +53,7 @@ saying (WithLink players token) c text = Linked c text players token
 abbrev pub IsSaying : Talk → ℕ → ℕ → List ℕ → Saying → Type 0
 IsSaying talk c at text InTime = is_too_fast (until_of talk.desk c) at ≡ false
 IsSaying talk c at text TooFast = is_too_fast (until_of talk.desk c) at ≡ true
-IsSaying talk c at text (WithLink players token) = (order : Order) × (order_asked talk.desk c text at ≡ Some order)
+IsSaying talk c at text (WithLink players token) = is_some (order_asked talk.desk c text at) ≡ true
 
 -- a message of a connection at a moment is said to the desk
 pub record Says (text : List ℕ) (c at : ℕ) (old new : Talk) : Type 0 where

@@ -1,7 +1,7 @@
 //! A browser's connection: its socket, what it says, and what it is told.
 ghost use Rattle.std.specs.Prelude.{◌≡◌, None, Some, OnOk};
 ghost use Rattle.std.specs.String.{string_bytes};
-ghost use Rattle.lobby_desk.specs.Who.{IsReady, at_table};
+ghost use Rattle.lobby_desk.specs.Who.{IsReady, at_table, order_asked};
 ghost use Rattle.lobby_loop.specs.Talking.{Says};
 ghost use Rattle.lobby_loop.specs.Guests.{IsNewGuest, IsAsBefore, IsRead, IsAsked, IsHeard, IsTextSaid, IsSaid, IsTold, AreTold, IsWritten, IsLookedAfter};
 
@@ -10,6 +10,7 @@ use crate::links::Links;
 use crate::made::Made;
 use crate::pieces::{Came, Gone, PIECE_ROOM, read_piece, write_piece};
 use crate::talk::Talk;
+use lobby_desk::Order;
 use lobby_web::{Browser, Heard, Site, Unsaid};
 use std::alloc::{AllocError, Global};
 use std::hash::RandomState;
@@ -262,7 +263,32 @@ impl<S> Guest<S> {
     }
 }
 
-// A message is said to the desk. Where it asks for a player's link, whoever keeps the players' file is asked first.
+// A message is said to the desk that asks for a player's link: whoever keeps the players' file is asked first.
+fn say_order<K: Links>(
+    shown: &str,
+    number: u64,
+    talk: &mut Talk,
+    at: u64,
+    order: &Order,
+    links: &mut K,
+) -> Result<(), AllocError>
+    requires ready { IsReady talk.old.desk number }
+    requires asked { order_asked talk.old.desk number shown.now at ≡ Some order.now }
+    ensures { OnOk result (Says shown.now number at talk.old talk.new) }
+{
+    match links.change(order) {
+        None => {
+            talk.said(number, shown, at)?;
+            Ok(())
+        }
+        Some(linked) => {
+            talk.linked(number, shown, at, order, linked)?;
+            Ok(())
+        }
+    }
+}
+
+// A message is said to the desk.
 fn say<K: Links>(
     shown: &str,
     number: u64,
@@ -274,11 +300,14 @@ fn say<K: Links>(
     ensures { OnOk result (Says shown.now number at talk.old talk.new) }
 {
     match talk.order(number, shown, at) {
-        None => talk.said(number, shown, at),
-        Some(order) => match links.change(&order) {
-            None => talk.said(number, shown, at),
-            Some(linked) => talk.linked(number, shown, at, &order, linked),
-        },
+        None => {
+            talk.said(number, shown, at)?;
+            Ok(())
+        }
+        Some(order) => {
+            say_order(shown, number, talk, at, &order, links)?;
+            Ok(())
+        }
     }
 }
 
