@@ -2,15 +2,18 @@
 use anyhow::{Context, Result};
 use lobby_commands::Adding;
 use lobby_players::{Addition, added, link_text, new_token};
+use players_file::Hold;
+use std::fs::File;
 use std::random::RandomSource;
 use std::rt::Files;
 
 /// Puts a player into a players' file, and prints the personal link.
 pub fn add_player<R>(rt: &R, adding: &Adding<'_>) -> Result<()>
 where
-    R: Files + AllocGlobal + Print + RandomSource,
+    R: Files<File = File> + AllocGlobal + Print + RandomSource,
 {
     let file = adding.players;
+    let _hold = Hold::wait(rt, file).context(format_args!("locking the folder of {file}"))?;
     let text = players_file::read(rt, file).context(format_args!("reading {file}"))?;
     let token = new_token(rt)?;
     let who = Addition {

@@ -1,10 +1,10 @@
 //! The games that are served as they stand in a file.
+use crate::mark::{Mark, mark_of};
 use bytes::Bytes;
 use lobby_loop::Lobby;
 use lobby_web::{File, Kind};
 use std::alloc::AllocError;
 use std::fs;
-use std::os::unix::fs::MetadataExt;
 use std::rt::Files;
 
 /// The path at which they are served.
@@ -12,15 +12,6 @@ const PATH: &[u8] = b"/live.pgn";
 
 /// So many milliseconds lie at least between two looks at the file.
 const REST: u64 = 1_000;
-
-/// By what it is seen that a file has changed: which file it is, how long it is, and when it was written.
-#[derive(Clone, Copy, PartialEq, Eq)]
-struct Mark {
-    node: u64,
-    size: u64,
-    seconds: i64,
-    nanoseconds: i64,
-}
 
 /// The file, and what was seen of it last.
 #[derive(Drop)]
@@ -37,19 +28,6 @@ impl<'a> Live<'a> {
             file,
             seen: None,
             next_at: 0,
-        }
-    }
-
-    // How the file stands; none where it is not there, or is no regular file: to read of a pipe may last for ever.
-    fn mark<R: Files + AllocGlobal + Clone + Drop>(&self, rt: &R) -> Option<Mark> {
-        match fs::metadata(rt, self.file) {
-            Ok(found) if found.is_file() => Some(Mark {
-                node: found.ino(),
-                size: found.size(),
-                seconds: found.mtime(),
-                nanoseconds: found.mtime_nsec(),
-            }),
-            _ => None,
         }
     }
 
@@ -84,7 +62,7 @@ impl<'a> Live<'a> {
             return Ok(());
         }
         self.next_at = at.saturating_add(REST);
-        let found = self.mark(rt);
+        let found = mark_of(rt, self.file);
         if found == self.seen {
             return Ok(());
         }

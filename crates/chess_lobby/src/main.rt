@@ -4,9 +4,12 @@
 mod adding;
 mod evidence;
 mod health;
+mod links;
 mod live;
 mod log;
+mod mark;
 mod page;
+mod players;
 mod serving;
 
 use adding::add_player;

@@ -1,13 +1,14 @@
 //! The word that serves browsers.
 use crate::health::Health;
+use crate::links::FileLinks;
 use crate::live::Live;
 use crate::log::FileLog;
 use crate::page::{is_loopback, site_of};
+use crate::players::Players;
 use anyhow::{Context, Result};
 use lobby_commands::Serving;
 use lobby_loop::{ActLog, Entrance, Lobby, NoActLog};
 use monotonic_clock::Moments;
-use players_file::players_of;
 use std::fs::File;
 use std::hash::RandomState;
 use std::net::{Net, SocketAddr};
@@ -55,11 +56,12 @@ impl<R: Eprint> Telling<'_, R> {
 fn take_turns<R, L: ActLog>(
     rt: &R,
     serving: &Serving<'_>,
+    players: &mut Players<'_, R>,
     lobby: &mut Lobby,
     log: &mut L,
 ) -> Result<()>
 where
-    R: Files + AllocGlobal + Clone + Drop + Clock + Eprint + Net,
+    R: Files<File = File> + AllocGlobal + Clone + Drop + Clock + Eprint + Net + RandomSource,
 {
     let mut moments = Moments::new(rt)?;
     let mut telling = Telling {
@@ -74,13 +76,15 @@ where
         Some(file) => Some(Live::new(file)),
         None => None,
     };
+    let mut links = FileLinks::new(rt, serving.players);
     for _ in 0..u64::MAX {
         let at = moments.next();
+        players.look(lobby, at);
         health.look(lobby, at)?;
         if let Some(live) = &mut live {
             live.look(rt, lobby, at)?;
         }
-        let turned = lobby.turn(rt, at, log)?;
+        let turned = lobby.turn(rt, at, log, &mut links)?;
         telling.tell_server(lobby.has_server());
         telling.tell_turned_away(lobby.turned_away(), at);
         lobby.rest(turned)?;
@@ -101,7 +105,8 @@ where
         + Net
         + RandomSource,
 {
-    let players = players_of(rt, serving.players)?;
+    let mut players = Players::new(rt, serving.players);
+    let known = players.read()?;
     let mut log = match serving.log {
         Some(file) => Some(FileLog::open(rt, file).context(format_args!("opening {file}"))?),
         None => None,
@@ -113,21 +118,13 @@ where
     let address = entrance.address()?;
     let site = site_of(rt, serving.page, address, serving.hosts.as_slice())?;
     let keys = RandomState::new(rt)?;
-    let mut lobby = Lobby::new(
-        rt,
-        rt.alloc(),
-        keys,
-        entrance,
-        serving.server,
-        site,
-        players,
-    )?;
+    let mut lobby = Lobby::new(rt, rt.alloc(), keys, entrance, serving.server, site, known)?;
     println!(rt; "http://{address}/")?;
     if !is_loopback(address) {
         eprintln!(rt; "the line is not encrypted: whoever is on the way reads along, links too")?;
     }
     match &mut log {
-        Some(log) => take_turns(rt, serving, &mut lobby, log),
-        None => take_turns(rt, serving, &mut lobby, &mut NoActLog),
+        Some(log) => take_turns(rt, serving, &mut players, &mut lobby, log),
+        None => take_turns(rt, serving, &mut players, &mut lobby, &mut NoActLog),
     }
 }

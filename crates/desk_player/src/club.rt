@@ -1,25 +1,71 @@
-//! The desk that is played.
+//! The players of the desk that is played.
 use anyhow::{Context, Result};
-use lobby_desk::{Desk, Player};
+use lobby_desk::Player;
 use rec_codec::Name;
 use sha2::{Digest, Sha256};
-use std::alloc::Global;
+use std::alloc::{AllocError, Global};
 
-// A player whose token is the name.
-fn player(alloc: Global, name: &str, full_name: &str, is_arbiter: bool) -> Result<Player> {
-    Ok(Player {
-        name: Name::try_new(name).context("a name is none")?,
+/// A player, and the token that shows him.
+#[derive(Drop)]
+pub struct Member {
+    pub name: String,
+    pub token: String,
+    pub is_arbiter: bool,
+    pub full_name: String,
+}
+
+// A player, as `NAME TOKEN ROLE FULL NAME`.
+fn member_of(alloc: Global, row: &str) -> Result<Member> {
+    let (name, rest) = row.split_once(' ').context("a player has no token")?;
+    let (token, rest) = rest.split_once(' ').context("a player has no role")?;
+    let (role, full_name) = rest.split_once(' ').context("a player has no full name")?;
+    Ok(Member {
+        name: String::from_str(alloc, name)?,
+        token: String::from_str(alloc, token)?,
+        is_arbiter: role == "arbiter",
         full_name: String::from_str(alloc, full_name)?,
-        sum: Sha256::digest(name),
-        is_arbiter,
     })
 }
 
-/// A desk of two players and an arbiter.
-pub fn club(alloc: Global) -> Result<Desk> {
+/// The players of rows, with `|` between each two.
+pub fn members_of(alloc: Global, rows: &str) -> Result<Vec<Member>> {
+    let mut members = Vec::new(alloc);
+    for row in rows.split('|') {
+        members.push(member_of(alloc, row)?)?;
+    }
+    Ok(members)
+}
+
+/// From now on the player of a name has this token.
+pub fn give_token(
+    members: &mut Vec<Member>,
+    alloc: Global,
+    name: &str,
+    token: &str,
+) -> Result<(), AllocError> {
+    for member in members.iter_mut() {
+        if member.name.as_str() == name {
+            member.token = String::from_str(alloc, token)?;
+        }
+    }
+    Ok(())
+}
+
+// The desk's player of a member.
+fn player(alloc: Global, member: &Member) -> Result<Player> {
+    Ok(Player {
+        name: Name::try_new(member.name.as_str()).context("a name is none")?,
+        full_name: String::from_str(alloc, member.full_name.as_str())?,
+        sum: Sha256::digest(member.token.as_str()),
+        is_arbiter: member.is_arbiter,
+    })
+}
+
+/// The desk's players of these.
+pub fn players_of(alloc: Global, members: &[Member]) -> Result<Vec<Player>> {
     let mut players = Vec::new(alloc);
-    players.push(player(alloc, "ann", "Ann Lee", false)?)?;
-    players.push(player(alloc, "bob", "Bob", false)?)?;
-    players.push(player(alloc, "eve", "Eve Moss", true)?)?;
-    Ok(Desk::new(alloc, players))
+    for member in members {
+        players.push(player(alloc, member)?)?;
+    }
+    Ok(players)
 }

@@ -1,7 +1,8 @@
 //! Plays what browsers, the server and the time do to a desk of three players, and writes what goes to the server and what
 //! browsers are told. A line of standard input is `browser` (one more comes), `leave N`, `say N TEXT` (with `|` for a line
-//! feed), `wait MS` (so many milliseconds pass), `here`, `gone` or `server LINE`. It is written back behind `% `; then what
-//! goes to the server, each line behind `> `, and each message behind the numbers of those who are told it, or behind `log`.
+//! feed), `link N TOKEN TEXT` (it says a text that asks for a link, which is made with this token), `renew ROW|ROW ..` (the
+//! players are these, each `NAME TOKEN ROLE FULL NAME`), `wait MS` (so many milliseconds pass), `here`, `gone` or
+//! `server LINE`. It is written back behind `% `; then what goes to the server, each line behind `> `, and each message behind the numbers of those who are told it, or behind `log`.
 #![tactic(auto)]
 
 mod club;

@@ -1,13 +1,17 @@
 //! One line after another, and what comes of it.
-use crate::club::club;
+use crate::club::{Member, give_token, members_of, players_of};
 use anyhow::{Context, Result, bail};
-use lobby_desk::{Desk, Kind, Told};
+use lobby_desk::{Desk, Kind, Linked, Told};
 use std::alloc::Global;
+
+// The players of the desk at first: two, and an arbiter. The token of each is the name.
+const CLUB: &str = "ann ann player Ann Lee|bob bob player Bob|eve eve arbiter Eve Moss";
 
 /// A desk, and the time that has passed.
 #[derive(Drop)]
 pub struct Play {
     alloc: Global,
+    members: Vec<Member>,
     desk: Desk,
     now: u64,
 }
@@ -57,11 +61,42 @@ fn with_feeds(alloc: Global, text: &str) -> Result<String> {
 impl Play {
     /// A desk to which nobody has come yet.
     pub fn new(alloc: Global) -> Result<Play> {
+        let members = members_of(alloc, CLUB)?;
+        let players = players_of(alloc, members.as_slice())?;
         Ok(Play {
             alloc,
-            desk: club(alloc)?,
+            members,
+            desk: Desk::new(alloc, players),
             now: 0,
         })
+    }
+
+    // The players are others.
+    fn renew(&mut self, given: &str) -> Result<()> {
+        self.members = members_of(self.alloc, given)?;
+        let players = players_of(self.alloc, self.members.as_slice())?;
+        self.desk.renew(players);
+        Ok(())
+    }
+
+    // A browser says a text that asks for a link, which is made with this token.
+    fn link(&mut self, given: &str, told: &mut Vec<Told>) -> Result<()> {
+        let (from, rest) = number_in(given)?;
+        let (token, text) = rest.split_once(' ').context("nothing is said")?;
+        if !self.desk.is_ready(from) {
+            bail!("browser {from} waits for an answer, or is not there");
+        }
+        let Some(order) = self.desk.order(from, text, self.now) else {
+            bail!("browser {from} may not ask for a link by: {text}");
+        };
+        give_token(&mut self.members, self.alloc, order.name.as_str(), token)?;
+        let linked = Linked {
+            players: players_of(self.alloc, self.members.as_slice())?,
+            token: String::from_str(self.alloc, token)?,
+        };
+        self.desk
+            .linked(from, text, self.now, &order, linked, told)?;
+        Ok(())
     }
 
     // A browser says a text, where nothing of it is waited for.
@@ -84,6 +119,8 @@ impl Play {
             }
             "leave" => self.desk.closed(number_in(given)?.0),
             "say" => self.say(given, wire, told)?,
+            "link" => self.link(given, told)?,
+            "renew" => self.renew(given)?,
             "wait" => self.now = self.now.saturating_add(number_in(given)?.0),
             "here" => self.desk.here(told)?,
             "gone" => self.desk.gone(told)?,

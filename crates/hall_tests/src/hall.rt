@@ -1,7 +1,9 @@
 //! Browsers and a server over streams that give and take little, or fail.
 use bytes::Bytes;
-use lobby_desk::Player;
-use lobby_loop::{ActLog, Fault, Found, Hall, Listens, NoActLog, Welcomed, welcome};
+use lobby_desk::{Linked, Order, Player};
+use lobby_loop::{
+    ActLog, Fault, Found, Hall, Links, Listens, NoActLog, NoLinks, Welcomed, welcome,
+};
 use lobby_web::{File, Kind, Site};
 use rec_codec::Name;
 use std::alloc::Global;
@@ -85,17 +87,34 @@ const SUM: [u8; 32] = [
     235, 28, 112, 236, 65, 64, 43, 246, 39, 61, 216,
 ];
 
-// One player, whose token is `t`.
-fn players(rt: &impl Abort, alloc: Global) -> Vec<Player> {
+// The SHA-256 of `e`.
+const ARBITERS_SUM: [u8; 32] = [
+    63, 121, 187, 123, 67, 91, 5, 50, 22, 81, 218, 239, 211, 116, 205, 198, 129, 220, 6, 250, 166,
+    94, 55, 78, 56, 51, 123, 136, 202, 4, 109, 234,
+];
+
+fn player(rt: &impl Abort, alloc: Global, name: &str, sum: [u8; 32], is_arbiter: bool) -> Player {
+    Player {
+        name: Name::try_new(name).expect(rt, "a name"),
+        full_name: String::from_str(alloc, name).expect(rt, "memory"),
+        sum,
+        is_arbiter,
+    }
+}
+
+// A player ann, whose token has this sum, and an arbiter eve, whose token is `e`.
+fn players_with(rt: &impl Abort, alloc: Global, sum: [u8; 32]) -> Vec<Player> {
     let mut players = Vec::new(alloc);
-    let ann = Player {
-        name: Name::try_new("ann").expect(rt, "a name"),
-        full_name: String::from_str(alloc, "Ann").expect(rt, "memory"),
-        sum: SUM,
-        is_arbiter: false,
-    };
+    let ann = player(rt, alloc, "ann", sum, false);
+    let eve = player(rt, alloc, "eve", ARBITERS_SUM, true);
     players.push(ann).expect(rt, "memory");
+    players.push(eve).expect(rt, "memory");
     players
+}
+
+// The same, where ann's token is `t`.
+fn players(rt: &impl Abort, alloc: Global) -> Vec<Player> {
+    players_with(rt, alloc, SUM)
 }
 
 // A hall under the host `a:1`, with one browser that gives these, before a server that gives those.
@@ -120,7 +139,7 @@ fn begun(
 // So many turns with all sockets awake, so many milliseconds apart.
 fn turn(rt: &impl Abort, hall: &mut Hall<Peer>, turns: u64, apart: u64) {
     for turn in 0..turns {
-        hall.turn(turn.saturating_mul(apart), &mut NoActLog)
+        hall.turn(turn.saturating_mul(apart), &mut NoActLog, &mut NoLinks)
             .expect(rt, "memory");
         hall.wake(2);
         hall.wake_server();
@@ -492,7 +511,7 @@ const ACT: Script = Script {
 // Takes turns until the log fails, 40 at most. It tells whether it did.
 fn turn_logged(hall: &mut Hall<Peer>, log: &mut Kept) -> bool {
     for at in 0..40 {
-        match hall.turn(at, log) {
+        match hall.turn(at, log, &mut NoLinks) {
             Ok(_) => {}
             Err(fault) => return matches!(&fault, Fault::NoLog(_)),
         }
@@ -540,6 +559,96 @@ fn where_the_log_fails_nobody_is_told(rt: HostRuntime) {
         text: String::new(lab.alloc),
     };
     let (hall, has_failed) = acted(&rt, &lab, &mut log);
-    assert!(rt; has_failed && is_told(&hall, b"\x81\x18ok login ann player Ann\n"));
+    assert!(rt; has_failed && is_told(&hall, b"\x81\x18ok login ann player ann\n"));
     assert!(rt; is_asked(&hall, b"name ann\nopen white 300 2\n"));
+}
+
+// A browser that shows ann's token, and some turns later opens a game.
+const LATE: Script = Script {
+    browser: &[
+        Gives::Bytes(UPGRADE),
+        Gives::Bytes(b"\x81\x87\0\0\0\0login t"),
+        Gives::Nothing,
+        Gives::Nothing,
+        Gives::Nothing,
+        Gives::Nothing,
+        Gives::Nothing,
+        Gives::Nothing,
+        Gives::Nothing,
+        Gives::Nothing,
+        Gives::Bytes(b"\x81\x90\0\0\0\0open white 300 2"),
+        Gives::Nothing,
+    ],
+    server: &[Gives::Nothing],
+    takes: 1_000,
+};
+
+#[test]
+fn who_has_another_link_acts_no_more(rt: HostRuntime) {
+    let lab = Lab {
+        alloc: rt.alloc(),
+        keys: RandomState::new(&rt).expect(&rt, "keys"),
+    };
+    let mut same = played(&rt, &lab, LATE, 6, 1);
+    same.renew(players(&rt, lab.alloc));
+    turn(&rt, &mut same, 30, 1);
+    assert!(rt; is_asked(&same, b"name ann\nopen white 300 2\n"));
+    let mut other = played(&rt, &lab, LATE, 6, 1);
+    other.renew(players_with(&rt, lab.alloc, [0; 32]));
+    turn(&rt, &mut other, 30, 1);
+    assert!(rt; is_asked(&other, b"") && is_told(&other, b"\x81\x0eno 31 NoToken\n"));
+}
+
+/// A players' file that changes ann's link once, so, or cannot be written.
+#[derive(Drop)]
+struct Once {
+    link: Option<Linked>,
+}
+
+impl Links for Once {
+    fn change(&mut self, order: &Order) -> Option<Linked> {
+        if order.closes || order.name.as_str() != "ann" {
+            return None;
+        }
+        self.link.take()
+    }
+}
+
+// An arbiter who shows her token, and asks for a link of nobody's and twice for one of ann's.
+const LINKS: Script = Script {
+    browser: &[
+        Gives::Bytes(UPGRADE),
+        Gives::Bytes(b"\x81\x87\0\0\0\0login e\x81\x88\0\0\0\0link bob\x81\x88\0\0\0\0link ann"),
+        Gives::Bytes(b"\x81\x88\0\0\0\0link ann\x81\x83\0\0\0\0who"),
+        Gives::Nothing,
+    ],
+    server: &[Gives::Nothing],
+    takes: 1_000,
+};
+
+#[test]
+fn a_link_is_told_once_it_is_made(rt: HostRuntime) {
+    let alloc = rt.alloc();
+    let keys = RandomState::new(&rt).expect(&rt, "keys");
+    let browser = stream_of(alloc, LINKS.browser, LINKS.takes);
+    let server = stream_of(alloc, LINKS.server, 1_000);
+    let mut hall = begun(&rt, alloc, keys, browser, server);
+    let linked = Linked {
+        players: players_with(&rt, alloc, [0; 32]),
+        token: String::from_str(alloc, "new").expect(&rt, "memory"),
+    };
+    let mut links = Once { link: Some(linked) };
+    for at in 0..30 {
+        hall.turn(at, &mut NoActLog, &mut links)
+            .expect(&rt, "memory");
+        hall.wake(2);
+        hall.wake_server();
+    }
+    assert!(rt; is_asked(&hall, b""));
+    assert!(rt;
+        is_told(
+            &hall,
+            b"ok login eve arbiter eve\n\x81\x0fno 38 NoPlayer\n\x81\x10ok link ann new\n\x81\x11no 40 NotWritten\n\x81\x0dok who 1\neve\n",
+        )
+    );
 }

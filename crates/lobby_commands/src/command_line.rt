@@ -41,7 +41,7 @@ player's personal link. Who opens it plays as this player: give it to nobody els
 keeps no more than a sum (SHA-256) of the link's token.
 
 A player who is in the file already gets a new link, and the old one holds no more. A lobby
-that serves reads the file when it starts.
+that serves has read the file again a second or two later.
 
 Exit status: 0; 1 with what is wrong on standard error; 2 for words that the program does
 not know.

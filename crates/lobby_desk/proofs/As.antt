@@ -12,7 +12,7 @@ use Rattle.lobby_words.specs.declared.words.Sort.TheVariants as sorts
 use Rattle.lobby_words.specs.Words.{word_of, rest_of, as_line, is_message, is_message_byte, is_play_word, is_read_word, is_act_word, as_sort, own_sort, whole_sort, sort_of, is_as_sort}
 use Rattle.lobby_desk.proofs.Found.{and_first, and_second}
 
--- ---- where a message asks for that, LINE is an act in a game
+-- ---- where a message asks for that, LINE is an act
 
 whole_none : (a b c d e f : Bool) →
     is_as_sort (if a then sorts.Players else (if b then sorts.Who else (if c then sorts.Pause else (if d then sorts.Resume
@@ -25,13 +25,16 @@ whole_none false false false false true f = refl
 whole_none false false false false false true = refl
 whole_none false false false false false false = refl
 
-own_none : (a b c d : Bool) (last : Sort) → is_as_sort last ≡ false →
-    is_as_sort (if a then sorts.Login else (if b then sorts.Watch else (if c then sorts.Line else (if d then sorts.Leave else last)))) ≡ false
-own_none true b c d last h = refl
-own_none false true c d last h = refl
-own_none false false true d last h = refl
-own_none false false false true last h = refl
-own_none false false false false last h = h
+own_none : (a b c d e f : Bool) (last : Sort) → is_as_sort last ≡ false →
+    is_as_sort (if a then sorts.Login else (if b then sorts.Watch else (if c then sorts.Line else (if d then sorts.Leave
+    else (if e then sorts.Link else (if f then sorts.Close else last)))))) ≡ false
+own_none true b c d e f last h = refl
+own_none false true c d e f last h = refl
+own_none false false true d e f last h = refl
+own_none false false false true e f last h = refl
+own_none false false false false true f last h = refl
+own_none false false false false false true last h = refl
+own_none false false false false false false last h = h
 
 plays_if : (a b c d e p : Bool) (last : Sort) → is_as_sort last ≡ false →
     is_as_sort (if a then sorts.Name else (if b then sorts.Read else (if c then sorts.Act else (if d then sorts.Drop
@@ -44,14 +47,15 @@ plays_if false false false false true true last none h = refl
 plays_if false false false false true false last none h = absurd (false≢true h)
 plays_if false false false false false p last none h = absurd (false≢true (sym none ∙ h))
 
-as_plays : (text : List ℕ) → sort_of text ≡ sorts.As → is_play_word (word_of (as_line text)) ≡ true
+as_plays : (text : List ℕ) → sort_of text ≡ sorts.As → is_act_word (word_of (as_line text)) ≡ true
 unfolding sort_of
 as_plays text is =
     let w = word_of text in
     plays_if (bytes_eq w (codes "name")) (is_read_word w) (is_act_word w) (bytes_eq w (codes "drop")) (bytes_eq w (codes "as"))
-    (is_play_word (word_of (as_line text))) (own_sort w text)
+    (is_act_word (word_of (as_line text))) (own_sort w text)
     (own_none (bytes_eq w (codes "login")) (bytes_eq w (codes "watch")) (bytes_eq w (codes "line"))
-    (bytes_eq w (codes "leave") && not (bytes_eq text (codes "leave lobby"))) (whole_sort text)
+    (bytes_eq w (codes "leave") && not (bytes_eq text (codes "leave lobby"))) (bytes_eq w (codes "link")) (bytes_eq w (codes "close"))
+    (whole_sort text)
     (whole_none (bytes_eq text (codes "players")) (bytes_eq text (codes "who")) (bytes_eq text (codes "pause entries"))
     (bytes_eq text (codes "resume entries")) (bytes_eq text (codes "lobby")) (bytes_eq text (codes "leave lobby"))))
     (ap is_as_sort is)
@@ -78,10 +82,10 @@ to_resign w = to_decline w || bytes_eq w (codes "resign")
 abbrev pub to_claim : List ℕ → Bool
 to_claim w = to_resign w || bytes_eq w (codes "claim")
 
-each_word : (P : List ℕ → Type 0) (w : List ℕ) → P (codes "move") → P (codes "offer") → P (codes "accept") → P (codes "decline") →
+each_play : (P : List ℕ → Type 0) (w : List ℕ) → P (codes "move") → P (codes "offer") → P (codes "accept") → P (codes "decline") →
     P (codes "resign") → P (codes "claim") → P (codes "flag") → is_play_word w ≡ true → P w
 unfolding is_play_word
-each_word P w move offer accept decline resign claim flag h =
+each_play P w move offer accept decline resign claim flag h =
     among P w (codes "flag") (to_claim w)
     (among P w (codes "claim") (to_resign w)
     (among P w (codes "resign") (to_decline w)
@@ -91,14 +95,29 @@ each_word P w move offer accept decline resign claim flag h =
     (λ is. subst P (sym ((bytes_eq-Decides w (codes "move")).0 is)) move) offer)
     accept) decline) resign) claim) flag h
 
+either : (P : Type 0) (a b : Bool) → (a ≡ true → P) → (b ≡ true → P) → (a || b) ≡ true → P
+either P true b first second h = first refl
+either P false b first second h = second h
+
+each_word : (P : List ℕ → Type 0) (w : List ℕ) → P (codes "open") → P (codes "join") → (is_play_word w ≡ true → P w) →
+    is_act_word w ≡ true → P w
+unfolding is_act_word
+each_word P w opens joins plays h =
+    either (P w) (bytes_eq w (codes "open") || bytes_eq w (codes "join")) (is_play_word w)
+    (λ is. among P w (codes "join") (bytes_eq w (codes "open"))
+    (λ first. subst P (sym ((bytes_eq-Decides w (codes "open")).0 first)) opens) joins is)
+    plays h
+
 -- what such a word is
 abbrev pub IsActWord : List ℕ → Type 0
 IsActWord w = (bytes_eq w (codes "name") ≡ false) × (is_read_word w ≡ false) × (is_act_word w ≡ true)
 
-plays_acts : (w : List ℕ) → is_play_word w ≡ true → IsActWord w
+plays_acts : (w : List ℕ) → is_act_word w ≡ true → IsActWord w
 unfolding is_read_word is_act_word is_play_word
 plays_acts w h =
-    each_word IsActWord w (refl, refl, refl) (refl, refl, refl) (refl, refl, refl) (refl, refl, refl) (refl, refl, refl) (refl, refl, refl) (refl, refl, refl) h
+    each_word IsActWord w (refl, refl, refl) (refl, refl, refl)
+    (each_play IsActWord w (refl, refl, refl) (refl, refl, refl) (refl, refl, refl) (refl, refl, refl) (refl, refl, refl) (refl, refl, refl) (refl, refl, refl))
+    h
 
 acts_if : (a b c : Bool) (last : Sort) → a ≡ false → b ≡ false → c ≡ true →
     (if a then sorts.Name else (if b then sorts.Read else (if c then sorts.Act else last))) ≡ sorts.Act

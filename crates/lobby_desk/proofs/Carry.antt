@@ -1,23 +1,26 @@
 -- What a plan leaves and tells.
-use Rattle.std.proofs.Common.{ℕ, ◌≡◌, Bool, true, false, ◌&&◌, not, List, [], ◌∷◌, Option, None, Some, refl}
-use Rattle.std.specs.Prelude.{if◌then◌else◌}
+use Rattle.std.proofs.Common.{ℕ, ◌≡◌, Bool, true, false, ◌&&◌, not, List, [], ◌∷◌, Option, None, Some, refl, sym, ap, subst}
+use Rattle.std.specs.Prelude.{if◌then◌else◌, is_some}
+use Rattle.std.proofs.lemmas.Bool.{false≢true}
 use Rattle.lobby_words.specs.declared.words.Sort.{Sort}
 use Rattle.lobby_words.specs.declared.words.Sort.TheVariants as sorts
 use Rattle.lobby_words.specs.declared.refusals.Refusal.{Refusal}
 use Rattle.lobby_words.specs.declared.refusals.Refusal.TheVariants as refusals
+use Rattle.lobby_words.specs.declared.planning.Order.{Order}
 use Rattle.lobby_words.specs.declared.planning.Plan.{Plan}
 use Rattle.lobby_words.specs.declared.planning.Plan.TheVariants as plans
 use Rattle.lobby_words.specs.declared.planning.Standing.{Standing}
 use Rattle.lobby_words.specs.declared.planning.Identity.{Identity}
 use Rattle.lobby_desk.specs.declared.players.Player.{Player}
 use Rattle.lobby_desk.specs.declared.watching.Watch.{Watch}
-use Rattle.lobby_words.specs.Words.{as_line, is_leave_sort, is_leave_lobby_sort, or_0}
-use Rattle.lobby_words.specs.Plans.{asked, entered_plan, act_plan, named_plan, as_plan, drop_plan, arbiter_plan, login_plan, numbered_plan, plan_of}
+use Rattle.lobby_words.specs.Words.{as_line, is_link_sort, is_close_sort, is_leave_sort, is_leave_lobby_sort, or_0}
+use Rattle.lobby_words.specs.Plans.{asked, entered_plan, act_plan, named_plan, as_plan, drop_plan, arbiter_plan, order_plan, login_plan, order_of, numbered_plan, plan_of}
 use Rattle.lobby_desk.specs.Lines.{lines_of, is_said, name_line}
 use Rattle.lobby_desk.specs.Events.{Telling, ForItself, ForPositions, ForTable, ForGame, ForAct, Owed, Asker, Dropper, owed_last, plan_asker, sort_asker}
 use Rattle.lobby_desk.specs.Watching.{risen}
 use Rattle.lobby_desk.specs.Tellings.{left_game, IsToldOrSent}
 use Rattle.lobby_desk.specs.Who.{name_of, plan_watches, plan_table, IsAnswered}
+use Rattle.lobby_desk.specs.History.{IsArbiter}
 
 -- whose the answer to a plan's last line is
 abbrev pub LastIs : Plan → Option (List ℕ) → List ℕ → ℕ → Owed → Type 0
@@ -28,25 +31,26 @@ asked_last : (s : Standing) (plan : Plan) (said : Option (List ℕ)) (text : Lis
 asked_last s plan said text c o h =
     elim s.is_here as (λ b. LastIs (if b then plan else plans.Refuse refusals.NoServer) said text c o) [ true ↦ h | false ↦ refl ]
 
-entered_last : (s : Standing) (who : Identity) (said : Option (List ℕ)) (text : List ℕ) (c : ℕ) → LastIs (entered_plan s who) said text c (Asker c (ForAct who.name text))
-entered_last s who said text c =
-    elim s.is_crowded as (λ b. LastIs (if b then asked s (plans.Refuse refusals.TooManyOpen) else asked s (plans.Act who)) said text c (Asker c (ForAct who.name text))) [
-      | true ↦ asked_last s (plans.Refuse refusals.TooManyOpen) said text c (Asker c (ForAct who.name text)) refl
-      | false ↦ asked_last s (plans.Act who) said text c (Asker c (ForAct who.name text)) refl
+entered_last : (s : Standing) (plan : Plan) (said : Option (List ℕ)) (text : List ℕ) (c : ℕ) (o : Owed) → LastIs plan said text c o →
+    LastIs (entered_plan s plan) said text c o
+entered_last s plan said text c o h =
+    elim s.is_crowded as (λ b. LastIs (if b then asked s (plans.Refuse refusals.TooManyOpen) else asked s plan) said text c o) [
+      | true ↦ asked_last s (plans.Refuse refusals.TooManyOpen) said text c o refl
+      | false ↦ asked_last s plan said text c o h
     ]
 
 act_last : (s : Standing) (who : Option Identity) (said : Option (List ℕ)) (text : List ℕ) (c : ℕ) → LastIs (act_plan s who) said text c (Asker c (ForAct (name_of who) text))
 act_last s None said text c = refl
 act_last s (Some who) said text c =
-    elim (s.is_paused && not who.is_arbiter) as (λ b. LastIs (if b then plans.Refuse refusals.EntriesPaused else entered_plan s who) said text c (Asker c (ForAct who.name text))) [
+    elim (s.is_paused && not who.is_arbiter) as (λ b. LastIs (if b then plans.Refuse refusals.EntriesPaused else entered_plan s (plans.Act who)) said text c (Asker c (ForAct who.name text))) [
       | true ↦ refl
-      | false ↦ entered_last s who said text c
+      | false ↦ entered_last s (plans.Act who) said text c (Asker c (ForAct who.name text)) refl
     ]
 
 named_last : (s : Standing) (who : Identity) (named : Option (List ℕ)) (said : Option (List ℕ)) (text : List ℕ) (c : ℕ) →
     LastIs (named_plan s who named) said text c (Asker c (ForAct who.name text))
 named_last s who None said text c = refl
-named_last s who (Some name) said text c = asked_last s (plans.ActAs who name) said text c (Asker c (ForAct who.name text)) refl
+named_last s who (Some name) said text c = entered_last s (plans.ActAs who name) said text c (Asker c (ForAct who.name text)) refl
 
 as_last : (s : Standing) (who : Option Identity) (said : Option (List ℕ)) (text : List ℕ) (c : ℕ) → LastIs (as_plan s who) said text c (Asker c (ForAct (name_of who) text))
 as_last s None said text c = refl
@@ -70,6 +74,11 @@ arbiter_last : (who : Option Identity) (plan : Plan) (said : Option (List ℕ)) 
 arbiter_last None plan said text c h = refl
 arbiter_last (Some who) plan said text c h =
     elim who.is_arbiter as (λ b. LastIs (if b then plan else plans.Refuse refusals.NotArbiter) said text c (Asker c ForItself)) [ true ↦ h | false ↦ refl ]
+
+order_last : (closes : Bool) (linked : Option (List ℕ)) (said : Option (List ℕ)) (text : List ℕ) (c : ℕ) →
+    LastIs (order_plan closes linked) said text c (Asker c ForItself)
+order_last closes None said text c = refl
+order_last closes (Some name) said text c = refl
 
 login_last : (holder : Option Identity) (said : Option (List ℕ)) (text : List ℕ) (c : ℕ) → LastIs (login_plan holder) said text c (Asker c ForItself)
 login_last None said text c = refl
@@ -111,6 +120,10 @@ planned_last true sorts.Players s game said text c = refl
 planned_last true sorts.Who s game said text c = arbiter_last s.who plans.Who said text c refl
 planned_last true sorts.Pause s game said text c = arbiter_last s.who plans.Pause said text c refl
 planned_last true sorts.Resume s game said text c = arbiter_last s.who plans.Resume said text c refl
+planned_last true sorts.Link s game said text c =
+    arbiter_last s.who (order_plan false s.linked) said text c (order_last false s.linked said text c)
+planned_last true sorts.Close s game said text c =
+    arbiter_last s.who (order_plan true s.linked) said text c (order_last true s.linked said text c)
 planned_last true sorts.Lobby s game said text c = asked_last s plans.Lobby said text c (Asker c ForTable) refl
 planned_last true sorts.LeaveLobby s game said text c = refl
 planned_last true sorts.Watch s game said text c = watch_last s game said text c
@@ -123,26 +136,26 @@ planned_last true sorts.Nothing s game said text c = refl
 asked_does : (P : Plan → Type 0) (s : Standing) (plan : Plan) → P (plans.Refuse refusals.NoServer) → P plan → P (asked s plan)
 asked_does P s plan none h = elim s.is_here as (λ b. P (if b then plan else plans.Refuse refusals.NoServer)) [ true ↦ h | false ↦ none ]
 
-entered_does : (P : Plan → Type 0) (s : Standing) (who : Identity) → ((r : Refusal) → P (plans.Refuse r)) → P (plans.Act who) → P (entered_plan s who)
-entered_does P s who none h =
-    elim s.is_crowded as (λ b. P (if b then asked s (plans.Refuse refusals.TooManyOpen) else asked s (plans.Act who))) [
+entered_does : (P : Plan → Type 0) (s : Standing) (plan : Plan) → ((r : Refusal) → P (plans.Refuse r)) → P plan → P (entered_plan s plan)
+entered_does P s plan none h =
+    elim s.is_crowded as (λ b. P (if b then asked s (plans.Refuse refusals.TooManyOpen) else asked s plan)) [
       | true ↦ asked_does P s (plans.Refuse refusals.TooManyOpen) (none refusals.NoServer) (none refusals.TooManyOpen)
-      | false ↦ asked_does P s (plans.Act who) (none refusals.NoServer) h
+      | false ↦ asked_does P s plan (none refusals.NoServer) h
     ]
 
 pub act_does : (P : Plan → Type 0) (s : Standing) (who : Option Identity) → ((r : Refusal) → P (plans.Refuse r)) → ((one : Identity) → P (plans.Act one)) →
     P (act_plan s who)
 act_does P s None none h = none refusals.NoToken
 act_does P s (Some who) none h =
-    elim (s.is_paused && not who.is_arbiter) as (λ b. P (if b then plans.Refuse refusals.EntriesPaused else entered_plan s who)) [
+    elim (s.is_paused && not who.is_arbiter) as (λ b. P (if b then plans.Refuse refusals.EntriesPaused else entered_plan s (plans.Act who))) [
       | true ↦ none refusals.EntriesPaused
-      | false ↦ entered_does P s who none (h who)
+      | false ↦ entered_does P s (plans.Act who) none (h who)
     ]
 
 named_does : (P : Plan → Type 0) (s : Standing) (who : Identity) (named : Option (List ℕ)) → ((r : Refusal) → P (plans.Refuse r)) →
     ((name : List ℕ) → P (plans.ActAs who name)) → P (named_plan s who named)
 named_does P s who None none h = none refusals.NoPlayer
-named_does P s who (Some name) none h = asked_does P s (plans.ActAs who name) (none refusals.NoServer) (h name)
+named_does P s who (Some name) none h = entered_does P s (plans.ActAs who name) none (h name)
 
 pub as_does : (P : Plan → Type 0) (s : Standing) (who : Option Identity) → ((r : Refusal) → P (plans.Refuse r)) →
     ((one : Identity) (name : List ℕ) → P (plans.ActAs one name)) → P (as_plan s who)
@@ -171,6 +184,15 @@ pub arbiter_does : (P : Plan → Type 0) (who : Option Identity) (plan : Plan) �
 arbiter_does P None plan none h = none refusals.NoToken
 arbiter_does P (Some who) plan none h =
     elim who.is_arbiter as (λ b. P (if b then plan else plans.Refuse refusals.NotArbiter)) [ true ↦ h | false ↦ none refusals.NotArbiter ]
+
+order_does : (P : Plan → Type 0) (closes : Bool) (linked : Option (List ℕ)) → ((r : Refusal) → P (plans.Refuse r)) →
+    ((o : Order) → P (plans.Order o)) → P (order_plan closes linked)
+order_does P closes None none h = none refusals.NoPlayer
+order_does P closes (Some name) none h = h (record { name = name; closes = closes })
+
+pub link_does : (P : Plan → Type 0) (who : Option Identity) (closes : Bool) (linked : Option (List ℕ)) → ((r : Refusal) → P (plans.Refuse r)) →
+    ((o : Order) → P (plans.Order o)) → P (arbiter_plan who (order_plan closes linked))
+link_does P who closes linked none h = arbiter_does P who (order_plan closes linked) none (order_does P closes linked none h)
 
 login_does : (P : Plan → Type 0) (holder : Option Identity) → ((r : Refusal) → P (plans.Refuse r)) → ((one : Identity) → P (plans.Login one)) →
     P (login_plan holder)
@@ -212,6 +234,8 @@ planned_watches true sorts.Players s game c watches = refl
 planned_watches true sorts.Who s game c watches = arbiter_does (WatchesStay c watches) s.who plans.Who (λ _. refl) refl
 planned_watches true sorts.Pause s game c watches = arbiter_does (WatchesStay c watches) s.who plans.Pause (λ _. refl) refl
 planned_watches true sorts.Resume s game c watches = arbiter_does (WatchesStay c watches) s.who plans.Resume (λ _. refl) refl
+planned_watches true sorts.Link s game c watches = link_does (WatchesStay c watches) s.who false s.linked (λ _. refl) (λ _. refl)
+planned_watches true sorts.Close s game c watches = link_does (WatchesStay c watches) s.who true s.linked (λ _. refl) (λ _. refl)
 planned_watches true sorts.Lobby s game c watches = asked_does (WatchesStay c watches) s plans.Lobby refl refl
 planned_watches true sorts.LeaveLobby s game c watches = refl
 planned_watches true sorts.Watch s game c watches = watch_does (WatchesStay c watches) s game (λ _. refl) (λ _. refl)
@@ -240,6 +264,8 @@ planned_table true sorts.Players s game c table = refl
 planned_table true sorts.Who s game c table = arbiter_does (TableStays c table) s.who plans.Who (λ _. refl) refl
 planned_table true sorts.Pause s game c table = arbiter_does (TableStays c table) s.who plans.Pause (λ _. refl) refl
 planned_table true sorts.Resume s game c table = arbiter_does (TableStays c table) s.who plans.Resume (λ _. refl) refl
+planned_table true sorts.Link s game c table = link_does (TableStays c table) s.who false s.linked (λ _. refl) (λ _. refl)
+planned_table true sorts.Close s game c table = link_does (TableStays c table) s.who true s.linked (λ _. refl) (λ _. refl)
 planned_table true sorts.Lobby s game c table = asked_does (TableStays c table) s plans.Lobby refl refl
 planned_table true sorts.LeaveLobby s game c table = refl
 planned_table true sorts.Watch s game c table = watch_does (TableStays c table) s game (λ _. refl) (λ _. refl)
@@ -266,8 +292,89 @@ answered_or_sent players is_open acts_for plans.Players said text c tells h = (h
 answered_or_sent players is_open acts_for plans.Who said text c tells h = (h.0, h.2)
 answered_or_sent players is_open acts_for plans.Pause said text c tells h = (h.0, h.2)
 answered_or_sent players is_open acts_for plans.Resume said text c tells h = (h.0, h.2)
+answered_or_sent players is_open acts_for (plans.Order order) said text c tells h = (h.0, h.2)
 answered_or_sent players is_open acts_for plans.Lobby said text c tells h = h
 answered_or_sent players is_open acts_for plans.LeaveLobby said text c tells h = (h.0, h.2)
 answered_or_sent players is_open acts_for (plans.Watch game) said text c tells h = h
 answered_or_sent players is_open acts_for (plans.Leave game) said text c tells h = (h.0, h.2)
 answered_or_sent players is_open acts_for (plans.Line game) said text c tells h = h
+
+-- ---- who orders
+
+-- what holds of an order, where a plan is one
+abbrev pub OfOrder : (Order → Type 0) → Plan → Type 0
+OfOrder Q (plans.Order order) = Q order
+OfOrder Q _ = Unit {0}
+
+-- An order is of an arbiter's message that asks for it, and of a player that is named behind its word.
+pub record Orders (m : Bool) (sort : Sort) (s : Standing) (order : Order) : Type 0 where
+  pub message : m ≡ true
+  pub arbiter : IsArbiter s.who
+  pub sort_is : is_link_sort sort ≡ true
+  pub closes : is_close_sort sort ≡ order.closes
+  pub named : s.linked ≡ Some order.name
+
+order_orders : (closes : Bool) (sort : Sort) (s : Standing) (linked : Option (List ℕ)) → IsArbiter s.who → is_link_sort sort ≡ true →
+    is_close_sort sort ≡ closes → s.linked ≡ linked → OfOrder (Orders true sort s) (order_plan closes linked)
+order_orders closes sort s None arbiter is same named = tt
+order_orders closes sort s (Some name) arbiter is same named =
+    record { message = refl; arbiter = arbiter; sort_is = is; closes = same; named = named }
+
+allowed_at : (closes : Bool) (sort : Sort) (s : Standing) (who : Identity) → s.who ≡ Some who → is_link_sort sort ≡ true →
+    is_close_sort sort ≡ closes → (b : Bool) → who.is_arbiter ≡ b →
+    OfOrder (Orders true sort s) (if b then order_plan closes s.linked else plans.Refuse refusals.NotArbiter)
+allowed_at closes sort s who is link same true arbiter = order_orders closes sort s s.linked (subst IsArbiter (sym is) arbiter) link same refl
+allowed_at closes sort s who is link same false arbiter = tt
+
+arbiter_at : (closes : Bool) (sort : Sort) (s : Standing) (who : Option Identity) → s.who ≡ who → is_link_sort sort ≡ true →
+    is_close_sort sort ≡ closes → OfOrder (Orders true sort s) (arbiter_plan who (order_plan closes s.linked))
+arbiter_at closes sort s None is link same = tt
+arbiter_at closes sort s (Some who) is link same = allowed_at closes sort s who is link same who.is_arbiter refl
+
+leave_orders : (s : Standing) (game : Option ℕ) → OfOrder (Orders true sorts.Leave s) (numbered_plan sorts.Leave s game)
+leave_orders s None = tt
+leave_orders s (Some game) = tt
+
+pub planned_orders : (m : Bool) (sort : Sort) (s : Standing) (game : Option ℕ) → OfOrder (Orders m sort s) (plan_of m sort s game)
+planned_orders false sort s game = tt
+planned_orders true sorts.Read s game = asked_does (OfOrder (Orders true sorts.Read s)) s plans.Read tt tt
+planned_orders true sorts.Act s game = act_does (OfOrder (Orders true sorts.Act s)) s s.who (λ _. tt) (λ _. tt)
+planned_orders true sorts.As s game = as_does (OfOrder (Orders true sorts.As s)) s s.who (λ _. tt) (λ _ _. tt)
+planned_orders true sorts.Drop s game = dropped_does (OfOrder (Orders true sorts.Drop s)) s game (λ _. tt) (λ _ _. tt)
+planned_orders true sorts.Login s game = login_does (OfOrder (Orders true sorts.Login s)) s.holder (λ _. tt) (λ _. tt)
+planned_orders true sorts.Players s game = tt
+planned_orders true sorts.Who s game = arbiter_does (OfOrder (Orders true sorts.Who s)) s.who plans.Who (λ _. tt) tt
+planned_orders true sorts.Pause s game = arbiter_does (OfOrder (Orders true sorts.Pause s)) s.who plans.Pause (λ _. tt) tt
+planned_orders true sorts.Resume s game = arbiter_does (OfOrder (Orders true sorts.Resume s)) s.who plans.Resume (λ _. tt) tt
+planned_orders true sorts.Link s game = arbiter_at false sorts.Link s s.who refl refl refl
+planned_orders true sorts.Close s game = arbiter_at true sorts.Close s s.who refl refl refl
+planned_orders true sorts.Lobby s game = asked_does (OfOrder (Orders true sorts.Lobby s)) s plans.Lobby tt tt
+planned_orders true sorts.LeaveLobby s game = tt
+planned_orders true sorts.Watch s game = watch_does (OfOrder (Orders true sorts.Watch s)) s game (λ _. tt) (λ _. tt)
+planned_orders true sorts.Leave s game = leave_orders s game
+planned_orders true sorts.Line s game = line_does (OfOrder (Orders true sorts.Line s)) s game (λ _. tt) (λ _. tt)
+planned_orders true sorts.Name s game = tt
+planned_orders true sorts.Nothing s game = tt
+
+abbrev or_this : Order → Option Order → Order
+or_this one None = one
+or_this one (Some order) = order
+
+-- a plan that has this order done
+pub is_order : (plan : Plan) (order : Order) → order_of plan ≡ Some order → plan ≡ plans.Order order
+is_order (plans.Order one) order is = ap plans.Order (ap (or_this one) is)
+is_order (plans.Refuse r) order is = absurd (false≢true (ap is_some is))
+is_order plans.Read order is = absurd (false≢true (ap is_some is))
+is_order (plans.Act who) order is = absurd (false≢true (ap is_some is))
+is_order (plans.ActAs who name) order is = absurd (false≢true (ap is_some is))
+is_order (plans.Drop who game) order is = absurd (false≢true (ap is_some is))
+is_order (plans.Login who) order is = absurd (false≢true (ap is_some is))
+is_order plans.Players order is = absurd (false≢true (ap is_some is))
+is_order plans.Who order is = absurd (false≢true (ap is_some is))
+is_order plans.Pause order is = absurd (false≢true (ap is_some is))
+is_order plans.Resume order is = absurd (false≢true (ap is_some is))
+is_order plans.Lobby order is = absurd (false≢true (ap is_some is))
+is_order plans.LeaveLobby order is = absurd (false≢true (ap is_some is))
+is_order (plans.Watch game) order is = absurd (false≢true (ap is_some is))
+is_order (plans.Leave game) order is = absurd (false≢true (ap is_some is))
+is_order (plans.Line game) order is = absurd (false≢true (ap is_some is))

@@ -1,6 +1,7 @@
 pub mod Sent
 pub mod Found
 pub mod Opened
+pub mod Others
 pub mod Lines
 pub mod Carry
 pub mod Named

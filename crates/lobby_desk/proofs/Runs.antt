@@ -17,18 +17,18 @@ use Rattle.lobby_desk.specs.declared.players.Player.{Player}
 use Rattle.lobby_words.specs.declared.listing.Waiting.{Waiting}
 use Rattle.lobby_desk.specs.declared.watching.Watch.{Watch}
 use Rattle.lobby_words.specs.Words.{word_of, rest_of, as_name, as_line, is_message, sort_of, is_act_sort, is_as_sort, is_drop_sort, is_name_sort, is_login_sort, number_in, or_0}
-use Rattle.lobby_words.specs.Plans.{asked, entered_plan, act_plan, named_plan, as_plan, arbiter_plan, drop_plan, login_plan, numbered_plan, plan_of}
+use Rattle.lobby_words.specs.Plans.{asked, entered_plan, act_plan, named_plan, as_plan, arbiter_plan, order_plan, drop_plan, login_plan, numbered_plan, plan_of}
 use Rattle.lobby_desk.specs.Lines.{lines_of, act_lines, said_after, name_line, game_line, is_said, notice_lines, IsNamed}
 use Rattle.lobby_words.specs.Answers.{is_accepted, first_line, act_game, is_whole, answer}
 use Rattle.lobby_desk.specs.Watching.{watch_if, sit_if}
-use Rattle.lobby_desk.specs.Events.{Event, Opened, Closed, Said, Hurried, Heard, Gone, Here, Telling, ForItself, ForPositions, ForTable, ForGame, ForAct, Owed, Nobody, Asker, Dropper, Followers, owed_last, sort_asker, asker, followers_of, follower}
+use Rattle.lobby_desk.specs.Events.{Event, Opened, Closed, Said, Hurried, Heard, Gone, Here, Renewed, Linked, Telling, ForItself, ForPositions, ForTable, ForGame, ForAct, Owed, Nobody, Asker, Dropper, Followers, owed_last, sort_asker, asker, followers_of, follower}
 use Rattle.lobby_desk.specs.Tellings.{Known, open_now, watch_heard, watch_next, watches_now, table_heard, table_next, table_now, owed_answered, owed_now, known_now, presence, lost, AreToldAll, IsTold}
-use Rattle.lobby_desk.specs.Who.{View, BeginsView, IsSaid, IsHeard, IsDropped, IsSentFor, IsSentNext, IsSentHeard, IsDone, IsKnown, who_noted, name_of, speaker}
-use Rattle.lobby_desk.specs.Players.{player_named}
-use Rattle.lobby_desk.specs.History.{Step, comes, has_come, shown_by, player_said, player_after, player_in, is_drop, is_as, name_as, name_for, name_behind, name_through, name_before, name_in, ActsUnder, ActsRight, NoActs, NoDrops, sort_asks, IsOf, open_in, known_in, IsArbiter, AsksNow, HasAsked, IsDropOf, IsNoticeOf, IsRight, AreWhole, AllRight, AllTold, IsRun}
+use Rattle.lobby_desk.specs.Who.{View, BeginsView, IsSaid, IsHeard, IsDropped, IsSentFor, IsSentNext, IsSentHeard, IsDone, IsRenewed, IsLinked, IsKnown, who_noted, name_of, speaker}
+use Rattle.lobby_desk.specs.Players.{player_named, renewed}
+use Rattle.lobby_desk.specs.History.{Step, comes, has_come, shown_by, player_said, player_after, players_in, player_in, is_drop, is_as, name_as, name_for, name_behind, name_through, name_before, name_in, ActsUnder, ActsRight, NoActs, NoDrops, sort_asks, IsOf, open_in, known_in, IsArbiter, AsksNow, HasAsked, IsDropOf, IsNoticeOf, IsRight, AreWhole, AllRight, AllTold, IsRun}
 use Rattle.lobby_words.proofs.Numbers.{number_small}
 use Rattle.lobby_desk.proofs.Sent.{is_said_same}
-use Rattle.lobby_desk.proofs.Carry.{act_does, as_does, arbiter_does}
+use Rattle.lobby_desk.proofs.Carry.{act_does, as_does, arbiter_does, link_does, OfOrder, Orders, planned_orders}
 use Rattle.lobby_desk.proofs.As.{as_whole, as_acts}
 use Rattle.lobby_desk.proofs.Lines.{show_whole, fen_whole, pgn_whole, list_whole, name_whole, show_reads, fen_reads, pgn_reads, list_reads, name_names}
 
@@ -87,6 +87,8 @@ planned_who true sorts.Players s game before = refl
 planned_who true sorts.Who s game before = arbiter_does (λ plan. who_noted plan before ≡ before) s.who plans.Who (λ _. refl) refl
 planned_who true sorts.Pause s game before = arbiter_does (λ plan. who_noted plan before ≡ before) s.who plans.Pause (λ _. refl) refl
 planned_who true sorts.Resume s game before = arbiter_does (λ plan. who_noted plan before ≡ before) s.who plans.Resume (λ _. refl) refl
+planned_who true sorts.Link s game before = link_does (λ plan. who_noted plan before ≡ before) s.who false s.linked (λ _. refl) (λ _. refl)
+planned_who true sorts.Close s game before = link_does (λ plan. who_noted plan before ≡ before) s.who true s.linked (λ _. refl) (λ _. refl)
 planned_who true sorts.Lobby s game before = asked_who s plans.Lobby before refl
 planned_who true sorts.LeaveLobby s game before = refl
 planned_who true sorts.Watch s game before = watch_who s game before
@@ -221,17 +223,16 @@ acts_good text name under said own message is named =
 own_name : (players : List Player) (who : Identity) (text : List ℕ) → sort_of text ≡ sorts.Act → name_for players (Some who) text ≡ Some who.name
 own_name players who text is = ap (λ (sort : Sort). if is_as_sort sort then name_as players who.is_arbiter text else Some who.name) is
 
-entered_good : (players : List Player) (text : List ℕ) (s : Standing) (said : Option (List ℕ)) (who : Identity) → is_message text ≡ true →
-    sort_of text ≡ sorts.Act → IsNamed (entered_plan s who) →
-    Good (text ∷ []) (name_for players (Some who) text) said (lines_of (entered_plan s who) said text) (said_after (entered_plan s who) said)
-entered_good players text s said who message is =
-    let under = name_for players (Some who) text in
-    elim s.is_crowded as (λ b. IsNamed (if b then asked s (plans.Refuse refusals.TooManyOpen) else asked s (plans.Act who)) →
-    Good (text ∷ []) (name_for players (Some who) text) said (lines_of (if b then asked s (plans.Refuse refusals.TooManyOpen) else asked s (plans.Act who)) said text)
-    (said_after (if b then asked s (plans.Refuse refusals.TooManyOpen) else asked s (plans.Act who)) said)) [
-      | true ↦ asked_good (text ∷ []) text s under said (plans.Refuse refusals.TooManyOpen) (λ _. none_good (text ∷ []) under said)
-      | false ↦ asked_good (text ∷ []) text s under said (plans.Act who)
-          (λ named. acts_good text who.name under said (own_name players who text is) message is named)
+-- no game more than may wait
+entered_good : (asks : List (List ℕ)) (text : List ℕ) (s : Standing) (under said : Option (List ℕ)) (plan : Plan) →
+    (IsNamed plan → Good asks under said (lines_of plan said text) (said_after plan said)) → IsNamed (entered_plan s plan) →
+    Good asks under said (lines_of (entered_plan s plan) said text) (said_after (entered_plan s plan) said)
+entered_good asks text s under said plan h =
+    elim s.is_crowded as (λ b. IsNamed (if b then asked s (plans.Refuse refusals.TooManyOpen) else asked s plan) →
+    Good asks under said (lines_of (if b then asked s (plans.Refuse refusals.TooManyOpen) else asked s plan) said text)
+    (said_after (if b then asked s (plans.Refuse refusals.TooManyOpen) else asked s plan) said)) [
+      | true ↦ asked_good asks text s under said (plans.Refuse refusals.TooManyOpen) (λ _. none_good asks under said)
+      | false ↦ asked_good asks text s under said plan h
     ]
 
 -- the plan for an act
@@ -240,11 +241,12 @@ act_good : (players : List Player) (text : List ℕ) (s : Standing) (said : Opti
     Good (text ∷ []) (name_for players who text) said (lines_of (act_plan s who) said text) (said_after (act_plan s who) said)
 act_good players text s said None message is = λ named. none_good (text ∷ []) None said
 act_good players text s said (Some who) message is =
-    elim (s.is_paused && not who.is_arbiter) as (λ b. IsNamed (if b then plans.Refuse refusals.EntriesPaused else entered_plan s who) →
-    Good (text ∷ []) (name_for players (Some who) text) said (lines_of (if b then plans.Refuse refusals.EntriesPaused else entered_plan s who) said text)
-    (said_after (if b then plans.Refuse refusals.EntriesPaused else entered_plan s who) said)) [
+    elim (s.is_paused && not who.is_arbiter) as (λ b. IsNamed (if b then plans.Refuse refusals.EntriesPaused else entered_plan s (plans.Act who)) →
+    Good (text ∷ []) (name_for players (Some who) text) said (lines_of (if b then plans.Refuse refusals.EntriesPaused else entered_plan s (plans.Act who)) said text)
+    (said_after (if b then plans.Refuse refusals.EntriesPaused else entered_plan s (plans.Act who)) said)) [
       | true ↦ λ _. none_good (text ∷ []) (name_for players (Some who) text) said
-      | false ↦ entered_good players text s said who message is
+      | false ↦ entered_good (text ∷ []) text s (name_for players (Some who) text) said (plans.Act who)
+          (λ named. acts_good text who.name (name_for players (Some who) text) said (own_name players who text is) message is named)
     ]
 
 -- the plan for an act of an arbiter under the name of another
@@ -253,7 +255,7 @@ named_good : (text : List ℕ) (s : Standing) (who : Identity) (named under said
     Good (as_line text ∷ []) under said (lines_of (named_plan s who named) said text) (said_after (named_plan s who named) said)
 named_good text s who None under said same message is = λ named. none_good (as_line text ∷ []) under said
 named_good text s who (Some name) under said same message is =
-    asked_good (as_line text ∷ []) text s under said (plans.ActAs who name)
+    entered_good (as_line text ∷ []) text s under said (plans.ActAs who name)
     (λ named. acts_good (as_line text) name under said same (as_whole text message is) (as_acts text is) named)
 
 arbiter_good : (players : List Player) (text : List ℕ) (s : Standing) (said : Option (List ℕ)) (who : Identity) → s.named ≡ player_named players (as_name text) →
@@ -323,6 +325,13 @@ silent_good : (text : List ℕ) (who : Option Identity) (under said : Option (Li
 silent_good text who under said plan h =
     arbiter_does (λ p. Good [] under said (lines_of p said text) (said_after p said)) who plan (λ _. none_good [] under said) h
 
+order_good : (text : List ℕ) (s : Standing) (under said : Option (List ℕ)) (closes : Bool) →
+    Good [] under said (lines_of (arbiter_plan s.who (order_plan closes s.linked)) said text)
+    (said_after (arbiter_plan s.who (order_plan closes s.linked)) said)
+order_good text s under said closes =
+    link_does (λ p. Good [] under said (lines_of p said text) (said_after p said)) s.who closes s.linked (λ _. none_good [] under said)
+    (λ _. none_good [] under said)
+
 leave_good : (text : List ℕ) (s : Standing) (under said : Option (List ℕ)) (game : Option ℕ) →
     Good [] under said (lines_of (numbered_plan sorts.Leave s game) said text) (said_after (numbered_plan sorts.Leave s game) said)
 leave_good text s under said None = none_good [] under said
@@ -356,6 +365,8 @@ plan_good players text s said game true sorts.Pause other message is small named
     silent_good text s.who (name_for players s.who text) said plans.Pause (none_good [] (name_for players s.who text) said)
 plan_good players text s said game true sorts.Resume other message is small named =
     silent_good text s.who (name_for players s.who text) said plans.Resume (none_good [] (name_for players s.who text) said)
+plan_good players text s said game true sorts.Link other message is small named = order_good text s (name_for players s.who text) said false
+plan_good players text s said game true sorts.Close other message is small named = order_good text s (name_for players s.who text) said true
 plan_good players text s said game true sorts.Lobby other message is small named =
     asked_good (codes "list" ∷ []) text s (name_for players s.who text) said plans.Lobby
     (λ _. reads_good (name_for players s.who text) said (codes "list" ∷ []) (list_reads, tt) (list_whole, tt)) named
@@ -419,6 +430,8 @@ watches_alike (Said c text) f g same k = refl
 watches_alike (Hurried c) f g same k = refl
 watches_alike (Heard line) f g same k =
     ap (λ (watches : List Watch). if is_whole k.left line then watches else k.watches) (watch_next_alike f g same k.last k.owed k.watches)
+watches_alike (Renewed later) f g same k = refl
+watches_alike (Linked c text later token) f g same k = refl
 watches_alike Gone f g same k = refl
 watches_alike Here f g same k = refl
 
@@ -444,6 +457,8 @@ tables_alike (Said c text) f g same k = refl
 tables_alike (Hurried c) f g same k = refl
 tables_alike (Heard line) f g same k =
     ap (λ (table : List ℕ). if is_whole k.left line then table else k.table) (table_next_alike f g same k.owed k.table)
+tables_alike (Renewed later) f g same k = refl
+tables_alike (Linked c text later token) f g same k = refl
 tables_alike Gone f g same k = refl
 tables_alike Here f g same k = refl
 
@@ -466,6 +481,8 @@ speaker_alike f g same (Closed c) = refl
 speaker_alike f g same (Said c text) = ap name_of (same c)
 speaker_alike f g same (Hurried c) = refl
 speaker_alike f g same (Heard line) = refl
+speaker_alike f g same (Renewed later) = refl
+speaker_alike f g same (Linked c text later token) = refl
 speaker_alike f g same Gone = refl
 speaker_alike f g same Here = refl
 
@@ -481,6 +498,8 @@ told_alike (Closed c) lines tells f g same k h = h
 told_alike (Said c text) lines tells f g same k h = (sym (same c) ∙ h.0, h.1, h.2)
 told_alike (Hurried c) lines tells f g same k h = (sym (same c) ∙ h.0, h.1, h.2)
 told_alike (Heard line) lines tells f g same k h = h
+told_alike (Renewed later) lines tells f g same k h = h
+told_alike (Linked c text later token) lines tells f g same k h = (sym (same c) ∙ h.0, h.1, h.2)
 told_alike Gone lines tells f g same k h = all_alike f g same (lost k.owed) (presence false) tells h
 told_alike Here lines tells f g same k h = all_alike f g same (lost k.owed) (presence true) tells h
 
@@ -578,6 +597,8 @@ asks_at true sorts.Players s game said text = tt
 asks_at true sorts.Who s game said text = tt
 asks_at true sorts.Pause s game said text = tt
 asks_at true sorts.Resume s game said text = tt
+asks_at true sorts.Link s game said text = tt
+asks_at true sorts.Close s game said text = tt
 asks_at true sorts.Lobby s game said text = tt
 asks_at true sorts.LeaveLobby s game said text = tt
 asks_at true sorts.Watch s game said text = tt
@@ -606,6 +627,8 @@ asked_if_drop players past c by text sorts.Players game h = tt
 asked_if_drop players past c by text sorts.Who game h = tt
 asked_if_drop players past c by text sorts.Pause game h = tt
 asked_if_drop players past c by text sorts.Resume game h = tt
+asked_if_drop players past c by text sorts.Link game h = tt
+asked_if_drop players past c by text sorts.Close game h = tt
 asked_if_drop players past c by text sorts.Lobby game h = tt
 asked_if_drop players past c by text sorts.LeaveLobby game h = tt
 asked_if_drop players past c by text sorts.Watch game h = tt
@@ -640,7 +663,7 @@ pub record Agrees (players : List Player) (past : List Step) (now : View) : Type
   pub came : (c : ℕ) → has_come past c ≡ true → c < now.next
 
 record DoneGood (players : List Player) (past : List Step) (event : Event) (lines : List (List ℕ)) (now : View) : Type 0 where
-  who : (c : ℕ) → now.who c ≡ player_after players event c (player_in players past c)
+  who : (c : ℕ) → now.who c ≡ player_after (players_in players past) event c (player_in players past c)
   said : now.said ≡ name_through (name_before event (name_in past)) lines
   right : IsRight players past event lines
   whole : AreWhole lines
@@ -699,6 +722,8 @@ asked_now players past (Closed d) c text h = absurd h
 asked_now players past (Said d said) c text h = record { message = h.3; drop = h.4 }
 asked_now players past (Hurried d) c text h = absurd h
 asked_now players past (Heard line) c text h = absurd h
+asked_now players past (Renewed later) c text h = absurd h
+asked_now players past (Linked d said later token) c text h = absurd h
 asked_now players past Gone c text h = absurd h
 asked_now players past Here c text h = absurd h
 
@@ -718,6 +743,8 @@ drop_names_none sorts.Players h = absurd (false≢true h)
 drop_names_none sorts.Who h = absurd (false≢true h)
 drop_names_none sorts.Pause h = absurd (false≢true h)
 drop_names_none sorts.Resume h = absurd (false≢true h)
+drop_names_none sorts.Link h = absurd (false≢true h)
+drop_names_none sorts.Close h = absurd (false≢true h)
 drop_names_none sorts.Lobby h = absurd (false≢true h)
 drop_names_none sorts.LeaveLobby h = absurd (false≢true h)
 drop_names_none sorts.Watch h = absurd (false≢true h)
@@ -802,7 +829,7 @@ came_more true b d c old now is next same before h = let one : d ≡ c = same re
 came_more false b d c old now is next same before h = let less : c < old = before h in omega (arith, is, next, less)
 
 came_then : (players : List Player) (past : List Step) (old : View) (event : Event) (lines : List (List ℕ)) (tells : List Telling) (now : View) →
-    Agrees players past old → IsDone players old event lines tells now →
+    Agrees players past old → IsDone (players_in players past) old event lines tells now →
     (c : ℕ) → (comes event c || has_come past c) ≡ true → c < now.next
 came_then players past old (Opened d) lines tells now agrees step c h =
     came_more (d == c) (has_come past c) d c old.next now.next step.number step.next_is (Decides-eqb d c).0 (agrees.came c) h
@@ -810,12 +837,14 @@ came_then players past old (Closed d) lines tells now agrees step c h = subst (�
 came_then players past old (Said d text) lines tells now agrees step c h = subst (λ (n : ℕ). c < n) (sym step.next_is) (agrees.came c h)
 came_then players past old (Hurried d) lines tells now agrees step c h = subst (λ (n : ℕ). c < n) (sym step.next_is) (agrees.came c h)
 came_then players past old (Heard line) lines tells now agrees step c h = subst (λ (n : ℕ). c < n) (sym step.next_is) (agrees.came c h)
+came_then players past old (Renewed later) lines tells now agrees step c h = subst (λ (n : ℕ). c < n) (sym step.next_is) (agrees.came c h)
+came_then players past old (Linked d text later token) lines tells now agrees step c h = subst (λ (n : ℕ). c < n) (sym step.renews.next_is) (agrees.came c h)
 came_then players past old Gone lines tells now agrees step c h = subst (λ (n : ℕ). c < n) (sym step.next_is) (agrees.came c h)
 came_then players past old Here lines tells now agrees step c h = subst (λ (n : ℕ). c < n) (sym step.next_is) (agrees.came c h)
 
 none_done : (players : List Player) (past : List Step) (event : Event) (lines : List (List ℕ)) (now : View) →
     (lines ≡ [] → IsRight players past event lines) → lines ≡ [] → now.said ≡ name_before event (name_in past) →
-    ((c : ℕ) → now.who c ≡ player_after players event c (player_in players past c)) → DoneGood players past event lines now
+    ((c : ℕ) → now.who c ≡ player_after (players_in players past) event c (player_in players past c)) → DoneGood players past event lines now
 none_done players past event lines now right none said who = record {
   who = who;
   said = said ∙ ap (name_through (name_before event (name_in past))) (sym none);
@@ -823,8 +852,22 @@ none_done players past event lines now right none said who = record {
   whole = subst AreWhole (sym none) tt;
 }
 
+-- for whom a connection acts when the players are others
+renewed_who : (players : List Player) (past : List Step) (old : View) (later : List Player) (lines : List (List ℕ)) (now : View) →
+    Agrees players past old → IsRenewed (players_in players past) old later lines now → (d : ℕ) →
+    now.who d ≡ renewed (players_in players past) later (player_in players past d)
+renewed_who players past old later lines now agrees step d =
+    step.who_is d ∙ ap (λ (before : Option Identity). renewed (players_in players past) later before) (agrees.who d)
+
+-- who asks for a link
+linked_orders : (players : List Player) (old : View) (c : ℕ) (text : List ℕ) (later : List Player) (lines : List (List ℕ)) (new : View) →
+    (step : IsLinked players old c text later lines new) → Orders (is_message text) (sort_of text) step.standing step.order
+linked_orders players old c text later lines new step =
+    subst (OfOrder (Orders (is_message text) (sort_of text) step.standing)) step.planned
+    (planned_orders (is_message text) (sort_of text) step.standing (number_in (rest_of text)))
+
 done_good : (players : List Player) (past : List Step) (old : View) (event : Event) (lines : List (List ℕ)) (tells : List Telling) (now : View) →
-    Agrees players past old → IsDone players old event lines tells now → DoneGood players past event lines now
+    Agrees players past old → IsDone (players_in players past) old event lines tells now → DoneGood players past event lines now
 done_good players past old (Opened c) lines tells now agrees step =
     none_done players past (Opened c) lines now
     (λ none. (none, not_come (has_come past c) c (λ h. subst (λ (n : ℕ). c < n) (sym step.number) (agrees.came c h)))) step.moved.none (step.moved.said_is ∙ agrees.said)
@@ -836,13 +879,14 @@ done_good players past old (Hurried c) lines tells now agrees step =
     none_done players past (Hurried c) lines now (λ none. none) step.none (step.said_is ∙ agrees.said)
     (λ d. step.who_is d ∙ agrees.who d)
 done_good players past old (Said c text) lines tells now agrees step =
-    let good = said_good players old c text lines tells now step in
+    let list = players_in players past in
+    let good = said_good (players_in players past) old c text lines tells now step in
     record {
-      who = λ d. said_who players old c text lines tells now step d ∙ ap (λ (before : Option Identity). player_after players (Said c text) d before) (agrees.who d);
+      who = λ d. said_who list old c text lines tells now step d ∙ ap (λ (before : Option Identity). player_after list (Said c text) d before) (agrees.who d);
       said = good.name ∙ ap (λ (n : Option (List ℕ)). name_through n lines) agrees.said;
       right = (
-        subst (λ (n : Option (List ℕ)). ActsRight (name_for players (player_in players past c) text) n lines) agrees.said
-            (subst (λ (who : Option Identity). ActsRight (name_for players who text) old.said lines) (agrees.who c) good.acts),
+        subst (λ (n : Option (List ℕ)). ActsRight (name_for list (player_in players past c) text) n lines) agrees.said
+            (subst (λ (who : Option Identity). ActsRight (name_for list who text) old.said lines) (agrees.who c) good.acts),
         good.drops,
         good.of_text,
       );
@@ -851,6 +895,15 @@ done_good players past old (Said c text) lines tells now agrees step =
 done_good players past old (Heard line) lines tells now agrees step =
     let good = heard_good players past old line lines now agrees step in
     record { who = λ d. step.who_is d ∙ agrees.who d; said = good.said; right = good.right; whole = good.whole }
+done_good players past old (Renewed later) lines tells now agrees step =
+    none_done players past (Renewed later) lines now (λ none. none) step.none (step.said_is ∙ agrees.said)
+    (λ d. renewed_who players past old later lines now agrees step d)
+done_good players past old (Linked c text later token) lines tells now agrees step =
+    let orders = linked_orders (players_in players past) old c text later lines now step in
+    none_done players past (Linked c text later token) lines now
+    (λ none. (none, subst IsArbiter (step.who ∙ agrees.who c) orders.arbiter, orders.message, orders.sort_is))
+    step.renews.none (step.renews.said_is ∙ agrees.said)
+    (λ d. renewed_who players past old later lines now agrees step.renews d)
 done_good players past old Gone lines tells now agrees step =
     none_done players past Gone lines now (λ none. none) step.none step.said_is (λ d. step.who_is d ∙ agrees.who d)
 done_good players past old Here lines tells now agrees step =
@@ -858,13 +911,13 @@ done_good players past old Here lines tells now agrees step =
 
 -- each drop that waits then was asked for
 asked_then : (players : List Player) (past : List Step) (old : View) (event : Event) (lines : List (List ℕ)) (tells : List Telling) (now : View) →
-    Agrees players past old → IsDone players old event lines tells now →
+    Agrees players past old → IsDone (players_in players past) old event lines tells now →
     AreAsked players (record { event = event; lines = lines; tells = tells } ∷ past) (owed_now event (speaker old.who event) lines old.known)
 asked_then players past old (Opened c) lines tells now agrees step = are_asked_later players (record { event = Opened c; lines = lines; tells = tells }) past old.known.owed agrees.asked
 asked_then players past old (Closed c) lines tells now agrees step = are_asked_later players (record { event = Closed c; lines = lines; tells = tells }) past old.known.owed agrees.asked
 asked_then players past old (Hurried c) lines tells now agrees step = are_asked_later players (record { event = Hurried c; lines = lines; tells = tells }) past old.known.owed agrees.asked
 asked_then players past old (Said c text) lines tells now agrees step =
-    let asks = subst (λ (who : Option Identity). AsksDrop (is_drop text) lines who (is_message text)) (agrees.who c) (said_asks players old c text lines tells now step) in
+    let asks = subst (λ (who : Option Identity). AsksDrop (is_drop text) lines who (is_message text)) (agrees.who c) (said_asks (players_in players past) old c text lines tells now step) in
     are_asked_both players (record { event = Said c text; lines = lines; tells = tells } ∷ past) old.known.owed (owed_last (asker c (name_of (old.who c)) text) lines)
     (are_asked_later players (record { event = Said c text; lines = lines; tells = tells }) past old.known.owed agrees.asked)
     (asker_asked players past c (name_of (old.who c)) text lines lines tells asks)
@@ -872,6 +925,8 @@ asked_then players past old (Heard line) lines tells now agrees step =
     asked_heard players (record { event = Heard line; lines = lines; tells = tells } ∷ past) old.known.owed (answer old.known.begun line) lines
     (are_asked_later players (record { event = Heard line; lines = lines; tells = tells }) past old.known.owed agrees.asked)
     (is_whole old.known.left line)
+asked_then players past old (Renewed later) lines tells now agrees step = are_asked_later players (record { event = Renewed later; lines = lines; tells = tells }) past old.known.owed agrees.asked
+asked_then players past old (Linked c text later token) lines tells now agrees step = are_asked_later players (record { event = Linked c text later token; lines = lines; tells = tells }) past old.known.owed agrees.asked
 asked_then players past old Gone lines tells now agrees step = tt
 asked_then players past old Here lines tells now agrees step = tt
 

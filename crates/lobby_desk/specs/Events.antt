@@ -4,6 +4,7 @@ use Rattle.std.specs.String.{string_bytes}
 use Rattle.lobby_desk.specs.declared.telling.Kind.{Kind}
 use Rattle.lobby_desk.specs.declared.telling.Kind.TheVariants as kinds
 use Rattle.lobby_desk.specs.declared.telling.Told.{Told}
+use Rattle.lobby_desk.specs.declared.players.Player.{Player}
 use Rattle.lobby_desk.specs.declared.server_line.Due.{Due}
 use Rattle.lobby_desk.specs.declared.server_line.Due.TheVariants as dues
 use Rattle.lobby_words.specs.declared.planning.Plan.{Plan}
@@ -13,7 +14,8 @@ use Rattle.lobby_words.specs.declared.words.Sort.TheVariants as sorts
 use Rattle.lobby_words.specs.Words.{rest_of, sort_of, number_in, or_0}
 use Rattle.lobby_words.specs.Answers.{act_game, is_table_act}
 
--- what comes in; of a message that comes too fast nothing is read
+-- What comes in; of a message that comes too fast nothing is read. The players are these from now on: by themselves, or for a message
+-- that asks for a player's link, and for which this token was made.
 pub data Event : Type 0 where
   Opened : (c : ℕ) → Event
   Closed : (c : ℕ) → Event
@@ -22,6 +24,8 @@ pub data Event : Type 0 where
   Heard : (line : List ℕ) → Event
   Gone : Event
   Here : Event
+  Renewed : (players : List Player) → Event
+  Linked : (c : ℕ) → (text : List ℕ) → (players : List Player) → (token : List ℕ) → Event
 
 -- a message to connections, and what is still to be done with it
 pub record Telling : Type 0 where

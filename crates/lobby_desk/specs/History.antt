@@ -5,14 +5,14 @@ use Rattle.lobby_words.specs.declared.words.Sort.{Sort}
 use Rattle.lobby_words.specs.declared.words.Sort.TheVariants as sorts
 use Rattle.lobby_words.specs.declared.planning.Identity.{Identity}
 use Rattle.lobby_desk.specs.declared.players.Player.{Player}
-use Rattle.lobby_words.specs.Words.{rest_of, as_name, as_line, is_message, sort_of, is_act_sort, is_as_sort, is_drop_sort, is_name_sort, is_login_sort, number_or_0}
-use Rattle.lobby_desk.specs.Players.{holder_of, player_named}
+use Rattle.lobby_words.specs.Words.{rest_of, as_name, as_line, is_message, sort_of, is_act_sort, is_as_sort, is_drop_sort, is_name_sort, is_login_sort, is_link_sort, number_or_0}
+use Rattle.lobby_desk.specs.Players.{holder_of, player_named, renewed}
 use Rattle.lobby_words.specs.Answers.{IsSeated, IsFirstSeated, act_game, is_whole, answer}
 use Rattle.lobby_desk.specs.Lines.{name_line, game_line, notice_lines}
-use Rattle.lobby_desk.specs.Events.{Event, Opened, Closed, Said, Heard, Gone, Here, Telling, ForAct, Owed, Asker, Dropper, Followers, act_told}
+use Rattle.lobby_desk.specs.Events.{Event, Opened, Closed, Said, Heard, Gone, Here, Renewed, Linked, Telling, ForAct, Owed, Asker, Dropper, Followers, act_told}
 use Rattle.lobby_desk.specs.Logging.{is_act_accepted, is_of_act, one_if, log_texts}
 use Rattle.lobby_desk.specs.Tellings.{Known, known_now, open_now, IsTold}
-use Rattle.lobby_desk.specs.Who.{View, BeginsView, IsStep, speaker}
+use Rattle.lobby_desk.specs.Who.{View, BeginsView, IsStep, speaker, players_now}
 
 -- one event, the lines that went to the server for it, and what connections were told
 pub record Step : Type 0 where
@@ -33,13 +33,20 @@ abbrev pub player_after : List Player → Event → ℕ → Option Identity → 
 player_after players (Opened d) c before = if d == c then None else before
 player_after players (Closed d) c before = if d == c then None else before
 player_after players (Said d text) c before = if d == c then player_said players text before else before
+player_after players (Renewed later) c before = renewed players later before
+player_after players (Linked d text later token) c before = renewed players later before
 player_after players _ c before = before
 
--- The player whose token connection c has shown, the last if several, since it came. The past is told from its newest
--- step back.
+-- the players behind a past that began with these; the past is told from its newest step back
+abbrev pub players_in : List Player → List Step → List Player
+players_in players [] = players
+players_in players (s ∷ past) = players_now s.event (players_in players past)
+
+-- The player whose token connection c has shown, the last if several, since it came, as long as each list of players since then has
+-- his name with the same sum.
 abbrev pub player_in : List Player → List Step → ℕ → Option Identity
 player_in players [] c = None
-player_in players (s ∷ past) c = player_after players s.event c (player_in players past c)
+player_in players (s ∷ past) c = player_after (players_in players past) s.event c (player_in players past c)
 
 -- a line says a name, is an act, is a `drop`; a message is `as NAME LINE`
 abbrev pub says_name : List ℕ → Bool
@@ -176,13 +183,16 @@ abbrev pub has_come : List Step → ℕ → Bool
 has_come [] c = false
 has_come (s ∷ past) c = comes s.event c || has_come past c
 
--- What goes out for an event; for a message no `drop` does. A connection that comes has a number that none had before.
+-- What goes out for an event; for a message no `drop` does. A connection that comes has a number that none had before. A link is
+-- changed for a message of an arbiter's that asks for that.
 abbrev pub IsRight : List Player → List Step → Event → List (List ℕ) → Type 0
 IsRight players past (Said c text) lines =
-    ActsRight (name_for players (player_in players past c) text) (name_in past) lines × NoDrops lines × IsOf (asks_of text) lines
+    ActsRight (name_for (players_in players past) (player_in players past c) text) (name_in past) lines × NoDrops lines × IsOf (asks_of text) lines
 IsRight players past (Heard line) lines =
     (lines ≡ []) ⊎ IsNoticeOf players past line lines ⊎ IsDropOf players past line lines
 IsRight players past (Opened c) lines = (lines ≡ []) × (has_come past c ≡ false)
+IsRight players past (Linked c text later token) lines =
+    (lines ≡ []) × IsArbiter (player_in players past c) × (is_message text ≡ true) × (is_link_sort (sort_of text) ≡ true)
 IsRight players past _ lines = lines ≡ []
 
 -- a line that has 1 to 255 bytes, each of them 32 to 126, so that no line feed is in it
@@ -199,10 +209,10 @@ abbrev pub AllTold : List Player → List Step → Type 0
 AllTold players [] = Unit {0}
 AllTold players (s ∷ past) = IsTold s.event s.lines s.tells (open_in past) (known_in players past) × AllTold players past
 
--- a desk that begins, and steps of it
+-- a desk that begins with these players, and steps of it
 abbrev pub IsRun : List Player → List Step → View → Type 0
 IsRun players [] now = BeginsView now
-IsRun players (s ∷ past) now = (before : View) × IsRun players past before × IsStep players before s.event s.lines s.tells now
+IsRun players (s ∷ past) now = (before : View) × IsRun players past before × IsStep (players_in players past) before s.event s.lines s.tells now
 
 -- an act that the server accepted: whose it is, the message, and the server's whole answer
 pub record Accepted : Type 0 where

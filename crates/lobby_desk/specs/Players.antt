@@ -23,6 +23,20 @@ or_holder None is_holder who = if is_holder then Some who else None
 unfoldable pub holder_of : List Player → List ℕ → Option Identity
 holder_of players token = option_map identity_of (find (has_sum (sha256 token)) players)
 
+-- For whom a connection acts when the players are others: for the player of its name, where that one's sum is the one that this name
+-- had; else for nobody.
+abbrev pub first_named : List Player → List ℕ → Option Player
+first_named players name = find (λ player. bytes_eq player.name name) players
+
+abbrev pub goes_on : Option Player → Option Player → Option Identity
+goes_on None after = None
+goes_on (Some before) None = None
+goes_on (Some before) (Some after) = if bytes_eq before.sum after.sum then Some (identity_of after) else None
+
+abbrev pub renewed : List Player → List Player → Option Identity → Option Identity
+renewed old new None = None
+renewed old new (Some who) = goes_on (first_named old who.name) (first_named new who.name)
+
 -- this name, where a player has it
 abbrev pub player_named : List Player → List ℕ → Option (List ℕ)
 player_named players name = if list_any (λ player. bytes_eq player.name name) players then Some name else None

@@ -5,10 +5,10 @@ use Rattle.lobby_words.specs.declared.listing.Waiting.{Waiting}
 use Rattle.lobby_desk.specs.declared.watching.Watch.{Watch}
 use Rattle.lobby_desk.specs.declared.telling.Kind.{Kind}
 use Rattle.lobby_desk.specs.declared.telling.Kind.TheVariants as kinds
-use Rattle.lobby_words.specs.Words.{rest_of, is_message, sort_of, is_leave_sort, is_leave_lobby_sort, number_in}
+use Rattle.lobby_words.specs.Words.{rest_of, is_message, sort_of, is_close_sort, is_leave_sort, is_leave_lobby_sort, number_in}
 use Rattle.lobby_words.specs.Answers.{left_after, is_whole, answer, is_accepted, is_over, act_game}
 use Rattle.lobby_desk.specs.Watching.{at_table, watch_if, sit_if, unwatched, none_watched, risen, followers}
-use Rattle.lobby_desk.specs.Events.{Event, Opened, Closed, Said, Hurried, Heard, Gone, Here, Telling, to_one, to_one_as, Ask, ForPositions, ForGame, ForTable, ForAct, Owed, Nobody, Asker, Dropper, Followers, owed_last, asker, follower}
+use Rattle.lobby_desk.specs.Events.{Event, Opened, Closed, Said, Hurried, Heard, Gone, Here, Renewed, Linked, Telling, to_one, to_one_as, Ask, ForPositions, ForGame, ForTable, ForAct, Owed, Nobody, Asker, Dropper, Followers, owed_last, asker, follower}
 use Rattle.lobby_desk.specs.Logging.{logged_for, logged_standing}
 use Rattle.lobby_desk.specs.Waiting.{waiting_told, waiting_listed}
 
@@ -223,6 +223,13 @@ abbrev pub presence : Bool → List ℕ
 presence true = codes "server here\n"
 presence false = codes "server gone\n"
 
+-- The answer to a message that asks for a link, `link NAME` or `close NAME`, once that is done: the token is told of a new one.
+abbrev pub token_told : Bool → List ℕ → List ℕ
+token_told closes token = if closes then codes "\n" else codes " " ++ token ++ codes "\n"
+
+abbrev pub linked_text : List ℕ → List ℕ → List ℕ
+linked_text text token = codes "ok " ++ text ++ token_told (is_close_sort (sort_of text)) token
+
 -- these messages, and behind them one to every connection that is open
 abbrev pub AreToldAll : (ℕ → Bool) → List Telling → List ℕ → List Telling → Type 0
 AreToldAll is_open first text tells =
@@ -237,5 +244,8 @@ IsTold (Said c text) lines tells is_open k = (is_open c ≡ true) × (owes k.owe
 IsTold (Hurried c) lines tells is_open k =
     (is_open c ≡ true) × (owes k.owed c ≡ false) × (tells ≡ to_one c (codes "no 34 TooFast\n") ∷ [])
 IsTold (Heard line) lines tells is_open k = IsToldHeard (is_whole k.left line) k (answer k.begun line) lines tells
+IsTold (Renewed players) lines tells is_open k = tells ≡ []
+IsTold (Linked c text players token) lines tells is_open k =
+    (is_open c ≡ true) × (owes k.owed c ≡ false) × (tells ≡ to_one c (linked_text text token) ∷ [])
 IsTold Gone lines tells is_open k = AreToldAll is_open (lost k.owed) (presence false) tells
 IsTold Here lines tells is_open k = AreToldAll is_open (lost k.owed) (presence true) tells

@@ -6,22 +6,25 @@ use Rattle.std.specs.String.{string_bytes}
 use Rattle.rec_codec.specs.Name.{IsName}
 use Rattle.lobby_words.specs.declared.planning.Plan.{Plan}
 use Rattle.lobby_words.specs.declared.planning.Plan.TheVariants as plans
+use Rattle.lobby_words.specs.declared.refusals.Refusal.TheVariants as refusals
+use Rattle.lobby_words.specs.declared.planning.Order.{Order}
 use Rattle.lobby_words.specs.declared.planning.Standing.{Standing}
 use Rattle.lobby_words.specs.declared.planning.Identity.{Identity}
 use Rattle.lobby_desk.specs.declared.players.Player.{Player}
 use Rattle.lobby_desk.specs.declared.players.Visitor.{Visitor}
 use Rattle.lobby_desk.specs.declared.watching.Watch.{Watch}
 use Rattle.lobby_desk.specs.declared.desk.Desk.{Desk}
-use Rattle.lobby_words.specs.Words.{rest_of, as_name, is_message, sort_of, number_in}
+use Rattle.lobby_words.specs.Words.{rest_of, as_name, actor, is_message, sort_of, number_in}
 use Rattle.lobby_words.specs.Waiting.{is_open as opens_game}
-use Rattle.lobby_desk.specs.Players.{holder_of, player_named, login_text, players_text, present_names, who_text}
-use Rattle.lobby_words.specs.Plans.{refusal_text, plan_of}
+use Rattle.lobby_desk.specs.Players.{holder_of, player_named, renewed, login_text, players_text, present_names, who_text}
+use Rattle.lobby_words.specs.Plans.{refusal_text, plan_of, order_of}
 use Rattle.lobby_desk.specs.Lines.{bytes_of, lines_of, act_lines, said_after, notice_lines, IsNamed}
 use Rattle.lobby_words.specs.Answers.{IsSeated, IsFirstSeated, IsSeatless, act_game, is_whole, answer}
 use Rattle.lobby_desk.specs.Watching.{games_of, unwatched, risen, is_full}
 use Rattle.lobby_desk.specs.Waiting.{is_crowded}
+use Rattle.lobby_desk.specs.Pace.{is_too_fast}
 pub use Rattle.lobby_desk.specs.Watching.{at_table}
-use Rattle.lobby_desk.specs.Events.{Event, Opened, Closed, Said, Hurried, Heard, Gone, Here, Telling, to_one, ForAct, Owed, Asker, Dropper, owed_of, owed_last, plan_asker, follower}
+use Rattle.lobby_desk.specs.Events.{Event, Opened, Closed, Said, Hurried, Heard, Gone, Here, Renewed, Linked, Telling, to_one, ForAct, Owed, Asker, Dropper, owed_of, owed_last, plan_asker, follower}
 use Rattle.lobby_desk.specs.Tellings.{Known, open_now, watch_heard, watch_next, table_heard, table_next, watches_now, table_now, waiting_heard, waiting_next, waiting_now, owed_now, left_now, begun_now, last_now, owed_answered, owes, presence, IsTold, IsToldFor, IsToldNext}
 
 -- the player for whom a connection acts
@@ -51,7 +54,14 @@ abbrev pub is_of : Event → ℕ → Bool
 is_of (Opened d) c = d == c
 is_of (Closed d) c = d == c
 is_of (Said d text) c = d == c
+is_of (Linked d text players token) c = d == c
 is_of _ c = false
+
+-- the players from now on
+abbrev pub players_now : Event → List Player → List Player
+players_now (Renewed next) before = next
+players_now (Linked c text next token) before = next
+players_now _ before = before
 
 -- whether a connection is open
 abbrev pub open_in_map : BTreeMap ℕ Visitor → ℕ → Bool
@@ -59,6 +69,10 @@ open_in_map visitors c = is_some (get nat_cmp visitors c)
 
 abbrev pub open_of : Desk → ℕ → Bool
 open_of desk c = open_in_map desk.visitors c
+
+-- a connection when the players are others
+abbrev pub visitor_renewed : List Player → List Player → Visitor → Visitor
+visitor_renewed old later v = record { who = renewed old later v.who; until = v.until }
 
 -- the name of a player, and none of nobody
 abbrev pub name_of : Option Identity → List ℕ
@@ -98,6 +112,7 @@ is_own plans.Players = true
 is_own plans.Who = true
 is_own plans.Pause = true
 is_own plans.Resume = true
+is_own (plans.Order order) = true
 is_own plans.LeaveLobby = true
 is_own (plans.Leave game) = true
 is_own _ = false
@@ -108,7 +123,7 @@ IsPresence players is_open acts_for text =
     (all : List ℕ) × ((c : ℕ) → at_table all c ≡ is_open c) × (text ≡ who_text (present_names acts_for all players))
 
 -- Such an answer, where these connections are open, and each acts for this player: a refusal says why; the player is told, or all
--- players are, or those who are there; what is left is named.
+-- players are, or those who are there; what is left is named. An order is not carried out here.
 abbrev pub IsOwnText : List Player → (ℕ → Bool) → (ℕ → Option Identity) → Plan → List ℕ → Type 0
 IsOwnText players is_open acts_for (plans.Refuse refusal) text = text ≡ refusal_text refusal
 IsOwnText players is_open acts_for (plans.Login who) text = text ≡ login_text players who
@@ -116,6 +131,7 @@ IsOwnText players is_open acts_for plans.Players text = text ≡ players_text pl
 IsOwnText players is_open acts_for plans.Who text = IsPresence players is_open acts_for text
 IsOwnText players is_open acts_for plans.Pause text = text ≡ codes "ok pause entries\n"
 IsOwnText players is_open acts_for plans.Resume text = text ≡ codes "ok resume entries\n"
+IsOwnText players is_open acts_for (plans.Order order) text = text ≡ refusal_text refusals.NotWritten
 IsOwnText players is_open acts_for plans.LeaveLobby text = text ≡ codes "ok leave lobby\n"
 IsOwnText players is_open acts_for (plans.Leave game) text = text ≡ codes "ok leave " ++ decimal game ++ codes "\n"
 IsOwnText players is_open acts_for _ text = Unit {0}
@@ -180,10 +196,29 @@ abbrev pub said_event : Bool → ℕ → List ℕ → Event
 said_event true c text = Hurried c
 said_event false c text = Said c text
 
--- whether a message opens a game, and no game more of its player may wait for a second player
+-- whether a message opens a game, and no game more of the player for whom it does may wait for a second player
 abbrev pub crowds : Known → Option Identity → List ℕ → Bool
 crowds k None text = false
-crowds k (Some who) text = opens_game text && is_crowded k.waiting k.owed who.name
+crowds k (Some who) text = opens_game text && is_crowded k.waiting k.owed (actor who.name text)
+
+-- what the plan for a message of a connection rests on
+abbrev pub standing_of : Desk → ℕ → List ℕ → Standing
+standing_of desk c text = record {
+  who = who_of desk c;
+  holder = holder_of desk.players.items (rest_of text);
+  named = player_named desk.players.items (as_name text);
+  linked = player_named desk.players.items (rest_of text);
+  is_here = desk.line.is_here;
+  is_full = is_full desk.watches.items c (number_in (rest_of text));
+  is_crowded = crowds (known desk) (who_of desk c) text;
+  is_paused = opens_game text && desk.is_paused;
+}
+
+-- what a message at this moment has done with a player's link; nothing where it comes too fast
+abbrev pub order_asked : Desk → ℕ → List ℕ → ℕ → Option Order
+order_asked desk c text at =
+    if is_too_fast (until_of desk c) at then None
+    else order_of (plan_of (is_message text) (sort_of text) (standing_of desk c text) (number_in (rest_of text)))
 
 -- The plan for a message is carried out: these lines go out, and of the players for whom connections act no more changes
 -- than a login says.
@@ -192,6 +227,7 @@ pub record IsSaid (players : List Player) (old : View) (c : ℕ) (text : List �
   pub who : standing.who ≡ old.who c
   pub holder : standing.holder ≡ holder_of players (rest_of text)
   pub other : standing.named ≡ player_named players (as_name text)
+  pub link : standing.linked ≡ player_named players (rest_of text)
   pub here : standing.is_here ≡ old.here
   pub full : standing.is_full ≡ is_full old.known.watches c (number_in (rest_of text))
   pub crowded : standing.is_crowded ≡ crowds old.known (old.who c) text
@@ -284,6 +320,24 @@ pub record IsTurned (old : View) (here : Bool) (lines : List (List ℕ)) (new : 
   pub paused_is : new.paused ≡ old.paused
   pub who_is : (d : ℕ) → new.who d ≡ old.who d
 
+-- The players are others from now on: a connection acts for a player on just where his sum is the same. Nothing else changes.
+pub record IsRenewed (players : List Player) (old : View) (later : List Player) (lines : List (List ℕ)) (new : View) : Type 0 where
+  pub none : lines ≡ []
+  pub next_is : new.next ≡ old.next
+  pub said_is : new.said ≡ old.said
+  pub here_is : new.here ≡ old.here
+  pub paused_is : new.paused ≡ old.paused
+  pub who_is : (d : ℕ) → new.who d ≡ renewed players later (old.who d)
+
+-- The same for a message, whose plan is an order of an arbiter's.
+pub record IsLinked (players : List Player) (old : View) (c : ℕ) (text : List ℕ) (later : List Player) (lines : List (List ℕ)) (new : View) : Type 0 where
+  pub standing : Standing
+  pub who : standing.who ≡ old.who c
+  pub link : standing.linked ≡ player_named players (rest_of text)
+  pub order : Order
+  pub planned : plan_of (is_message text) (sort_of text) standing (number_in (rest_of text)) ≡ plans.Order order
+  pub renews : IsRenewed players old later lines new
+
 -- what the desk does about an event: the lines that go out, and for whom connections act then
 abbrev pub IsDone : List Player → View → Event → List (List ℕ) → List Telling → View → Type 0
 IsDone players old (Opened c) lines tells new = IsOpened old c lines tells new
@@ -291,6 +345,8 @@ IsDone players old (Closed c) lines tells new = IsClosed old c lines new
 IsDone players old (Said c text) lines tells new = IsSaid players old c text lines tells new
 IsDone players old (Hurried c) lines tells new = IsHurried old lines new
 IsDone players old (Heard line) lines tells new = IsHeard old line lines new
+IsDone players old (Renewed later) lines tells new = IsRenewed players old later lines new
+IsDone players old (Linked c text later token) lines tells new = IsLinked players old c text later lines new
 IsDone players old Gone lines tells new = IsTurned old false lines new
 IsDone players old Here lines tells new = IsTurned old true lines new
 
@@ -319,7 +375,7 @@ pub record Steps (old : Desk) (event : Event) (before after : List ℕ) (told_be
   pub sent : after ≡ before ++ bytes_of lines
   pub told : told_after ≡ told_before ++ tells
   pub step : IsStep old.players.items (view old) event lines tells (view new)
-  pub players : new.players.items ≡ old.players.items
+  pub players : new.players.items ≡ players_now event old.players.items
   pub untils : (c : ℕ) → is_of event c ≡ false → until_of new c ≡ until_of old c
 
 -- a plan for a message is carried out

@@ -1,8 +1,9 @@
 //! What is done by a plan for a message.
-ghost use Rattle.std.specs.Prelude.{ℕ, List, ◌≡◌, ◌++◌, ◌==◌, ◌||◌, IfOk, IfSome, OnOk, map, is_some, if◌then◌else◌};
+ghost use Rattle.std.specs.Prelude.{ℕ, List, codes, ◌≡◌, ◌++◌, ◌==◌, ◌||◌, IfOk, IfSome, OnOk, map, is_some, if◌then◌else◌};
 ghost use Rattle.std.specs.String.{string_bytes};
 ghost use Rattle.lobby_desk.specs.Lines.{bytes_of, lines_of, said_after, IsNamed, IsHeardSame};
 ghost use Rattle.lobby_desk.specs.Events.{Telling, tellings, owed_of, owed_last, plan_asker};
+ghost use Rattle.lobby_desk.specs.Tellings.{token_told};
 ghost use Rattle.lobby_desk.specs.Who.{who_in, open_in_map, until_in, who_noted, plan_watches, plan_table, paused_after, is_own, IsOwnText, IsAnswered};
 
 use crate::players::{Player, Visitor};
@@ -11,7 +12,7 @@ use crate::rows::{login_line, player_rows};
 use crate::server_line::{Acting, Due, ServerLine};
 use crate::telling::{Kind, Told, headed, tell};
 use crate::watching::{Watch, rise, unwatch};
-use lobby_words::{Identity, Plan, as_line};
+use lobby_words::{Identity, Order, Plan, Refusal, as_line};
 use std::alloc::{AllocError, Global};
 use std::collections::BTreeMap;
 
@@ -63,6 +64,7 @@ fn own_answer(
         Plan::Who => Ok(Some(present_rows(alloc, players, visitors)?)),
         Plan::Pause => Ok(Some(String::from_str(alloc, "ok pause entries\n")?)),
         Plan::Resume => Ok(Some(String::from_str(alloc, "ok resume entries\n")?)),
+        Plan::Order(_) => Ok(Some(String::from_str(alloc, Refusal::NotWritten.line())?)),
         Plan::LeaveLobby => Ok(Some(String::from_str(alloc, "ok leave lobby\n")?)),
         Plan::Leave(game) => Ok(Some(headed(alloc, "ok leave ", *game)?)),
         _ => Ok(None),
@@ -165,6 +167,25 @@ pub fn put(
     let visitor = Visitor { who, until };
     visitors.insert(connection, visitor)?;
     Ok(())
+}
+
+/// The answer to a message that asks for a player's link, once that is done.
+pub fn linked_line(
+    alloc: Global,
+    text: &str,
+    order: &Order,
+    token: &str,
+) -> Result<String, AllocError>
+    ensures { IfOk result (λ line. string_bytes line ≡ codes "ok " ++ text.now ++ token_told order.now.closes token.now) }
+{
+    let mut line = String::from_str(alloc, "ok ")?;
+    line.push_str(text)?;
+    if !order.closes {
+        line.push(' ')?;
+        line.push_str(token)?;
+    }
+    line.push('\n')?;
+    Ok(line)
 }
 
 /// What stays of a plan: for whom the connection acts, and until when its time is taken.

@@ -9,13 +9,15 @@ mod law;
 mod pace;
 mod players;
 mod present;
+mod renewing;
 mod rows;
 mod server_line;
 mod telling;
 mod waiting;
 mod watching;
 
-pub use desk::Desk;
+pub use desk::{Desk, Linked};
 pub use law::{law_of_lines, law_of_logs, law_of_tellings};
+pub use lobby_words::Order;
 pub use players::Player;
 pub use telling::{Kind, Told};

@@ -1,11 +1,21 @@
 //! How fast a connection may say messages.
 ghost use Rattle.std.specs.Prelude.{◌≡◌};
-ghost use Rattle.lobby_desk.specs.Pace.{paced};
+ghost use Rattle.lobby_desk.specs.Pace.{paced, until_after};
 
 // What a message takes of a connection's time, and how far before it another may come, in milliseconds.
 const COST: u64 = 50;
 
 const AHEAD: u64 = 950;
+
+/// The same, and as before where the message comes too fast.
+pub fn until_after(until: u64, now: u64) -> u64
+    ensures { result ≡ until_after until now }
+{
+    match paced(until, now) {
+        Some(later) => later,
+        None => until,
+    }
+}
 
 /// Until when the time of a connection is taken after a message that comes at a moment; `None` where it comes too fast.
 pub fn paced(until: u64, now: u64) -> Option<u64>

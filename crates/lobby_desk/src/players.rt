@@ -26,8 +26,8 @@ pub struct Visitor {
     pub until: u64,
 }
 
-// Whether two sums are the same. Each byte is looked at, wherever they differ.
-fn is_same_sum(a: &[u8; 32], b: &[u8; 32]) -> bool
+/// Whether two sums are the same. Each byte is looked at, wherever they differ.
+pub fn is_same_sum(a: &[u8; 32], b: &[u8; 32]) -> bool
     ensures { result ≡ bytes_eq a.now b.now }
 {
     let mut same = true;

@@ -46,8 +46,8 @@ fn push_player(text: &mut String, player: &Player) -> Result<(), AllocError>
     )
 }
 
-// The first player of a name.
-fn named<'a>(players: &'a [Player], name: &str) -> Option<&'a Player>
+/// The first player of a name.
+pub fn named<'a>(players: &'a [Player], name: &str) -> Option<&'a Player>
     ensures { option_copied result ≡ find (λ player. bytes_eq player.name name.now) players.now }
 {
     players.iter().find(|player| player.name.as_str() == name)

@@ -5,26 +5,26 @@ ghost use Rattle.std.specs.Str.{bytes_eq};
 ghost use Rattle.std.specs.String.{string_bytes};
 ghost use Rattle.lobby_words.specs.declared.listing.Waiting.{Waiting};
 ghost use Rattle.lobby_words.specs.Waiting.{is_open};
+ghost use Rattle.lobby_words.specs.Words.{actor};
 ghost use Rattle.lobby_desk.specs.Events.{owed_of};
-ghost use Rattle.lobby_desk.specs.Waiting.{is_opening, is_crowded, waiting_acted, waiting_told, waiting_listed};
+ghost use Rattle.lobby_desk.specs.Waiting.{behind, is_opening, is_crowded, waiting_acted, waiting_told, waiting_listed};
 
 use crate::server_line::{Acting, Due, ServerLine};
-use lobby_words::{Waiting, ends_wait, is_list, is_open, waiting_in};
-use rec_codec::Name;
+use lobby_words::{Waiting, actor, ends_wait, is_list, is_open, waiting_in, waiting_of};
 use std::alloc::{AllocError, Global};
 
 // The most games of one player that wait.
 const WAIT_ROOM: usize = 16;
 
 // Whether a game waits with this player in it.
-fn is_by(one: &Waiting, name: &Name) -> bool
+fn is_by(one: &Waiting, name: &str) -> bool
     ensures { result ≡ bytes_eq one.now.by name.now }
 {
-    one.by.as_str() == name.as_str()
+    one.by.as_str() == name
 }
 
 // How many games wait with this player in them.
-fn waiting_by(waiting: &[Waiting], name: &Name) -> usize
+fn waiting_by(waiting: &[Waiting], name: &str) -> usize
     ensures { result ≡ count_by (λ (w : Waiting). bytes_eq w.by name.now) waiting.now }
 {
     let mut count = 0;
@@ -36,17 +36,17 @@ fn waiting_by(waiting: &[Waiting], name: &Name) -> usize
     count
 }
 
-// Whether an act is an `open` of this player.
-fn opens_by(act: &Acting, name: &Name) -> bool
-    ensures { result ≡ (bytes_eq act.now.who name.now && is_open (string_bytes act.now.text)) }
+// Whether an act is an `open` for this player.
+fn opens_by(act: &Acting, name: &str) -> bool
+    ensures { result ≡ (bytes_eq (actor act.now.who (string_bytes act.now.text)) name.now && is_open (string_bytes act.now.text)) }
 {
-    let is_his = act.who.as_str() == name.as_str();
+    let is_his = actor(act.who.as_str(), act.text.as_str()) == name;
     let opens = is_open(act.text.as_str());
     is_his & opens
 }
 
-// Whether the answer to an `open` of this player is due.
-fn is_opening(due: &Due, name: &Name) -> bool
+// Whether the answer to an `open` for this player is due.
+fn is_opening(due: &Due, name: &str) -> bool
     ensures { result ≡ is_opening name.now (owed_of due.now) }
 {
     match due {
@@ -55,8 +55,8 @@ fn is_opening(due: &Due, name: &Name) -> bool
     }
 }
 
-// How many answers to an `open` of this player are due.
-fn openings(dues: &[Due], name: &Name) -> usize
+// How many answers to an `open` for this player are due.
+fn openings(dues: &[Due], name: &str) -> usize
     ensures { result ≡ count_by (λ due. is_opening name.now (owed_of due)) dues.now }
 {
     let mut count = 0;
@@ -81,7 +81,7 @@ fn are_many(a: usize, b: usize, c: usize) -> bool
 
 impl ServerLine {
     /// Whether no game more of a player may be opened. Those count whose opening is not answered yet.
-    pub fn is_crowded(&self, name: &Name) -> bool
+    pub fn is_crowded(&self, name: &str) -> bool
         ensures { result ≡ is_crowded self.now.waiting.items (map owed_of self.now.queue.items) name.now }
     {
         let (first, second) = self.queue.as_slices();
@@ -100,13 +100,29 @@ fn take_off(waiting: &mut Vec<Waiting>, game: u32)
     waiting.retain(|one| one.game != game);
 }
 
+// One more waits, if any does.
+fn add_waiting(waiting: &mut Vec<Waiting>, one: Option<Waiting>) -> Result<(), AllocError>
+    ensures { OnOk result (waiting.new.items ≡ behind waiting.old.items one) }
+{
+    match one {
+        None => Ok(()),
+        Some(one) => {
+            waiting.push(one)?;
+            Ok(())
+        }
+    }
+}
+
 // Notes an act that was done in a game.
 fn note_game(waiting: &mut Vec<Waiting>, act: &Acting, game: u32) -> Result<(), AllocError>
     ensures { OnOk result (waiting.new.items ≡ waiting_acted act.now.who (string_bytes act.now.text) game waiting.old.items) }
 {
     let text = act.text.as_str();
     if is_open(text) {
-        waiting.push(Waiting { game, by: act.who })?;
+        add_waiting(
+            waiting,
+            waiting_of(Some(game), actor(act.who.as_str(), text)),
+        )?;
         Ok(())
     } else if ends_wait(text) {
         take_off(waiting, game);

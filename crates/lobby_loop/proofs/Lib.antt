@@ -6,4 +6,5 @@ pub mod Serving
 pub mod Living
 pub mod Waking
 pub mod Speaking
+pub mod Saying
 pub mod Logging

@@ -9,11 +9,10 @@ use Rattle.lobby_desk.specs.declared.players.Player.{Player}
 use Rattle.std.proofs.lemmas.List.Elements.{All-nil}
 use Rattle.session_lines.specs.Lines.{HasNoFeed, is_feed}
 use Rattle.lobby_desk.specs.declared.telling.Told.{Told}
-use Rattle.lobby_desk.specs.Events.{Event, Opened, Closed, Heard, Gone, Here, Telling, tellings}
+use Rattle.lobby_desk.specs.Events.{Event, Opened, Closed, Heard, Gone, Here, Renewed, Telling, tellings}
 use Rattle.lobby_desk.specs.Lines.{ended, bytes_of}
-use Rattle.lobby_desk.specs.Pace.{is_too_fast}
-use Rattle.lobby_desk.specs.Who.{IsStep, Steps, view, said_event, until_of}
-use Rattle.lobby_desk.specs.History.{Step, comes, has_come, IsRun}
+use Rattle.lobby_desk.specs.Who.{IsStep, Steps, view, players_now}
+use Rattle.lobby_desk.specs.History.{Step, comes, has_come, players_in, IsRun}
 use Rattle.lobby_desk.proofs.Runs.{run_good}
 use Rattle.lobby_desk.proofs.Logged.{texts_both, are_logged}
 use Rattle.lobby_desk.specs.Logging.{log_texts}
@@ -26,12 +25,12 @@ use Rattle.lobby_loop.specs.declared.hall.Hall.{Hall}
 use Rattle.lobby_loop.specs.declared.link.Link.{Link}
 use Rattle.lobby_loop.specs.declared.made.Made.{Made}
 use Rattle.lobby_loop.specs.declared.talk.Talk.{Talk}
-use Rattle.lobby_loop.specs.Talking.{Moves}
+use Rattle.lobby_loop.specs.Talking.{Saying, InTime, TooFast, WithLink, saying, Moves}
 use Rattle.lobby_loop.specs.Guests.{IsNewGuest, IsHeardAs, IsAsBefore, IsAttended, AreAttended, IsLookedAfter, AreTold, IsWritten}
 use Rattle.lobby_loop.specs.Lines.{bytes_of as bytes_before, AreHeard, HoldsNoLine, IsKept}
 use Rattle.lobby_loop.specs.Turning.{BeginsHall, Admits, ServerComes, IsServerAsBefore, AreDelivered, HearsServer, bytes_heard, PartsFromServer, TellsServer, IsClosedIf, AreClosed, HasTurned, texts_put, AreAdmitted, IsReached, IsLobbyTurn}
 use Rattle.lobby_loop.specs.Doing.{Gave, Spot, spot, DoesAt, all_tells, IsServed, AreServed, WereServed, Before}
-use Rattle.lobby_loop.specs.Living.{Happening, Came, Woke, ServerCame, Turned, IsWoken, IsLife, written_in, taken_in, put_in, lost_if, presences_in, kept, sent_in, line_more, lines_heard, presence_more, presences_told, IsHeld, IsOther, HasNone, IsOneOf, AreKnown, IsOwn, AreOwn, numbers, streams_in, NoLineWaits, IsRightLife, Passing, TurnAt, Rested, IsLobbyLife, Filed, Files, sites_in, before_in, Changed}
+use Rattle.lobby_loop.specs.Living.{Happening, Came, Woke, ServerCame, Turned, IsWoken, IsLife, written_in, taken_in, put_in, lost_if, presences_in, kept, sent_in, line_more, lines_heard, presence_more, presences_told, IsHeld, IsOther, HasNone, IsOneOf, AreKnown, IsOwn, AreOwn, numbers, streams_in, NoLineWaits, IsRightLife, Passing, TurnAt, Rested, IsLobbyLife, Filed, Files, sites_in, before_in, Changed, Relisted, Renews, Enrolled}
 use Rattle.lobby_loop.proofs.Serving.{IsApart, ApartFrom, AreApart, served_before, served_read, served_looked, served_written, served_told, gave_nothing, gave_again, gave_early, gave_opened, gave_text, all_served_on, all_served_zip, all_served_filter, all_served_more, all_came, served_new, ClosedIf, AllClosed, closed_if_on, all_were_on, all_were_out, all_were_came, all_let_go, came_more, site_more, all_filed, all_were_filed}
 
 -- ---- the desk's steps
@@ -56,7 +55,7 @@ pub record IsAt (players : List Player) (traffic : Traffic) (out : List Telling)
     (wire : List ℕ) (told : List Telling) : Type 0 where
   pub steps : List Step
   pub run : IsRun players steps (view desk)
-  pub players_are : desk.players.items ≡ players
+  pub players_are : desk.players.items ≡ players_in players steps
   pub sent : sent_in steps ≡ traffic.wrote ++ wire
   pub heard : lines_heard steps ≡ traffic.heard
   pub presences : presences_told steps ≡ traffic.presences
@@ -87,7 +86,7 @@ at_more players traffic out K L before after t u old new e keeps goes so_far s =
     subst (λ (p : List Player). IsStep p (view old) e s.lines s.tells (view new))
         so_far.players_are s.step,
   );
-  players_are = s.players ∙ so_far.players_are;
+  players_are = s.players ∙ ap (players_now e) so_far.players_are;
   sent = ap (λ (bytes : List ℕ). bytes ++ bytes_of s.lines) (keeps (sent_in so_far.steps) ∙ so_far.sent)
       ∙ (append_assoc traffic.wrote before (bytes_of s.lines) ∙ (ap (λ (bytes : List ℕ). traffic.wrote ++ bytes) (sym s.sent)
       ∙ ap (λ (bytes : List ℕ). bytes ++ after) (sym (keeps traffic.wrote))));
@@ -109,7 +108,7 @@ at_anew players traffic out K L before wire t u old new e drops goes so_far s no
     subst (λ (p : List Player). IsStep p (view old) e s.lines s.tells (view new))
         so_far.players_are s.step,
   );
-  players_are = s.players ∙ so_far.players_are;
+  players_are = s.players ∙ ap (players_now e) so_far.players_are;
   sent = ap (λ (bytes : List ℕ). bytes ++ bytes_of s.lines) (drops (sent_in so_far.steps))
       ∙ (sym s.sent ∙ (sym nothing ∙ ap (λ (bytes : List ℕ). bytes ++ wire) (sym (drops traffic.wrote))));
   heard = ap (λ (lines : List (List ℕ)). line_more e lines) so_far.heard;
@@ -133,13 +132,15 @@ at_with players traffic out K L desk wire told more so_far = record {
   holds = more so_far.steps so_far.holds;
 }
 
-keeps_said : (b : Bool) (c : ℕ) (text bytes : List ℕ) → kept (said_event b c text) bytes ≡ bytes
-keeps_said true c text bytes = refl
-keeps_said false c text bytes = refl
+keeps_said : (how : Saying) (c : ℕ) (text bytes : List ℕ) → kept (saying how c text) bytes ≡ bytes
+keeps_said InTime c text bytes = refl
+keeps_said TooFast c text bytes = refl
+keeps_said (WithLink later token) c text bytes = refl
 
-same_said : (b : Bool) (c : ℕ) (text : List ℕ) (traffic : Traffic) → behind (said_event b c text) traffic ≡ traffic
-same_said true c text traffic = refl
-same_said false c text traffic = refl
+same_said : (how : Saying) (c : ℕ) (text : List ℕ) (traffic : Traffic) → behind (saying how c text) traffic ≡ traffic
+same_said InTime c text traffic = refl
+same_said TooFast c text traffic = refl
+same_said (WithLink later token) c text traffic = refl
 
 -- the desk has got so far, and no number more was given
 abbrev IsFurther : List Player → Traffic → List Telling → (List Step → Type 0) → Talk → Talk → Type 0
@@ -195,9 +196,10 @@ lines_of_server remaining (Some link) after old new (next, is, takes) = takes.li
 abbrev IsNoOpening : Event → Type 0
 IsNoOpening e = (c : ℕ) → comes e c ≡ false
 
-said_opens_none : (b : Bool) (d : ℕ) (text : List ℕ) → IsNoOpening (said_event b d text)
-said_opens_none true d text = λ c. refl
-said_opens_none false d text = λ c. refl
+said_opens_none : (how : Saying) (d : ℕ) (text : List ℕ) → IsNoOpening (saying how d text)
+said_opens_none InTime d text = λ c. refl
+said_opens_none TooFast d text = λ c. refl
+said_opens_none (WithLink later token) d text = λ c. refl
 
 -- each that has come is one of these
 abbrev KnowsBy : (ℕ → Type 0) → List Step → Type 0
@@ -480,28 +482,29 @@ opened_behind from c [] le own = tt
 opened_behind from c (n ∷ ns) le (one, all) = (opened_apart from c n ns le one, opened_behind from c ns le all)
 
 -- what one says no other says
-said_apart : (b : Bool) (c d : ℕ) (text : List ℕ) → d ≢ c → IsApart c (said_event b d text)
-said_apart true c d text other = other
-said_apart false c d text other = other
+said_apart : (how : Saying) (c d : ℕ) (text : List ℕ) → d ≢ c → IsApart c (saying how d text)
+said_apart InTime c d text other = other
+said_apart TooFast c d text other = other
+said_apart (WithLink later token) c d text other = other
 
-said_before_one : (from d : ℕ) (b : Bool) (text : List ℕ) (n : Option ℕ) (others : List (Option ℕ)) →
-    IsOwn from n (Some d ∷ others) → ApartFrom n (said_event b d text)
-said_before_one from d b text None others own = tt
-said_before_one from d b text (Some c) others (lt, none) = said_apart b c d text none.0
+said_before_one : (from d : ℕ) (how : Saying) (text : List ℕ) (n : Option ℕ) (others : List (Option ℕ)) →
+    IsOwn from n (Some d ∷ others) → ApartFrom n (saying how d text)
+said_before_one from d how text None others own = tt
+said_before_one from d how text (Some c) others (lt, none) = said_apart how c d text none.0
 
-said_before : (from d : ℕ) (b : Bool) (text : List ℕ) (done others : List (Option ℕ)) → AllOwn from done (Some d ∷ others) →
-    AreApart done (said_event b d text)
-said_before from d b text [] others own = tt
-said_before from d b text (n ∷ done) others (one, all) =
-    (said_before_one from d b text n others one, said_before from d b text done others all)
+said_before : (from d : ℕ) (how : Saying) (text : List ℕ) (done others : List (Option ℕ)) → AllOwn from done (Some d ∷ others) →
+    AreApart done (saying how d text)
+said_before from d how text [] others own = tt
+said_before from d how text (n ∷ done) others (one, all) =
+    (said_before_one from d how text n others one, said_before from d how text done others all)
 
-said_behind_one : (d : ℕ) (b : Bool) (text : List ℕ) (n : Option ℕ) → IsOther d n → ApartFrom n (said_event b d text)
-said_behind_one d b text None other = tt
-said_behind_one d b text (Some c) other = said_apart b c d text (λ same. other (sym same))
+said_behind_one : (d : ℕ) (how : Saying) (text : List ℕ) (n : Option ℕ) → IsOther d n → ApartFrom n (saying how d text)
+said_behind_one d how text None other = tt
+said_behind_one d how text (Some c) other = said_apart how c d text (λ same. other (sym same))
 
-said_behind : (d : ℕ) (b : Bool) (text : List ℕ) (ns : List (Option ℕ)) → HasNone d ns → AreApart ns (said_event b d text)
-said_behind d b text [] none = tt
-said_behind d b text (n ∷ ns) (one, all) = (said_behind_one d b text n one, said_behind d b text ns all)
+said_behind : (d : ℕ) (how : Saying) (text : List ℕ) (ns : List (Option ℕ)) → HasNone d ns → AreApart ns (saying how d text)
+said_behind d how text [] none = tt
+said_behind d how text (n ∷ ns) (one, all) = (said_behind_one d how text n one, said_behind d how text ns all)
 
 abbrev is_number : Option ℕ → Bool
 is_number None = false
@@ -606,24 +609,24 @@ module _ {S : Type 0} (remaining contents : S → Option (List ℕ)) (site : Sit
         inl (is, so.1),
       )
   heard_as done rest (Some (heards.Text text)) at (Some d) after a b s t before own owns so_far does
-      (is, (shown, a_text, no_text, moves)) =
-      let fast = is_too_fast (until_of s.desk d) at in
-      let so = moved players traffic out (Three done rest (Some d) a) (Three done rest (Some d) b) s t (said_event fast d shown)
-      (keeps_said fast d shown) (λ steps step event tells three. record {
+      (is, (shown, a_text, no_text, says)) =
+      let how = says.how in
+      let so = moved players traffic out (Three done rest (Some d) a) (Three done rest (Some d) b) s t (saying how d shown)
+      (keeps_said how d shown) (λ steps step event tells three. record {
         before = before_on done step steps
             (subst (λ (e : Event). AreApart (numbers done) e) (sym event)
-            (said_before s.next d fast shown (numbers done) (numbers rest) before.0))
+            (said_before s.next d how shown (numbers done) (numbers rest) before.0))
             (subst (λ (e : Event). AreApart (numbers former) e) (sym event)
-            (said_before s.next d fast shown (numbers former) (numbers rest) before.1)) three.before;
-        one = gave_text remaining contents site came steps step out d fast text shown a b event a_text no_text does three.one;
+            (said_before s.next d how shown (numbers former) (numbers rest) before.1)) three.before;
+        one = gave_text remaining contents site came steps step out d how text shown a b event a_text no_text does three.one;
         behind = all_served_on remaining contents site came step steps out rest
-            (subst (λ (e : Event). AreApart (numbers rest) e) (sym event) (said_behind d fast shown (numbers rest) own.1))
+            (subst (λ (e : Event). AreApart (numbers rest) e) (sym event) (said_behind d how shown (numbers rest) own.1))
             three.behind;
         known = known_on (IsIn done (Some d ∷ numbers rest)) step steps
-            (subst (λ (e : Event). IsNoOpening e) (sym event) (said_opens_none fast d shown)) three.known;
-      }) so_far moves in (
+            (subst (λ (e : Event). IsNoOpening e) (sym event) (said_opens_none how d shown)) three.known;
+      }) so_far says.moves in (
         subst (λ (n : Option ℕ). IsTalkAt players traffic out (Three done rest n b) t) (sym is)
-            (subst (λ (w : Traffic). IsTalkAt players w out (Three done rest (Some d) b) t) (same_said fast d shown traffic) so.0),
+            (subst (λ (w : Traffic). IsTalkAt players w out (Three done rest (Some d) b) t) (same_said how d shown traffic) so.0),
         inl (is, so.1),
       )
 
@@ -1382,6 +1385,35 @@ module _ {S : Type 0} (remaining contents : S → Option (List ℕ)) (players : 
         whole = subst (λ s. NoLineWaits s) (sym files.server) so_far.whole;
       }
 
+  -- the players are others
+  relisted : (o : Outside) (came : Before S) (later : List Player) (old new : Hall S) → Renews later old new →
+      IsHallAt remaining contents players o came old → IsHallAt remaining contents players o came new
+  relisted o came later old new renews so_far =
+      let same = ap (λ gs. gs.items) renews.guests in
+      let traffic = traffic_of o so_far.heard in
+      let former = so_far.former in
+      let out = so_far.out in
+      let kept = AreKept remaining contents old.site came former out old.guests.items in
+      record {
+        out = out;
+        heard = so_far.heard;
+        cut = subst (λ s. AreCut o.taken so_far.heard s) (sym renews.server) so_far.cut;
+        former = former;
+        logged = so_far.logged;
+        talk = subst (λ (w : Site). IsAt players traffic out
+            (AreKept remaining contents w came former out new.guests.items) new.talk.desk new.talk.wire.items
+            (tellings new.talk.told.items)) (sym renews.site)
+            (subst (λ (gs : List (Guest S)). IsAt players traffic out
+            (AreKept remaining contents old.site came former out gs) new.talk.desk new.talk.wire.items
+            (tellings new.talk.told.items)) (sym same)
+            (at_more players traffic out kept kept _ _ _ _ old.talk.desk new.talk.desk (Renewed later) (λ bytes. refl)
+            (goes_by remaining contents old.site came players former out (tellings old.talk.told.items) (Renewed later)
+            old.guests.items (λ c. tt) (λ c. refl)) so_far.talk renews.talk.steps));
+        own = subst (λ (n : ℕ). AreOwn n (numbers (former ++ new.guests.items))) (sym renews.talk.next)
+            (subst (λ (gs : List (Guest S)). AreOwn old.talk.next (numbers (former ++ gs))) (sym same) so_far.own);
+        whole = subst (λ s. NoLineWaits s) (sym renews.server) so_far.whole;
+      }
+
   -- (no line is held of a connection that begins)
   begun_whole : (link : Link S) → link.held.items ≡ [] → HoldsNoLine link
   begun_whole link held = λ goes. subst (λ (l : List ℕ). HasNoFeed l) (sym held) (All-nil (λ b. is_feed b ≡ false))
@@ -1454,6 +1486,8 @@ module _ {S : Type 0} (remaining contents : S → Option (List ℕ)) (players : 
   life_at (Filed path file site ∷ past) now (before, life, (happens, is)) =
       subst (λ (s : Site). IsHallAt remaining contents players (outside_in past) (site_more s (before_in past)) now) (sym is)
       (filed (outside_in past) (before_in past) path file before now happens (life_at past before life))
+  life_at (Relisted later ∷ past) now (before, life, happens) =
+      relisted (outside_in past) (before_in past) later before now happens (life_at past before life)
   life_at (ServerCame stream ∷ past) now (before, life, happens) =
       server_came (outside_in past) (before_in past) stream before now happens (life_at past before life)
   life_at (Turned at taken gone put front ∷ past) now (before, life, happens) =
@@ -1528,6 +1562,9 @@ module _ {S : Type 0} (remaining contents : S → Option (List ℕ)) (players : 
   lobby_life (Changed path file ∷ passed) now (before, life, files) =
       let so = lobby_life passed before life in
       (Filed path file before.site ∷ so.0, (before, so.1, (files, refl)))
+  lobby_life (Enrolled later ∷ passed) now (before, life, renews) =
+      let so = lobby_life passed before life in
+      (Relisted later ∷ so.0, (before, so.1, renews))
   lobby_life (Rested ∷ passed) now (before, life, wakes) =
       let so = lobby_life passed before life in
       (Woke ∷ so.0, (before, so.1, wakes))

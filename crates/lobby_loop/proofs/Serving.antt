@@ -8,8 +8,8 @@ use Rattle.std.proofs.lemmas.Bool.{cases_Bool, false≢true}
 use Rattle.std.proofs.lemmas.Bool.Decides.{eqb_tells}
 use Rattle.websocket.specs.Content.{text as Text, ping as Ping}
 use Rattle.lobby_desk.specs.declared.telling.Told.{Told}
-use Rattle.lobby_desk.specs.Events.{Event, Opened, Closed, Said, Hurried, Heard, Gone, Here, Telling, telling, tellings}
-use Rattle.lobby_desk.specs.Who.{at_table, said_event}
+use Rattle.lobby_desk.specs.Events.{Event, Opened, Closed, Said, Hurried, Heard, Gone, Here, Renewed, Linked, Telling, telling, tellings}
+use Rattle.lobby_desk.specs.Who.{at_table}
 use Rattle.lobby_desk.specs.History.{Step}
 use Rattle.lobby_web.specs.declared.browser.Browser.{Browser}
 use Rattle.lobby_web.specs.declared.site.Site.{Site}
@@ -18,6 +18,7 @@ use Rattle.lobby_web.specs.Browsing.{pending}
 use Rattle.lobby_loop.specs.declared.guest.Guest.{Guest}
 use Rattle.lobby_loop.specs.declared.made.Made.{Made}
 use Rattle.lobby_loop.specs.Making.{IsMadeOf}
+use Rattle.lobby_loop.specs.Talking.{Saying, InTime, TooFast, WithLink, saying}
 use Rattle.lobby_loop.specs.Guests.{IsNewGuest, IsAsBefore, IsRead, IsSaidIf, is_for, AreTold, IsWritten, IsLookedAfter}
 use Rattle.lobby_loop.specs.Living.{numbers}
 use Rattle.lobby_loop.specs.Doing.{Doing, Took, Tried, Gave, WasTold, Wrote, Spot, spot, DoesAt, IsAt, AllAt, AreAt, Before, has_opened, texts_more, texts_given, texts_told, AreLate, message_of, messages_of, IsSaidAs, IsSaidBy, all_tells, told_for, is_opening, before_opening, IsToldAs, IsToldOf, IsToldBy, IsServed, WasClosed, WereServed, AreServed}
@@ -35,6 +36,7 @@ abbrev pub IsApart : ℕ → Event → Type 0
 IsApart c (Opened d) = d ≢ c
 IsApart c (Said d text) = d ≢ c
 IsApart c (Hurried d) = d ≢ c
+IsApart c (Linked d text players token) = d ≢ c
 IsApart c _ = Unit {0}
 
 abbrev pub ApartFrom : Option ℕ → Event → Type 0
@@ -50,6 +52,9 @@ message_apart c (Opened d) before apart = ap (λ (b : Bool). if b then [] else b
 message_apart c (Closed d) before apart = refl
 message_apart c (Said d text) before apart = ap (λ (b : Bool). if b then Said d text ∷ before else before) (differs d c apart)
 message_apart c (Hurried d) before apart = ap (λ (b : Bool). if b then Hurried d ∷ before else before) (differs d c apart)
+message_apart c (Linked d text players token) before apart =
+    ap (λ (b : Bool). if b then Linked d text players token ∷ before else before) (differs d c apart)
+message_apart c (Renewed players) before apart = refl
 message_apart c (Heard line) before apart = refl
 message_apart c Gone before apart = refl
 message_apart c Here before apart = refl
@@ -59,6 +64,8 @@ opening_apart c (Opened d) apart = differs d c apart
 opening_apart c (Closed d) apart = refl
 opening_apart c (Said d text) apart = refl
 opening_apart c (Hurried d) apart = refl
+opening_apart c (Linked d text players token) apart = refl
+opening_apart c (Renewed players) apart = refl
 opening_apart c (Heard line) apart = refl
 opening_apart c Gone apart = refl
 opening_apart c Here apart = refl
@@ -349,26 +356,30 @@ module _ {S : Type 0} (remaining contents : S → Option (List ℕ)) (site : Sit
         };
       }
 
-  said_as : (b : Bool) (c : ℕ) (text shown : List ℕ) (before : List Event) → (IsUtf8 text → shown ≡ text) →
+  said_as : (how : Saying) (c : ℕ) (text shown : List ℕ) (before : List Event) → (IsUtf8 text → shown ≡ text) →
       (¬ IsUtf8 text → shown ≡ []) → (texts : List (List ℕ)) → AllZip IsSaidAs texts before →
-      AllZip IsSaidAs (text ∷ texts) (message_of c (said_event b c shown) before)
-  said_as true c text shown before is is_not texts said =
+      AllZip IsSaidAs (text ∷ texts) (message_of c (saying how c shown) before)
+  said_as TooFast c text shown before is is_not texts said =
       subst (λ (u : Bool). AllZip IsSaidAs (text ∷ texts) (if u then Hurried c ∷ before else before)) (sym (is_same c)) (tt, said)
-  said_as false c text shown before is is_not texts said =
+  said_as (WithLink players token) c text shown before is is_not texts said =
+      subst (λ (u : Bool). AllZip IsSaidAs (text ∷ texts) (if u then Linked c shown players token ∷ before else before)) (sym (is_same c))
+      ((is, is_not), said)
+  said_as InTime c text shown before is is_not texts said =
       subst (λ (u : Bool). AllZip IsSaidAs (text ∷ texts) (if u then Said c shown ∷ before else before)) (sym (is_same c))
       ((is, is_not), said)
 
-  not_opening : (b : Bool) (c : ℕ) (shown : List ℕ) → is_opening c (said_event b c shown) ≡ false
-  not_opening true c shown = refl
-  not_opening false c shown = refl
+  not_opening : (how : Saying) (c : ℕ) (shown : List ℕ) → is_opening c (saying how c shown) ≡ false
+  not_opening TooFast c shown = refl
+  not_opening (WithLink players token) c shown = refl
+  not_opening InTime c shown = refl
 
-  pub gave_text : (steps : List Step) (s : Step) (out : List Telling) (c : ℕ) (hurried : Bool) (text : Vec ℕ Global) (shown : List ℕ)
-      (a b : Spot S) → s.event ≡ said_event hurried c shown → (IsUtf8 text.items → shown ≡ text.items) →
+  pub gave_text : (steps : List Step) (s : Step) (out : List Telling) (c : ℕ) (how : Saying) (text : Vec ℕ Global) (shown : List ℕ)
+      (a b : Spot S) → s.event ≡ saying how c shown → (IsUtf8 text.items → shown ≡ text.items) →
       (¬ IsUtf8 text.items → shown ≡ []) → DoesAt remaining contents (Gave (Some (heards.Text text))) a b →
       Served steps out (Some c) a → Served (s ∷ steps) out (Some c) b
-  gave_text steps s out c hurried text shown a b is text_is text_is_not does was =
+  gave_text steps s out c how text shown a b is text_is text_is_not does was =
       let (opened, said) = was.said in
-      let other : is_opening c s.event ≡ false = ap (is_opening c) is ∙ not_opening hurried c shown in
+      let other : is_opening c s.event ≡ false = ap (is_opening c) is ∙ not_opening how c shown in
       record {
         first = was.first;
         new = was.new;
@@ -382,7 +393,7 @@ module _ {S : Type 0} (remaining contents : S → Option (List ℕ)) (site : Sit
           subst (λ (u : Bool). AllZip IsSaidAs (texts_more (Some (heards.Text text)) u (texts_given was.past))
               (message_of c s.event (messages_of c steps))) (sym opened)
               (subst (λ (e : Event). AllZip IsSaidAs (text.items ∷ texts_given was.past) (message_of c e (messages_of c steps)))
-              (sym is) (said_as hurried c text.items shown (messages_of c steps) text_is text_is_not (texts_given was.past) said)),
+              (sym is) (said_as how c text.items shown (messages_of c steps) text_is text_is_not (texts_given was.past) said)),
         );
         told = record {
           before = was.told.before;

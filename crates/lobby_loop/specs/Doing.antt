@@ -3,7 +3,7 @@ use Rattle.std.specs.Prelude.{ℕ, ◌≡◌, ◌≤◌, ◌⊎◌, ◌==◌, Bo
 use Rattle.std.specs.List.{AllZip}
 use Rattle.std.specs.Io.KnownBytes.{Consumes, Appends}
 use Rattle.websocket.specs.Content.{Content}
-use Rattle.lobby_desk.specs.Events.{Event, Opened, Closed, Said, Hurried, Telling}
+use Rattle.lobby_desk.specs.Events.{Event, Opened, Closed, Said, Hurried, Linked, Telling}
 use Rattle.lobby_desk.specs.Who.{at_table}
 use Rattle.lobby_desk.specs.History.{Step}
 use Rattle.lobby_web.specs.declared.browser.Stage.{Stage}
@@ -127,6 +127,7 @@ abbrev pub message_of : ℕ → Event → List Event → List Event
 message_of c (Opened d) before = if d == c then [] else before
 message_of c (Said d text) before = if d == c then Said d text ∷ before else before
 message_of c (Hurried d) before = if d == c then Hurried d ∷ before else before
+message_of c (Linked d text players token) before = if d == c then Linked d text players token ∷ before else before
 message_of c _ before = before
 
 abbrev pub messages_of : ℕ → List Step → List Event
@@ -137,6 +138,7 @@ messages_of c (s ∷ past) = message_of c s.event (messages_of c past)
 abbrev pub IsSaidAs : List ℕ → Event → Type 0
 IsSaidAs text (Said c shown) = (IsUtf8 text → shown ≡ text) × (¬ IsUtf8 text → shown ≡ [])
 IsSaidAs text (Hurried c) = Unit {0}
+IsSaidAs text (Linked c shown players token) = (IsUtf8 text → shown ≡ text) × (¬ IsUtf8 text → shown ≡ [])
 IsSaidAs text _ = ⊥
 
 -- The desk was told, under the number of this connection, each text that came of it, once and in their order, and nothing

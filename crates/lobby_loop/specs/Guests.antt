@@ -13,7 +13,7 @@ use Rattle.lobby_web.specs.Browsing.{IsNew, pending, WantsBytes, Takes, HearsNex
 use Rattle.lobby_loop.specs.declared.guest.Guest.{Guest}
 use Rattle.lobby_loop.specs.declared.made.Made.{Made}
 use Rattle.lobby_loop.specs.declared.talk.Talk.{Talk}
-use Rattle.lobby_loop.specs.Talking.{Moves, Opens, said_at}
+use Rattle.lobby_loop.specs.Talking.{Opens, Says}
 
 -- A connection that begins: nothing came of it, and it has no number.
 pub record IsNewGuest {S : Type 0} (stream : S) (guest : Guest S) : Type 0 where
@@ -41,7 +41,7 @@ pub record IsRead {S : Type 0} (remaining : S → Option (List ℕ)) (site : Sit
 -- A text of a connection is said to the desk; what is no text is said as the empty text, which is refused.
 abbrev pub IsTextSaid : List ℕ → ℕ → ℕ → Talk → Talk → Type 0
 IsTextSaid text c at old new =
-    (shown : List ℕ) × (IsUtf8 text → shown ≡ text) × (¬ IsUtf8 text → shown ≡ []) × Moves old (said_at old c at shown) new
+    (shown : List ℕ) × (IsUtf8 text → shown ≡ text) × (¬ IsUtf8 text → shown ≡ []) × Says shown c at old new
 
 -- What the desk is told of what a socket gave: that it is open, and then the connection has a number that none had before;
 -- and each text, under that number. A socket gives no text before that it is open, and that but once: else nothing is told.

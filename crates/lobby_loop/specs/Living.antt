@@ -3,7 +3,7 @@ use Rattle.std.specs.Prelude.{ℕ, ◌≡◌, ◌≢◌, ◌<◌, ◌⊎◌, Boo
 use Rattle.std.specs.List.{AllZip, AllByRecursion}
 use Rattle.session_lines.specs.Lines.{HasNoFeed}
 use Rattle.lobby_desk.specs.declared.players.Player.{Player}
-use Rattle.lobby_desk.specs.Events.{Event, Heard, Gone, Here, Telling, tellings}
+use Rattle.lobby_desk.specs.Events.{Event, Heard, Gone, Here, Renewed, Telling, tellings}
 use Rattle.lobby_desk.specs.Lines.{bytes_of}
 use Rattle.lobby_desk.specs.Logging.{log_texts}
 use Rattle.lobby_desk.specs.Who.{view}
@@ -14,19 +14,21 @@ use Rattle.lobby_web.specs.Pages.{Changes, IsSame}
 use Rattle.lobby_loop.specs.declared.guest.Guest.{Guest}
 use Rattle.lobby_loop.specs.declared.hall.Hall.{Hall}
 use Rattle.lobby_loop.specs.Guests.{IsAsBefore}
+use Rattle.lobby_loop.specs.Talking.{Moves}
 use Rattle.lobby_loop.specs.declared.link.Link.{Link}
 use Rattle.lobby_loop.specs.Lines.{HoldsNoLine, bytes_of as bytes_before}
 use Rattle.lobby_loop.specs.Turning.{BeginsHall, Admits, IsServerAsBefore, ServerComes, HasTurned, bytes_heard, texts_put, IsLobbyTurn}
 use Rattle.lobby_loop.specs.Doing.{all_tells, AreServed, WereServed, Before}
 
 -- What happens to a hall: a browser comes, sockets may be ready, the server is there, at a path another file is served from now on,
--- or none, in the place of what this site had, a turn. In a turn bytes come of the server, then the connection to it may be lost;
+-- or none, in the place of what this site had, the players are these from now on, a turn. In a turn bytes come of the server, then the connection to it may be lost;
 -- behind that the log has texts, and then bytes are written to the server.
 pub data Happening (S : Type 0) : Type 0 where
   Came : (stream : S) → Happening S
   Woke : Happening S
   ServerCame : (stream : S) → Happening S
   Filed : (path : List ℕ) → (file : Option File) → (before : Site) → Happening S
+  Relisted : (players : List Player) → Happening S
   Turned : (at : ℕ) → (taken : List ℕ) → (is_gone : Bool) → (put : List (List ℕ)) → (front : List ℕ) → Happening S
 
 -- Sockets may be ready, and nothing else happens.
@@ -42,6 +44,13 @@ pub record Files {S : Type 0} (path : List ℕ) (file : Option File) (old new : 
   pub talk : new.talk ≡ old.talk
   pub server : new.server ≡ old.server
   pub site : Changes path file old.site new.site
+
+-- The players are these from now on, and nothing else happens.
+pub record Renews {S : Type 0} (players : List Player) (old new : Hall S) : Type 0 where
+  pub guests : new.guests ≡ old.guests
+  pub talk : Moves old.talk (Renewed players) new.talk
+  pub server : new.server ≡ old.server
+  pub site : new.site ≡ old.site
 
 -- The same files are served, and nothing happens.
 pub record KeepsFiles {S : Type 0} (old new : Hall S) : Type 0 where
@@ -65,6 +74,7 @@ Happens remaining contents (Came stream) old new = Admits stream old new
 Happens remaining contents Woke old new = IsWoken old new
 Happens remaining contents (ServerCame stream) old new = ServerComes stream old new
 Happens remaining contents (Filed path file before) old new = Files path file old new × (before ≡ old.site)
+Happens remaining contents (Relisted players) old new = Renews players old new
 Happens remaining contents (Turned at taken is_gone put front) old new = TurnsBy remaining contents at taken is_gone put front old new
 
 -- a hall that begins, and what happened to it, the newest first
@@ -80,6 +90,7 @@ written_in [] = []
 written_in (Came stream ∷ past) = written_in past
 written_in (Woke ∷ past) = written_in past
 written_in (Filed path file before ∷ past) = written_in past
+written_in (Relisted players ∷ past) = written_in past
 written_in (ServerCame stream ∷ past) = []
 written_in (Turned at taken true put front ∷ past) = front
 written_in (Turned at taken false put front ∷ past) = written_in past ++ front
@@ -90,6 +101,7 @@ taken_in [] = []
 taken_in (Came stream ∷ past) = taken_in past
 taken_in (Woke ∷ past) = taken_in past
 taken_in (Filed path file before ∷ past) = taken_in past
+taken_in (Relisted players ∷ past) = taken_in past
 taken_in (ServerCame stream ∷ past) = []
 taken_in (Turned at taken is_gone put front ∷ past) = taken_in past ++ taken
 
@@ -103,6 +115,7 @@ presences_in [] = []
 presences_in (Came stream ∷ past) = presences_in past
 presences_in (Woke ∷ past) = presences_in past
 presences_in (Filed path file before ∷ past) = presences_in past
+presences_in (Relisted players ∷ past) = presences_in past
 presences_in (ServerCame stream ∷ past) = true ∷ presences_in past
 presences_in (Turned at taken is_gone put front ∷ past) = lost_if is_gone (presences_in past)
 
@@ -112,6 +125,7 @@ put_in [] = []
 put_in (Came stream ∷ past) = put_in past
 put_in (Woke ∷ past) = put_in past
 put_in (Filed path file before ∷ past) = put_in past
+put_in (Relisted players ∷ past) = put_in past
 put_in (ServerCame stream ∷ past) = put_in past
 put_in (Turned at taken is_gone put front ∷ past) = put_in past ++ put
 
@@ -187,6 +201,7 @@ streams_in [] = []
 streams_in (Came stream ∷ past) = stream ∷ streams_in past
 streams_in (Woke ∷ past) = streams_in past
 streams_in (Filed path file before ∷ past) = streams_in past
+streams_in (Relisted players ∷ past) = streams_in past
 streams_in (ServerCame stream ∷ past) = streams_in past
 streams_in (Turned at taken is_gone put front ∷ past) = streams_in past
 
@@ -196,6 +211,7 @@ sites_in [] = []
 sites_in (Came stream ∷ past) = sites_in past
 sites_in (Woke ∷ past) = sites_in past
 sites_in (Filed path file before ∷ past) = before ∷ sites_in past
+sites_in (Relisted players ∷ past) = sites_in past
 sites_in (ServerCame stream ∷ past) = sites_in past
 sites_in (Turned at taken is_gone put front ∷ past) = sites_in past
 
@@ -239,9 +255,10 @@ pub record IsRightLife {S : Type 0} (remaining contents : S → Option (List ℕ
   pub were : WereServed remaining contents now.site (before_in past) steps out gone
 
 -- Turns of a lobby, at these moments, and between them rests, in which sockets may become ready, and files that are served from then
--- on, or no more.
+-- on, or no more, and other players.
 pub data Passing : Type 0 where
   TurnAt : (at : ℕ) → Passing
+  Enrolled : (players : List Player) → Passing
   Changed : (path : List ℕ) → (file : Option File) → Passing
   Rested : Passing
 
@@ -255,3 +272,5 @@ IsLobbyLife {S} remaining contents players (Rested ∷ past) now =
     (before : Hall S) × IsLobbyLife remaining contents players past before × IsWoken before now
 IsLobbyLife {S} remaining contents players (Changed path file ∷ past) now =
     (before : Hall S) × IsLobbyLife remaining contents players past before × Files path file before now
+IsLobbyLife {S} remaining contents players (Enrolled later ∷ past) now =
+    (before : Hall S) × IsLobbyLife remaining contents players past before × Renews later before now

@@ -1,13 +1,16 @@
 //! A browser's connection: its socket, what it says, and what it is told.
 ghost use Rattle.std.specs.Prelude.{◌≡◌, None, Some, OnOk};
 ghost use Rattle.std.specs.String.{string_bytes};
-ghost use Rattle.lobby_desk.specs.Who.{IsReady, at_table};
+ghost use Rattle.lobby_desk.specs.Who.{IsReady, at_table, order_asked};
+ghost use Rattle.lobby_loop.specs.Talking.{Says};
 ghost use Rattle.lobby_loop.specs.Guests.{IsNewGuest, IsAsBefore, IsRead, IsAsked, IsHeard, IsTextSaid, IsSaid, IsTold, AreTold, IsWritten, IsLookedAfter};
 
 use crate::counts::{Asked, Counts};
+use crate::links::Links;
 use crate::made::Made;
 use crate::pieces::{Came, Gone, PIECE_ROOM, read_piece, write_piece};
 use crate::talk::Talk;
+use lobby_desk::Order;
 use lobby_web::{Browser, Heard, Site, Unsaid};
 use std::alloc::{AllocError, Global};
 use std::hash::RandomState;
@@ -138,11 +141,12 @@ impl<S> Guest<S> {
     }
 
     // Its next message is said to the desk.
-    fn listen(
+    fn listen<K: Links>(
         &mut self,
         number: u64,
         talk: &mut Talk,
         at: u64,
+        links: &mut K,
         counts: &mut Counts,
     ) -> Result<bool, AllocError>
         requires number { self.old.number ≡ Some number }
@@ -160,7 +164,7 @@ impl<S> Guest<S> {
                 Ok(true)
             }
             Some(Heard::Text(text)) => {
-                say_to_desk(text.as_slice(), number, talk, at)?;
+                say_to_desk(text.as_slice(), number, talk, at, links)?;
                 counts.said();
                 self.asked.push(at);
                 Ok(true)
@@ -170,10 +174,11 @@ impl<S> Guest<S> {
 
     /// What came next of it is said to the desk: that its socket is open, or a message, once the one before it is answered.
     /// It tells whether there was any.
-    pub fn hear(
+    pub fn hear<K: Links>(
         &mut self,
         talk: &mut Talk,
         at: u64,
+        links: &mut K,
         counts: &mut Counts,
     ) -> Result<bool, AllocError>
         ensures { OnOk result (IsHeard at self.old self.new talk.old talk.new) }
@@ -185,7 +190,7 @@ impl<S> Guest<S> {
             None => self.welcome(talk, at),
             Some(number) => {
                 if talk.is_ready(number) {
-                    self.listen(number, talk, at, counts)
+                    self.listen(number, talk, at, links, counts)
                 } else {
                     Ok(false)
                 }
@@ -258,13 +263,67 @@ impl<S> Guest<S> {
     }
 }
 
+// A message is said to the desk that asks for a player's link: whoever keeps the players' file is asked first.
+fn say_order<K: Links>(
+    shown: &str,
+    number: u64,
+    talk: &mut Talk,
+    at: u64,
+    order: &Order,
+    links: &mut K,
+) -> Result<(), AllocError>
+    requires ready { IsReady talk.old.desk number }
+    requires asked { order_asked talk.old.desk number shown.now at ≡ Some order.now }
+    ensures { OnOk result (Says shown.now number at talk.old talk.new) }
+{
+    match links.change(order) {
+        None => {
+            talk.said(number, shown, at)?;
+            Ok(())
+        }
+        Some(linked) => {
+            talk.linked(number, shown, at, order, linked)?;
+            Ok(())
+        }
+    }
+}
+
+// A message is said to the desk.
+fn say<K: Links>(
+    shown: &str,
+    number: u64,
+    talk: &mut Talk,
+    at: u64,
+    links: &mut K,
+) -> Result<(), AllocError>
+    requires { IsReady talk.old.desk number }
+    ensures { OnOk result (Says shown.now number at talk.old talk.new) }
+{
+    match talk.order(number, shown, at) {
+        None => {
+            talk.said(number, shown, at)?;
+            Ok(())
+        }
+        Some(order) => {
+            say_order(shown, number, talk, at, &order, links)?;
+            Ok(())
+        }
+    }
+}
+
 // A text of a connection is said to the desk; one that is no UTF-8 as the empty text, which is refused.
-fn say_to_desk(text: &[u8], number: u64, talk: &mut Talk, at: u64) -> Result<(), AllocError>
+fn say_to_desk<K: Links>(
+    text: &[u8],
+    number: u64,
+    talk: &mut Talk,
+    at: u64,
+    links: &mut K,
+) -> Result<(), AllocError>
     requires { IsReady talk.old.desk number }
     ensures { OnOk result (IsTextSaid text.now number at talk.old talk.new) }
 {
     let shown = str::from_utf8(text).unwrap_or("");
-    talk.said(number, shown, at)
+    say(shown, number, talk, at, links)
 }
 
 impl<S: Read + Write> Guest<S> {

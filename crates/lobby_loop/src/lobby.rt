@@ -3,13 +3,14 @@ ghost use Rattle.std.specs.Prelude.{◌≡◌, List, None, Some, IfOk, OnOk, OnE
 ghost use Rattle.mio.specs.declared.net.stream.TcpStream.{TcpStream};
 ghost use Rattle.lobby_desk.specs.Who.{watched_games};
 ghost use Rattle.lobby_loop.specs.Turning.{BeginsHall, AreAdmitted, IsReached, IsLobbyTurn, texts_put, unknown};
-ghost use Rattle.lobby_loop.specs.Living.{IsWoken, Files, KeepsFiles};
+ghost use Rattle.lobby_loop.specs.Living.{IsWoken, Files, KeepsFiles, Renews};
 ghost use Rattle.lobby_loop.specs.Logging.{Logs};
 
 use crate::act_log::{ActLog, Fault};
 use crate::counts::Counts;
 use crate::door::{Entrance, Gate, Welcomed, welcome};
 use crate::hall::Hall;
+use crate::links::Links;
 use lobby_desk::Player;
 use lobby_web::{File, Site};
 use mio::net::TcpStream;
@@ -187,6 +188,13 @@ impl Lobby {
         self.hall.take_off_file(path);
     }
 
+    /// The players are these from now on. A connection acts for a player on just where these have him with the sum that he had.
+    pub fn renew(&mut self, players: Vec<Player>)
+        ensures { Renews players.items self.old.hall self.new.hall }
+    {
+        self.hall.renew(players);
+    }
+
     // Accepts who waits at the entrance, and tells whether more may.
     fn welcome(&mut self, at: u64) -> bool
         ensures { (streams : List TcpStream) × AreAdmitted streams self.old.hall self.new.hall }
@@ -281,14 +289,21 @@ impl Lobby {
         earlier(earlier(call, ask), self.hall.look_at())
     }
 
-    /// One turn at a moment, in milliseconds of a clock that does not go back. It waits for nothing but the log.
-    pub fn turn<L: ActLog>(&mut self, net: &impl Net, at: u64, log: &mut L) -> Result<Turned, Fault>
+    /// One turn at a moment, in milliseconds of a clock that does not go back. It waits for nothing but the log and
+    /// the players' file.
+    pub fn turn<L: ActLog, K: Links>(
+        &mut self,
+        net: &impl Net,
+        at: u64,
+        log: &mut L,
+        links: &mut K,
+    ) -> Result<Turned, Fault>
         ensures { OnOk result ((turn : IsLobbyTurn unknown unknown at self.old.hall self.new.hall)
             × Logs (L.logged log.old) (L.logged log.new) (texts_put turn.turns)) }
     {
         let has_reached = self.reach_server(net, at)?;
         let has_welcomed = self.welcome(at);
-        let has_turned = self.hall.turn(at, log)?;
+        let has_turned = self.hall.turn(at, log, links)?;
         if has_reached | has_welcomed | has_turned {
             return Ok(Turned::Worked);
         }

@@ -6,7 +6,7 @@ use Rattle.std.specs.String.{string_bytes}
 use Rattle.std.specs.declared.string.String.{String}
 use Rattle.rec_codec.specs.Name.{IsName}
 use Rattle.lobby_words.specs.declared.coming.Coming.{Coming}
-use Rattle.lobby_words.specs.Words.{word_of, rest_of, number_in, number_or_0}
+use Rattle.lobby_words.specs.Words.{word_of, rest_of, line_said, number_in, number_or_0}
 
 -- how many lines stand behind the first line of an answer: as many as `ok list K` and `ok pgn G K` say, and else none
 abbrev pub lines_behind : List ℕ → ℕ
@@ -91,4 +91,5 @@ is_over shown = is_ended shown || is_no_game shown
 -- whether those who are told of the table are told of an act whatever comes of it
 abbrev pub is_table_act : List ℕ → Bool
 is_table_act text =
-    bytes_eq (word_of text) (codes "open") || bytes_eq (word_of text) (codes "join") || bytes_eq (word_of text) (codes "drop")
+    bytes_eq (word_of (line_said text)) (codes "open") || bytes_eq (word_of (line_said text)) (codes "join")
+    || bytes_eq (word_of (line_said text)) (codes "drop")

@@ -3,6 +3,7 @@ use Rattle.std.specs.Prelude.{ℕ, Bool, true, false, ◌&&◌, not, List, codes
 use Rattle.lobby_words.specs.declared.words.Sort.{Sort}
 use Rattle.lobby_words.specs.declared.words.Sort.TheVariants as sorts
 use Rattle.lobby_words.specs.declared.planning.Identity.{Identity}
+use Rattle.lobby_words.specs.declared.planning.Order.{Order}
 use Rattle.lobby_words.specs.declared.refusals.Refusal.{Refusal}
 use Rattle.lobby_words.specs.declared.refusals.Refusal.TheVariants as refusals
 use Rattle.lobby_words.specs.declared.planning.Plan.{Plan}
@@ -20,24 +21,27 @@ refusal_text refusals.NoServer = codes "no 36 NoServer\n"
 refusal_text refusals.TooManyWatched = codes "no 37 TooManyWatched\n"
 refusal_text refusals.NoPlayer = codes "no 38 NoPlayer\n"
 refusal_text refusals.EntriesPaused = codes "no 39 EntriesPaused\n"
+refusal_text refusals.NotWritten = codes "no 40 NotWritten\n"
 
 -- what asks for the server
 abbrev pub asked : Standing → Plan → Plan
 asked s plan = if s.is_here then plan else plans.Refuse refusals.NoServer
 
+-- An act under a name: no game is opened more than may wait for a second player.
+abbrev pub entered_plan : Standing → Plan → Plan
+entered_plan s plan = if s.is_crowded then asked s (plans.Refuse refusals.TooManyOpen) else asked s plan
+
 -- An act of a connection that acts for this player: not without a token; no game is opened while entries are paused, but by an
--- arbiter, and no game more than may wait for a second player.
-abbrev pub entered_plan : Standing → Identity → Plan
-entered_plan s who = if s.is_crowded then asked s (plans.Refuse refusals.TooManyOpen) else asked s (plans.Act who)
+-- arbiter.
 
 abbrev pub act_plan : Standing → Option Identity → Plan
 act_plan s None = plans.Refuse refusals.NoToken
-act_plan s (Some who) = if s.is_paused && not who.is_arbiter then plans.Refuse refusals.EntriesPaused else entered_plan s who
+act_plan s (Some who) = if s.is_paused && not who.is_arbiter then plans.Refuse refusals.EntriesPaused else entered_plan s (plans.Act who)
 
 -- an act of an arbiter under the name of another: not where no player has it
 abbrev pub named_plan : Standing → Identity → Option (List ℕ) → Plan
 named_plan s who None = plans.Refuse refusals.NoPlayer
-named_plan s who (Some name) = asked s (plans.ActAs who name)
+named_plan s who (Some name) = entered_plan s (plans.ActAs who name)
 
 -- the same, and not without an arbiter's token
 abbrev pub as_plan : Standing → Option Identity → Plan
@@ -53,6 +57,16 @@ drop_plan s (Some who) game = if who.is_arbiter then asked s (plans.Drop who gam
 abbrev pub arbiter_plan : Option Identity → Plan → Plan
 arbiter_plan None plan = plans.Refuse refusals.NoToken
 arbiter_plan (Some who) plan = if who.is_arbiter then plan else plans.Refuse refusals.NotArbiter
+
+-- the link of a player is changed, or closed: not where no player has the name
+abbrev pub order_plan : Bool → Option (List ℕ) → Plan
+order_plan closes None = plans.Refuse refusals.NoPlayer
+order_plan closes (Some name) = plans.Order (record { name = name; closes = closes })
+
+-- what a plan has done with a link
+abbrev pub order_of : Plan → Option Order
+order_of (plans.Order order) = Some order
+order_of _ = None
 
 -- a token is shown, and this player has it
 abbrev pub login_plan : Option Identity → Plan
@@ -82,6 +96,8 @@ sort_plan sorts.Players s game = plans.Players
 sort_plan sorts.Who s game = arbiter_plan s.who plans.Who
 sort_plan sorts.Pause s game = arbiter_plan s.who plans.Pause
 sort_plan sorts.Resume s game = arbiter_plan s.who plans.Resume
+sort_plan sorts.Link s game = arbiter_plan s.who (order_plan false s.linked)
+sort_plan sorts.Close s game = arbiter_plan s.who (order_plan true s.linked)
 sort_plan sorts.Lobby s game = asked s plans.Lobby
 sort_plan sorts.LeaveLobby s game = plans.LeaveLobby
 sort_plan sorts.Name s game = plans.Refuse refusals.BadLine

@@ -5,14 +5,14 @@ use Rattle.std.specs.Str.{bytes_eq}
 use Rattle.text_parts.specs.Parts.{parts_of}
 use Rattle.rec_codec.specs.Name.{is_name_byte}
 use Rattle.lobby_words.specs.declared.listing.Waiting.{Waiting}
-use Rattle.lobby_words.specs.Words.{word_of, rest_of, number_in}
+use Rattle.lobby_words.specs.Words.{word_of, rest_of, line_said, number_in}
 
 -- whether a message opens a game, and whether it is one by which a game waits no more
 abbrev pub is_open : List ℕ → Bool
-is_open text = bytes_eq (word_of text) (codes "open")
+is_open text = bytes_eq (word_of (line_said text)) (codes "open")
 
 abbrev pub ends_wait : List ℕ → Bool
-ends_wait text = bytes_eq (word_of text) (codes "join") || bytes_eq (word_of text) (codes "drop")
+ends_wait text = bytes_eq (word_of (line_said text)) (codes "join") || bytes_eq (word_of (line_said text)) (codes "drop")
 
 -- whether a text is a name (`IsName`)
 abbrev pub is_name : List ℕ → Bool

@@ -42,9 +42,20 @@ as_name text = word_of (rest_of text)
 abbrev pub as_line : List ℕ → List ℕ
 as_line text = rest_of (rest_of text)
 
--- what a message asks for whose word is `as`: LINE is an act in a game that is played
+-- what a message asks for whose word is `as`: LINE is an act, but `drop`
 abbrev pub as_sort : List ℕ → Sort
-as_sort text = if is_play_word (word_of (as_line text)) then sorts.As else sorts.Nothing
+as_sort text = if is_act_word (word_of (as_line text)) then sorts.As else sorts.Nothing
+
+-- The line of the server that a message is, and the name under which it acts: of `as NAME LINE` these two, else the message itself
+-- and the name of its player.
+abbrev pub is_as_word : List ℕ → Bool
+is_as_word w = bytes_eq w (codes "as")
+
+abbrev pub line_said : List ℕ → List ℕ
+line_said text = if is_as_word (word_of text) then as_line text else text
+
+abbrev pub actor : List ℕ → List ℕ → List ℕ
+actor by text = if is_as_word (word_of text) then as_name text else by
 
 abbrev pub whole_sort : List ℕ → Sort
 whole_sort text =
@@ -62,7 +73,9 @@ own_sort w text =
     else (if bytes_eq w (codes "watch") then sorts.Watch
     else (if bytes_eq w (codes "line") then sorts.Line
     else (if bytes_eq w (codes "leave") && not (bytes_eq text (codes "leave lobby")) then sorts.Leave
-    else whole_sort text)))
+    else (if bytes_eq w (codes "link") then sorts.Link
+    else (if bytes_eq w (codes "close") then sorts.Close
+    else whole_sort text)))))
 
 -- what a message asks for
 unfoldable pub sort_of : List ℕ → Sort
@@ -95,6 +108,16 @@ is_name_sort _ = false
 abbrev pub is_login_sort : Sort → Bool
 is_login_sort sorts.Login = true
 is_login_sort _ = false
+
+-- a player's link is changed, or closed
+abbrev pub is_link_sort : Sort → Bool
+is_link_sort sorts.Link = true
+is_link_sort sorts.Close = true
+is_link_sort _ = false
+
+abbrev pub is_close_sort : Sort → Bool
+is_close_sort sorts.Close = true
+is_close_sort _ = false
 
 abbrev pub is_leave_sort : Sort → Bool
 is_leave_sort sorts.Leave = true

@@ -4,7 +4,7 @@ ghost use Rattle.std.specs.List.{ends_with};
 ghost use Rattle.rec_codec.specs.Name.{IsName};
 ghost use Rattle.lobby_words.specs.Answers.{IsSeated, IsFirstSeated, IsSeatless, first_line, act_game, is_table_act, is_accepted, is_ended, is_no_game, is_over};
 
-use crate::words::{cut, number_named};
+use crate::words::{cut, line_said, number_named};
 use rec_codec::Name;
 
 // What stands before the first line feed.
@@ -37,7 +37,7 @@ pub fn game_told(answer: &str) -> Option<u32>
 pub fn is_table_act(text: &str) -> bool
     ensures { result ≡ is_table_act text.now }
 {
-    let (word, _) = cut(text);
+    let (word, _) = cut(line_said(text));
     let is_open = word == "open";
     let is_join = word == "join";
     let is_drop = word == "drop";

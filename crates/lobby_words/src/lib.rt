@@ -10,7 +10,7 @@ mod words;
 
 pub use answers::{game_told, is_accepted, is_over, is_table_act, seated};
 pub use coming::Coming;
-pub use listing::{Waiting, ends_wait, is_list, is_open, waiting_in};
-pub use planning::{Identity, Plan, Standing, plan_of};
+pub use listing::{Waiting, ends_wait, is_list, is_open, waiting_in, waiting_of};
+pub use planning::{Identity, Order, Plan, Standing, order_of, plan_of};
 pub use refusals::Refusal;
-pub use words::{Sort, as_line, as_name, cut, number_named};
+pub use words::{Sort, actor, as_line, as_name, cut, number_named};

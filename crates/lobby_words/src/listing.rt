@@ -3,7 +3,7 @@ ghost use Rattle.std.specs.Prelude.{◌≡◌, ◌++◌, ◌∷◌, [], IfOk, On
 ghost use Rattle.std.specs.List.{filter_map};
 ghost use Rattle.lobby_words.specs.Waiting.{is_open, ends_wait, waiting_of, waiting_row, is_list, waiting_in};
 
-use crate::words::{cut, number_named};
+use crate::words::{cut, line_said, number_named};
 use rec_codec::Name;
 use std::alloc::{AllocError, Global};
 use text_parts::parts;
@@ -19,7 +19,7 @@ pub struct Waiting {
 pub fn is_open(text: &str) -> bool
     ensures { result ≡ is_open text.now }
 {
-    let (word, _) = cut(text);
+    let (word, _) = cut(line_said(text));
     word == "open"
 }
 
@@ -27,15 +27,15 @@ pub fn is_open(text: &str) -> bool
 pub fn ends_wait(text: &str) -> bool
     ensures { result ≡ ends_wait text.now }
 {
-    let (word, _) = cut(text);
+    let (word, _) = cut(line_said(text));
     let is_join = word == "join";
     let is_drop = word == "drop";
     is_join | is_drop
 }
 
-// The game of a number, where this is who has the one seat in it.
 #[tactic(auto, using(crate::proofs::Names::name_is, crate::proofs::Names::name_is_not))]
-fn waiting_of(game: Option<u32>, seated: &str) -> Option<Waiting>
+/// The game of a number, where this is who has the one seat in it; none where no player can have the name.
+pub fn waiting_of(game: Option<u32>, seated: &str) -> Option<Waiting>
     ensures { result ≡ waiting_of game seated.now }
 {
     match game {

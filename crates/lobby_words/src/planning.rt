@@ -14,6 +14,14 @@ pub struct Identity {
     pub is_arbiter: bool,
 }
 
+/// What an arbiter has done with the link of a player.
+#[derive(Clone, Copy)]
+pub struct Order {
+    pub name: Name,
+    /// Whether the link is closed, so that nobody has one; else there is a new one.
+    pub closes: bool,
+}
+
 /// What is done about a message.
 #[derive(Clone, Copy)]
 pub enum Plan {
@@ -33,6 +41,8 @@ pub enum Plan {
     /// No games are opened from now on, and games are again.
     Pause,
     Resume,
+    /// A player's link is changed in the players' file.
+    Order(Order),
     Lobby,
     LeaveLobby,
     Watch(u32),
@@ -49,11 +59,13 @@ pub struct Standing {
     pub holder: Option<Identity>,
     /// The name that stands behind the message's word, where a player has it.
     pub named: Option<Name>,
+    /// All that stands behind it, where that is a name that a player has.
+    pub linked: Option<Name>,
     /// Whether the server is there.
     pub is_here: bool,
     /// Whether the connection watches as many games as may be.
     pub is_full: bool,
-    /// Whether the message opens a game where the player has as many waiting for a second player as may be.
+    /// Whether the message opens a game for a player of whom as many wait for a second player as may.
     pub is_crowded: bool,
     /// Whether the message opens a game while entries are paused.
     pub is_paused: bool,
@@ -70,14 +82,14 @@ fn asked(standing: &Standing, plan: Plan) -> Plan
     }
 }
 
-// An act but a drop, of who may open games.
-fn entered_plan(standing: &Standing, who: Identity) -> Plan
-    ensures { result ≡ plans.entered_plan standing.now who }
+// An act but a drop, where no more games of its player wait than may.
+fn entered_plan(standing: &Standing, plan: Plan) -> Plan
+    ensures { result ≡ plans.entered_plan standing.now plan }
 {
     if standing.is_crowded {
         asked(standing, Plan::Refuse(Refusal::TooManyOpen))
     } else {
-        asked(standing, Plan::Act(who))
+        asked(standing, plan)
     }
 }
 
@@ -92,7 +104,7 @@ fn act_plan(standing: &Standing) -> Plan
             if standing.is_paused & is_player {
                 Plan::Refuse(Refusal::EntriesPaused)
             } else {
-                entered_plan(standing, who)
+                entered_plan(standing, Plan::Act(who))
             }
         }
     }
@@ -104,7 +116,7 @@ fn named_plan(standing: &Standing, who: Identity, named: Option<Name>) -> Plan
 {
     match named {
         None => Plan::Refuse(Refusal::NoPlayer),
-        Some(name) => asked(standing, Plan::ActAs(who, name)),
+        Some(name) => entered_plan(standing, Plan::ActAs(who, name)),
     }
 }
 
@@ -157,6 +169,26 @@ fn arbiter_plan(standing: &Standing, plan: Plan) -> Plan
     }
 }
 
+// The link of a player is changed, or closed.
+fn order_plan(closes: bool, linked: Option<Name>) -> Plan
+    ensures { result ≡ plans.order_plan closes linked }
+{
+    match linked {
+        None => Plan::Refuse(Refusal::NoPlayer),
+        Some(name) => Plan::Order(Order { name, closes }),
+    }
+}
+
+/// What a plan has done with a player's link.
+pub fn order_of(plan: &Plan) -> Option<Order>
+    ensures { result ≡ plans.order_of plan.now }
+{
+    match plan {
+        Plan::Order(order) => Some(*order),
+        _ => None,
+    }
+}
+
 // A token is shown.
 fn login_plan(holder: Option<Identity>) -> Plan
     ensures { result ≡ plans.login_plan holder }
@@ -198,6 +230,8 @@ fn sort_plan(sort: Sort, standing: &Standing, game: Option<u32>) -> Plan
         Sort::Who => arbiter_plan(standing, Plan::Who),
         Sort::Pause => arbiter_plan(standing, Plan::Pause),
         Sort::Resume => arbiter_plan(standing, Plan::Resume),
+        Sort::Link => arbiter_plan(standing, order_plan(false, standing.linked)),
+        Sort::Close => arbiter_plan(standing, order_plan(true, standing.linked)),
         Sort::Lobby => asked(standing, Plan::Lobby),
         Sort::LeaveLobby => Plan::LeaveLobby,
         Sort::Name | Sort::Nothing => Plan::Refuse(Refusal::BadLine),

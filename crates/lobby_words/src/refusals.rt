@@ -23,6 +23,8 @@ pub enum Refusal {
     NoPlayer,
     /// No games are opened at the moment, but by an arbiter.
     EntriesPaused,
+    /// The players' file is as it was: the player's link could not be changed there.
+    NotWritten,
 }
 
 impl Refusal {
@@ -40,6 +42,7 @@ impl Refusal {
             Refusal::TooManyWatched => "no 37 TooManyWatched\n",
             Refusal::NoPlayer => "no 38 NoPlayer\n",
             Refusal::EntriesPaused => "no 39 EntriesPaused\n",
+            Refusal::NotWritten => "no 40 NotWritten\n",
         }
     }
 }

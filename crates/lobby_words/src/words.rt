@@ -12,7 +12,7 @@ pub enum Sort {
     Read,
     /// An act, but `drop`.
     Act,
-    /// An act in a game under the name of another.
+    /// An act, but `drop`, under the name of another.
     As,
     Drop,
     Login,
@@ -22,6 +22,9 @@ pub enum Sort {
     /// No games are opened from now on, and games are again.
     Pause,
     Resume,
+    /// A player has a new link from now on, or none.
+    Link,
+    Close,
     Lobby,
     LeaveLobby,
     Watch,
@@ -125,12 +128,28 @@ pub fn as_line(text: &str) -> &str
     line
 }
 
+/// The line of the server that a message is: of `as NAME LINE` that LINE, else the message itself.
+pub fn line_said(text: &str) -> &str
+    ensures { result.now ≡ words.line_said text.entry.now }
+{
+    let (word, _) = cut(text);
+    if word == "as" { as_line(text) } else { text }
+}
+
+/// The name under which a message of this player acts: of `as NAME LINE` that NAME, else the player's.
+pub fn actor<'a>(by: &'a str, text: &'a str) -> &'a str
+    ensures { result.now ≡ words.actor by.now text.now }
+{
+    let (word, _) = cut(text);
+    if word == "as" { as_name(text) } else { by }
+}
+
 // What a message asks for whose word is `as`.
 fn as_sort(text: &str) -> Sort
     ensures { result ≡ words.as_sort text.now }
 {
     let (word, _) = cut(as_line(text));
-    if is_play_word(word) {
+    if is_act_word(word) {
         Sort::As
     } else {
         Sort::Nothing
@@ -170,6 +189,10 @@ fn own_sort(word: &str, text: &str) -> Sort
         Sort::Line
     } else if word == "leave" && text != "leave lobby" {
         Sort::Leave
+    } else if word == "link" {
+        Sort::Link
+    } else if word == "close" {
+        Sort::Close
     } else {
         whole_sort(text)
     }

@@ -1,8 +1,9 @@
 use anyhow::Result;
 use std::alloc::Global;
-use std::fs::{OpenOptions, Permissions};
+use std::fs::{File, OpenFile, OpenOptions, Permissions};
 use std::io::Write;
 use std::os::unix::fs::{OpenOptionsExt, PermissionsExt};
+use std::path::Path;
 use std::rt::Files;
 use std::{fs, io};
 
@@ -41,15 +42,48 @@ fn write_new<R: Files>(rt: &R, file: &str, permissions: Permissions, text: &str)
     // One that a stop has left behind has another's bits.
     fs::set_permissions(rt, file, Permissions::from_mode(OWNERS_MODE))?;
     new.write_all(text.as_bytes())?;
-    fs::set_permissions(rt, file, permissions)
+    fs::set_permissions(rt, file, permissions)?;
+    new.sync_all()
+}
+
+// The folder in which a file's name stands.
+fn folder_of(file: &str) -> Path<'_> {
+    match Path::new(file).parent() {
+        Some(folder) if !folder.as_str().is_empty() => folder,
+        _ => Path::new("."),
+    }
 }
 
 /// Puts a text in the place of a file's, at once, for those who may read and write it as before; a new one is its owner's
-/// alone. A stop in the middle leaves the file as it was. It fails where the system refuses a call, and the file is as it was.
+/// alone. Where it answers, the text is on the disk. A stop in the middle leaves the file as it was. It fails where the system
+/// refuses a call, and the file is as it was; but where that call is the last, to sync the folder, it may have the text.
 pub fn put<R: Files>(rt: &R, alloc: Global, file: &str, text: &str) -> Result<()> {
     let permissions = permissions_of(rt, file)?;
     let new = format!(in alloc; "{file}.new")?;
     write_new(rt, new.as_str(), permissions, text)?;
     fs::rename(rt, new.as_str(), file)?;
+    File::open(rt, folder_of(file))?.sync_all()?;
     Ok(())
+}
+
+/// The right to change a players' file: nobody else who asks for it has it (`flock` of the file's folder). It ends with this value.
+#[derive(Drop)]
+pub struct Hold {
+    folder: File,
+}
+
+impl Hold {
+    /// Waits until nobody else has it.
+    pub fn wait<R: Files<File = File>>(rt: &R, file: &str) -> io::Result<Hold> {
+        let folder = File::open(rt, folder_of(file))?;
+        folder.lock()?;
+        Ok(Hold { folder })
+    }
+
+    /// Fails with `WouldBlock` where another has it.
+    pub fn at_once<R: Files<File = File>>(rt: &R, file: &str) -> io::Result<Hold> {
+        let folder = File::open(rt, folder_of(file))?;
+        folder.try_lock()?;
+        Ok(Hold { folder })
+    }
 }

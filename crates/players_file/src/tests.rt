@@ -1,5 +1,5 @@
-//! What no clause says: who may read the players' file.
-use crate::put;
+//! What no clause says: who may read the players' file, and who may change it.
+use crate::{Hold, put};
 use std::fs;
 use std::os::unix::fs::PermissionsExt;
 use std::test::Fail;
@@ -29,5 +29,19 @@ fn a_file_keeps_its_mode_and_a_new_one_is_its_owners(rt: HostRuntime) -> Result<
     assert_eq!(rt; fs::read_to_string(&rt, FILE)?.as_str(), "two\n");
     assert!(rt; !fs::exists(&rt, "players_file_test/club.players.new")?);
     fs::remove_dir_all(&rt, FOLDER)?;
+    Ok(())
+}
+
+#[test]
+fn one_at_a_time_may_change_it(rt: HostRuntime) -> Result<(), Fail> {
+    let _ = fs::remove_dir_all(&rt, "players_file_held");
+    fs::create_dir(&rt, "players_file_held")?;
+    let file = "players_file_held/club.players";
+    {
+        let _held = Hold::wait(&rt, file)?;
+        assert!(rt; Hold::at_once(&rt, file).is_err());
+    }
+    assert!(rt; Hold::at_once(&rt, file).is_ok());
+    fs::remove_dir_all(&rt, "players_file_held")?;
     Ok(())
 }

@@ -1,0 +1,63 @@
+//! For whom connections act when the players are others.
+ghost use Rattle.std.specs.Prelude.{ℕ, ◌≡◌, true};
+ghost use Rattle.std.specs.Option.{option_copied};
+ghost use Rattle.lobby_desk.specs.Players.{goes_on, renewed};
+ghost use Rattle.lobby_desk.specs.Who.{who_in, open_in_map, until_in, visitor_renewed};
+
+use crate::players::{Player, Visitor, is_same_sum};
+use crate::rows::named;
+use lobby_words::Identity;
+use std::collections::BTreeMap;
+
+// For whom a connection acts on that acted for a player of one list, where the other list has a player of the name.
+fn goes_on(before: Option<&Player>, after: Option<&Player>) -> Option<Identity>
+    ensures { result ≡ goes_on (option_copied before.entry) (option_copied after.entry) }
+{
+    match before {
+        None => None,
+        Some(before) => match after {
+            None => None,
+            Some(after) => {
+                if is_same_sum(&before.sum, &after.sum) {
+                    Some(Identity {
+                        name: after.name,
+                        is_arbiter: after.is_arbiter,
+                    })
+                } else {
+                    None
+                }
+            }
+        },
+    }
+}
+
+// For whom a connection acts when the players are others.
+fn renewed(before: &[Player], later: &[Player], who: Option<Identity>) -> Option<Identity>
+    ensures { result ≡ renewed before.now later.now who }
+{
+    match who {
+        None => None,
+        Some(who) => {
+            let name = who.name.as_str();
+            goes_on(named(before, name), named(later, name))
+        }
+    }
+}
+
+// The same, written where it stands. It tells that the connection stays.
+fn renew(visitor: &mut Visitor, before: &[Player], later: &[Player]) -> bool
+    ensures stays { result ≡ true }
+    ensures renewed { visitor.new ≡ visitor_renewed before.now later.now visitor.old }
+{
+    visitor.who = renewed(before, later, visitor.who);
+    true
+}
+
+/// From now on each connection acts for whom it does when the players are others.
+pub fn renew_all(visitors: &mut BTreeMap<u64, Visitor>, before: &[Player], later: &[Player])
+    ensures who { (c : ℕ) → who_in visitors.new c ≡ renewed before.now later.now (who_in visitors.old c) }
+    ensures opens { (c : ℕ) → open_in_map visitors.new c ≡ open_in_map visitors.old c }
+    ensures untils { (c : ℕ) → until_in visitors.new c ≡ until_in visitors.old c }
+{
+    visitors.retain(|_, visitor| renew(visitor, before, later));
+}
