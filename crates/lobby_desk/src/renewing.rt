@@ -39,7 +39,9 @@ fn renewed(before: &[Player], later: &[Player], who: Option<Identity>) -> Option
         None => None,
         Some(who) => {
             let name = who.name.as_str();
-            goes_on(named(before, name), named(later, name))
+            let old = named(before, name);
+            let new = named(later, name);
+            goes_on(old, new)
         }
     }
 }
