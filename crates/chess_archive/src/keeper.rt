@@ -1,5 +1,7 @@
 //! One look at a server's games: what a clerk decides is done on its table, on the archive's file and at the lobby.
-ghost use Rattle.std.specs.Prelude.{◌≡◌, ◌==◌, true, OnOk, if◌then◌else◌};
+ghost use Rattle.std.specs.Prelude.{ℕ, ◌≡◌, ◌==◌, true, OnOk, if◌then◌else◌};
+ghost use Rattle.std.specs.BTreeSet as set;
+ghost use Rattle.std.specs.Ordering.{nat_cmp};
 ghost use Rattle.lobby_archive.specs.Files.{contains};
 
 use crate::asking::{Knowledge, pgn_of};
@@ -15,6 +17,7 @@ use lobby_archive::Night;
 use night_files::NamedFile;
 use server_link::{Link, Row};
 use std::alloc::{AllocError, Global};
+use std::collections::BTreeSet;
 use std::net::{Net, TcpStream};
 use std::rt::Clock;
 use text_parts::parts;
@@ -48,7 +51,7 @@ pub struct Keeper<'a, R> {
     /// The games of the table.
     pub rows: &'a [Row<'a>],
     /// The games that have left the table since.
-    pub gone: Vec<u32>,
+    pub gone: BTreeSet<u32>,
     /// Whether games are dropped still.
     pub drops: bool,
     pub counts: Counts,
@@ -57,10 +60,10 @@ pub struct Keeper<'a, R> {
 }
 
 // A game has left the table.
-fn note_gone(gone: &mut Vec<u32>, game: u32) -> Result<(), AllocError>
-    ensures { OnOk result ((g : ℕ) → contains g gone.new.items ≡ (if game == g then true else contains g gone.old.items)) }
+fn note_gone(gone: &mut BTreeSet<u32>, game: u32) -> Result<(), AllocError>
+    ensures { OnOk result ((g : ℕ) → set.contains nat_cmp gone.new g ≡ (if game == g then true else set.contains nat_cmp gone.old g)) }
 {
-    gone.push(game)?;
+    gone.insert(game)?;
     Ok(())
 }
 
@@ -144,7 +147,7 @@ where
     // (a game of the archive is safe: `Archive::keep`)
     ghost is_safe = { λ k game. contains game k.archive.games.items };
 
-    ghost has_left = { λ k game. contains game k.gone.items };
+    ghost has_left = { λ k game. set.contains nat_cmp k.gone game };
 
     fn games(&self) -> &[u32] {
         self.archive.games()

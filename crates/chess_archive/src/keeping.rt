@@ -13,6 +13,7 @@ use lobby_desk::Player;
 use night_files::NamedFile;
 use players_file::players_of;
 use server_link::{Link, Row};
+use std::collections::BTreeSet;
 use std::fs::{self, File};
 use std::net::{Net, TcpStream};
 use std::rt::{Clock, Files};
@@ -86,7 +87,7 @@ where
                 records: self.log.records(),
             },
             rows: rows.as_slice(),
-            gone: Vec::new(alloc),
+            gone: BTreeSet::new(alloc),
             drops: self.keeping.drops,
             counts: NOTHING,
             fault: None,
