@@ -1,15 +1,14 @@
 -- A note that was written is read as it was.
-use Rattle.std.proofs.Common.{ℕ, ◌≡◌, ◌<◌, ◌^◌, ◌==◌, ◌&&◌, ◌||◌, Bool, true, false, List, [], ◌∷◌, ◌++◌, length, codes, decimal, Option, Some, None, refl, sym, ap, ◌∙◌, subst, arith, append_assoc, if◌then◌else◌}
+use Rattle.std.proofs.Common.{ℕ, ◌≡◌, ◌<◌, ◌^◌, ◌==◌, ◌&&◌, ◌||◌, Bool, true, false, List, [], ◌∷◌, ◌++◌, length, codes, decimal, Option, Some, None, refl, sym, ap, ◌∙◌, arith, if◌then◌else◌}
 use Rattle.std.specs.Prelude.{nat_le}
 use Rattle.std.specs.List.{list_all}
-use Rattle.std.specs.Str.{bytes_eq}
 use Rattle.std.proofs.lemmas.Bool.{false≢true}
 use Rattle.std.proofs.lemmas.Bool.Decides.{Decides-eqb}
 use Rattle.std.proofs.lemmas.Slice.Eq.{bytes_eq-Decides}
 use Rattle.rec_codec.specs.Name.{is_name_byte}
 use Rattle.lobby_words.specs.Words.{number_or_0}
 use Rattle.lobby_words.specs.Waiting.{is_name}
-use Rattle.pairing_texts.specs.Times.{front_of, rest_of}
+use Rattle.pairing_texts.specs.Times.{front_of}
 use Rattle.pairing_texts.specs.Rows.{name_in}
 use Rattle.pairing_texts.specs.Notes.{Told, Reached, Opening, Opened, Joined, IsNote, IsReached, stage_word, value_text, numbers_text, quoted, member_text, note_text, value_of, unquoted, member_in, behind_one, behind_two, behind_three, board_in, white_in, black_in, last_value, stage_in, reached_in, likely_of, likely_note, where_spelled, note_in}
 use Rattle.pairing_texts.proofs.NumbersBack.{numbers_back, lacks_brace}

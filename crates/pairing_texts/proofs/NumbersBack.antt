@@ -1,11 +1,10 @@
 -- An array of numbers that was written is read as it was.
-use Rattle.std.proofs.Common.{ℕ, ◌≡◌, ◌<◌, ◌^◌, ◌==◌, Bool, true, false, List, [], ◌∷◌, ◌++◌, length, codes, decimal, map, refl, sym, ap, ◌∙◌, arith, append_assoc, append-nil, if◌then◌else◌}
+use Rattle.std.proofs.Common.{ℕ, ◌≡◌, ◌<◌, ◌^◌, ◌==◌, Bool, false, List, [], ◌∷◌, ◌++◌, length, decimal, map, refl, sym, ap, ◌∙◌, arith, append_assoc, append-nil, if◌then◌else◌}
 use Rattle.std.specs.List.{list_any, onto_first}
-use Rattle.std.proofs.lemmas.Bool.Decides.{Decides-eqb}
 use Rattle.std.proofs.lemmas.Fmt.{decimal_nonempty}
 use Rattle.text_parts.specs.Parts.{parts_of}
 use Rattle.lobby_words.specs.Words.{number_or_0}
-use Rattle.pairing_texts.specs.Times.{front_of, rest_of}
+use Rattle.pairing_texts.specs.Times.{front_of}
 use Rattle.pairing_texts.specs.Notes.{AreNumbers, behind_commas, numbers_text, numbers_in, array_in, is_array}
 use Rattle.pairing_texts.proofs.Cuts.{Lacks, or_first, or_second, lacks_more, lacks_both, lacks_below, lacks_above, front_at, rest_at, number_back}
 

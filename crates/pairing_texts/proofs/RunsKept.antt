@@ -1,6 +1,6 @@
 -- What holds of a board from the first call on, whatever happens.
-use Rattle.std.proofs.Common.{ℕ, ◌≡◌, ◌≤◌, ◌+◌, ◌==◌, ◌&&◌, ◌||◌, Bool, true, false, not, List, [], ◌∷◌, ◌++◌, length, filter, map, Option, Some, None, refl, sym, ap, ◌∙◌, subst, arith, inl, inr, ◌⊎◌, if◌then◌else◌}
-use Rattle.std.specs.List.{list_any, list_all}
+use Rattle.std.proofs.Common.{ℕ, ◌≡◌, ◌≤◌, ◌==◌, ◌&&◌, ◌||◌, Bool, true, false, not, List, [], ◌∷◌, ◌++◌, length, filter, Option, Some, None, refl, sym, ap, ◌∙◌, subst, arith, inl, inr, ◌⊎◌, if◌then◌else◌}
+use Rattle.std.specs.List.{list_any}
 use Rattle.std.specs.Str.{bytes_eq}
 use Rattle.std.proofs.lemmas.Bool.{false≢true}
 use Rattle.std.proofs.lemmas.Bool.Decides.{Decides-eqb}
@@ -14,7 +14,7 @@ use Rattle.pairing_texts.specs.declared.steps.Row.{Row}
 use Rattle.pairing_texts.specs.Newer.{is_newer, is_past}
 use Rattle.pairing_texts.specs.Notes.{Reached, Opening, Opened, Joined}
 use Rattle.pairing_texts.specs.Steps.{sits, is_free_for, may_be, candidates_in, numbers_of, step_of, step_of_games, step_of_seats}
-use Rattle.pairing_texts.specs.Runs.{Board, Standing, Event, Looks, Acts, Dies, Passes, games_at, looked, noted, row_of, with_game, acted, happened, TellNewer, IsDone, is_there, has_game, Stays, IsAllowed, after_all, AreAllowed, IsBeginning, game_noted, HasOneGame}
+use Rattle.pairing_texts.specs.Runs.{Board, Standing, Event, Looks, Acts, Dies, Passes, games_at, noted, row_of, acted, happened, TellNewer, IsDone, is_there, has_game, Stays, IsAllowed, after_all, AreAllowed, IsBeginning, game_noted, HasOneGame}
 
 -- ---- the games that may be the board's
 
@@ -116,9 +116,10 @@ record IsSound (b : Board) (s : Standing) : Type 0 where
 games_hold : (b : Board) (noted given : List ℕ) (rows : List Row) (opened games : List ℕ) →
     filter b.fits (candidates_in noted b.white rows) ≡ games → NoteHolds b (Some (Opening noted)) given rows opened →
     DoesHold (Some (step_of_games games)) (Some (Opening noted)) given rows opened
-games_hold b noted given rows opened [] e holds =
-    (record { noted = noted; is = refl },
-        elim holds.1 [ inl none ↦ none | inr there ↦ absurd (not_none b noted there.game rows e there.there) ])
+games_hold b noted given rows opened [] e holds = (
+  record { noted = noted; is = refl },
+  elim holds.1 [ inl none ↦ none | inr there ↦ absurd (not_none b noted there.game rows e there.there) ],
+)
 games_hold b noted given rows opened (one ∷ []) e holds =
     elim holds.1 [
       | inl none ↦ inl none
@@ -180,13 +181,14 @@ open_holds : (b : Board) (note : Option Reached) (given : List ℕ) (rows : List
     NoteHolds b note (given ++ game ∷ []) (rows ++ row_of b game ∷ []) (opened ++ game ∷ [])
 open_holds b note given rows opened game is none holds new fits =
     let at : NoteHolds b (Some (Opening is.noted)) given rows opened = subst (λ (n : Option Reached). NoteHolds b n given rows opened) is.is holds in
-    subst (λ (n : Option Reached). NoteHolds b n (given ++ game ∷ []) (rows ++ row_of b game ∷ []) (opened ++ game ∷ [])) (sym is.is)
-    (more_given given (game ∷ []) is.noted at.0,
-        inr (record {
-          game = game;
-          one = one_opened opened game none;
-          there = any_append (is_there b is.noted game) rows (row_of b game) (row_there b is.noted game (at.0 game new) fits);
-        }))
+    subst (λ (n : Option Reached). NoteHolds b n (given ++ game ∷ []) (rows ++ row_of b game ∷ []) (opened ++ game ∷ [])) (sym is.is) (
+      more_given given (game ∷ []) is.noted at.0,
+      inr (record {
+        game = game;
+        one = one_opened opened game none;
+        there = any_append (is_there b is.noted game) rows (row_of b game) (row_there b is.noted game (at.0 game new) fits);
+      }),
+    )
 
 none_opened : (b : Board) (note : Option Reached) (given : List ℕ) (rows : List Row) (opened : List ℕ) → note ≡ None →
     NoteHolds b note given rows opened → opened ≡ []
@@ -223,12 +225,13 @@ acted_sound b s older game is_noted (Some steps.Ask) sound holds done = record {
 pass_note : (b : Board) (note : Option Reached) (given more : List ℕ) (old new : List Row) (opened : List ℕ) → Stays b note old new →
     NoteHolds b note given old opened → NoteHolds b note (given ++ more) new opened
 pass_note b None given more old new opened stays holds = holds
-pass_note b (Some (Opening noted)) given more old new opened stays holds =
-    (more_given given more noted holds.0,
-        elim holds.1 [
-          | inl none ↦ inl none
-          | inr there ↦ inr (record { game = there.game; one = there.one; there = stays there.game there.there })
-        ])
+pass_note b (Some (Opening noted)) given more old new opened stays holds = (
+  more_given given more noted holds.0,
+  elim holds.1 [
+    | inl none ↦ inl none
+    | inr there ↦ inr (record { game = there.game; one = there.one; there = stays there.game there.there })
+  ],
+)
 pass_note b (Some (Opened game)) given more old new opened stays holds = holds
 pass_note b (Some (Joined game)) given more old new opened stays holds = holds
 

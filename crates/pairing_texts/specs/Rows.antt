@@ -1,5 +1,5 @@
 -- A row of the pairings.
-use Rattle.std.specs.Prelude.{ℕ, ℤ, pos, ◌==◌, Bool, true, false, ◌&&◌, not, List, [], ◌∷◌, length, get_or, codes, Option, None, Some, Result, Ok, Err, option_map, int_div, if◌then◌else◌}
+use Rattle.std.specs.Prelude.{ℕ, ℤ, pos, ◌==◌, Bool, ◌&&◌, List, [], length, get_or, codes, Option, None, Some, Result, Ok, Err, option_map, int_div, if◌then◌else◌}
 use Rattle.std.specs.Str.{bytes_eq}
 use Rattle.jiff.specs.Words.{parse_timestamp}
 use Rattle.lobby_words.specs.Words.{number_in}

@@ -1,5 +1,5 @@
 -- The times of a game as a text.
-use Rattle.std.specs.Prelude.{ℕ, ◌^◌, zero, suc, ◌==◌, Bool, true, false, ◌&&◌, nat_le, List, [], ◌∷◌, ◌++◌, decimal, Option, None, Some, if◌then◌else◌}
+use Rattle.std.specs.Prelude.{ℕ, zero, suc, ◌==◌, Bool, true, false, ◌&&◌, nat_le, List, [], ◌∷◌, ◌++◌, decimal, Option, None, Some, if◌then◌else◌}
 use Rattle.std.specs.List.{before_first, after_first}
 use Rattle.std.specs.Str.{bytes_eq}
 use Rattle.lobby_words.specs.Words.{number_or_0}

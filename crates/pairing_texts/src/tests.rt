@@ -1,7 +1,7 @@
 //! The texts of a round, and what is to be done about boards.
 use crate::{
-    Fault, Note, Outcome, Row, RowFault, Seats, Stage, Step, candidates, game_in, is_newer, last_of,
-    newest, note_of, note_text, read, results, step_of, times_of, times_text, with_newest,
+    Fault, Note, Outcome, Row, RowFault, Seats, Stage, Step, candidates, game_in, is_newer,
+    last_of, newest, note_of, note_text, read, results, step_of, times_of, times_text, with_newest,
 };
 use rec_codec::Name;
 use std::test::Fail;

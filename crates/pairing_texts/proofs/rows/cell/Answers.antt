@@ -1,6 +1,5 @@
 use Rattle.std.proofs.Common.{ℕ, zero, suc, ◌≡◌, List, [], ◌∷◌, Option, None, Some, get_or, refl, ap, ◌∙◌}
 use Rattle.csv.specs.Records.{fields_of, field_at}
-use Rattle.pairing_texts.specs.Rows.{cell}
 use Rattle.pairing_texts.proofs.rows.cell.Goals as goal
 
 abbrev or_empty : Option (List ℕ) → List ℕ

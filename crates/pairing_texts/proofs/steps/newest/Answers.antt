@@ -1,4 +1,4 @@
-use Rattle.std.proofs.Common.{ℕ, ◌≡◌, ◌<◌, ◌≤◌, ◌+◌, ◌-◌, ◌&&◌, Bool, true, false, List, [], length, get_or, take, sym, ap, ◌∙◌, arith}
+use Rattle.std.proofs.Common.{ℕ, ◌≡◌, ◌<◌, ◌+◌, ◌-◌, ◌&&◌, List, length, get_or, take, sym, ap, ◌∙◌, arith}
 use Rattle.std.proofs.Math.Seq.{take-length}
 use Rattle.pairing_texts.specs.declared.steps.Row.{Row}
 use Rattle.pairing_texts.specs.Newer.{is_newer}
@@ -8,11 +8,12 @@ use Rattle.pairing_texts.proofs.steps.newest.Goals as goal
 
 pub loop-left-init : goal.loop-left-init
 loop-left-init c =
-    let rows = c.args.rows.now in
-    (omega arith,
-        λ n.
-        ap (λ (gs : List ℕ). is_newer (numbers_of (take (length rows) rows)) n && is_newer gs n) c.new-games.ensures.items
-        ∙ (first (is_newer (numbers_of (take (length rows) rows)) n) ∙ ap (λ (rs : List Row). is_newer (numbers_of rs) n) (take-length rows)))
+    let rows = c.args.rows.now in (
+      omega arith,
+      λ n.
+          ap (λ (gs : List ℕ). is_newer (numbers_of (take (length rows) rows)) n && is_newer gs n) c.new-games.ensures.items
+          ∙ (first (is_newer (numbers_of (take (length rows) rows)) n) ∙ ap (λ (rs : List Row). is_newer (numbers_of rs) n) (take-length rows)),
+    )
 
 pub loop-left-preserved : goal.loop-left-preserved
 loop-left-preserved c =
@@ -22,11 +23,12 @@ loop-left-preserved c =
     let below : c.loop-left.left - 1 < length c.args.rows.now = omega arith in
     let next : c.loop-left.left - 1 + 1 ≡ c.loop-left.left = omega arith in
     let row = c.index-rows-left.result in
-    let old = sym c.if-is_newer.ensures in
-    (omega arith,
-        λ n.
-        without rows i n row games below (ap (λ (gs : List ℕ). is_newer gs (get_or rows i row).game) (sym c.as_slice.ensures.value) ∙ old)
-        ∙ (ap (λ (k : ℕ). is_newer (numbers_of (take k rows)) n && is_newer games n) next ∙ c.loop-left.invariant.1 n))
+    let old = sym c.if-is_newer.ensures in (
+      omega arith,
+      λ n.
+          without rows i n row games below (ap (λ (gs : List ℕ). is_newer gs (get_or rows i row).game) (sym c.as_slice.ensures.value) ∙ old)
+          ∙ (ap (λ (k : ℕ). is_newer (numbers_of (take k rows)) n && is_newer games n) next ∙ c.loop-left.invariant.1 n),
+    )
 
 pub returns : goal.returns
 returns c = λ n.
