@@ -9,3 +9,6 @@ mod time_control;
 pub use clocks::Clock;
 pub use events::Event;
 pub use time_control::is_time_control;
+
+#[cfg(test)]
+mod tests;

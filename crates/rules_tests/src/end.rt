@@ -1,9 +1,11 @@
 //! Worked positions, each after its last move.
-use crate::boards::{after, board_of, board_with, parts_of};
+use crate::boards::{Diagram, after, board_of, board_with, parts_of};
 use chess_bits::Colour::{Black, White};
 use chess_board::{Board, Parts};
 use chess_end::Article::{A69, A511, A521, A522, A961, A962};
-use chess_end::{Article, Ending, GameResult, after_move, claim_fifty, claim_three, flag_result};
+use chess_end::{
+    Article, Ending, GameResult, after_move, claim_fifty, claim_three, flag_result, is_listed_dead,
+};
 
 // What `after_move` says of a position that has come so often.
 fn ending_of(board: &Board, times: u32) -> Option<Ending> {
@@ -116,6 +118,59 @@ fn dead_positions_and_stalemate_draw(rt: HostRuntime) {
     );
     let stale = after(&queen, 37, 53).expect(&rt, "legal");
     assert!(rt; ending_of(&stale, 1) == ended(GameResult::Draw, A521));
+}
+
+const BISHOPS_ON_ONE_COLOUR: Diagram = *b"\
+    ....kb..\
+    ........\
+    ........\
+    ........\
+    ........\
+    ........\
+    ........\
+    ..B.K...";
+
+const BISHOPS_ON_TWO: Diagram = *b"\
+    ..b.k...\
+    ........\
+    ........\
+    ........\
+    ........\
+    ........\
+    ........\
+    ..B.K...";
+
+const ONE_KNIGHT: Diagram = *b"\
+    ....k...\
+    ........\
+    ........\
+    ........\
+    ........\
+    ........\
+    ........\
+    ....K.N.";
+
+const TWO_KNIGHTS: Diagram = *b"\
+    ....kn..\
+    ........\
+    ........\
+    ........\
+    ........\
+    ........\
+    ........\
+    ....K.N.";
+
+// 4kb2/8/8/8/8/8/8/2B1K3 w - - 0 1 is dead, and 2b1k3/8/8/8/8/8/8/2B1K3 w - - 0 1 is not listed.
+#[test]
+fn bishops_on_one_colour_are_dead(rt: HostRuntime) {
+    for (diagram, is_dead) in [
+        (BISHOPS_ON_ONE_COLOUR, true),
+        (BISHOPS_ON_TWO, false),
+        (ONE_KNIGHT, true),
+        (TWO_KNIGHTS, false),
+    ] {
+        assert!(rt; is_listed_dead(&board_of(&rt, diagram, White)) == is_dead);
+    }
 }
 
 #[test]

@@ -1,7 +1,13 @@
 //! Positions as other sources give them.
 
-use chess_board::BadBoard;
+use chess_board::{BadBoard, Board};
 use chess_fen::{FenError, fen_read, fen_write};
+
+#[test]
+fn writes_the_initial_position(rt: HostRuntime) {
+    let text = fen_write(&Board::initial());
+    assert!(rt; text.as_str() == "rnbqkbnr/pppppppp/8/8/8/8/PPPPPPPP/RNBQKBNR w KQkq - 0 1");
+}
 
 #[test]
 fn tells_the_first_fault_of_a_text(rt: HostRuntime) {

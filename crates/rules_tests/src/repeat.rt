@@ -107,6 +107,15 @@ fn a_target_with_a_capture_counts(rt: HostRuntime) {
     assert!(rt; history.quiet() == 12);
 }
 
+// A rook, a knight and so on from a1, low four bits first; all four rights with White to move; and no target.
+#[test]
+fn the_key_of_the_initial_position(rt: HostRuntime) {
+    let mut bytes = [0; 34];
+    bytes[..8].copy_from_slice(&[0x24, 0x53, 0x36, 0x42, 0x11, 0x11, 0x11, 0x11]);
+    bytes[24..].copy_from_slice(&[0x99, 0x99, 0x99, 0x99, 0xac, 0xdb, 0xbe, 0xca, 0x1e, 0x40]);
+    assert!(rt; key(&Board::initial()) == bytes);
+}
+
 // What is seen of a history: how many positions it has, how often this one, and how many quiet moves.
 fn seen(history: &History, board: &Board) -> [u32; 3] {
     [history.len(), history.times(board), history.quiet()]

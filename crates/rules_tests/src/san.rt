@@ -1,8 +1,8 @@
 //! Texts of moves as the PGN Standard and played games give them.
 
 use crate::boards::{Diagram, board_of, board_with, move_of, parts_of};
-use chess_bits::{Colour, Square};
-use chess_board::{Board, Move, Parts};
+use chess_bits::{Colour, Kind, Square};
+use chess_board::{Board, CastlingRights, Move, Parts};
 use chess_moves::legal;
 use chess_san::{read, write};
 use std::process::Abort;
@@ -49,6 +49,18 @@ const QUEENS: Diagram = *b"\
     K......Q";
 
 #[test]
+fn three_queens_are_told_apart(rt: HostRuntime) {
+    let board = board_of(&rt, QUEENS, Colour::White);
+    let e1 = Square::at(5, 1);
+    expect_text(&rt, &board, &move_of(Square::at(5, 4), e1, None), "Qee1");
+    expect_text(&rt, &board, &move_of(Square::at(8, 1), e1, None), "Q1e1");
+    expect_text(&rt, &board, &move_of(Square::at(8, 4), e1, None), "Qh4e1");
+    for text in ["Qe1", "Qhe1", "Q4e1", "Qe4e1", "Q1e1+", "Qexe1"] {
+        expect_none(&rt, &board, text);
+    }
+}
+
+#[test]
 fn fools_mate(rt: HostRuntime) {
     let diagram = *b"\
         rnbqkbnr\
@@ -66,6 +78,52 @@ fn fools_mate(rt: HostRuntime) {
     assert!(rt; read(&board, "d8h4") == Some(mv));
     expect_none(&rt, &board, "Qh4+");
     expect_none(&rt, &board, "qh4#");
+}
+
+#[test]
+fn a_pawn_takes_and_mates_as_a_queen(rt: HostRuntime) {
+    let diagram = *b"\
+        .r.....k\
+        P.......\
+        ......K.\
+        ........\
+        ........\
+        ........\
+        ........\
+        ........";
+    let board = board_of(&rt, diagram, Colour::White);
+    let a7 = Square::at(1, 7);
+    let takes = move_of(a7, Square::at(2, 8), Some(Kind::Queen));
+    expect_text(&rt, &board, &takes, "axb8=Q#");
+    let advances = move_of(a7, Square::at(1, 8), Some(Kind::Knight));
+    expect_text(&rt, &board, &advances, "a8=N");
+    for text in ["a8", "a8=K", "a8N", "xb8=Q#", "ab8=Q#", "b8=Q#", "axb8=Q+"] {
+        expect_none(&rt, &board, text);
+    }
+}
+
+#[test]
+fn castling_to_the_queens_wing(rt: HostRuntime) {
+    let diagram = *b"\
+        ....k...\
+        ........\
+        ........\
+        ........\
+        ........\
+        ........\
+        .r......\
+        R...K...";
+    let parts = Parts {
+        rights: CastlingRights::of(false, true, false, false),
+        ..parts_of(diagram, Colour::White)
+    };
+    let board = board_with(&rt, parts);
+    let mv = move_of(Square::at(5, 1), Square::at(3, 1), None);
+    expect_text(&rt, &board, &mv, "O-O-O");
+    assert!(rt; read(&board, "e1c1") == Some(mv));
+    for text in ["O-O", "0-0-0", "o-o-o", "Kc1", "O-O-O+", "e1a1"] {
+        expect_none(&rt, &board, text);
+    }
 }
 
 #[test]
