@@ -35,6 +35,22 @@ fn lacks_feed(alloc: Global, bytes: &[u8]) -> Result<bool> {
     }
 }
 
+// Whether a game's line stands behind the first zero of bytes: where they are cut off, that game is lost.
+fn hides_game(alloc: Global, bytes: &[u8]) -> Result<bool> {
+    let Some(zero) = bytes.iter().position(|byte| *byte == 0) else {
+        return Ok(false);
+    };
+    let behind = bytes.get(zero.saturating_add(1)..).unwrap_or(&[]);
+    for line in behind.split(|byte| *byte == b'\n') {
+        if let Ok(line) = str::from_utf8(line)
+            && game_of(alloc, line)?.is_some()
+        {
+            return Ok(true);
+        }
+    }
+    Ok(false)
+}
+
 // Leaves the whole lines of an archive's bytes, each with its line feed. It fails where what stands behind them is no front of such
 // a line.
 fn leave_lines(alloc: Global, bytes: &mut Vec<u8>, file: &str) -> Result<()> {
@@ -46,6 +62,8 @@ fn leave_lines(alloc: Global, bytes: &mut Vec<u8>, file: &str) -> Result<()> {
         bail!(
             "{file} is no archive: what stands behind its lines is no game's line that was cut off"
         );
+    } else if hides_game(alloc, behind)? {
+        bail!("{file} has a zero byte, and games behind it: see what the disk has lost");
     } else {
         bytes.truncate(kept);
     }
