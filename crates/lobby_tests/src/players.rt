@@ -71,16 +71,25 @@ fn adds_a_player_and_gives_a_new_token(rt: HostRuntime) {
 
 #[test]
 fn a_new_link_keeps_its_place_and_a_new_player_is_the_last(rt: HostRuntime) {
-    let alloc = rt.alloc();
-    let sum = "d65df89f702eec58ca3c7bf2001c9ffc7cd80553ae01d42a799ba26756142d96";
-    let bob = "# guests\n\nbob player 0000000000000000000000000000000000000000000000000000000000000001 Bo";
-    let mut before = String::from_str(alloc, ANN).expect(&rt, "memory");
-    assert!(rt; before.push_str(bob).is_ok());
-    for (name, full_name, at) in [("ann", "Ann M. Lee", 0), ("bob", "Bo", 3), ("cid", "C", 4)] {
-        let new = or_none(more(alloc, before.as_str(), name, full_name), alloc);
-        let line = format!(in alloc; "{name} arbiter {sum} {full_name}").expect(&rt, "memory");
-        assert!(rt; new.as_str().lines().position(|found| found == line.as_str()) == Some(at));
-        assert!(rt; new.as_str().lines().count() == if at < 4 { 4 } else { 5 });
+    let before =
+        "ann player ba7816bf8f01cfea414140de5dae2223b00361a396177a9cb410ff61f20015ad Ann Lee\n# guests\n\nbob player 0000000000000000000000000000000000000000000000000000000000000001 Bo";
+    let cases: [(&str, &str); 3] = [
+        (
+            "ann",
+            "ann arbiter d65df89f702eec58ca3c7bf2001c9ffc7cd80553ae01d42a799ba26756142d96 X\n# guests\n\nbob player 0000000000000000000000000000000000000000000000000000000000000001 Bo\n",
+        ),
+        (
+            "bob",
+            "ann player ba7816bf8f01cfea414140de5dae2223b00361a396177a9cb410ff61f20015ad Ann Lee\n# guests\n\nbob arbiter d65df89f702eec58ca3c7bf2001c9ffc7cd80553ae01d42a799ba26756142d96 X\n",
+        ),
+        (
+            "cid",
+            "ann player ba7816bf8f01cfea414140de5dae2223b00361a396177a9cb410ff61f20015ad Ann Lee\n# guests\n\nbob player 0000000000000000000000000000000000000000000000000000000000000001 Bo\ncid arbiter d65df89f702eec58ca3c7bf2001c9ffc7cd80553ae01d42a799ba26756142d96 X\n",
+        ),
+    ];
+    for (name, wanted) in cases {
+        let new = or_none(more(rt.alloc(), before, name, "X"), rt.alloc());
+        assert!(rt; new.as_str() == wanted);
     }
 }
 
