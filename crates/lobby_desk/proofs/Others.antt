@@ -1,5 +1,5 @@
 -- Connections when the players are others.
-use Rattle.std.proofs.Common.{ℕ, List, ◌≡◌, Option, None, Some, refl}
+use Rattle.std.proofs.Common.{List, ◌≡◌, Option, None, Some, refl}
 use Rattle.std.specs.Prelude.{option_and_then, option_map, is_some}
 use Rattle.lobby_desk.specs.declared.players.Player.{Player}
 use Rattle.lobby_desk.specs.declared.players.Visitor.{Visitor}

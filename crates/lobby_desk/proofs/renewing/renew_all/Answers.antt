@@ -1,5 +1,5 @@
-use Rattle.std.proofs.Common.{ℕ, List, ◌≡◌, Bool, Option, ap, ◌∙◌, rules}
-use Rattle.std.specs.Prelude.{option_and_then, option_map, is_some}
+use Rattle.std.proofs.Common.{ℕ, ap, ◌∙◌, rules}
+use Rattle.std.specs.Prelude.{option_and_then, is_some}
 use Rattle.std.specs.BTreeMap.{get}
 use Rattle.std.specs.Map.{lookup}
 use Rattle.std.specs.Ordering.{is_eq, nat_cmp}

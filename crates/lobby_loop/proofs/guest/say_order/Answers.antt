@@ -7,7 +7,7 @@ use Rattle.lobby_loop.proofs.guest.say_order.Goals as goal
 
 pub returns-in_ok-said-in-None : goal.returns-in_ok-said-in-None
 returns-in_ok-said-in-None g c =
-    said_says c.args.shown.now c.args.number c.args.at c.args.talk.now c.said-in-None.new.talk c.in_ok-said-in-None.ensures
+    said_says c.args.shown.now c.args.number c.args.at c.args.talk.now c.said.new.self c.in_ok-said-in-None.ensures
 
 pub returns-in_ok-linked-in-Some : goal.returns-in_ok-linked-in-Some
 returns-in_ok-linked-in-Some g c = record {
