@@ -1,5 +1,5 @@
 //! One look at a server's games: what a clerk decides is done on its table, on the archive's file and at the lobby.
-ghost use Rattle.std.specs.Prelude.{ℕ, ◌≡◌, ◌==◌, true, OnOk, if◌then◌else◌};
+ghost use Rattle.std.specs.Prelude.{ℕ, ◌≡◌, ◌==◌, true, OnOk, OnErr, if◌then◌else◌};
 ghost use Rattle.std.specs.BTreeSet as set;
 ghost use Rattle.std.specs.Ordering.{nat_cmp};
 ghost use Rattle.lobby_archive.specs.Files.{contains};
@@ -61,7 +61,8 @@ pub struct Keeper<'a, R> {
 
 // A game has left the table.
 fn note_gone(gone: &mut BTreeSet<u32>, game: u32) -> Result<(), AllocError>
-    ensures { OnOk result ((g : ℕ) → set.contains nat_cmp gone.new g ≡ (if game == g then true else set.contains nat_cmp gone.old g)) }
+    ensures gone { OnOk result ((g : ℕ) → set.contains nat_cmp gone.new g ≡ (if game == g then true else set.contains nat_cmp gone.old g)) }
+    ensures same { OnErr result ((g : ℕ) → set.contains nat_cmp gone.new g ≡ set.contains nat_cmp gone.old g) }
 {
     gone.insert(game)?;
     Ok(())
