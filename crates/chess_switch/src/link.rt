@@ -248,8 +248,9 @@ impl Link {
         let Stage::Here(wire) = &mut self.stage else {
             return Ok(false);
         };
-        if let Some(bytes) = exchange.wire(self.place) {
-            has_worked |= wire.write_out(bytes);
+        if let Some(count) = wire.write(exchange.wire(self.place)) {
+            exchange.sent(self.place, count);
+            has_worked = true;
         }
         let came = if may_read {
             wire.next_piece(alloc, piece)?

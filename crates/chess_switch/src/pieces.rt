@@ -78,23 +78,34 @@ impl Wire {
         }
     }
 
-    /// Writes what the peer takes of some bytes, which are given up. It tells whether that was anything.
-    pub fn write_out(&mut self, bytes: &mut Vec<u8>) -> bool {
+    /// Writes what the peer takes of some bytes, and tells how many those are; none where there was nothing to do.
+    pub fn write(&mut self, bytes: &[u8]) -> Option<usize> {
         if !self.can_write || self.is_lost || bytes.is_empty() {
-            return false;
+            return None;
         }
-        match self.stream.write(bytes.as_slice()) {
+        match self.stream.write(bytes) {
             Ok(0) => self.is_lost = true,
-            Ok(count) => give_up(bytes, count),
+            Ok(count) => return Some(count),
             Err(error) => match error.kind() {
                 ErrorKind::WouldBlock => {
                     self.can_write = false;
-                    return false;
+                    return None;
                 }
                 ErrorKind::Interrupted => {}
                 _ => self.is_lost = true,
             },
         }
-        true
+        Some(0)
+    }
+
+    /// The same, and gives up what the peer took. It tells whether there was anything to do.
+    pub fn write_out(&mut self, bytes: &mut Vec<u8>) -> bool {
+        match self.write(bytes.as_slice()) {
+            Some(count) => {
+                give_up(bytes, count);
+                true
+            }
+            None => false,
+        }
     }
 }

@@ -2,3 +2,9 @@ pub mod Cuts
 pub mod Rows
 pub mod Steps
 pub mod Places
+pub mod Ways
+pub mod Asks
+pub mod Lasts
+pub mod Composed
+pub mod Takes
+pub mod Runs

@@ -1,9 +1,10 @@
 -- Lines that wait, taken off one after another and put behind others.
-use Rattle.std.proofs.Common.{ℕ, ◌≡◌, Bool, ◌||◌, List, [], ◌∷◌, ◌++◌, map, Option, Some, None, sym, ap, ◌∙◌, append_assoc}
+use Rattle.std.proofs.Common.{ℕ, ◌≡◌, Bool, ◌||◌, List, [], ◌∷◌, ◌++◌, map, Option, Some, None, refl, sym, ap, ◌∙◌, append_assoc}
 use Rattle.std.specs.Prelude.{option_to_list}
+use Rattle.std.specs.List.{list_any}
 use Rattle.std.proofs.lemmas.List.{map-append}
 use Rattle.server_switch.specs.declared.slots.Slot.{Slot}
-use Rattle.server_switch.specs.Waits.{Wait, wait_of, waits_for, lost_at, lost_waits, next_filled, answered_waits, answer_of, text_ahead, left_ahead, text_behind, left_behind}
+use Rattle.server_switch.specs.Waits.{Wait, wait_of, opens, waits_for, lost_at, lost_waits, next_filled, answered_waits, answer_of, text_ahead, left_ahead, text_behind, left_behind}
 
 pub popped : (slots rest : List Slot) (r : Option Slot) (slot : Slot) → slots ≡ option_to_list r ++ rest → r ≡ Some slot → slots ≡ slot ∷ rest
 popped slots rest r slot items is = items ∙ ap (λ (o : Option Slot). option_to_list o ++ rest) is
@@ -63,3 +64,12 @@ pub none_left : (slots rest : List Slot) (r : Option Slot) (slot : Slot) → slo
 none_left slots rest r slot items is none =
     ap (λ (all : List Slot). left_ahead (map wait_of all)) (popped slots rest r slot items is)
     ∙ ap (λ (o : Option (List ℕ)). left_behind o (map wait_of (slot ∷ rest)) (left_ahead (map wait_of rest))) none
+
+-- whether a line is so, asked of the lines and of what they are shown by
+pub opens_map : (slots : List Slot) → list_any opens (map wait_of slots) ≡ list_any (λ (s : Slot). opens (wait_of s)) slots
+opens_map [] = refl
+opens_map (s ∷ slots) = ap (λ (b : Bool). opens (wait_of s) || b) (opens_map slots)
+
+pub waits_map : (slots : List Slot) (place : ℕ) → list_any (waits_for place) (map wait_of slots) ≡ list_any (λ (s : Slot). waits_for place (wait_of s)) slots
+waits_map [] place = refl
+waits_map (s ∷ slots) place = ap (λ (b : Bool). waits_for place (wait_of s) || b) (waits_map slots place)

@@ -5,3 +5,4 @@ pub mod Lines
 pub mod Routes
 pub mod Waits
 pub mod Exchanges
+pub mod Runs

@@ -1,5 +1,6 @@
 -- The line to a server.
-use Rattle.std.specs.Prelude.{ℕ, Bool, false, true, List, [], ◌∷◌, ◌++◌, Option, Some, None, codes, slice_get, slice_set, if◌then◌else◌}
+use Rattle.std.specs.Prelude.{ℕ, Bool, false, true, List, [], ◌∷◌, ◌++◌, Option, Some, None, codes, drop, slice_get, slice_set, if◌then◌else◌}
+use Rattle.lobby_words.specs.Answers.{is_whole, answer, left_after}
 use Rattle.std.specs.Str.{bytes_eq}
 use Rattle.std.specs.String.{string_bytes}
 use Rattle.server_switch.specs.declared.server_line.ServerLine.{ServerLine}
@@ -57,6 +58,23 @@ put_under name line s = record {
   left = s.left;
   wire = s.wire ++ (naming s.said name ++ ended line);
 }
+
+-- A line comes: the answer is whole where it was the last of it, and the next one begins.
+abbrev pub took : List ℕ → Standing → Standing
+took line s = record {
+  is_here = s.is_here;
+  said = s.said;
+  begun = if is_whole s.left line then [] else answer s.begun line;
+  left = left_after s.left line;
+  wire = s.wire;
+}
+
+abbrev pub whole_of : List ℕ → Standing → Option (List ℕ)
+whole_of line s = if is_whole s.left line then Some (answer s.begun line) else None
+
+-- so many bytes of what is to go there have gone
+abbrev pub gone_ahead : ℕ → Standing → Standing
+gone_ahead count s = record { is_here = s.is_here; said = s.said; begun = s.begun; left = s.left; wire = drop count s.wire }
 
 -- a connection that begins, or none
 abbrev pub renewed : Bool → Standing

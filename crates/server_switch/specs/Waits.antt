@@ -70,6 +70,16 @@ abbrev pub opens : Wait → Bool
 opens (Opening place line) = true
 opens _ = false
 
+-- an `open` that a server had no room for, and its answer
+pub record Refusal : Type 0 where
+  pub place : ℕ
+  pub line : List ℕ
+  pub text : List ℕ
+
+abbrev pub refusal_of : Wait → Option Refusal
+refusal_of (Refused place line text) = Some (record { place = place; line = line; text = text })
+refusal_of _ = None
+
 -- The one list: the rows of those that have told, in the order of the servers, behind their count. Where none has, none is there.
 abbrev pub rows_of : Share → List ℕ
 rows_of (Rows rows) = rows

@@ -1,17 +1,21 @@
 //! One client's exchange with the servers: what comes in, and what goes out.
-ghost use Rattle.std.specs.Prelude.{◌≡◌, ◌≤◌, ◌<◌, ◌++◌, ◌∷◌, [], true, false, Some, length, IfSome, IfNone, IfOk, OnOk, codes};
-ghost use Rattle.server_switch.specs.Exchanges.{waits_of, standings, is_here, said_at, name_waits, IsNoneHere, IsOutcome, Answers, Sends, game_outcome, IsOpened};
+ghost use Rattle.std.specs.Prelude.{◌≡◌, ◌≤◌, ◌<◌, ◌+◌, ◌↔◌, IsTrue, ◌++◌, ◌∷◌, [], true, false, Some, None, length, map, replicate, option_map, slice_get, IfSome, IfNone, IfOk, IfErr, OnOk, codes};
+ghost use Rattle.std.specs.List.{list_any};
+ghost use Rattle.std.specs.String.{string_bytes};
+ghost use Rattle.server_switch.specs.Exchanges as exchanges;
+ghost use Rattle.server_switch.specs.Exchanges.{View, view, fresh, is_here, said_at, wire_at, name_waits, IsNoneHere, IsSame, IsOutcome, Answers, Sends, game_outcome, IsOpened, IsNamed, IsListed, share_asked, asked, TextBecomes, LineBecomes, IsTold, IsSaid, whole_answer, with_line, IsAnswered, IsHandedOn, IsHeard, with_connection, IsHere, IsGone, IsSent};
 ghost use Rattle.server_switch.specs.Fields.{tail_text};
-ghost use Rattle.server_switch.specs.Lines.{change_at, put_under, is_new, renewed};
-ghost use Rattle.server_switch.specs.Waits.{Answered, wait_of, text_ahead, left_ahead, lost_waits};
+ghost use Rattle.server_switch.specs.Lines.{standing_of, change_at, put_under, is_new, renewed, took};
+ghost use Rattle.server_switch.specs.Waits.{wait_of, share_of};
+ghost use Rattle.server_switch.specs.Waits as waits;
 
 use crate::answers::{BAD_LINE, NO_GAME, NO_SERVER};
 use crate::fields::push_number;
-use crate::lists::{Part, listing_of};
+use crate::lists::{Part, ask_each, listing_of};
 use crate::numbers::{game_of, server_of};
 use crate::routes::{Route, route_of, text_of};
 use crate::server_line::ServerLine;
-use crate::slots::{Slot, answer_first, lose_each, take_ahead};
+use crate::slots::{Slot, answer_first, any_opens, any_waits, lose_each, refused, take_ahead};
 use rec_codec::Name;
 use std::alloc::{AllocError, Global};
 use std::collections::VecDeque;
@@ -32,58 +36,100 @@ pub struct Exchange {
 }
 
 // The lines to servers that are not there.
-fn lines_of(alloc: Global, servers: usize) -> Result<Vec<ServerLine>, AllocError> {
+#[tactic(auto, using(crate::proofs::Places::fresh_more))]
+fn lines_of(alloc: Global, servers: usize) -> Result<Vec<ServerLine>, AllocError>
+    ensures { IfOk result (λ lines. map standing_of lines.items ≡ replicate servers (renewed false)) }
+{
     let mut lines = Vec::new(alloc);
-    for _ in 0..servers {
-        lines.push(ServerLine::new(alloc))?;
+    for place in 0..servers {
+        let line = ServerLine::new(alloc);
+        lines.push(line)?;
     }
     Ok(lines)
 }
 
+// The line to the server at a place.
+fn line_at(servers: &[ServerLine], place: usize) -> Option<&ServerLine>
+    ensures { option_map (λ server. standing_of server.now) result ≡ slice_get (map standing_of servers.entry.now) place }
+{
+    servers.get(place)
+}
+
 impl Exchange {
     /// A client that has said nothing, and servers that are not there.
-    pub fn new(alloc: Global, servers: usize) -> Result<Exchange, AllocError> {
+    pub fn new(alloc: Global, servers: usize) -> Result<Exchange, AllocError>
+        ensures { IfOk result (λ exchange. IsSame (fresh servers) (view exchange)) }
+    {
+        let servers = lines_of(alloc, servers)?;
         Ok(Exchange {
             alloc,
             name: None,
-            servers: lines_of(alloc, servers)?,
+            servers,
             slots: VecDeque::new(alloc),
             told: Vec::new(alloc),
         })
     }
 
+    // How many lines are not answered.
+    #[tactic(auto, using(crate::proofs::Lasts::waits_len))]
+    fn waiting(&self) -> usize
+        ensures { result ≡ length (view self.now).waits }
+    {
+        self.slots.len()
+    }
+
     /// Whether the next line may be taken: none that opens a game is before it, and not too many lines are.
-    pub fn is_ready(&self) -> bool {
-        let is_opening = match self.slots.back() {
-            Some(slot) => slot.opens(),
-            None => false,
-        };
-        self.slots.len() < SLOTS_MOST && !is_opening
+    pub fn is_ready(&self) -> bool
+        ensures { result ≡ exchanges.is_ready (view self.now) }
+    {
+        let has_room = self.waiting() < SLOTS_MOST;
+        let is_opening = any_opens(&self.slots);
+        has_room & !is_opening
     }
 
     /// Whether each line is answered.
-    pub fn is_idle(&self) -> bool {
-        self.slots.is_empty()
+    pub fn is_idle(&self) -> bool
+        ensures { result ≡ exchanges.is_idle (view self.now) }
+    {
+        self.waiting() == 0
     }
 
     /// Whether an answer of a server is due.
-    pub fn waits_for(&self, place: usize) -> bool {
-        self.slots.iter().any(|slot| slot.waits_for(place))
+    pub fn waits_for(&self, place: usize) -> bool
+        ensures { result ≡ list_any (waits.waits_for place) (view self.now).waits }
+    {
+        any_waits(&self.slots, place)
     }
 
-    /// What is to go to a server.
-    pub fn wire(&mut self, place: usize) -> Option<&mut Vec<u8>> {
-        match self.servers.get_mut(place) {
-            Some(server) => Some(&mut server.wire),
-            None => None,
+    /// What is to go to a server; of none nothing is.
+    pub fn wire(&self, place: usize) -> &[u8]
+        ensures { result.now ≡ wire_at (view self.now) place }
+    {
+        let servers = self.servers.as_slice();
+        match line_at(servers, place) {
+            Some(server) => {
+                let wire = server.wire.as_slice();
+                wire
+            }
+            None => &[],
+        }
+    }
+
+    /// So many bytes of what is to go to a server have gone.
+    pub fn sent(&mut self, place: usize, count: usize)
+        ensures { IsSent place count (view self.old) (view self.new) }
+    {
+        if place < self.servers.len() {
+            self.servers[place].sent(count);
         }
     }
 
     // Whether the server at a place is there.
     fn is_here(&self, place: usize) -> bool
-        ensures { result ≡ is_here self.now place }
+        ensures { result ≡ is_here (view self.now) place }
     {
-        match self.servers.get(place) {
+        let servers = self.servers.as_slice();
+        match line_at(servers, place) {
             Some(server) => server.is_here,
             None => false,
         }
@@ -92,9 +138,9 @@ impl Exchange {
     // The first server from a place on that is there.
     fn next_here(&self, from: usize) -> Option<usize>
         ensures within { IfSome result (λ place. (from ≤ place) × (place < length self.now.servers.items)) }
-        ensures here { IfSome result (λ place. is_here self.now place ≡ true) }
-        ensures first { IfSome result (λ place. IsNoneHere self.now from place) }
-        ensures none { IfNone result (IsNoneHere self.now from (length self.now.servers.items)) }
+        ensures here { IfSome result (λ place. is_here (view self.now) place ≡ true) }
+        ensures first { IfSome result (λ place. IsNoneHere (view self.now) from place) }
+        ensures none { IfNone result (IsNoneHere (view self.now) from (length self.now.servers.items)) }
     {
         for place in from..self.servers.len() {
             if self.is_here(place) {
@@ -106,7 +152,7 @@ impl Exchange {
 
     // The next line is answered by the switch itself.
     fn answer(&mut self, text: &str) -> Result<(), AllocError>
-        ensures { OnOk result (IsOutcome (Answers text.now) self.old self.new) }
+        ensures { OnOk result (IsOutcome (Answers text.now) (view self.old) (view self.new)) }
     {
         let text = String::from_str(self.alloc, text)?;
         self.slots.push_back(Slot::Answered(text))?;
@@ -116,8 +162,8 @@ impl Exchange {
     // Puts a line to a server, under the client's name. It tells whether that was said before.
     fn put_to(&mut self, place: usize, line: &str) -> Result<bool, AllocError>
         requires { place < length self.old.servers.items }
-        ensures new { IfOk result (λ has_said. has_said ≡ is_new (said_at self.old place) self.old.name) }
-        ensures sent { OnOk result (standings self.new ≡ change_at (put_under self.old.name line.now) place (standings self.old)) }
+        ensures new { IfOk result (λ has_said. has_said ≡ is_new (said_at (view self.old) place) self.old.name) }
+        ensures sent { OnOk result ((view self.new).servers ≡ change_at (put_under self.old.name line.now) place (view self.old).servers) }
         ensures rest { OnOk result ((self.new.slots ≡ self.old.slots) × (self.new.name ≡ self.old.name) × (self.new.told ≡ self.old.told)) }
     {
         let has_said = self.servers[place].put_under(self.name, line)?;
@@ -126,7 +172,7 @@ impl Exchange {
 
     // A line waits, behind one that says the name where that was said.
     fn push_waits(&mut self, place: usize, has_said: bool, slot: Slot) -> Result<(), AllocError>
-        ensures waits { OnOk result (waits_of self.new ≡ waits_of self.old ++ (name_waits place has_said ++ wait_of slot ∷ [])) }
+        ensures waits { OnOk result ((view self.new).waits ≡ (view self.old).waits ++ (name_waits place has_said ++ wait_of slot ∷ [])) }
         ensures rest { OnOk result ((self.new.servers ≡ self.old.servers) × (self.new.name ≡ self.old.name) × (self.new.told ≡ self.old.told)) }
     {
         if has_said {
@@ -142,7 +188,7 @@ impl Exchange {
     // Sends a line to a server, under the client's name.
     fn send(&mut self, place: usize, line: &str, slot: Slot) -> Result<(), AllocError>
         requires { place < length self.old.servers.items }
-        ensures { OnOk result (IsOutcome (Sends place line.now (wait_of slot)) self.old self.new) }
+        ensures { OnOk result (IsOutcome (Sends place line.now (wait_of slot)) (view self.old) (view self.new)) }
     {
         let has_said = self.put_to(place, line)?;
         self.push_waits(place, has_said, slot)?;
@@ -151,10 +197,7 @@ impl Exchange {
 
     // A line that says a name.
     fn name_said(&mut self, name: Name) -> Result<(), AllocError>
-        ensures named { OnOk result (self.new.name ≡ Some name) }
-        ensures waits { OnOk result (waits_of self.new ≡ waits_of self.old ++ Answered (codes "ok name " ++ (name ++ codes "\n")) ∷ []) }
-        ensures servers { OnOk result (self.new.servers ≡ self.old.servers) }
-        ensures told { OnOk result (self.new.told ≡ self.old.told) }
+        ensures { OnOk result (IsNamed name (view self.old) (view self.new)) }
     {
         self.name = Some(name);
         let mut text = String::from_str(self.alloc, "ok name ")?;
@@ -165,8 +208,9 @@ impl Exchange {
     }
 
     // A line of a game.
+    #[tactic(auto, using(crate::proofs::Places::servers_len))]
     fn game_said(&mut self, word: &str, number: u32, tail: Option<&str>) -> Result<(), AllocError>
-        ensures { OnOk result (IsOutcome (game_outcome self.old word.now number (tail_text 32 tail.entry)) self.old self.new) }
+        ensures { OnOk result (IsOutcome (game_outcome (view self.old) word.now number (tail_text 32 tail.entry)) (view self.old) (view self.new)) }
     {
         let Some(place) = (server_of(number) as usize).checked_sub(1) else {
             return self.answer(NO_GAME);
@@ -184,8 +228,9 @@ impl Exchange {
     }
 
     // A line that opens a game goes to the first server from a place on that is there.
+    #[tactic(auto, using(crate::proofs::Places::servers_len))]
     fn open_at(&mut self, from: usize, line: &str, refusal: &str) -> Result<(), AllocError>
-        ensures { OnOk result (IsOpened from line.now refusal.now self.old self.new) }
+        ensures { OnOk result (IsOpened from line.now refusal.now (view self.old) (view self.new)) }
     {
         match self.next_here(from) {
             Some(place) => {
@@ -196,41 +241,29 @@ impl Exchange {
         }
     }
 
-    // Asks a server for its list, if it is there.
-    fn ask_list(&mut self, place: usize) -> Result<Part, AllocError>
-        requires { place < length self.old.servers.items }
+    // Each server that is there is asked for its list.
+    fn ask_each(&mut self) -> Result<Vec<Part>, AllocError>
+        ensures parts { IfOk result (λ parts. map share_of parts.items ≡ map share_asked (view self.old).servers) }
+        ensures asked { OnOk result ((view self.new).servers ≡ map asked (view self.old).servers) }
+        ensures rest { OnOk result ((self.new.slots ≡ self.old.slots) × (self.new.name ≡ self.old.name) × (self.new.told ≡ self.old.told)) }
     {
-        if self.is_here(place) {
-            self.servers[place].put("list")?;
-            Ok(Part::Waits)
-        } else {
-            Ok(Part::Absent)
-        }
-    }
-
-    // What the server at a place has of a list that is asked for now.
-    fn part_at(&mut self, place: usize) -> Result<Part, AllocError> {
-        if place < self.servers.len() {
-            self.ask_list(place)
-        } else {
-            Ok(Part::Absent)
-        }
+        ask_each(self.alloc, &mut self.servers)
     }
 
     // The line that asks for all games.
-    fn list_said(&mut self) -> Result<(), AllocError> {
-        let mut parts = Vec::new(self.alloc);
-        for place in 0..self.servers.len() {
-            let part = self.part_at(place)?;
-            parts.push(part)?;
-        }
+    fn list_said(&mut self) -> Result<(), AllocError>
+        ensures { OnOk result (IsListed (view self.old) (view self.new)) }
+    {
+        let parts = self.ask_each()?;
         let slot = listing_of(self.alloc, parts)?;
         self.slots.push_back(slot)?;
         Ok(())
     }
 
     // A line goes where its route says.
-    fn go(&mut self, line: &str) -> Result<(), AllocError> {
+    fn go(&mut self, line: &str) -> Result<(), AllocError>
+        ensures { OnOk result (TextBecomes line.now (view self.old) (view self.new)) }
+    {
         match route_of(line) {
             Route::Name(name) => self.name_said(name),
             Route::List => self.list_said(),
@@ -240,49 +273,86 @@ impl Exchange {
         }
     }
 
-    /// The client says a line.
-    pub fn said(&mut self, line: &[u8]) -> Result<(), AllocError> {
-        self.go(text_of(line))?;
+    // The same of a line of any bytes.
+    fn go_bytes(&mut self, line: &[u8]) -> Result<(), AllocError>
+        ensures { OnOk result (LineBecomes line.now (view self.old) (view self.new)) }
+    {
+        match text_of(line) {
+            Some(text) => self.go(text),
+            None => self.answer(BAD_LINE),
+        }
+    }
+
+    /// The client says a line, without the line feed that ends it. What becomes of it is said by `LineBecomes`, and then the client is
+    /// told the answers that are next. Where memory is refused, what has become of it is not known.
+    pub fn said(&mut self, line: &[u8]) -> Result<(), AllocError>
+        ensures { OnOk result (IsSaid line.now (view self.old) (view self.new)) }
+    {
+        self.go_bytes(line)?;
         self.flush()
     }
 
     // Gives the client the answers that are next.
     fn flush(&mut self) -> Result<(), AllocError>
-        ensures told { OnOk result (self.new.told.items ≡ self.old.told.items ++ text_ahead (waits_of self.old)) }
-        ensures left { OnOk result (waits_of self.new ≡ left_ahead (waits_of self.old)) }
-        ensures servers { OnOk result (self.new.servers ≡ self.old.servers) }
-        ensures name { OnOk result (self.new.name ≡ self.old.name) }
+        ensures { OnOk result (IsTold (view self.old) (view self.new)) }
     {
         take_ahead(&mut self.slots, &mut self.told)
     }
 
+    // The next server behind a place is asked to open a game.
+    fn open_behind(&mut self, place: usize, line: &str, refusal: &str) -> Result<(), AllocError>
+        ensures { OnOk result (IsOpened (place + 1) line.now refusal.now (view self.old) (view self.new)) }
+    {
+        if place < self.servers.len() {
+            self.open_at(place + 1, line, refusal)
+        } else {
+            self.answer(refusal)
+        }
+    }
+
     // Where the last line opens a game and was refused for want of room, another server is asked.
-    fn ask_next(&mut self) -> Result<(), AllocError> {
+    fn hand_on(&mut self) -> Result<(), AllocError>
+        ensures { OnOk result (IsHandedOn (view self.old) (view self.new)) }
+    {
         match self.slots.pop_back() {
-            Some(Slot::Refused(place, line, text)) => {
-                self.open_at(place.saturating_add(1), line.as_str(), text.as_str())
-            }
-            Some(slot) => {
-                self.slots.push_back(slot)?;
-                Ok(())
-            }
             None => Ok(()),
+            Some(slot) => match refused(slot) {
+                Ok((place, line, text)) => { self.open_behind(place, line.as_str(), text.as_str()) }
+                Err(slot) => {
+                    self.slots.push_back(slot)?;
+                    Ok(())
+                }
+            },
         }
     }
 
     // A server's answer has come.
-    fn answered(&mut self, place: usize, answer: &str) -> Result<(), AllocError> {
+    fn answered(&mut self, place: usize, answer: &str) -> Result<(), AllocError>
+        ensures { OnOk result (IsAnswered place (Some answer.now) (view self.old) (view self.new)) }
+    {
         answer_first(&mut self.slots, self.alloc, place, answer)?;
-        self.ask_next()?;
+        self.hand_on()?;
         self.flush()
     }
 
-    /// A line comes from a server.
-    pub fn heard(&mut self, place: usize, line: &str) -> Result<(), AllocError> {
-        let taken = match self.servers.get_mut(place) {
-            Some(server) => server.coming.take(line)?,
-            None => None,
-        };
+    // A line is one more of the answer that comes from a server, which is given where that is whole.
+    fn take_line(&mut self, place: usize, line: &str) -> Result<Option<String>, AllocError>
+        ensures whole { IfOk result (λ whole. option_map string_bytes whole ≡ whole_answer line.now (slice_get (view self.old).servers place)) }
+        ensures lines { OnOk result (IsSame (with_line place line.now (view self.old)) (view self.new)) }
+    {
+        if place < self.servers.len() {
+            self.servers[place].take(line)
+        } else {
+            Ok(None)
+        }
+    }
+
+    /// A line comes from a server, without the line feed that ends it. Where an answer is whole with it, that is the answer of the
+    /// first line that waits for the server. Where memory is refused, what has become of it is not known.
+    pub fn heard(&mut self, place: usize, line: &str) -> Result<(), AllocError>
+        ensures { OnOk result (IsHeard place line.now (view self.old) (view self.new)) }
+    {
+        let taken = self.take_line(place, line)?;
         match taken {
             Some(answer) => self.answered(place, answer.as_str()),
             None => Ok(()),
@@ -291,10 +361,7 @@ impl Exchange {
 
     // The connection to a server is another, or none.
     fn renew(&mut self, place: usize, is_here: bool)
-        ensures standings { standings self.new ≡ change_at (λ s. renewed is_here) place (standings self.old) }
-        ensures waits { waits_of self.new ≡ waits_of self.old }
-        ensures told { self.new.told ≡ self.old.told }
-        ensures name { self.new.name ≡ self.old.name }
+        ensures { IsSame (with_connection place is_here (view self.old)) (view self.new) }
     {
         if place < self.servers.len() {
             self.servers[place].renew(is_here);
@@ -303,21 +370,15 @@ impl Exchange {
 
     /// A server is there, by a connection on which nothing was said. To no other goes anything, and the client is told nothing.
     pub fn here(&mut self, place: usize)
-        ensures standings { standings self.new ≡ change_at (λ s. renewed true) place (standings self.old) }
-        ensures waits { waits_of self.new ≡ waits_of self.old }
-        ensures told { self.new.told ≡ self.old.told }
-        ensures name { self.new.name ≡ self.old.name }
+        ensures { IsHere place (view self.old) (view self.new) }
     {
         self.renew(place, true);
     }
 
     /// The connection to a server is lost: the lines that wait for it are answered so, and no other line changes; to no other server
-    /// goes anything.
+    /// goes anything. Where memory is refused, what has become of it is not known.
     pub fn gone(&mut self, place: usize) -> Result<(), AllocError>
-        ensures standings { OnOk result (standings self.new ≡ change_at (λ s. renewed false) place (standings self.old)) }
-        ensures told { OnOk result (self.new.told.items ≡ self.old.told.items ++ text_ahead (lost_waits place (waits_of self.old))) }
-        ensures left { OnOk result (waits_of self.new ≡ left_ahead (lost_waits place (waits_of self.old))) }
-        ensures name { OnOk result (self.new.name ≡ self.old.name) }
+        ensures { OnOk result (IsGone place (view self.old) (view self.new)) }
     {
         self.renew(place, false);
         lose_each(&mut self.slots, self.alloc, place)?;

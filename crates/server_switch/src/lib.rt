@@ -4,6 +4,7 @@
 mod answers;
 mod exchange;
 mod fields;
+mod law;
 mod lists;
 mod numbers;
 mod routes;

@@ -3,13 +3,16 @@ ghost use Rattle.std.specs.Prelude.{◌≡◌, ◌++◌, map, IfOk, OnOk};
 ghost use Rattle.std.specs.List.{list_any};
 ghost use Rattle.std.specs.String.{string_bytes};
 ghost use Rattle.server_switch.specs.Answers.{row_told, rows_told};
+ghost use Rattle.server_switch.specs.Exchanges.{asked, share_asked};
 ghost use Rattle.server_switch.specs.Fields.{renumbered};
+ghost use Rattle.server_switch.specs.Lines.{standing_of};
 ghost use Rattle.server_switch.specs.Waits as waits;
 ghost use Rattle.server_switch.specs.Waits.{is_due, share_of, wait_of, rows_in, listing};
 
 use crate::answers::NO_SERVER;
 use crate::fields::{number_ahead, push_number};
 use crate::numbers::number_of;
+use crate::server_line::ServerLine;
 use crate::slots::Slot;
 use itoa::Buffer;
 use lobby_words::is_list;
@@ -188,6 +191,19 @@ pub fn listing_of(alloc: Global, parts: Vec<Part>) -> Result<Slot, AllocError>
     } else {
         Ok(Slot::Answered(merged(alloc, parts.as_slice())?))
     }
+}
+
+/// Each server that is there is asked for its list. It gives the parts that are due.
+pub fn ask_each(alloc: Global, servers: &mut Vec<ServerLine>) -> Result<Vec<Part>, AllocError>
+    ensures parts { IfOk result (λ parts. map share_of parts.items ≡ map share_asked (map standing_of servers.old.items)) }
+    ensures asked { OnOk result (map standing_of servers.new.items ≡ map asked (map standing_of servers.old.items)) }
+{
+    let mut parts = Vec::new(alloc);
+    for place in 0..servers.len() {
+        let part = servers[place].ask_list()?;
+        parts.push(part)?;
+    }
+    Ok(parts)
 }
 
 // A part is known.

@@ -3,7 +3,7 @@ ghost use Rattle.std.specs.Prelude.{ℕ, ◌≡◌, ◌<◌, ◌≤◌, ◌^◌}
 ghost use Rattle.server_switch.specs.Numbers as numbers;
 ghost use Rattle.server_switch.specs.Numbers.{IsFound, IsNumbered};
 
-/// The most servers: with 429 a number would be over 2 ^ 32 - 1.
+/// The most servers: with 429 numbers could be over 2 ^ 32 - 1.
 pub const SERVERS_MOST: u32 = 428;
 
 /// A game that has this number on its server, or a greater one, has none here.
@@ -34,8 +34,8 @@ pub fn game_of(number: u32) -> u32
     number % GAMES_MOST
 }
 
-/// Each of the first ten million games of each of 428 servers has a number here, by which it is found, and each number is that of one
-/// game of one server: so no two games have one number.
+/// Each game below 10,000,000 of each of 428 servers has a number here, by which it is found, and each number is that of one game of
+/// one server: so no two games have one number.
 pub fn law_of_numbers()
     ensures found { (server game : ℕ) → server ≤ 428 → game < 10_000_000 → IsFound server game }
     ensures numbered { (number : ℕ) → IsNumbered number }

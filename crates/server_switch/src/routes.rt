@@ -1,7 +1,6 @@
 //! Where a client's line goes.
-ghost use Rattle.std.specs.Prelude.{◌≡◌};
-ghost use Rattle.std.specs.List.{list_all};
-ghost use Rattle.server_switch.specs.Routes.{IsRoute, IsGameRoute, IsNameRoute, names_game, is_plain_byte, is_plain};
+ghost use Rattle.std.specs.Prelude.{◌≡◌, true, false, List, ℕ, IfSome, IfNone};
+ghost use Rattle.server_switch.specs.Routes.{Way, IsRoute, IsOnly, IsGameRoute, IsNameRoute, way_of, names_game, is_plain_byte, is_plain};
 
 use crate::fields::number_ahead;
 use rec_codec::Name;
@@ -62,28 +61,28 @@ fn name_route<'a>(name: &str) -> Route<'a>
     }
 }
 
-/// Where a line goes.
+/// Where a line goes. A line that asks for something is taken for that, and every other for none.
 pub fn route_of(line: &str) -> Route<'_>
-    ensures { IsRoute line.entry.now result }
+    ensures { IsRoute line.entry.now (way_of result) }
 {
     match line.split_once(' ') {
         Some((word, rest)) => {
-            if word == "name" {
+            let is_name = word == "name";
+            let is_open = word == "open";
+            let is_game = names_game(word);
+            if is_name {
                 name_route(rest)
-            } else if word == "open" {
+            } else if is_open {
                 Route::Open
-            } else if names_game(word) {
+            } else if is_game {
                 game_route(word, rest)
             } else {
                 Route::Nothing
             }
         }
         None => {
-            if line == "list" {
-                Route::List
-            } else {
-                Route::Nothing
-            }
+            let is_list = line == "list";
+            if is_list { Route::List } else { Route::Nothing }
         }
     }
 }
@@ -101,12 +100,22 @@ fn is_plain(bytes: &[u8]) -> bool
 }
 
 /// The text of a line whose bytes are 32 to 126; of another none, which has no form.
-pub fn text_of(line: &[u8]) -> &str {
-    if !is_plain(line) {
-        return "";
-    }
-    match str::from_utf8(line) {
-        Ok(text) => text,
-        Err(_) => "",
+pub fn text_of(line: &[u8]) -> Option<&str>
+    ensures some { IfSome result (λ text. (text.now ≡ line.entry.now) × (is_plain line.entry.now ≡ true)) }
+    ensures none { IfNone result (is_plain line.entry.now ≡ false) }
+{
+    let is_text = is_plain(line);
+    if is_text {
+        match str::from_utf8(line) {
+            Ok(text) => Some(text),
+            Err(_) => None,
+        }
+    } else {
+        None
     }
 }
+
+/// No line asks for two things.
+pub fn law_of_routes()
+    ensures { (line : List ℕ) (one other : Way) → IsOnly line one other }
+{}

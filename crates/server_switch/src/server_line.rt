@@ -1,8 +1,12 @@
 //! What the switch knows of a server, and what is to go there.
-ghost use Rattle.std.specs.Prelude.{◌≡◌, ◌++◌, false, OnOk, IfOk};
+ghost use Rattle.std.specs.Prelude.{◌≡◌, ◌≤◌, ◌++◌, false, length, drop, option_map, OnOk, IfOk};
+ghost use Rattle.std.specs.String.{string_bytes};
+ghost use Rattle.server_switch.specs.Exchanges.{asked, share_asked};
 ghost use Rattle.server_switch.specs.Lines as lines;
-ghost use Rattle.server_switch.specs.Lines.{standing_of, renewed, put_behind, put_under, is_new};
+ghost use Rattle.server_switch.specs.Lines.{standing_of, renewed, put_behind, put_under, is_new, took, whole_of, gone_ahead};
+ghost use Rattle.server_switch.specs.Waits.{share_of};
 
+use crate::lists::Part;
 use lobby_words::Coming;
 use rec_codec::Name;
 use std::alloc::{AllocError, Global};
@@ -28,6 +32,16 @@ fn is_said(said: &Option<Name>, name: &Name) -> bool
         None => false,
         Some(said) => said.as_str() == name,
     }
+}
+
+// Gives up the first bytes.
+fn give_up(bytes: &mut Vec<u8>, count: usize)
+    requires { count ≤ length bytes.old.items }
+    ensures { bytes.new.items ≡ drop count bytes.old.items }
+{
+    let left = bytes.len() - count;
+    bytes.as_mut_slice().copy_within(count.., 0);
+    bytes.truncate(left);
 }
 
 impl ServerLine {
@@ -69,6 +83,36 @@ impl ServerLine {
         ensures { OnOk result (standing_of self.new ≡ put_behind line.now (standing_of self.old)) }
     {
         self.put_parts("", line)
+    }
+
+    /// Asks for the list, if the server is there, and gives the part that is due.
+    pub fn ask_list(&mut self) -> Result<Part, AllocError>
+        ensures part { IfOk result (λ part. share_of part ≡ share_asked (standing_of self.old)) }
+        ensures asked { OnOk result (standing_of self.new ≡ asked (standing_of self.old)) }
+    {
+        if self.is_here {
+            self.put("list")?;
+            Ok(Part::Waits)
+        } else {
+            Ok(Part::Absent)
+        }
+    }
+
+    /// Takes a line of an answer, and gives the answer where it was the last of it.
+    pub fn take(&mut self, line: &str) -> Result<Option<String>, AllocError>
+        ensures whole { IfOk result (λ whole. option_map string_bytes whole ≡ whole_of line.now (standing_of self.old)) }
+        ensures took { OnOk result (standing_of self.new ≡ took line.now (standing_of self.old)) }
+    {
+        let whole = self.coming.take(line)?;
+        Ok(whole)
+    }
+
+    /// So many bytes of what is to go there have gone.
+    pub fn sent(&mut self, count: usize)
+        ensures { standing_of self.new ≡ gone_ahead count (standing_of self.old) }
+    {
+        let count = count.min(self.wire.len());
+        give_up(&mut self.wire, count);
     }
 
     /// Sends a line under a name, which is said first where another or none was said last. It tells whether it was said.

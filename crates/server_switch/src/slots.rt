@@ -1,8 +1,9 @@
 //! The client's lines that are not answered yet, each with what it waits for.
 ghost use Rattle.std.specs.Prelude.{◌≡◌, ◌++◌, Some, None, false, map, IfOk, IfErr, OnOk};
+ghost use Rattle.std.specs.List.{list_any};
 ghost use Rattle.std.specs.String.{string_bytes};
 ghost use Rattle.server_switch.specs.Waits as waits;
-ghost use Rattle.server_switch.specs.Waits.{wait_of, share_of, is_due_at, text_ahead, left_ahead, lost_waits, answered_waits, filled, lost_at};
+ghost use Rattle.server_switch.specs.Waits.{wait_of, refusal_of, share_of, is_due_at, text_ahead, left_ahead, lost_waits, answered_waits, filled, lost_at};
 
 use crate::answers::{LOST, is_full, told};
 use crate::lists::{Part, is_waiting, listed, without};
@@ -57,6 +58,35 @@ impl Slot {
             _ => false,
         }
     }
+}
+
+// Whether a line opens a game and is not answered.
+fn any_opening(slots: &VecDeque<Slot>) -> bool
+    ensures { result ≡ list_any (λ slot. waits.opens (wait_of slot)) slots.now.items }
+{
+    slots.iter().any(Slot::opens)
+}
+
+/// The same.
+#[tactic(auto, using(crate::proofs::Steps::opens_map))]
+pub fn any_opens(slots: &VecDeque<Slot>) -> bool
+    ensures { result ≡ list_any waits.opens (map wait_of slots.now.items) }
+{
+    any_opening(slots)
+}
+
+// Whether a line waits for a server.
+fn any_waiting(slots: &VecDeque<Slot>, place: usize) -> bool
+    ensures { result ≡ list_any (λ slot. waits.waits_for place (wait_of slot)) slots.now.items }
+{
+    slots.iter().any(|slot| slot.waits_for(place))
+}
+
+/// The same.
+pub fn any_waits(slots: &VecDeque<Slot>, place: usize) -> bool
+    ensures { result ≡ list_any (waits.waits_for place) (map wait_of slots.now.items) }
+{
+    any_waiting(slots, place)
 }
 
 // What an answer makes of an `open`.
@@ -168,6 +198,17 @@ fn text_of(slot: Slot) -> Result<String, Slot>
     match slot {
         Slot::Answered(text) => Ok(text),
         Slot::Refused(_place, _line, text) => Ok(text),
+        other => Err(other),
+    }
+}
+
+/// The place, the line and the answer of an `open` that a server had no room for; else the line.
+pub fn refused(slot: Slot) -> Result<(usize, String, String), Slot>
+    ensures refusal { IfOk result (λ r. refusal_of (wait_of slot) ≡ Some (record { place = r.0; line = string_bytes r.1; text = string_bytes r.2 })) }
+    ensures none { IfErr result (λ same. (same ≡ slot) × (refusal_of (wait_of slot) ≡ None)) }
+{
+    match slot {
+        Slot::Refused(place, line, text) => Ok((place, line, text)),
         other => Err(other),
     }
 }

@@ -49,10 +49,13 @@ fn taken(alloc: Global, bytes: &mut Vec<u8>) -> Result<String, Fail> {
 }
 
 fn sent_to(alloc: Global, exchange: &mut Exchange, place: usize) -> Result<String, Fail> {
-    match exchange.wire(place) {
-        Some(wire) => taken(alloc, wire),
-        None => Ok(String::new(alloc)),
+    let mut text = String::new(alloc);
+    if let Ok(some) = str::from_utf8(exchange.wire(place)) {
+        text.push_str(some)?;
     }
+    let count = exchange.wire(place).len();
+    exchange.sent(place, count);
+    Ok(text)
 }
 
 fn play<R: AllocGlobal + Abort>(rt: &R, exchange: &mut Exchange, rows: &[Row]) -> Result<(), Fail> {

@@ -1,0 +1,7 @@
+use Rattle.std.proofs.lemmas.Result.{on_ok_weaker}
+use Rattle.server_switch.specs.Exchanges.{view}
+use Rattle.server_switch.proofs.exchange.Exchange.said.Goals as goal
+
+pub returns : goal.returns
+returns c =
+    on_ok_weaker c.flush.result (λ told. (view c.go_bytes.new.self, c.in_ok-go_bytes.ensures, told)) c.flush.ensures
