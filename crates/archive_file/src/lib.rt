@@ -6,8 +6,6 @@ mod faults;
 mod law;
 mod line;
 mod reading;
-#[cfg(test)]
-mod tests;
 
 pub use archive::{Archive, games_of};
 pub use faults::Fault;

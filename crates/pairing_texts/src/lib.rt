@@ -9,8 +9,6 @@ mod reading;
 mod records;
 mod rows;
 mod steps;
-#[cfg(test)]
-mod tests;
 mod times;
 
 pub use faults::{Fault, RowFault};

@@ -3,8 +3,6 @@
 
 mod cells;
 mod columns;
-#[cfg(test)]
-mod tests;
 
 pub use cells::{Meeting, Play, Score};
 pub use columns::{Event, Fault, report};

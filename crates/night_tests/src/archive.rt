@@ -1,0 +1,147 @@
+//! The archive's file: nights in memory, with every kill.
+use crate::cuts::CUTS;
+use archive_file::{Archive, Fault, game_of, pgn_of};
+use night_files::{AppendedFile, Fate, MemoryFile};
+use std::alloc::Global;
+use std::process::Abort;
+
+// The games of a night, by number.
+const GAMES: [(u32, &str); 3] = [
+    (7, "[White \"a \\\"b\\\"\"]\n\n1. e4 *\n\n"),
+    (1, ""),
+    (4_294_967_295, "{\\n}\n"),
+];
+
+// An archive without a game.
+fn empty(rt: &impl Abort, alloc: Global) -> Archive<MemoryFile> {
+    Archive::open(alloc, MemoryFile::new(alloc, None)).expect(rt, "an archive")
+}
+
+// Keeps all games until a call fails. It tells how many calls were answered.
+fn keep_all(alloc: Global, archive: &mut Archive<MemoryFile>) -> usize {
+    let mut answered: usize = 0;
+    for (game, pgn) in &GAMES {
+        if archive.keep(alloc, *game, pgn.as_bytes()).is_err() {
+            return answered;
+        }
+        answered = answered.saturating_add(1);
+    }
+    answered
+}
+
+// Whether games are the first ones of the night, and at least so many.
+fn are_first(games: &[u32], least: usize) -> bool {
+    let mut all = GAMES.iter();
+    games.len() >= least
+        && games
+            .iter()
+            .all(|game| all.next().map(|one| one.0) == Some(*game))
+}
+
+// An archive that is killed after so many calls, and of which a crash leaves this. It tells how many were answered, if it could be
+// opened.
+fn killed(
+    rt: &impl Abort,
+    alloc: Global,
+    calls: u32,
+    fates: &[Fate],
+) -> Option<(usize, MemoryFile)> {
+    let mut archive = Archive::open(alloc, MemoryFile::new(alloc, Some(calls))).ok()?;
+    let answered = keep_all(alloc, &mut archive);
+    let file = archive.into_file().crash(fates, None).expect(rt, "memory");
+    Some((answered, file))
+}
+
+// The next life has what was answered, and keeps all once.
+fn check_next_life(rt: &impl Abort, alloc: Global, answered: usize, file: MemoryFile) {
+    let mut archive = Archive::open(alloc, file).expect(rt, "an archive");
+    assert!(rt; are_first(archive.games(), answered));
+    assert!(rt; keep_all(alloc, &mut archive) == 3);
+    assert!(rt; archive.games().len() == 3);
+    assert!(rt; are_first(archive.games(), 3));
+}
+
+#[test]
+fn keeps_each_game_once(rt: HostRuntime) {
+    for calls in 0..10 {
+        for fates in &CUTS {
+            if let Some((answered, file)) = killed(&rt, rt.alloc(), calls, fates) {
+                check_next_life(&rt, rt.alloc(), answered, file);
+            }
+        }
+    }
+}
+
+#[test]
+fn tells_what_it_has(rt: HostRuntime) {
+    let mut archive = empty(&rt, rt.alloc());
+    assert!(rt; !archive.has(7));
+    assert!(rt; matches!(archive.keep(rt.alloc(), 7, b"*\n"), Ok(true)));
+    assert!(rt; archive.has(7));
+    assert!(rt; !archive.has(8));
+    assert!(rt; matches!(archive.keep(rt.alloc(), 7, b"1. e4 *\n"), Ok(false)));
+}
+
+// The game of a line.
+fn game(rt: &impl Abort, alloc: Global, line: &str) -> Option<u32> {
+    game_of(alloc, line).expect(rt, "memory")
+}
+
+#[test]
+fn reads_lines(rt: HostRuntime) {
+    let line = "{\"game\":12,\"pgn\":\"[A \\\"b\\\\\\\\\\\"]\\n*\\n\"}";
+    assert!(rt; game(&rt, rt.alloc(), line) == Some(12));
+    let pgn = pgn_of(rt.alloc(), line).expect(&rt, "memory");
+    assert!(rt; pgn.as_slice() == b"[A \"b\\\\\"]\n*\n".as_slice());
+    assert!(rt; game(&rt, rt.alloc(), "{\"game\":7,\"pgn\":\"\u{fc}\"}") == Some(7));
+}
+
+// What is no line of an archive, though a game's number stands in some.
+const OTHERS: [&str; 17] = [
+    "",
+    "{\"act\":1,\"pgn\":\"*\"}",
+    "{\"game\":7",
+    "{\"game\":7,",
+    "{\"game\":7,\"pgn\":\"1. e4",
+    "{\"game\":7,\"pgn\":\"*\"",
+    "{\"game\":7,\"pgn\":\"*\"} ",
+    "{\"game\":7,\"pgn\":\"*\",\"game\":8}",
+    "{\"game\":7,\"moves\":3,\"pgn\":\"*\"}",
+    "{\"game\":7,\"pgn\":\"\\u00fc\"}",
+    "{\"game\":7,\"pgn\":\"\\t\"}",
+    "{\"game\":7,\"pgn\":\"\\/\"}",
+    "{\"game\":7,\"pgn\":\"\t\"}",
+    "{\"game\":07,\"pgn\":\"*\"}",
+    "{\"game\": 7,\"pgn\":\"*\"}",
+    "{\"game\":4294967296,\"pgn\":\"*\"}",
+    "{\"pgn\":\"*\",\"game\":7}",
+];
+
+// A file of a game's line and another line.
+fn file_with(rt: &impl Abort, alloc: Global, line: &str) -> MemoryFile {
+    let mut file = MemoryFile::new(alloc, None);
+    for text in ["{\"game\":1,\"pgn\":\"\"}\n", line, "\n"] {
+        assert!(rt; file.append(text.as_bytes()).is_ok());
+    }
+    file
+}
+
+#[test]
+fn refuses_other_lines(rt: HostRuntime) {
+    for line in &OTHERS {
+        assert!(rt; game(&rt, rt.alloc(), line).is_none());
+        let opened = Archive::open(rt.alloc(), file_with(&rt, rt.alloc(), line));
+        assert!(rt; matches!(opened, Err(Fault::NotAGame(2))));
+    }
+}
+
+#[test]
+fn refuses_control_characters(rt: HostRuntime) {
+    let mut archive = empty(&rt, rt.alloc());
+    for pgn in &["a\tb\n", "*\r\n", "\0", "\u{1b}"] {
+        let kept = archive.keep(rt.alloc(), 7, pgn.as_bytes());
+        assert!(rt; matches!(kept, Err(Fault::Control)));
+    }
+    assert!(rt; matches!(archive.keep(rt.alloc(), 7, b"\xff"), Err(Fault::NotText)));
+    assert!(rt; matches!(archive.keep(rt.alloc(), 7, b"\x7f*\n"), Ok(true)));
+}
