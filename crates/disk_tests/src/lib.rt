@@ -8,6 +8,8 @@ mod callers;
 #[cfg(test)]
 mod copies;
 #[cfg(test)]
+mod files;
+#[cfg(test)]
 mod memory_device;
 #[cfg(test)]
 mod names;
