@@ -1,8 +1,12 @@
 //! Players' links, changed in the players' file.
-use anyhow::{Context, Result};
-use lobby_desk::{Linked, Order};
+ghost use Rattle.std.specs.Prelude.{IfOk};
+ghost use Rattle.std.specs.String.{string_bytes};
+ghost use Rattle.lobby_desk.specs.Players.{IsRelinked};
+
+use anyhow::Result;
+use lobby_desk::{Linked, Order, Player};
 use lobby_loop::Links;
-use lobby_players::{Addition, added, new_token, token_text};
+use lobby_players::{new_token, relinked};
 use players_file::Hold;
 use std::fs::File;
 use std::random::RandomSource;
@@ -13,41 +17,38 @@ use std::rt::Files;
 pub struct FileLinks<'a, R> {
     rt: &'a R,
     file: &'a str,
+    // The players of the file as it was read for the last change.
+    found: Vec<Player>,
 }
 
 impl<'a, R: Files<File = File> + AllocGlobal + RandomSource> FileLinks<'a, R> {
     /// Those of this file.
     pub fn new(rt: &'a R, file: &'a str) -> Self {
-        FileLinks { rt, file }
+        FileLinks {
+            rt,
+            file,
+            found: Vec::new(rt.alloc()),
+        }
     }
 
     // The player has the sum of a new token in the file. Where the link is closed nobody is told that token.
-    fn changed(&self, order: &Order) -> Result<Linked> {
+    fn changed(&mut self, order: &Order) -> Result<Linked>
+        ensures { IfOk result (λ linked. IsRelinked order.now.name (string_bytes linked.token) self.new.found.items linked.players.items) }
+    {
         let alloc = self.rt.alloc();
         let _hold = Hold::at_once(self.rt, self.file)?;
         let text = players_file::read(self.rt, self.file)?;
-        let before = lobby_players::read(alloc, text.as_slice())?;
-        let player = before
-            .iter()
-            .find(|player| player.name.as_str() == order.name.as_str())
-            .context("the file has no such player any more")?;
         let token = new_token(self.rt)?;
-        let who = Addition {
-            name: player.name.as_str(),
-            full_name: player.full_name.as_str(),
-            is_arbiter: player.is_arbiter,
-        };
-        let new = added(alloc, text.as_slice(), &who, &token)?;
-        let linked = Linked {
-            players: lobby_players::read(alloc, new.as_bytes())?,
-            token: token_text(alloc, &token)?,
-        };
-        players_file::put(self.rt, alloc, self.file, new.as_str())?;
-        Ok(linked)
+        let new = relinked(alloc, text.as_slice(), &order.name, &token)?;
+        players_file::put(self.rt, alloc, self.file, new.text.as_str())?;
+        self.found = new.before;
+        Ok(new.linked)
     }
 }
 
 impl<R: Files<File = File> + AllocGlobal + RandomSource + Eprint> Links for FileLinks<'_, R> {
+    ghost found = { λ links. links.found.items };
+
     fn change(&mut self, order: &Order) -> Option<Linked> {
         match self.changed(order) {
             Ok(linked) => Some(linked),

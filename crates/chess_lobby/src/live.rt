@@ -4,7 +4,9 @@ use bytes::Bytes;
 use lobby_loop::Lobby;
 use lobby_web::{File, Kind};
 use std::alloc::AllocError;
-use std::fs;
+use std::fs::{File as OpenFile, OpenOptions};
+use std::io;
+use std::io::{ErrorKind, Read};
 use std::rt::Files;
 
 /// The path at which they are served.
@@ -12,6 +14,20 @@ const PATH: &[u8] = b"/live.pgn";
 
 /// So many milliseconds lie at least between two looks at the file.
 const REST: u64 = 1_000;
+
+// What a regular file has. It is opened for writing too, though nothing is written: a pipe that was put there since it was looked at
+// would else hold its opening up until somebody writes into it.
+fn read_regular<R: Files<File = OpenFile> + AllocGlobal>(rt: &R, file: &str) -> io::Result<Vec<u8>> {
+    let mut options = OpenOptions::new();
+    options.read(true).write(true);
+    let mut opened = options.open(rt, file)?;
+    if !opened.metadata()?.is_file() {
+        return Err(io::Error::from(ErrorKind::InvalidInput));
+    }
+    let mut bytes = Vec::new(rt.alloc());
+    opened.read_to_end(&mut bytes)?;
+    Ok(bytes)
+}
 
 /// The file, and what was seen of it last.
 #[derive(Drop)]
@@ -32,12 +48,12 @@ impl<'a> Live<'a> {
     }
 
     // What the file has is served from now on; nothing where it cannot be read.
-    fn read<R: Files + AllocGlobal + Clone + Drop>(
+    fn read<R: Files<File = OpenFile> + AllocGlobal + Clone + Drop>(
         &mut self,
         rt: &R,
         lobby: &mut Lobby,
     ) -> Result<(), AllocError> {
-        match fs::read(rt, self.file) {
+        match read_regular(rt, self.file) {
             Ok(bytes) => lobby.put_file(File {
                 path: PATH.to_vec(rt.alloc())?,
                 kind: Kind::Pgn,
@@ -52,7 +68,7 @@ impl<'a> Live<'a> {
     }
 
     /// Looks at the file, where the last look was a second ago, and reads it where it has changed.
-    pub fn look<R: Files + AllocGlobal + Clone + Drop>(
+    pub fn look<R: Files<File = OpenFile> + AllocGlobal + Clone + Drop>(
         &mut self,
         rt: &R,
         lobby: &mut Lobby,

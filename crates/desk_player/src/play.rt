@@ -94,6 +94,9 @@ impl Play {
             players: players_of(self.alloc, self.members.as_slice())?,
             token: String::from_str(self.alloc, token)?,
         };
+        if !linked.is_of(&order.name) {
+            bail!("another has the token: {token}");
+        }
         self.desk
             .linked(from, text, self.now, &order, linked, told)?;
         Ok(())

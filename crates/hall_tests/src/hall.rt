@@ -4,6 +4,7 @@ use lobby_desk::{Linked, Order, Player};
 use lobby_loop::{
     ActLog, Fault, Found, Hall, Links, Listens, NoActLog, NoLinks, Welcomed, welcome,
 };
+use lobby_players::relinked;
 use lobby_web::{File, Kind, Site};
 use rec_codec::Name;
 use std::alloc::Global;
@@ -599,18 +600,28 @@ fn who_has_another_link_acts_no_more(rt: HostRuntime) {
     assert!(rt; is_asked(&other, b"") && is_told(&other, b"\x81\x0eno 31 NoToken\n"));
 }
 
-/// A players' file that changes ann's link once, so, or cannot be written.
+/// A players' file that changes a link once.
 #[derive(Drop)]
 struct Once {
-    link: Option<Linked>,
+    alloc: Global,
+    found: Vec<Player>,
+    is_done: bool,
 }
 
+// The file of ann, whose token is `t`, and of eve, whose token is `e`.
+const FILE: &[u8] = b"ann player e3b98a4da31a127d4bde6e43033f66ba274cab0eb7eb1c70ec41402bf6273dd8 ann\neve arbiter 3f79bb7b435b05321651daefd374cdc681dc06faa65e374e38337b88ca046dea eve\n";
+
 impl Links for Once {
+    ghost found = { λ once. once.found.items };
+
     fn change(&mut self, order: &Order) -> Option<Linked> {
-        if order.closes || order.name.as_str() != "ann" {
+        if self.is_done || order.closes {
             return None;
         }
-        self.link.take()
+        let new = relinked(self.alloc, FILE, &order.name, &[7; 16]).ok()?;
+        self.found = new.before;
+        self.is_done = true;
+        Some(new.linked)
     }
 }
 
@@ -633,11 +644,11 @@ fn a_link_is_told_once_it_is_made(rt: HostRuntime) {
     let browser = stream_of(alloc, LINKS.browser, LINKS.takes);
     let server = stream_of(alloc, LINKS.server, 1_000);
     let mut hall = begun(&rt, alloc, keys, browser, server);
-    let linked = Linked {
-        players: players_with(&rt, alloc, [0; 32]),
-        token: String::from_str(alloc, "new").expect(&rt, "memory"),
+    let mut links = Once {
+        alloc,
+        found: Vec::new(alloc),
+        is_done: false,
     };
-    let mut links = Once { link: Some(linked) };
     for at in 0..30 {
         hall.turn(at, &mut NoActLog, &mut links)
             .expect(&rt, "memory");
@@ -648,7 +659,7 @@ fn a_link_is_told_once_it_is_made(rt: HostRuntime) {
     assert!(rt;
         is_told(
             &hall,
-            b"ok login eve arbiter eve\n\x81\x0fno 38 NoPlayer\n\x81\x10ok link ann new\n\x81\x11no 40 NotWritten\n\x81\x0dok who 1\neve\n",
+            b"ok login eve arbiter eve\n\x81\x0fno 38 NoPlayer\n\x81\x2dok link ann 07070707070707070707070707070707\n\x81\x11no 40 NotWritten\n\x81\x0dok who 1\neve\n",
         )
     );
 }

@@ -1,8 +1,9 @@
 -- Whether a player has a name.
-use Rattle.std.proofs.Common.{ℕ, ◌≡◌, Bool, true, false, ◌||◌, List, [], ◌∷◌, Option, None, Some, refl, ap, cond}
-use Rattle.std.specs.Prelude.{find, option_map, if◌then◌else◌}
+use Rattle.std.proofs.Common.{ℕ, ◌≡◌, Bool, true, false, ◌||◌, List, [], ◌∷◌, Option, None, Some, refl, sym, ap, cond}
+use Rattle.std.specs.Prelude.{find, option_map, is_some, if◌then◌else◌}
 use Rattle.std.specs.List.{list_any}
 use Rattle.std.specs.Str.{bytes_eq}
+use Rattle.std.proofs.lemmas.Bool.{false≢true}
 use Rattle.std.proofs.lemmas.Slice.Eq.{bytes_eq-Decides}
 use Rattle.lobby_desk.specs.declared.players.Player.{Player}
 use Rattle.lobby_desk.specs.Players.{player_named}
@@ -23,3 +24,15 @@ named_at name x xs false is h = h
 pub found_named : (players : List Player) (name : List ℕ) → name_found (find (has_name name) players) ≡ player_named players name
 found_named [] name = refl
 found_named (x ∷ xs) name = named_at name x xs (has_name name x) refl (found_named xs name)
+
+abbrev or_name : List ℕ → Option (List ℕ) → List ℕ
+or_name name None = name
+or_name name (Some other) = other
+
+same_name : (name other : List ℕ) (b : Bool) → (if b then Some name else None) ≡ Some other → name ≡ other
+same_name name other true is = ap (or_name name) is
+same_name name other false is = absurd (false≢true (ap is_some is))
+
+-- who is found by a name has it
+pub named_is : (players : List Player) (name other : List ℕ) → player_named players name ≡ Some other → name ≡ other
+named_is players name other is = same_name name other (list_any (has_name name) players) is

@@ -860,9 +860,9 @@ renewed_who players past old later lines now agrees step d =
     step.who_is d ∙ ap (λ (before : Option Identity). renewed (players_in players past) later before) (agrees.who d)
 
 -- who asks for a link
-linked_orders : (players : List Player) (old : View) (c : ℕ) (text : List ℕ) (later : List Player) (lines : List (List ℕ)) (new : View) →
-    (step : IsLinked players old c text later lines new) → Orders (is_message text) (sort_of text) step.standing step.order
-linked_orders players old c text later lines new step =
+linked_orders : (players : List Player) (old : View) (c : ℕ) (text : List ℕ) (later : List Player) (token : List ℕ) (lines : List (List ℕ)) (new : View) →
+    (step : IsLinked players old c text later token lines new) → Orders (is_message text) (sort_of text) step.standing step.order
+linked_orders players old c text later token lines new step =
     subst (OfOrder (Orders (is_message text) (sort_of text) step.standing)) step.planned
     (planned_orders (is_message text) (sort_of text) step.standing (number_in (rest_of text)))
 
@@ -899,9 +899,9 @@ done_good players past old (Renewed later) lines tells now agrees step =
     none_done players past (Renewed later) lines now (λ none. none) step.none (step.said_is ∙ agrees.said)
     (λ d. renewed_who players past old later lines now agrees step d)
 done_good players past old (Linked c text later token) lines tells now agrees step =
-    let orders = linked_orders (players_in players past) old c text later lines now step in
+    let orders = linked_orders (players_in players past) old c text later token lines now step in
     none_done players past (Linked c text later token) lines now
-    (λ none. (none, subst IsArbiter (step.who ∙ agrees.who c) orders.arbiter, orders.message, orders.sort_is))
+    (λ none. (none, subst IsArbiter (step.who ∙ agrees.who c) orders.arbiter, orders.message, orders.sort_is, step.holds))
     step.renews.none (step.renews.said_is ∙ agrees.said)
     (λ d. renewed_who players past old later lines now agrees step.renews d)
 done_good players past old Gone lines tells now agrees step =

@@ -1,6 +1,6 @@
 -- Whom a token shows, and how players are told.
-use Rattle.std.specs.Prelude.{ℕ, Bool, false, List, [], length, ◌++◌, codes, decimal, map, filter, Option, Some, None, find, option_map, if◌then◌else◌}
-use Rattle.std.specs.List.{flat_map, list_any}
+use Rattle.std.specs.Prelude.{ℕ, ◌≡◌, Bool, true, false, List, [], length, ◌++◌, codes, decimal, map, filter, Option, Some, None, find, option_map, if◌then◌else◌}
+use Rattle.std.specs.List.{AllZip, flat_map, list_any}
 use Rattle.std.specs.String.{string_bytes}
 use Rattle.std.specs.Str.{bytes_eq}
 use Rattle.sha2.specs.Sha256.{sha256}
@@ -83,3 +83,25 @@ present_names who connections players =
 -- the answer to `who` that tells these names
 abbrev pub who_text : List (List ℕ) → List ℕ
 who_text names = codes "ok who " ++ decimal (length names) ++ codes "\n" ++ flat_map ended names
+
+-- whether who shows this token is the player of this name
+abbrev pub is_token_of : List Player → List ℕ → List ℕ → Bool
+is_token_of players token name = is_named (holder_of players token) name
+
+-- the sum that a player has once the player of this name has this one
+abbrev pub sum_given : List ℕ → List ℕ → Player → List ℕ
+sum_given name sum player = if bytes_eq player.name name then sum else player.sum
+
+-- the same player, with this sum
+pub record IsWithSum (sum : List ℕ) (old new : Player) : Type 0 where
+  pub name : new.name ≡ old.name
+  pub full_name : string_bytes new.full_name ≡ string_bytes old.full_name
+  pub is_arbiter : new.is_arbiter ≡ old.is_arbiter
+  pub sum_is : new.sum ≡ sum
+
+-- The player of this name has this token in the place of the one that he had, and nobody had it before. All else of him, and every
+-- other player, is as it was, in the same order.
+pub record IsRelinked (name token : List ℕ) (before after : List Player) : Type 0 where
+  pub each : AllZip (λ (old new : Player). IsWithSum (sum_given name (sha256 token) old) old new) before after
+  pub fresh : list_any (has_sum (sha256 token)) before ≡ false
+  pub holds : is_token_of after token name ≡ true

@@ -16,7 +16,7 @@ use Rattle.lobby_desk.specs.declared.watching.Watch.{Watch}
 use Rattle.lobby_desk.specs.declared.desk.Desk.{Desk}
 use Rattle.lobby_words.specs.Words.{rest_of, as_name, actor, is_message, sort_of, number_in}
 use Rattle.lobby_words.specs.Waiting.{is_open as opens_game}
-use Rattle.lobby_desk.specs.Players.{holder_of, player_named, renewed, login_text, players_text, present_names, who_text}
+use Rattle.lobby_desk.specs.Players.{holder_of, player_named, renewed, is_token_of, login_text, players_text, present_names, who_text}
 use Rattle.lobby_words.specs.Plans.{refusal_text, plan_of, order_of}
 use Rattle.lobby_desk.specs.Lines.{bytes_of, lines_of, act_lines, said_after, notice_lines, IsNamed}
 use Rattle.lobby_words.specs.Answers.{IsSeated, IsFirstSeated, IsSeatless, act_game, is_whole, answer}
@@ -329,13 +329,15 @@ pub record IsRenewed (players : List Player) (old : View) (later : List Player) 
   pub paused_is : new.paused ≡ old.paused
   pub who_is : (d : ℕ) → new.who d ≡ renewed players later (old.who d)
 
--- The same for a message, whose plan is an order of an arbiter's.
-pub record IsLinked (players : List Player) (old : View) (c : ℕ) (text : List ℕ) (later : List Player) (lines : List (List ℕ)) (new : View) : Type 0 where
+-- The same for a message, whose plan is an order of an arbiter's: among the players from now on the token is of the one whom the
+-- message names.
+pub record IsLinked (players : List Player) (old : View) (c : ℕ) (text : List ℕ) (later : List Player) (token : List ℕ) (lines : List (List ℕ)) (new : View) : Type 0 where
   pub standing : Standing
   pub who : standing.who ≡ old.who c
   pub link : standing.linked ≡ player_named players (rest_of text)
   pub order : Order
   pub planned : plan_of (is_message text) (sort_of text) standing (number_in (rest_of text)) ≡ plans.Order order
+  pub holds : is_token_of later token (rest_of text) ≡ true
   pub renews : IsRenewed players old later lines new
 
 -- what the desk does about an event: the lines that go out, and for whom connections act then
@@ -346,7 +348,7 @@ IsDone players old (Said c text) lines tells new = IsSaid players old c text lin
 IsDone players old (Hurried c) lines tells new = IsHurried old lines new
 IsDone players old (Heard line) lines tells new = IsHeard old line lines new
 IsDone players old (Renewed later) lines tells new = IsRenewed players old later lines new
-IsDone players old (Linked c text later token) lines tells new = IsLinked players old c text later lines new
+IsDone players old (Linked c text later token) lines tells new = IsLinked players old c text later token lines new
 IsDone players old Gone lines tells new = IsTurned old false lines new
 IsDone players old Here lines tells new = IsTurned old true lines new
 

@@ -14,8 +14,8 @@ use rec_codec::Name;
 use std::alloc::{AllocError, Global};
 use std::collections::BTreeMap;
 
-// Whether it is the player of a name for whom a connection acts.
-fn is_named(who: &Option<Identity>, name: &Name) -> bool
+/// Whether it is the player of a name for whom a connection acts.
+pub fn is_named(who: &Option<Identity>, name: &Name) -> bool
     ensures { result ≡ is_named who.now name.now }
 {
     match who {

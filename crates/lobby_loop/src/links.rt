@@ -1,11 +1,21 @@
 //! Who changes players' links.
+ghost use Rattle.std.specs.Prelude.{List, [], IfSome};
+ghost use Rattle.std.specs.String.{string_bytes};
+ghost use Rattle.lobby_desk.specs.declared.players.Player.{Player};
+ghost use Rattle.lobby_desk.specs.Players.{IsRelinked};
+
 use lobby_desk::{Linked, Order};
 
 /// Keeps the players' file, by which links hold.
 pub trait Links {
+    /// The players of the file as it was read for the last change that was made.
+    ghost found: { Self → List Player };
+
     /// Gives a player a new link, or closes it, in the file: the old one holds no more. It answers once the file is on the disk, by the
-    /// players that it has then and the token of the new link; `None` where that was not done, and the file is as it was.
-    fn change(&mut self, order: &Order) -> Option<Linked>;
+    /// players that it has then and the token of the new link; `None` where that was not done, and the file is as it was. The players
+    /// are those that it found in the file, whoever wrote it, where the one of the order has this token, and nobody had it before.
+    fn change(&mut self, order: &Order) -> Option<Linked>
+        ensures { IfSome result (λ linked. IsRelinked order.now.name (string_bytes linked.token) (found self.new) linked.players.items) };
 }
 
 /// No file: no link is changed.
@@ -13,6 +23,8 @@ pub trait Links {
 pub struct NoLinks;
 
 impl Links for NoLinks {
+    ghost found = { λ _. [] };
+
     fn change(&mut self, _order: &Order) -> Option<Linked> {
         None
     }

@@ -1,3 +1,4 @@
 pub mod File
 pub mod Faults
 pub mod Adding
+pub mod Relinking

@@ -4,7 +4,7 @@ ghost use Rattle.std.specs.List.{list_any};
 ghost use Rattle.std.specs.String.{string_bytes};
 ghost use Rattle.hex.specs.Hex.{decode_sized, encode_lower};
 ghost use Rattle.lobby_desk.specs.Lines.{ended, bytes_of};
-ghost use Rattle.lobby_players.specs.Adding.{IsAdded, IsAddFault, entry_added, entry_with, in_place, is_of, is_other, line_of};
+ghost use Rattle.lobby_players.specs.Adding.{IsAdded, IsAddFault, added_text, entry_added, entry_with, in_place, is_of, is_other, line_of};
 ghost use Rattle.lobby_players.specs.File.{has_sum, entry_of, lines_of, role_text};
 
 use crate::faults::{AddFault, PlayersFault};
@@ -105,6 +105,22 @@ fn with_line(alloc: Global, text: &str, name: &str, line: &str) -> Result<String
     Ok(new)
 }
 
+/// A text with the player's line, by this sum: in the place of the line that had the name, or behind all.
+pub fn text_with(
+    alloc: Global,
+    text: &str,
+    who: &Addition<'_>,
+    sum: &[u8; 32],
+) -> Result<String, AllocError>
+    ensures written { IfOk result (λ new. string_bytes new ≡ added_text text.now (entry_with who.now sum.now)) }
+    ensures digits { IfOk result (λ _. decode_sized (encode_lower sum.now) 32 ≡ Ok sum.now) }
+{
+    let mut line = String::new(alloc);
+    push_player(&mut line, alloc, who, sum)?;
+    let shown = line.as_str();
+    with_line(alloc, text, who.name, shown)
+}
+
 /// The text of the file with the player's line: in the place of the line that had the name, so that a player who is there
 /// already has a new token, and this full name and role; and behind all for a new one. It fails, and nothing is added, at
 /// the first of these: the file is none, the name or the full name is none, another player has the token; or where memory
@@ -136,9 +152,6 @@ pub fn added(
     if is_taken(players.as_slice(), &name, &sum) {
         return Err(AddFault::TokenTaken);
     }
-    let mut line = String::new(alloc);
-    push_player(&mut line, alloc, who, &sum)?;
-    let shown = line.as_str();
-    let new = with_line(alloc, text, who.name, shown)?;
+    let new = text_with(alloc, text, who, &sum)?;
     Ok(new)
 }

@@ -2,6 +2,7 @@
 ghost use Rattle.std.specs.Prelude.{◌≡◌};
 ghost use Rattle.lobby_players.specs.declared.faults.PlayersFault.TheVariants as faults;
 ghost use Rattle.lobby_players.specs.declared.faults.AddFault.TheVariants as add_faults;
+ghost use Rattle.lobby_players.specs.declared.faults.LinkFault.TheVariants as link_faults;
 
 use std::alloc::AllocError;
 use thiserror::Error;
@@ -63,5 +64,27 @@ impl From<AllocError> for AddFault {
 
     fn from(_fault: AllocError) -> AddFault {
         AddFault::NoMemory
+    }
+}
+
+/// Why a player of a players' file has no new link.
+#[derive(Clone, Copy, Debug, PartialEq, Eq, Error)]
+pub enum LinkFault {
+    /// The file is none.
+    #[error("{0}")]
+    File(PlayersFault),
+    #[error("the file has no such player any more")]
+    NoPlayer,
+    #[error("a player has this token")]
+    TokenTaken,
+    #[error("memory was refused")]
+    NoMemory,
+}
+
+impl From<AllocError> for LinkFault {
+    ghost from_gives = { λ _ fault. fault ≡ link_faults.NoMemory };
+
+    fn from(_fault: AllocError) -> LinkFault {
+        LinkFault::NoMemory
     }
 }

@@ -6,9 +6,11 @@ mod faults;
 mod line;
 mod lines;
 mod reading;
+mod relinking;
 mod token;
 
 pub use adding::{Addition, added};
-pub use faults::{AddFault, LineFault, PlayersFault};
+pub use faults::{AddFault, LineFault, LinkFault, PlayersFault};
 pub use reading::read;
+pub use relinking::{Relinked, relinked};
 pub use token::{link_text, new_token, token_text};

@@ -22,8 +22,8 @@ fn has_name(players: &[Player], name: &Name) -> bool
         .any(|player| player.name.as_str() == name.as_str())
 }
 
-// Whether a player has the sum.
-fn has_sum(players: &[Player], sum: &[u8; 32]) -> bool
+/// Whether a player has the sum.
+pub fn has_sum(players: &[Player], sum: &[u8; 32]) -> bool
     ensures { result ≡ list_any (λ player. file.has_sum sum.now (entry_of player)) players.now }
 {
     players

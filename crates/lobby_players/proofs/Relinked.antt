@@ -1,0 +1,185 @@
+-- A player has a new link.
+use Rattle.std.proofs.Common.{ℕ, ◌≡◌, Bool, true, false, not, cond, ◌||◌, List, [], ◌∷◌, refl, sym, ap, ◌∙◌, subst, Ok, Option, None, Some}
+use Rattle.std.specs.Prelude.{find, is_some, option_map, if◌then◌else◌}
+use Rattle.std.specs.Str.{bytes_eq}
+use Rattle.std.specs.String.{string_bytes}
+use Rattle.std.specs.List.{All, AllZip, AllPairs, list_any, filter}
+use Rattle.std.proofs.lemmas.Bool.{false≢true}
+use Rattle.std.proofs.lemmas.List.Elements.{All-head, All-tail}
+use Rattle.std.proofs.lemmas.Slice.Eq.{bytes_eq-Decides}
+use Rattle.hex.specs.Hex.{decode_sized, encode_lower}
+use Rattle.sha2.specs.Sha256.{sha256}
+use Rattle.rec_codec.specs.Name.{IsName}
+use Rattle.lobby_desk.specs.declared.players.Player.{Player}
+use Rattle.lobby_desk.specs.Players.{has_sum as has_sum_now, identity_of, is_named, holder_of, is_token_of, sum_given, IsWithSum, IsRelinked}
+use Rattle.lobby_players.specs.File.{Entry, IsLineOf, AreTwo, IsFileOf, lines_of, spoken, is_full_name, has_name, has_sum, entry_of, entries_of}
+use Rattle.lobby_players.specs.Adding.{added_text, added_entries, in_place, is_of, is_other, line_of}
+use Rattle.lobby_players.specs.Relinking.{IsFileRelinked}
+use Rattle.lobby_players.proofs.Entries.{any_mapped, or_first, or_second, pairs_head, pairs_tail}
+use Rattle.lobby_players.proofs.Written.{file_added}
+
+abbrev named : List ℕ → Player → Bool
+named name player = bytes_eq player.name name
+
+abbrev pub AreWithSum : List ℕ → List ℕ → List Player → List Player → Type 0
+AreWithSum name sum before after = AllZip (λ (old new : Player). IsWithSum (sum_given name sum old) old new) before after
+
+-- ---- one of a list
+
+or_player : Player → Option Player → Player
+or_player player None = player
+or_player player (Some other) = other
+
+same_player : (x p : Player) → Some x ≡ Some p → x ≡ p
+same_player x p is = ap (or_player x) is
+
+not_none : (p : Player) → None ≡ Some p → ⊥
+not_none p is = false≢true (ap is_some is)
+
+entry_by : List ℕ → Bool → List ℕ → List ℕ → Entry
+entry_by name is_arbiter sum full_name = record { name = name; is_arbiter = is_arbiter; sum = sum; full_name = full_name }
+
+same_entry : (a b : Entry) → a.name ≡ b.name → a.is_arbiter ≡ b.is_arbiter → a.sum ≡ b.sum → a.full_name ≡ b.full_name → a ≡ b
+same_entry a b name role sum full =
+    ap (λ (x : List ℕ). entry_by x a.is_arbiter a.sum a.full_name) name
+    ∙ (ap (λ (x : Bool). entry_by b.name x a.sum a.full_name) role
+    ∙ (ap (λ (x : List ℕ). entry_by b.name b.is_arbiter x a.full_name) sum
+    ∙ ap (λ (x : List ℕ). entry_by b.name b.is_arbiter b.sum x) full))
+
+-- ---- the players of the new file
+
+sum_of_other : (name sum : List ℕ) (x y : Player) → named name x ≡ false → IsWithSum (sum_given name sum x) x y → y.sum ≡ x.sum
+sum_of_other name sum x y other is = is.sum_is ∙ ap (λ (b : Bool). if b then sum else x.sum) other
+
+sum_of_named : (name sum : List ℕ) (x y : Player) → named name x ≡ true → IsWithSum (sum_given name sum x) x y → y.sum ≡ sum
+sum_of_named name sum x y here is = is.sum_is ∙ ap (λ (b : Bool). if b then sum else x.sum) here
+
+other_entry : (name sum : List ℕ) (x y : Player) → named name x ≡ false → IsWithSum (sum_given name sum x) x y → entry_of y ≡ entry_of x
+other_entry name sum x y other is =
+    same_entry (entry_of y) (entry_of x) is.name is.is_arbiter (sum_of_other name sum x y other is) is.full_name
+
+-- where nobody has the name all are as before
+others_same : (name sum : List ℕ) (xs ys : List Player) → list_any (named name) xs ≡ false → AreWithSum name sum xs ys → entries_of ys ≡ entries_of xs
+others_same name sum [] [] none zip = refl
+others_same name sum [] (y ∷ ys) none zip = absurd zip
+others_same name sum (x ∷ xs) [] none zip = absurd zip
+others_same name sum (x ∷ xs) (y ∷ ys) none zip =
+    ap (λ (e : Entry). e ∷ entries_of ys) (other_entry name sum x y (or_first _ _ none) zip.0)
+    ∙ ap (λ (es : List Entry). entry_of x ∷ es) (others_same name sum xs ys (or_second _ _ none) zip.1)
+
+other_by : (name : List ℕ) (x y : Player) (b : Bool) → named name y ≡ b → x.name ≡ name → AreTwo (entry_of x) (entry_of y) → b ≡ false
+other_by name x y true is here two = absurd (two.names (here ∙ sym ((bytes_eq-Decides y.name name).0 is)))
+other_by name x y false is here two = refl
+
+-- behind who has the name nobody has it
+none_behind : (name : List ℕ) (x : Player) (xs : List Player) → x.name ≡ name → All (AreTwo (entry_of x)) (entries_of xs) →
+    list_any (named name) xs ≡ false
+none_behind name x [] here all = refl
+none_behind name x (y ∷ ys) here all =
+    let other : named name y ≡ false = other_by name x y (named name y) refl here (All-head (AreTwo (entry_of x)) (entry_of y) (entries_of ys) all) in
+    rw other (none_behind name x ys here (All-tail (AreTwo (entry_of x)) (entry_of y) (entries_of ys) all))
+
+-- the player who has the name then
+abbrev pub relinked_entry : List ℕ → List ℕ → Player → Entry
+relinked_entry name sum p = record { name = name; is_arbiter = p.is_arbiter; sum = sum; full_name = string_bytes p.full_name }
+
+placed_at : (name sum : List ℕ) (p x : Player) (xs : List Player) (y : Player) (ys : List Player) (b : Bool) → named name x ≡ b →
+    AllPairs AreTwo (entries_of (x ∷ xs)) → cond b (Some x) (find (named name) xs) ≡ Some p → IsWithSum (sum_given name sum x) x y →
+    AreWithSum name sum xs ys →
+    (find (named name) xs ≡ Some p → entries_of ys ≡ in_place (has_name name) (relinked_entry name sum p) (entries_of xs)) →
+    entries_of (y ∷ ys) ≡ cond b (relinked_entry name sum p ∷ entries_of xs)
+        (entry_of x ∷ in_place (has_name name) (relinked_entry name sum p) (entries_of xs))
+placed_at name sum p x xs y ys true here pairs found is zip next =
+    let same = same_player x p found in
+    let called : x.name ≡ name = (bytes_eq-Decides x.name name).0 here in
+    ap (λ (e : Entry). e ∷ entries_of ys)
+    (same_entry (entry_of y) (relinked_entry name sum p) (is.name ∙ called) (is.is_arbiter ∙ ap (λ (q : Player). q.is_arbiter) same)
+    (sum_of_named name sum x y here is) (is.full_name ∙ ap (λ (q : Player). string_bytes q.full_name) same))
+    ∙ ap (λ (es : List Entry). relinked_entry name sum p ∷ es)
+    (others_same name sum xs ys (none_behind name x xs called (pairs_head AreTwo (entry_of x) (entries_of xs) pairs)) zip)
+placed_at name sum p x xs y ys false other pairs found is zip next =
+    ap (λ (e : Entry). e ∷ entries_of ys) (other_entry name sum x y other is)
+    ∙ ap (λ (es : List Entry). entry_of x ∷ es) (next found)
+
+-- they are those before, with him in the place of who had the name
+placed : (name sum : List ℕ) (p : Player) (before after : List Player) → AllPairs AreTwo (entries_of before) →
+    find (named name) before ≡ Some p → AreWithSum name sum before after →
+    entries_of after ≡ in_place (has_name name) (relinked_entry name sum p) (entries_of before)
+placed name sum p [] after pairs found zip = absurd (not_none p found)
+placed name sum p (x ∷ xs) [] pairs found zip = absurd zip
+placed name sum p (x ∷ xs) (y ∷ ys) pairs found zip =
+    placed_at name sum p x xs y ys (named name x) refl pairs found zip.0 zip.1
+    (λ more. placed name sum p xs ys (pairs_tail AreTwo (entry_of x) (entries_of xs) pairs) more zip.1)
+
+-- ---- whom the token shows
+
+same_sums : (a b sum : List ℕ) → a ≡ b → bytes_eq a sum ≡ bytes_eq b sum
+same_sums a b sum is = ap (λ (x : List ℕ). bytes_eq x sum) is
+
+shown_at : (name sum : List ℕ) (p x : Player) (xs : List Player) (y : Player) (ys : List Player) (b : Bool) → named name x ≡ b →
+    cond b (Some x) (find (named name) xs) ≡ Some p → has_sum_now sum x ≡ false → IsWithSum (sum_given name sum x) x y →
+    (find (named name) xs ≡ Some p → is_named (option_map identity_of (find (has_sum_now sum) ys)) name ≡ true) →
+    is_named (option_map identity_of (find (has_sum_now sum) (y ∷ ys))) name ≡ true
+shown_at name sum p x xs y ys true here found fresh is next =
+    let has : has_sum_now sum y ≡ true = (bytes_eq-Decides y.sum sum).1 (sum_of_named name sum x y here is) in
+    rw has (ap (λ (n : List ℕ). bytes_eq n name) is.name ∙ here)
+shown_at name sum p x xs y ys false other found fresh is next =
+    let has_not : has_sum_now sum y ≡ false = same_sums y.sum x.sum sum (sum_of_other name sum x y other is) ∙ fresh in
+    rw has_not (next found)
+
+shown_found : (name sum : List ℕ) (p : Player) (before after : List Player) → find (named name) before ≡ Some p →
+    list_any (has_sum_now sum) before ≡ false → AreWithSum name sum before after →
+    is_named (option_map identity_of (find (has_sum_now sum) after)) name ≡ true
+shown_found name sum p [] after found fresh zip = absurd (not_none p found)
+shown_found name sum p (x ∷ xs) [] found fresh zip = absurd zip
+shown_found name sum p (x ∷ xs) (y ∷ ys) found fresh zip =
+    shown_at name sum p x xs y ys (named name x) refl found (or_first _ _ fresh) zip.0
+    (λ more. shown_found name sum p xs ys more (or_second _ _ fresh) zip.1)
+
+shown : (name token : List ℕ) (p : Player) (before after : List Player) → find (named name) before ≡ Some p →
+    list_any (has_sum_now (sha256 token)) before ≡ false → AreWithSum name (sha256 token) before after → is_token_of after token name ≡ true
+unfolding holder_of
+shown name token p before after found fresh zip = shown_found name (sha256 token) p before after found fresh zip
+
+-- ---- the new file
+
+full_at : (line : List ℕ) (x p : Player) (lines : List (List ℕ)) (xs : List Player) (name : List ℕ) (b : Bool) → IsLineOf line (entry_of x) →
+    cond b (Some x) (find (named name) xs) ≡ Some p →
+    (find (named name) xs ≡ Some p → is_full_name (string_bytes p.full_name) ≡ true) → is_full_name (string_bytes p.full_name) ≡ true
+full_at line x p lines xs name true told found next =
+    ap (λ (q : Player). is_full_name (string_bytes q.full_name)) (sym (same_player x p found)) ∙ told.full_name
+full_at line x p lines xs name false told found next = next found
+
+full_found : (name : List ℕ) (p : Player) (lines : List (List ℕ)) (xs : List Player) → AllZip IsLineOf lines (entries_of xs) →
+    find (named name) xs ≡ Some p → is_full_name (string_bytes p.full_name) ≡ true
+full_found name p lines [] zip found = absurd (not_none p found)
+full_found name p [] (x ∷ xs) zip found = absurd zip
+full_found name p (line ∷ lines) (x ∷ xs) zip found =
+    full_at line x p lines xs name (named name x) zip.0 found (λ more. full_found name p lines xs zip.1 more)
+
+none_others_by : (p q : Entry → Bool) (x : Entry) (xs : List Entry) (b : Bool) → q x ≡ false → list_any q (filter p xs) ≡ false →
+    list_any q (cond b (x ∷ filter p xs) (filter p xs)) ≡ false
+none_others_by p q x xs true here rest = rw here rest
+none_others_by p q x xs false here rest = rest
+
+none_others : (p q : Entry → Bool) (xs : List Entry) → list_any q xs ≡ false → list_any q (filter p xs) ≡ false
+none_others p q [] none = refl
+none_others p q (x ∷ xs) none = none_others_by p q x xs (p x) (or_first _ _ none) (none_others p q xs (or_second _ _ none))
+
+pub file_relinked : (name token text new : List ℕ) (p : Player) (before after : List Player) → IsName name → IsFileOf text (entries_of before) →
+    find (named name) before ≡ Some p → list_any (has_sum (sha256 token)) (entries_of before) ≡ false →
+    decode_sized (encode_lower (sha256 token)) 32 ≡ Ok (sha256 token) → AreWithSum name (sha256 token) before after →
+    new ≡ added_text text (relinked_entry name (sha256 token) p) → IsFileRelinked name token text new before after
+file_relinked name token text new p before after is file found fresh digits each written =
+    let sum = sha256 token in
+    let e = relinked_entry name sum p in
+    let none = any_mapped entry_of (has_sum sum) before ∙ fresh in
+    let add = file_added text (entries_of before) e new file is digits (full_found name p (spoken (lines_of text)) before file.told found)
+    (none_others (is_other name) (has_sum sum) (entries_of before) fresh) written in
+    record {
+      old_file = file;
+      new_file = subst (λ (es : List Entry). IsFileOf new es) (sym (placed name sum p before after file.apart found each)) add.after;
+      changed = record { each = each; fresh = none; holds = shown name token p before after found none each };
+      line = line_of e;
+      written = written;
+    }

@@ -1,0 +1,127 @@
+//! A player of a players' file has a new link.
+ghost use Rattle.std.specs.Prelude.{◌≡◌, Ok, IfOk, IfErr, find};
+ghost use Rattle.std.specs.List.{AllZip};
+ghost use Rattle.std.specs.Option.{option_copied};
+ghost use Rattle.std.specs.Str.{bytes_eq};
+ghost use Rattle.std.specs.String.{string_bytes};
+ghost use Rattle.hex.specs.Hex.{encode_lower};
+ghost use Rattle.lobby_desk.specs.Players.{IsWithSum, sum_given};
+ghost use Rattle.lobby_players.specs.Relinking.{IsFileRelinked, IsLinkFault};
+
+use crate::adding::{Addition, text_with};
+use crate::faults::LinkFault;
+use crate::reading::{has_sum, read_text, text_of};
+use crate::token::token_text;
+use lobby_desk::{Linked, Player};
+use rec_codec::Name;
+use sha2::{Digest, Sha256};
+use std::alloc::{AllocError, Global};
+
+/// A players' file in which a player has a new link.
+#[derive(Drop)]
+pub struct Relinked {
+    /// The file's new text.
+    pub text: String,
+    /// The players of the old text.
+    pub before: Vec<Player>,
+    /// The players of the new text, and the token of the link.
+    pub linked: Linked,
+}
+
+// The first player of a name.
+fn named<'a>(players: &'a [Player], name: &Name) -> Option<&'a Player>
+    ensures { option_copied result ≡ find (λ player. bytes_eq player.name name.now) players.now }
+{
+    players
+        .iter()
+        .find(|player| player.name.as_str() == name.as_str())
+}
+
+// The sum of a player, where the player of a name has this one.
+fn sum_given(player: &Player, name: &Name, sum: &[u8; 32]) -> [u8; 32]
+    ensures { result ≡ sum_given name.now sum.now player.now }
+{
+    if player.name.as_str() == name.as_str() {
+        *sum
+    } else {
+        player.sum
+    }
+}
+
+// A player, where the player of a name has this sum.
+fn with_sum(
+    alloc: Global,
+    player: &Player,
+    name: &Name,
+    sum: &[u8; 32],
+) -> Result<Player, AllocError>
+    ensures { IfOk result (λ new. IsWithSum (sum_given name.now sum.now player.now) player.now new) }
+{
+    let full_name = String::from_str(alloc, player.full_name.as_str())?;
+    Ok(Player {
+        name: player.name,
+        full_name,
+        sum: sum_given(player, name, sum),
+        is_arbiter: player.is_arbiter,
+    })
+}
+
+// The players, where the player of a name has this sum.
+fn all_with_sum(
+    alloc: Global,
+    players: &[Player],
+    name: &Name,
+    sum: &[u8; 32],
+) -> Result<Vec<Player>, AllocError>
+    ensures { IfOk result (λ after. AllZip (λ old new. IsWithSum (sum_given name.now sum.now old) old new) players.now after.items) }
+{
+    let mut after = Vec::new(alloc);
+    for player in players {
+        let new = with_sum(alloc, player, name, sum)?;
+        after.push(new)?;
+    }
+    Ok(after)
+}
+
+/// The file in which the player of this name has this token, in the place of the one that he had: in the player's line the sum is
+/// another, and all other lines stand as and where they stood. It fails at the first of these: the file is none, it has no such
+/// player, or one of its players has the token; or where memory is refused.
+pub fn relinked(
+    alloc: Global,
+    text: &[u8],
+    name: &Name,
+    token: &[u8; 16],
+) -> Result<Relinked, LinkFault>
+    ensures relinked { IfOk result (λ new. IsFileRelinked name.now (string_bytes new.linked.token) text.now (string_bytes new.text) new.before.items new.linked.players.items) }
+    ensures token { IfOk result (λ new. string_bytes new.linked.token ≡ encode_lower token.now) }
+    ensures fault { IfErr result (IsLinkFault name.now (encode_lower token.now) text.now) }
+{
+    let text = match text_of(text) {
+        Ok(text) => text,
+        Err(fault) => return Err(LinkFault::File(fault)),
+    };
+    let before = match read_text(alloc, text) {
+        Ok(players) => players,
+        Err(fault) => return Err(LinkFault::File(fault)),
+    };
+    let Some(player) = named(before.as_slice(), name) else {
+        return Err(LinkFault::NoPlayer);
+    };
+    let token = token_text(alloc, token)?;
+    let sum = Sha256::digest(token.as_str());
+    if has_sum(before.as_slice(), &sum) {
+        return Err(LinkFault::TokenTaken);
+    }
+    let who = Addition {
+        name: name.as_str(),
+        full_name: player.full_name.as_str(),
+        is_arbiter: player.is_arbiter,
+    };
+    let new = text_with(alloc, text, &who, &sum)?;
+    let players = all_with_sum(alloc, before.as_slice(), name, &sum)?;
+    Ok(Relinked {
+        text: new,
+        before,
+        linked: Linked { players, token },
+    })
+}
