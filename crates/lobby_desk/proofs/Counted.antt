@@ -51,13 +51,14 @@ same_turned a b false e h = e
 -- ---- an answer to an act
 
 -- what is accepted is not refused
-not_refused_at : (b : ℕ) (bs : List ℕ) (t : Bool) → (b == 110) ≡ t → is_act_accepted (b ∷ bs) ≡ true → is_refusal (b ∷ bs) ≡ false
-not_refused_at b bs true e h = absurd (false≢true (subst (λ (c : ℕ). is_act_accepted (c ∷ bs) ≡ true) ((Decides-eqb b 110).0 e) h))
+not_refused_at : (b : ℕ) (bs : List ℕ) (t : Bool) → (110 == b) ≡ t → is_act_accepted (b ∷ bs) ≡ true → is_refusal (b ∷ bs) ≡ false
+not_refused_at b bs true e h =
+    absurd (false≢true (subst (λ (c : ℕ). is_act_accepted (c ∷ bs) ≡ true) (sym ((Decides-eqb 110 b).0 e)) h))
 not_refused_at b bs false e h = rw e refl
 
 not_refused : (now : List ℕ) → is_act_accepted now ≡ true → is_refusal now ≡ false
 not_refused [] h = refl
-not_refused (b ∷ bs) h = not_refused_at b bs (b == 110) refl h
+not_refused (b ∷ bs) h = not_refused_at b bs (110 == b) refl h
 
 none_refused : (text now : List ℕ) → is_act_accepted now ≡ true → refused_game text now ≡ None
 none_refused text now h = ap (λ (b : Bool). if b && not (is_table_act text) then game_named text else None) (not_refused now h)
