@@ -69,13 +69,12 @@ refused_at : (t : Bool) (game other : ℕ) (refused : List Refused) (n : ℕ) �
 refused_at true game other refused n e is =
     let same : game ≡ other = (Decides-eqb game other).0 e in
     let own : (other == other) ≡ true = (Decides-eqb other other).1 refl in
-    let more = record { game = other; count = count_in other refused + 1 } ∷ [] in
-    let counted : count_in other refused + 1 ≡ suc n = ap (λ (m : ℕ). m + 1) (ap (λ (g : ℕ). count_in g refused) (sym same) ∙ is) in
+    let found : count_in other refused ≡ n = ap (λ (g : ℕ). count_in g refused) (sym same) ∙ is in
+    let counted : count_in other refused + 1 ≡ suc n = omega (arith, found) in
     ap (λ (g : ℕ). count_in g (without other refused ++ record { game = other; count = count_in other refused + 1 } ∷ [])) same
     ∙ (gone other refused (record { game = other; count = count_in other refused + 1 } ∷ [])
     ∙ (ap (λ (b : Bool). if b then count_in other refused + 1 else 0) own ∙ counted))
 refused_at false game other refused n e is =
-    let more = record { game = other; count = count_in other refused + 1 } ∷ [] in
     kept game other refused (record { game = other; count = count_in other refused + 1 } ∷ []) e
     (ap (λ (b : Bool). if b then count_in other refused + 1 else 0) (same_turned game other (other == game) refl e))
     ∙ is
