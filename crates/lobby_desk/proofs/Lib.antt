@@ -12,4 +12,5 @@ pub mod PresentNames
 pub mod Watched
 pub mod Steps
 pub mod Runs
+pub mod Counted
 pub mod Logged

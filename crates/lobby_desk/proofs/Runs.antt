@@ -15,6 +15,7 @@ use Rattle.lobby_words.specs.declared.planning.Standing.{Standing}
 use Rattle.lobby_words.specs.declared.planning.Identity.{Identity}
 use Rattle.lobby_desk.specs.declared.players.Player.{Player}
 use Rattle.lobby_words.specs.declared.listing.Waiting.{Waiting}
+use Rattle.lobby_desk.specs.declared.refusals.Refused.{Refused}
 use Rattle.lobby_desk.specs.declared.watching.Watch.{Watch}
 use Rattle.lobby_words.specs.Words.{word_of, rest_of, as_name, as_line, is_message, sort_of, is_act_sort, is_as_sort, is_drop_sort, is_name_sort, is_login_sort, number_in, or_0}
 use Rattle.lobby_words.specs.Plans.{asked, entered_plan, act_plan, named_plan, as_plan, arbiter_plan, order_plan, drop_plan, login_plan, numbered_plan, plan_of}
@@ -391,20 +392,21 @@ said_good players old c text lines tells new h =
     subst (λ (n : Option (List ℕ)). Good (sort_asks (sort_of text) (or_0 (number_in (rest_of text))) text) (name_for players (old.who c) text) old.said lines n) (sym h.said_is) lined
 
 -- what is known is the same if each part of it is
-abbrev known_of : List Owed → ℕ → List ℕ → List ℕ → List Watch → List ℕ → List Waiting → Known
-known_of owed left begun last watches table waiting =
-    record { owed = owed; left = left; begun = begun; last = last; watches = watches; table = table; waiting = waiting }
+abbrev known_of : List Owed → ℕ → List ℕ → List ℕ → List Watch → List ℕ → List Waiting → List Refused → Known
+known_of owed left begun last watches table waiting refused =
+    record { owed = owed; left = left; begun = begun; last = last; watches = watches; table = table; waiting = waiting; refused = refused }
 
 same_known : (a b : Known) → a.owed ≡ b.owed → a.left ≡ b.left → a.begun ≡ b.begun → a.last ≡ b.last → a.watches ≡ b.watches →
-    a.table ≡ b.table → a.waiting ≡ b.waiting → a ≡ b
-same_known a b owed left begun last watches table waiting =
-    ap (λ (x : List Owed). known_of x a.left a.begun a.last a.watches a.table a.waiting) owed
-    ∙ (ap (λ (x : ℕ). known_of b.owed x a.begun a.last a.watches a.table a.waiting) left
-    ∙ (ap (λ (x : List ℕ). known_of b.owed b.left x a.last a.watches a.table a.waiting) begun
-    ∙ (ap (λ (x : List ℕ). known_of b.owed b.left b.begun x a.watches a.table a.waiting) last
-    ∙ (ap (λ (x : List Watch). known_of b.owed b.left b.begun b.last x a.table a.waiting) watches
-    ∙ (ap (λ (x : List ℕ). known_of b.owed b.left b.begun b.last b.watches x a.waiting) table
-    ∙ ap (λ (x : List Waiting). known_of b.owed b.left b.begun b.last b.watches b.table x) waiting)))))
+    a.table ≡ b.table → a.waiting ≡ b.waiting → a.refused ≡ b.refused → a ≡ b
+same_known a b owed left begun last watches table waiting refused =
+    ap (λ (x : List Owed). known_of x a.left a.begun a.last a.watches a.table a.waiting a.refused) owed
+    ∙ (ap (λ (x : ℕ). known_of b.owed x a.begun a.last a.watches a.table a.waiting a.refused) left
+    ∙ (ap (λ (x : List ℕ). known_of b.owed b.left x a.last a.watches a.table a.waiting a.refused) begun
+    ∙ (ap (λ (x : List ℕ). known_of b.owed b.left b.begun x a.watches a.table a.waiting a.refused) last
+    ∙ (ap (λ (x : List Watch). known_of b.owed b.left b.begun b.last x a.table a.waiting a.refused) watches
+    ∙ (ap (λ (x : List ℕ). known_of b.owed b.left b.begun b.last b.watches x a.waiting a.refused) table
+    ∙ (ap (λ (x : List Waiting). known_of b.owed b.left b.begun b.last b.watches b.table x a.refused) waiting
+    ∙ ap (λ (x : List Refused). known_of b.owed b.left b.begun b.last b.watches b.table b.waiting x) refused))))))
 
 -- who watches depends on who is open alone
 watch_alike : (f g : ℕ → Bool) → ((c : ℕ) → f c ≡ g c) → (before : List ℕ) (o : Owed) (watches : List Watch) →
@@ -465,13 +467,13 @@ tables_alike Here f g same k = refl
 known_alike : (event : Event) (by : List ℕ) (lines : List (List ℕ)) (f g : ℕ → Bool) → ((c : ℕ) → f c ≡ g c) → (k : Known) →
     known_now event by lines f k ≡ known_now event by lines g k
 known_alike event by lines f g same k =
-    same_known (known_now event by lines f k) (known_now event by lines g k) refl refl refl refl (watches_alike event f g same k) (tables_alike event f g same k) refl
+    same_known (known_now event by lines f k) (known_now event by lines g k) refl refl refl refl (watches_alike event f g same k) (tables_alike event f g same k) refl refl
 
 -- what is known of the connections and of the server then is what the past says
 known_then : (event : Event) (by : List ℕ) (lines : List (List ℕ)) (f g : ℕ → Bool) → ((c : ℕ) → f c ≡ g c) → (old new past : Known) →
     IsKnown event by lines f old new → old ≡ past → new ≡ known_now event by lines g past
 known_then event by lines f g same old new past known is =
-    same_known new (known_now event by lines f old) known.owed known.left known.begun known.last known.watches known.table known.waiting
+    same_known new (known_now event by lines f old) known.owed known.left known.begun known.last known.watches known.table known.waiting known.refused
     ∙ (known_alike event by lines f g same old ∙ ap (λ (k : Known). known_now event by lines g k) is)
 
 -- for whom a connection acts that speaks
@@ -932,7 +934,7 @@ asked_then players past old Here lines tells now agrees step = tt
 
 begins_known : (players : List Player) (now : View) → BeginsView now → now.known ≡ known_in players []
 begins_known players now begins =
-    same_known now.known (known_in players []) begins.owed begins.left begins.begun begins.last begins.watches begins.table begins.waiting
+    same_known now.known (known_in players []) begins.owed begins.left begins.begun begins.last begins.watches begins.table begins.waiting begins.refused
 
 pub record RunGood (players : List Player) (steps : List Step) (now : View) : Type 0 where
   pub agrees : Agrees players steps now

@@ -1,5 +1,5 @@
 -- What is promised of whatever came in and went out.
-use Rattle.std.specs.Prelude.{ℕ, ◌≡◌, ◌⊎◌, Bool, true, false, ◌&&◌, ◌||◌, ◌==◌, not, List, [], ◌∷◌, ◌++◌, codes, map, filter, Option, None, Some, if◌then◌else◌}
+use Rattle.std.specs.Prelude.{ℕ, ◌≡◌, ◌⊎◌, Bool, true, false, ◌&&◌, ◌||◌, ◌==◌, not, List, [], ◌∷◌, ◌++◌, codes, length, map, filter, Option, None, Some, if◌then◌else◌}
 use Rattle.std.specs.List.{AllByRecursion}
 use Rattle.lobby_words.specs.declared.words.Sort.{Sort}
 use Rattle.lobby_words.specs.declared.words.Sort.TheVariants as sorts
@@ -9,9 +9,10 @@ use Rattle.lobby_words.specs.Words.{rest_of, as_name, as_line, is_message, sort_
 use Rattle.lobby_desk.specs.Players.{holder_of, player_named, renewed, is_token_of}
 use Rattle.lobby_words.specs.Answers.{IsSeated, IsFirstSeated, act_game, is_whole, answer}
 use Rattle.lobby_desk.specs.Lines.{name_line, game_line, notice_lines}
-use Rattle.lobby_desk.specs.Events.{Event, Opened, Closed, Said, Heard, Gone, Here, Renewed, Linked, Telling, ForAct, Owed, Asker, Dropper, Followers, act_told}
-use Rattle.lobby_desk.specs.Logging.{is_act_accepted, is_of_act, one_if, log_texts}
-use Rattle.lobby_desk.specs.Tellings.{Known, known_now, open_now, IsTold}
+use Rattle.lobby_desk.specs.Events.{Event, Opened, Closed, Said, Heard, Gone, Here, Renewed, Linked, Telling, ForAct, Owed, Asker, Dropper, Followers}
+use Rattle.lobby_desk.specs.Refusals.{is_act_accepted, refused_game}
+use Rattle.lobby_desk.specs.Logging.{act_logged, is_of_act, one_if, log_texts}
+use Rattle.lobby_desk.specs.Tellings.{Known, known_now, open_now, is_number, IsTold}
 use Rattle.lobby_desk.specs.Who.{View, BeginsView, IsStep, speaker, players_now}
 
 -- one event, the lines that went to the server for it, and what connections were told
@@ -131,7 +132,7 @@ open_in (s ∷ past) c = open_now s.event c (open_in past c)
 
 -- what is known of the connections and of the server behind a past
 abbrev pub known_in : List Player → List Step → Known
-known_in players [] = record { owed = []; left = 0; begun = []; last = []; watches = []; table = []; waiting = [] }
+known_in players [] = record { owed = []; left = 0; begun = []; last = []; watches = []; table = []; waiting = []; refused = [] }
 known_in players (s ∷ past) =
     known_now s.event (speaker (player_in players past) s.event) s.lines (open_in past) (known_in players past)
 
@@ -215,49 +216,93 @@ abbrev pub IsRun : List Player → List Step → View → Type 0
 IsRun players [] now = BeginsView now
 IsRun players (s ∷ past) now = (before : View) × IsRun players past before × IsStep (players_in players past) before s.event s.lines s.tells now
 
--- an act that the server accepted: whose it is, the message, and the server's whole answer
+-- an act that the server answered: the message, and the server's whole answer
+pub record Acted : Type 0 where
+  pub text : List ℕ
+  pub answer : List ℕ
+
+-- the act that an answer is to, by whose it is
+abbrev pub acted_for : Owed → List ℕ → List Acted
+acted_for (Asker c (ForAct by text)) now = record { text = text; answer = now } ∷ []
+acted_for _ now = []
+
+abbrev pub acted_next : List Owed → List ℕ → List Acted
+acted_next [] now = []
+acted_next (o ∷ owed) now = acted_for o now
+
+abbrev pub acted_now : Event → Known → List Acted
+acted_now (Heard line) k = if is_whole k.left line then acted_next k.owed (answer k.begun line) else []
+acted_now _ k = []
+
+-- The acts that the server answered, the newest first. An act is among them once its answer has come, with all its lines.
+abbrev pub acted_in : List Player → List Step → List Acted
+acted_in players [] = []
+acted_in players (s ∷ past) = acted_now s.event (known_in players past) ++ acted_in players past
+
+-- whether an act was accepted in a game, and whether it was refused there, of who plays in it
+abbrev pub accepts : ℕ → Acted → Bool
+accepts game act = is_act_accepted act.answer && is_number game (act_game act.answer)
+
+abbrev pub refuses : ℕ → Acted → Bool
+refuses game act = is_number game (refused_game act.text act.answer)
+
+-- the acts since one was accepted in a game
+abbrev pub since : ℕ → List Acted → List Acted
+since game [] = []
+since game (act ∷ acts) = if accepts game act then [] else act ∷ since game acts
+
+-- how many acts were refused in a game since one was accepted there
+abbrev pub refused_since : Option ℕ → List Acted → ℕ
+refused_since None acts = 0
+refused_since (Some game) acts = length (filter (refuses game) (since game acts))
+
+-- an act that the server accepted: whose it is, the message, the server's whole answer, and how many acts were refused in its game
+-- since one was accepted there
 pub record Accepted : Type 0 where
   pub by : List ℕ
   pub text : List ℕ
   pub answer : List ℕ
+  pub refused : ℕ
 
--- the act that the server accepts by an answer, by whose that is
-abbrev pub accepted_for : Owed → List ℕ → List Accepted
-accepted_for (Asker c (ForAct by text)) now = one_if (is_act_accepted now) (record { by = by; text = text; answer = now })
-accepted_for _ now = []
+-- the act that the server accepts by an answer, by whose that is, behind these acts
+abbrev pub accepted_for : List Acted → Owed → List ℕ → List Accepted
+accepted_for acts (Asker c (ForAct by text)) now =
+    one_if (is_act_accepted now) (record { by = by; text = text; answer = now; refused = refused_since (act_game now) acts })
+accepted_for acts _ now = []
 
-abbrev pub accepted_next : List Owed → List ℕ → List Accepted
-accepted_next [] now = []
-accepted_next (o ∷ owed) now = accepted_for o now
+abbrev pub accepted_next : List Acted → List Owed → List ℕ → List Accepted
+accepted_next acts [] now = []
+accepted_next acts (o ∷ owed) now = accepted_for acts o now
 
-abbrev pub accepted_now : Event → Known → List Accepted
-accepted_now (Heard line) k = if is_whole k.left line then accepted_next k.owed (answer k.begun line) else []
-accepted_now _ k = []
+abbrev pub accepted_now : List Acted → Event → Known → List Accepted
+accepted_now acts (Heard line) k = if is_whole k.left line then accepted_next acts k.owed (answer k.begun line) else []
+accepted_now acts _ k = []
 
 -- The acts that the server accepted, in the order of its answers. An act is among them once its answer has come, with all its lines:
 -- what the server accepted, but the connection broke before the answer came, is not.
 abbrev pub accepted_in : List Player → List Step → List Accepted
 accepted_in players [] = []
-accepted_in players (s ∷ past) = accepted_in players past ++ accepted_now s.event (known_in players past)
+accepted_in players (s ∷ past) = accepted_in players past ++ accepted_now (acted_in players past) s.event (known_in players past)
 
--- What the log is to have of an answer, by whose it is: the act that the server accepts by it; or how the game of such an act stands,
--- as the answer to `show` says, which stands before that to `fen`.
-abbrev pub entries_for : List ℕ → Owed → List ℕ → List (List ℕ)
-entries_for before (Asker c (ForAct by text)) now = one_if (is_act_accepted now) (act_told by text now)
-entries_for before (Followers game act is_table) now = one_if (not (is_of_act before)) before
-entries_for before _ now = []
+-- What the log is to have of an answer, by whose it is, behind these acts: the act that the server accepts by it; or how the game of
+-- such an act stands, as the answer to `show` says, which stands before that to `fen`.
+abbrev pub entries_for : List Acted → List ℕ → Owed → List ℕ → List (List ℕ)
+entries_for acts before (Asker c (ForAct by text)) now =
+    one_if (is_act_accepted now) (act_logged by text now (refused_since (act_game now) acts))
+entries_for acts before (Followers game act is_table) now = one_if (not (is_of_act before)) before
+entries_for acts before _ now = []
 
-abbrev pub entries_next : List ℕ → List Owed → List ℕ → List (List ℕ)
-entries_next before [] now = []
-entries_next before (o ∷ owed) now = entries_for before o now
+abbrev pub entries_next : List Acted → List ℕ → List Owed → List ℕ → List (List ℕ)
+entries_next acts before [] now = []
+entries_next acts before (o ∷ owed) now = entries_for acts before o now
 
-abbrev pub entries_now : Event → Known → List (List ℕ)
-entries_now (Heard line) k = if is_whole k.left line then entries_next k.last k.owed (answer k.begun line) else []
-entries_now _ k = []
+abbrev pub entries_now : List Acted → Event → Known → List (List ℕ)
+entries_now acts (Heard line) k = if is_whole k.left line then entries_next acts k.last k.owed (answer k.begun line) else []
+entries_now acts _ k = []
 
 abbrev pub entries_in : List Player → List Step → List (List ℕ)
 entries_in players [] = []
-entries_in players (s ∷ past) = entries_in players past ++ entries_now s.event (known_in players past)
+entries_in players (s ∷ past) = entries_in players past ++ entries_now (acted_in players past) s.event (known_in players past)
 
 -- the texts that the log was told, in their order
 abbrev pub logged_in : List Step → List (List ℕ)
@@ -265,9 +310,9 @@ logged_in [] = []
 logged_in (s ∷ past) = logged_in past ++ log_texts s.tells
 
 -- The log was told these, each once and in their order, and nothing else. Its texts of acts are those of all accepted acts: who did
--- it, the act, and the server's whole answer.
+-- it, the act, the server's whole answer, and how many acts were refused in its game before it.
 abbrev pub accepted_text : Accepted → List ℕ
-accepted_text act = act_told act.by act.text act.answer
+accepted_text act = act_logged act.by act.text act.answer act.refused
 
 abbrev pub IsLogged : List Player → List Step → Type 0
 IsLogged players steps =

@@ -4,6 +4,7 @@ pub mod Watching
 pub mod Pace
 pub mod Events
 pub mod Waiting
+pub mod Refusals
 pub mod Logging
 pub mod Tellings
 pub mod Who

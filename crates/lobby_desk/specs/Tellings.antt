@@ -3,6 +3,7 @@ use Rattle.std.specs.Prelude.{ℕ, ◌≡◌, Bool, true, false, ◌&&◌, ◌||
 use Rattle.std.specs.List.{list_any}
 use Rattle.lobby_words.specs.declared.listing.Waiting.{Waiting}
 use Rattle.lobby_desk.specs.declared.watching.Watch.{Watch}
+use Rattle.lobby_desk.specs.declared.refusals.Refused.{Refused}
 use Rattle.lobby_desk.specs.declared.telling.Kind.{Kind}
 use Rattle.lobby_desk.specs.declared.telling.Kind.TheVariants as kinds
 use Rattle.lobby_words.specs.Words.{rest_of, is_message, sort_of, is_close_sort, is_leave_sort, is_leave_lobby_sort, number_in}
@@ -11,10 +12,12 @@ use Rattle.lobby_desk.specs.Watching.{at_table, watch_if, sit_if, unwatched, non
 use Rattle.lobby_desk.specs.Events.{Event, Opened, Closed, Said, Hurried, Heard, Gone, Here, Renewed, Linked, Telling, to_one, to_one_as, Ask, ForPositions, ForGame, ForTable, ForAct, Owed, Nobody, Asker, Dropper, Followers, owed_last, asker, follower}
 use Rattle.lobby_desk.specs.Logging.{logged_for, logged_standing}
 use Rattle.lobby_desk.specs.Waiting.{waiting_told, waiting_listed}
+use Rattle.lobby_desk.specs.Refusals.{refused_told}
 
 -- What is known of the connections and of the server: for whom the next answers of the server are, the oldest first; how many
 -- lines of the answer that has begun are still to come, and those that came; the last whole answer; who watches which game, and
--- who is told of the table, each in the order in which they came to; and which games wait for a second player.
+-- who is told of the table, each in the order in which they came to; which games wait for a second player; and how many acts were
+-- refused in which game since one was accepted there.
 pub record Known : Type 0 where
   pub owed : List Owed
   pub left : ℕ
@@ -23,6 +26,7 @@ pub record Known : Type 0 where
   pub watches : List Watch
   pub table : List ℕ
   pub waiting : List Waiting
+  pub refused : List Refused
 
 -- the front of the answer to a `watch` that is accepted, and of that to `lobby`
 abbrev pub watch_front : ℕ → List ℕ
@@ -95,6 +99,19 @@ abbrev pub waiting_now : Event → Known → List Waiting
 waiting_now (Heard line) k = if is_whole k.left line then waiting_answered k.owed (answer k.begun line) k.waiting else k.waiting
 waiting_now _ k = k.waiting
 
+-- How many acts were refused after an answer, by whose it is.
+abbrev pub refused_heard : Owed → List ℕ → List Refused → List Refused
+refused_heard (Asker c (ForAct by text)) now refused = refused_told text now refused
+refused_heard _ now refused = refused
+
+abbrev pub refused_next : List Owed → List ℕ → List Refused → List Refused
+refused_next [] now refused = refused
+refused_next (o ∷ owed) now refused = refused_heard o now refused
+
+abbrev pub refused_now : Event → Known → List Refused
+refused_now (Heard line) k = if is_whole k.left line then refused_next k.owed (answer k.begun line) k.refused else k.refused
+refused_now _ k = k.refused
+
 -- the first of them is answered so, and these lines go out for it
 abbrev pub owed_answered : List Owed → List ℕ → List (List ℕ) → List Owed
 owed_answered [] now lines = []
@@ -135,6 +152,7 @@ known_now event by lines is_open k = record {
   watches = watches_now event is_open k;
   table = table_now event is_open k;
   waiting = waiting_now event k;
+  refused = refused_now event k;
 }
 
 -- one message, to this connection
@@ -177,19 +195,19 @@ notice watches table game act is_table before now = record {
 }
 
 -- What is told for an answer of the server, by whose it is. What goes to the log is told before the rest.
-abbrev pub IsToldFor : List ℕ → List Watch → List ℕ → Owed → List ℕ → List (List ℕ) → List Telling → Type 0
-IsToldFor before watches table Nobody now lines tells = (lines ≡ []) × (tells ≡ [])
-IsToldFor before watches table (Asker c ask) now lines tells =
-    tells ≡ logged_for ask now ++ to_one_as c (kind_of ask before now) (made_of ask before now) ∷ []
-IsToldFor before watches table (Dropper c by text) now [] tells = tells ≡ to_one c now ∷ []
-IsToldFor before watches table (Dropper c by text) now (line ∷ lines) tells = tells ≡ []
-IsToldFor before watches table (Followers game act is_table) now lines tells =
+abbrev pub IsToldFor : List ℕ → List Watch → List ℕ → List Refused → Owed → List ℕ → List (List ℕ) → List Telling → Type 0
+IsToldFor before watches table refused Nobody now lines tells = (lines ≡ []) × (tells ≡ [])
+IsToldFor before watches table refused (Asker c ask) now lines tells =
+    tells ≡ logged_for refused ask now ++ to_one_as c (kind_of ask before now) (made_of ask before now) ∷ []
+IsToldFor before watches table refused (Dropper c by text) now [] tells = tells ≡ to_one c now ∷ []
+IsToldFor before watches table refused (Dropper c by text) now (line ∷ lines) tells = tells ≡ []
+IsToldFor before watches table refused (Followers game act is_table) now lines tells =
     (lines ≡ []) × (tells ≡ logged_standing before ++ notice watches table game act is_table before now ∷ [])
 
 -- the same of the first that is owed; what nobody asked for is told to nobody
 abbrev pub IsToldNext : Known → List Owed → List ℕ → List (List ℕ) → List Telling → Type 0
 IsToldNext k [] now lines tells = (lines ≡ []) × (tells ≡ [])
-IsToldNext k (o ∷ owed) now lines tells = IsToldFor k.last k.watches k.table o now lines tells
+IsToldNext k (o ∷ owed) now lines tells = IsToldFor k.last k.watches k.table k.refused o now lines tells
 
 abbrev pub IsToldHeard : Bool → Known → List ℕ → List (List ℕ) → List Telling → Type 0
 IsToldHeard false k now lines tells = (lines ≡ []) × (tells ≡ [])

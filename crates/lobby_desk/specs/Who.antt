@@ -25,7 +25,7 @@ use Rattle.lobby_desk.specs.Waiting.{is_crowded}
 use Rattle.lobby_desk.specs.Pace.{is_too_fast}
 pub use Rattle.lobby_desk.specs.Watching.{at_table}
 use Rattle.lobby_desk.specs.Events.{Event, Opened, Closed, Said, Hurried, Heard, Gone, Here, Renewed, Linked, Telling, to_one, ForAct, Owed, Asker, Dropper, owed_of, owed_last, plan_asker, follower}
-use Rattle.lobby_desk.specs.Tellings.{Known, open_now, watch_heard, watch_next, table_heard, table_next, watches_now, table_now, waiting_heard, waiting_next, waiting_now, owed_now, left_now, begun_now, last_now, owed_answered, owes, presence, IsTold, IsToldFor, IsToldNext}
+use Rattle.lobby_desk.specs.Tellings.{Known, open_now, watch_heard, watch_next, table_heard, table_next, watches_now, table_now, waiting_heard, waiting_next, waiting_now, refused_heard, refused_next, refused_now, owed_now, left_now, begun_now, last_now, owed_answered, owes, presence, IsTold, IsToldFor, IsToldNext}
 
 -- the player for whom a connection acts
 abbrev pub who_in : BTreeMap ℕ Visitor → ℕ → Option Identity
@@ -153,6 +153,7 @@ known desk = record {
   watches = desk.watches.items;
   table = desk.table.items;
   waiting = desk.line.waiting.items;
+  refused = desk.line.refused.items;
 }
 
 -- the connection is open, and no answer is owed to it
@@ -187,6 +188,7 @@ pub record BeginsView (now : View) : Type 0 where
   pub watches : now.known.watches ≡ []
   pub table : now.known.table ≡ []
   pub waiting : now.known.waiting ≡ []
+  pub refused : now.known.refused ≡ []
 
 abbrev pub Begins : Desk → Type 0
 Begins desk = BeginsView (view desk)
@@ -361,6 +363,7 @@ pub record IsKnown (event : Event) (by : List ℕ) (lines : List (List ℕ)) (is
   pub watches : new.watches ≡ watches_now event is_open old
   pub table : new.table ≡ table_now event is_open old
   pub waiting : new.waiting ≡ waiting_now event old
+  pub refused : new.refused ≡ refused_now event old
 
 -- a step: what comes in, the lines that go to the server, and what connections are told
 pub record IsStep (players : List Player) (old : View) (event : Event) (lines : List (List ℕ)) (tells : List Telling) (new : View) : Type 0 where
@@ -409,11 +412,12 @@ pub record AnswersTo (o : Owed) (now : List ℕ) (old : Desk) (before after : Li
   pub sent : after ≡ before ++ bytes_of lines
   pub told : told_after ≡ told_before ++ tells
   pub for_whom : IsSentFor o old.line.said now lines new.line.said
-  pub told_whom : IsToldFor (string_bytes old.line.last) old.watches.items old.table.items o now lines tells
+  pub told_whom : IsToldFor (string_bytes old.line.last) old.watches.items old.table.items old.line.refused.items o now lines tells
   pub owed : (known new).owed ≡ (known old).owed ++ owed_last (follower o now) lines
   pub watches : new.watches.items ≡ watch_heard (open_of old) (string_bytes old.line.last) o old.watches.items
   pub table : new.table.items ≡ table_heard (open_of old) o old.table.items
   pub waiting : new.line.waiting.items ≡ waiting_heard o now old.line.waiting.items
+  pub refused : new.line.refused.items ≡ refused_heard o now old.line.refused.items
   pub here_is : new.line.is_here ≡ old.line.is_here
   pub paused_is : new.is_paused ≡ old.is_paused
   pub visitors : new.visitors ≡ old.visitors
@@ -434,6 +438,7 @@ pub record Answered (now : List ℕ) (old : Desk) (before after : List ℕ) (tol
   pub watches : new.watches.items ≡ watch_next (open_of old) (string_bytes old.line.last) (known old).owed old.watches.items
   pub table : new.table.items ≡ table_next (open_of old) (known old).owed old.table.items
   pub waiting : new.line.waiting.items ≡ waiting_next (known old).owed now old.line.waiting.items
+  pub refused : new.line.refused.items ≡ refused_next (known old).owed now old.line.refused.items
   pub here_is : new.line.is_here ≡ old.line.is_here
   pub paused_is : new.is_paused ≡ old.is_paused
   pub visitors : new.visitors ≡ old.visitors

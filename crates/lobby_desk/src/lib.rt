@@ -9,6 +9,7 @@ mod law;
 mod pace;
 mod players;
 mod present;
+mod refusals;
 mod renewing;
 mod rows;
 mod server_line;

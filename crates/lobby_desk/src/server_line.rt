@@ -7,6 +7,7 @@ ghost use Rattle.lobby_desk.specs.Events.{owed_of, owed_last, Asker, ForAct};
 ghost use Rattle.lobby_desk.specs.Lines as lines;
 ghost use Rattle.lobby_desk.specs.Lines.{ended, bytes_of, act_lines, game_line, IsHeardSame};
 
+use crate::refusals::Refused;
 use itoa::Buffer;
 use lobby_words::{Coming, Waiting};
 use rec_codec::Name;
@@ -65,6 +66,8 @@ pub struct ServerLine {
     pub last: String,
     /// The games that wait for a second player, as far as the answers have told.
     pub waiting: Vec<Waiting>,
+    /// The acts that were refused, of each game since one was accepted there.
+    pub refused: Vec<Refused>,
 }
 
 // Puts a line of two parts behind others.
@@ -99,6 +102,7 @@ impl ServerLine {
         ensures begun { string_bytes result.coming.text ≡ [] }
         ensures last { string_bytes result.last ≡ [] }
         ensures waiting { result.waiting.items ≡ [] }
+        ensures refused { result.refused.items ≡ [] }
     {
         ServerLine {
             is_here: false,
@@ -107,6 +111,7 @@ impl ServerLine {
             coming: Coming::new(alloc),
             last: String::new(alloc),
             waiting: Vec::new(alloc),
+            refused: Vec::new(alloc),
         }
     }
 
@@ -120,6 +125,7 @@ impl ServerLine {
         ensures begun { string_bytes self.new.coming.text ≡ [] }
         ensures last { self.new.last ≡ self.old.last }
         ensures waiting { self.new.waiting ≡ self.old.waiting }
+        ensures refused { self.new.refused ≡ self.old.refused }
     {
         self.is_here = is_here;
         self.said = None;

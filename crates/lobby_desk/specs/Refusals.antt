@@ -1,0 +1,55 @@
+-- The acts that the server refused, of each game since it accepted one there.
+use Rattle.std.specs.Prelude.{ℕ, ◌&&◌, ◌||◌, ◌==◌, ◌+◌, Bool, false, not, nat_le, List, [], ◌∷◌, ◌++◌, codes, filter, Option, None, Some, if◌then◌else◌}
+use Rattle.std.specs.List.{starts_with}
+use Rattle.lobby_words.specs.Words.{word_of, rest_of, line_said, number_in}
+use Rattle.lobby_words.specs.Answers.{act_game, is_accepted, is_table_act}
+use Rattle.lobby_desk.specs.declared.refusals.Refused.{Refused}
+
+-- whether the server accepted an act, by its answer: `ok ..`, or `fallen ..`
+abbrev pub is_fallen : List ℕ → Bool
+is_fallen answer = starts_with (λ a b. a == b) answer (codes "fallen ")
+
+abbrev pub is_act_accepted : List ℕ → Bool
+is_act_accepted answer = is_accepted answer || is_fallen answer
+
+-- Whether a refusal is of who plays in the game: its number is 5 to 24. By those below the line has no form, no name was said, there is
+-- no such game, or who asks does not play in it; 36 is said by a switch, for a server that is away.
+abbrev pub is_of_seated : Option ℕ → Bool
+is_of_seated None = false
+is_of_seated (Some number) = nat_le 5 number && nat_le number 24
+
+abbrev pub is_refusal : List ℕ → Bool
+is_refusal answer = starts_with (λ a b. a == b) answer (codes "no ") && is_of_seated (number_in (word_of (rest_of answer)))
+
+-- The game in which an answer refuses an act of who plays in it. An `open`, a `join` and a `drop` are no acts of who plays.
+abbrev pub game_named : List ℕ → Option ℕ
+game_named text = number_in (word_of (rest_of (line_said text)))
+
+abbrev pub refused_game : List ℕ → List ℕ → Option ℕ
+refused_game text answer = if is_refusal answer && not (is_table_act text) then game_named text else None
+
+-- how many were refused in a game
+abbrev pub count_in : ℕ → List Refused → ℕ
+count_in game [] = 0
+count_in game (r ∷ refused) = if r.game == game then r.count else count_in game refused
+
+abbrev pub count_of : Option ℕ → List Refused → ℕ
+count_of None refused = 0
+count_of (Some game) refused = count_in game refused
+
+-- none in a game any more, and one more
+abbrev pub without : ℕ → List Refused → List Refused
+without game refused = filter (λ (r : Refused). not (r.game == game)) refused
+
+abbrev pub cleared : Option ℕ → List Refused → List Refused
+cleared None refused = refused
+cleared (Some game) refused = without game refused
+
+abbrev pub one_more : Option ℕ → List Refused → List Refused
+one_more None refused = refused
+one_more (Some game) refused = without game refused ++ record { game = game; count = count_in game refused + 1 } ∷ []
+
+-- The same behind the answer to an act.
+abbrev pub refused_told : List ℕ → List ℕ → List Refused → List Refused
+refused_told text answer refused =
+    if is_act_accepted answer then cleared (act_game answer) refused else one_more (refused_game text answer) refused

@@ -1,0 +1,166 @@
+//! The acts that the server refused, of each game since it accepted one there.
+ghost use Rattle.std.specs.Prelude.{◌≡◌, ◌==◌, codes, OnOk};
+ghost use Rattle.std.specs.List.{starts_with};
+ghost use Rattle.std.specs.String.{string_bytes};
+ghost use Rattle.lobby_words.specs.Words.{line_said};
+ghost use Rattle.lobby_words.specs.Answers.{act_game};
+ghost use Rattle.lobby_desk.specs.Refusals as spec;
+
+use crate::desk::number_after;
+use lobby_words::{as_line, cut, game_told, is_accepted, is_table_act, number_named};
+use std::alloc::AllocError;
+
+/// A game, and how many acts of who plays in it were refused since one was accepted there.
+#[derive(Clone, Copy)]
+pub struct Refused {
+    pub game: u32,
+    pub count: u64,
+}
+
+// Whether the server did an act by ending the game that it was made in.
+fn is_fallen(answer: &str) -> bool
+    ensures { result ≡ spec.is_fallen answer.now }
+{
+    answer.starts_with("fallen ")
+}
+
+/// Whether the server accepted an act, by its answer.
+pub fn is_act_accepted(answer: &str) -> bool
+    ensures { result ≡ spec.is_act_accepted answer.now }
+{
+    let is_done = is_accepted(answer);
+    let is_fallen = is_fallen(answer);
+    is_done | is_fallen
+}
+
+// Whether a refusal of this number is of who plays in the game.
+fn is_of_seated(number: Option<u32>) -> bool
+    ensures { result ≡ spec.is_of_seated number }
+{
+    match number {
+        None => false,
+        Some(number) => {
+            let is_from = 5 <= number;
+            let is_to = number <= 24;
+            is_from & is_to
+        }
+    }
+}
+
+// Whether an answer begins as a refusal.
+fn is_no(answer: &str) -> bool
+    ensures { result ≡ starts_with (λ a b. a == b) answer.now (codes "no ") }
+{
+    answer.starts_with("no ")
+}
+
+// Whether an answer refuses what one who plays in a game asked there.
+fn is_refusal(answer: &str) -> bool
+    ensures { result ≡ spec.is_refusal answer.now }
+{
+    let (_, rest) = cut(answer);
+    let (number, _) = cut(rest);
+    let is_no = is_no(answer);
+    let is_of_seated = is_of_seated(number_named(number));
+    is_no & is_of_seated
+}
+
+// The line of the server that a message is.
+fn line_said(text: &str) -> &str
+    ensures { result.now ≡ line_said text.entry.now }
+{
+    let (word, _) = cut(text);
+    if word == "as" { as_line(text) } else { text }
+}
+
+// The game that the line of an act names.
+fn game_named(text: &str) -> Option<u32>
+    ensures { result ≡ spec.game_named text.now }
+{
+    let (_, rest) = cut(line_said(text));
+    let (game, _) = cut(rest);
+    number_named(game)
+}
+
+// The game in which an answer refuses an act of who plays in it.
+fn refused_game(text: &str, answer: &str) -> Option<u32>
+    ensures { result ≡ spec.refused_game text.now answer.now }
+{
+    let is_refusal = is_refusal(answer);
+    let is_table = is_table_act(text);
+    if is_refusal & !is_table {
+        game_named(text)
+    } else {
+        None
+    }
+}
+
+// How many acts were refused in a game.
+fn count_in(refused: &[Refused], game: u32) -> u64
+    ensures { result ≡ spec.count_in game refused.now }
+{
+    for one in refused {
+        if one.game == game {
+            return one.count;
+        }
+    }
+    0
+}
+
+/// How many acts were refused in a game, if one is named.
+pub fn count_of(refused: &[Refused], game: Option<u32>) -> u64
+    ensures { result ≡ spec.count_of game refused.now }
+{
+    match game {
+        None => 0,
+        Some(game) => count_in(refused, game),
+    }
+}
+
+// None was refused in a game any more.
+fn take_off(refused: &mut Vec<Refused>, game: u32)
+    ensures { refused.new.items ≡ spec.without game refused.old.items }
+{
+    refused.retain(|one| one.game != game);
+}
+
+// The same, if a game is named.
+fn clear(refused: &mut Vec<Refused>, game: Option<u32>)
+    ensures { refused.new.items ≡ spec.cleared game refused.old.items }
+{
+    match game {
+        None => {}
+        Some(game) => take_off(refused, game),
+    }
+}
+
+// One more was refused in a game, if one is named.
+fn add_one(refused: &mut Vec<Refused>, game: Option<u32>) -> Result<(), AllocError>
+    ensures { OnOk result (refused.new.items ≡ spec.one_more game refused.old.items) }
+{
+    match game {
+        None => Ok(()),
+        Some(game) => {
+            let count = number_after(count_in(refused.as_slice(), game))?;
+            take_off(refused, game);
+            refused.push(Refused { game, count })?;
+            Ok(())
+        }
+    }
+}
+
+/// Notes the answer to an act.
+pub fn note_refused(
+    refused: &mut Vec<Refused>,
+    text: &str,
+    answer: &str,
+) -> Result<(), AllocError>
+    ensures { OnOk result (refused.new.items ≡ spec.refused_told text.now answer.now refused.old.items) }
+{
+    if is_act_accepted(answer) {
+        clear(refused, game_told(answer));
+        Ok(())
+    } else {
+        add_one(refused, refused_game(text, answer))
+    }
+}
