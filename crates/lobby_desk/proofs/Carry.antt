@@ -280,24 +280,24 @@ act_sent : (b : Bool) (name text : List ℕ) (c : ℕ) (tells : List Telling) �
 act_sent true name text c tells h = h
 act_sent false name text c tells h = h
 
-pub answered_or_sent : (players : List Player) (is_open : ℕ → Bool) (acts_for : ℕ → Option Identity) (plan : Plan) (said : Option (List ℕ)) (text : List ℕ) (c : ℕ) (tells : List Telling) → IsAnswered players is_open acts_for plan c tells →
+pub answered_or_sent : (is_paused : Bool) (players : List Player) (is_open : ℕ → Bool) (acts_for : ℕ → Option Identity) (plan : Plan) (said : Option (List ℕ)) (text : List ℕ) (c : ℕ) (tells : List Telling) → IsAnswered is_paused players is_open acts_for plan c tells →
     IsToldOrSent (lines_of plan said text) c tells
-answered_or_sent players is_open acts_for (plans.Refuse refusal) said text c tells h = (h.0, h.2)
-answered_or_sent players is_open acts_for plans.Read said text c tells h = h
-answered_or_sent players is_open acts_for (plans.Act who) said text c tells h = act_sent (is_said said who.name) who.name text c tells h
-answered_or_sent players is_open acts_for (plans.ActAs who name) said text c tells h = act_sent (is_said said name) name (as_line text) c tells h
-answered_or_sent players is_open acts_for (plans.Drop who game) said text c tells h = h
-answered_or_sent players is_open acts_for (plans.Login who) said text c tells h = (h.0, h.2)
-answered_or_sent players is_open acts_for plans.Players said text c tells h = (h.0, h.2)
-answered_or_sent players is_open acts_for plans.Who said text c tells h = (h.0, h.2)
-answered_or_sent players is_open acts_for plans.Pause said text c tells h = (h.0, h.2)
-answered_or_sent players is_open acts_for plans.Resume said text c tells h = (h.0, h.2)
-answered_or_sent players is_open acts_for (plans.Order order) said text c tells h = (h.0, h.2)
-answered_or_sent players is_open acts_for plans.Lobby said text c tells h = h
-answered_or_sent players is_open acts_for plans.LeaveLobby said text c tells h = (h.0, h.2)
-answered_or_sent players is_open acts_for (plans.Watch game) said text c tells h = h
-answered_or_sent players is_open acts_for (plans.Leave game) said text c tells h = (h.0, h.2)
-answered_or_sent players is_open acts_for (plans.Line game) said text c tells h = h
+answered_or_sent is_paused players is_open acts_for (plans.Refuse refusal) said text c tells h = (h.0, h.2)
+answered_or_sent is_paused players is_open acts_for plans.Read said text c tells h = h
+answered_or_sent is_paused players is_open acts_for (plans.Act who) said text c tells h = act_sent (is_said said who.name) who.name text c tells h
+answered_or_sent is_paused players is_open acts_for (plans.ActAs who name) said text c tells h = act_sent (is_said said name) name (as_line text) c tells h
+answered_or_sent is_paused players is_open acts_for (plans.Drop who game) said text c tells h = h
+answered_or_sent is_paused players is_open acts_for (plans.Login who) said text c tells h = (h.0, h.2)
+answered_or_sent is_paused players is_open acts_for plans.Players said text c tells h = (h.0, h.2)
+answered_or_sent is_paused players is_open acts_for plans.Who said text c tells h = (h.0, h.2)
+answered_or_sent is_paused players is_open acts_for plans.Pause said text c tells h = (h.0, h.2)
+answered_or_sent is_paused players is_open acts_for plans.Resume said text c tells h = (h.0, h.2)
+answered_or_sent is_paused players is_open acts_for (plans.Order order) said text c tells h = (h.0, h.2)
+answered_or_sent is_paused players is_open acts_for plans.Lobby said text c tells h = h
+answered_or_sent is_paused players is_open acts_for plans.LeaveLobby said text c tells h = (h.0, h.2)
+answered_or_sent is_paused players is_open acts_for (plans.Watch game) said text c tells h = h
+answered_or_sent is_paused players is_open acts_for (plans.Leave game) said text c tells h = (h.0, h.2)
+answered_or_sent is_paused players is_open acts_for (plans.Line game) said text c tells h = h
 
 -- ---- who orders
 

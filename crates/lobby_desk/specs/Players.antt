@@ -80,9 +80,13 @@ abbrev pub present_names : (ℕ → Option Identity) → List ℕ → List Playe
 present_names who connections players =
     map (λ (player : Player). player.name) (filter (λ (player : Player). is_present who connections player.name) players)
 
--- the answer to `who` that tells these names
-abbrev pub who_text : List (List ℕ) → List ℕ
-who_text names = codes "ok who " ++ decimal (length names) ++ codes "\n" ++ flat_map ended names
+-- the answer to `who`, which tells whether entries are paused, and these names
+abbrev pub who_front : Bool → List ℕ
+who_front true = codes "ok who paused "
+who_front false = codes "ok who open "
+
+abbrev pub who_text : Bool → List (List ℕ) → List ℕ
+who_text is_paused names = who_front is_paused ++ decimal (length names) ++ codes "\n" ++ flat_map ended names
 
 -- whether who shows this token is the player of this name
 abbrev pub is_token_of : List Player → List ℕ → List ℕ → Bool

@@ -117,32 +117,32 @@ is_own plans.LeaveLobby = true
 is_own (plans.Leave game) = true
 is_own _ = false
 
--- The answer to `who` tells the players for whom a connection acts that is open, and no other.
-abbrev pub IsPresence : List Player → (ℕ → Bool) → (ℕ → Option Identity) → List ℕ → Type 0
-IsPresence players is_open acts_for text =
-    (all : List ℕ) × ((c : ℕ) → at_table all c ≡ is_open c) × (text ≡ who_text (present_names acts_for all players))
+-- The answer to `who` tells whether entries are paused, and the players for whom a connection acts that is open, and no other.
+abbrev pub IsPresence : Bool → List Player → (ℕ → Bool) → (ℕ → Option Identity) → List ℕ → Type 0
+IsPresence is_paused players is_open acts_for text =
+    (all : List ℕ) × ((c : ℕ) → at_table all c ≡ is_open c) × (text ≡ who_text is_paused (present_names acts_for all players))
 
--- Such an answer, where these connections are open, and each acts for this player: a refusal says why; the player is told, or all
--- players are, or those who are there; what is left is named. An order is not carried out here.
-abbrev pub IsOwnText : List Player → (ℕ → Bool) → (ℕ → Option Identity) → Plan → List ℕ → Type 0
-IsOwnText players is_open acts_for (plans.Refuse refusal) text = text ≡ refusal_text refusal
-IsOwnText players is_open acts_for (plans.Login who) text = text ≡ login_text players who
-IsOwnText players is_open acts_for plans.Players text = text ≡ players_text players
-IsOwnText players is_open acts_for plans.Who text = IsPresence players is_open acts_for text
-IsOwnText players is_open acts_for plans.Pause text = text ≡ codes "ok pause entries\n"
-IsOwnText players is_open acts_for plans.Resume text = text ≡ codes "ok resume entries\n"
-IsOwnText players is_open acts_for (plans.Order order) text = text ≡ refusal_text refusals.NotWritten
-IsOwnText players is_open acts_for plans.LeaveLobby text = text ≡ codes "ok leave lobby\n"
-IsOwnText players is_open acts_for (plans.Leave game) text = text ≡ codes "ok leave " ++ decimal game ++ codes "\n"
-IsOwnText players is_open acts_for _ text = Unit {0}
+-- Such an answer, where entries are paused or not, these connections are open, and each acts for this player: a refusal says why;
+-- the player is told, or all players are, or those who are there; what is left is named. An order is not carried out here.
+abbrev pub IsOwnText : Bool → List Player → (ℕ → Bool) → (ℕ → Option Identity) → Plan → List ℕ → Type 0
+IsOwnText is_paused players is_open acts_for (plans.Refuse refusal) text = text ≡ refusal_text refusal
+IsOwnText is_paused players is_open acts_for (plans.Login who) text = text ≡ login_text players who
+IsOwnText is_paused players is_open acts_for plans.Players text = text ≡ players_text players
+IsOwnText is_paused players is_open acts_for plans.Who text = IsPresence is_paused players is_open acts_for text
+IsOwnText is_paused players is_open acts_for plans.Pause text = text ≡ codes "ok pause entries\n"
+IsOwnText is_paused players is_open acts_for plans.Resume text = text ≡ codes "ok resume entries\n"
+IsOwnText is_paused players is_open acts_for (plans.Order order) text = text ≡ refusal_text refusals.NotWritten
+IsOwnText is_paused players is_open acts_for plans.LeaveLobby text = text ≡ codes "ok leave lobby\n"
+IsOwnText is_paused players is_open acts_for (plans.Leave game) text = text ≡ codes "ok leave " ++ decimal game ++ codes "\n"
+IsOwnText is_paused players is_open acts_for _ text = Unit {0}
 
-abbrev pub IsAnsweredIf : Bool → List Player → (ℕ → Bool) → (ℕ → Option Identity) → Plan → ℕ → List Telling → Type 0
-IsAnsweredIf true players is_open acts_for plan c tells =
-    (text : List ℕ) × IsOwnText players is_open acts_for plan text × (tells ≡ to_one c text ∷ [])
-IsAnsweredIf false players is_open acts_for plan c tells = tells ≡ []
+abbrev pub IsAnsweredIf : Bool → Bool → List Player → (ℕ → Bool) → (ℕ → Option Identity) → Plan → ℕ → List Telling → Type 0
+IsAnsweredIf true is_paused players is_open acts_for plan c tells =
+    (text : List ℕ) × IsOwnText is_paused players is_open acts_for plan text × (tells ≡ to_one c text ∷ [])
+IsAnsweredIf false is_paused players is_open acts_for plan c tells = tells ≡ []
 
-abbrev pub IsAnswered : List Player → (ℕ → Bool) → (ℕ → Option Identity) → Plan → ℕ → List Telling → Type 0
-IsAnswered players is_open acts_for plan c tells = IsAnsweredIf (is_own plan) players is_open acts_for plan c tells
+abbrev pub IsAnswered : Bool → List Player → (ℕ → Bool) → (ℕ → Option Identity) → Plan → ℕ → List Telling → Type 0
+IsAnswered is_paused players is_open acts_for plan c tells = IsAnsweredIf (is_own plan) is_paused players is_open acts_for plan c tells
 
 abbrev pub known : Desk → Known
 known desk = record {
@@ -238,7 +238,7 @@ pub record IsSaid (players : List Player) (old : View) (c : ℕ) (text : List �
   pub planned : plan ≡ plan_of (is_message text) (sort_of text) standing (number_in (rest_of text))
   pub named : IsNamed plan
   pub lines_are : lines ≡ lines_of plan old.said text
-  pub answers : IsAnswered players old.is_open old.who plan c tells
+  pub answers : IsAnswered old.paused players old.is_open old.who plan c tells
   pub next_is : new.next ≡ old.next
   pub said_is : new.said ≡ said_after plan old.said
   pub here_is : new.here ≡ old.here
@@ -388,7 +388,7 @@ pub record Carried (old : Desk) (from : ℕ) (text : List ℕ) (plan : Plan) (un
   pub tells : List Telling
   pub sent : after ≡ before ++ bytes_of (lines_of plan old.line.said text)
   pub told : told_after ≡ told_before ++ tells
-  pub answers : IsAnswered old.players.items (open_of old) (who_of old) plan from tells
+  pub answers : IsAnswered old.is_paused old.players.items (open_of old) (who_of old) plan from tells
   pub named : IsNamed plan
   pub said_is : new.line.said ≡ said_after plan old.line.said
   pub here_is : new.line.is_here ≡ old.line.is_here

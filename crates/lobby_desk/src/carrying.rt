@@ -31,6 +31,7 @@ pub fn forget(watches: &mut Vec<Watch>, table: &mut Vec<u64>, from: u64, plan: &
 /// Answers a connection, where nothing is asked of the server.
 pub fn answer_plan(
     alloc: Global,
+    is_paused: bool,
     players: &[Player],
     visitors: &BTreeMap<u64, Visitor>,
     from: u64,
@@ -38,9 +39,9 @@ pub fn answer_plan(
     told: &mut Vec<Told>,
 ) -> Result<(), AllocError>
     ensures { OnOk result ((tells : List Telling) × (tellings told.new.items ≡ tellings told.old.items ++ tells)
-        × IsAnswered players.now (open_in_map visitors.now) (who_in visitors.now) plan.now from tells) }
+        × IsAnswered is_paused players.now (open_in_map visitors.now) (who_in visitors.now) plan.now from tells) }
 {
-    match own_answer(alloc, plan, players, visitors)? {
+    match own_answer(alloc, is_paused, plan, players, visitors)? {
         None => Ok(()),
         Some(answer) => tell(alloc, told, from, Kind::Whole, answer),
     }
@@ -49,19 +50,20 @@ pub fn answer_plan(
 // The line that a connection is answered for a plan by which nothing is sent.
 fn own_answer(
     alloc: Global,
+    is_paused: bool,
     plan: &Plan,
     players: &[Player],
     visitors: &BTreeMap<u64, Visitor>,
 ) -> Result<Option<String>, AllocError>
     ensures own { IfOk result (λ answer. is_some answer ≡ is_own plan.now) }
     ensures text { IfOk result (λ answer. IfSome answer (λ text.
-        IsOwnText players.now (open_in_map visitors.now) (who_in visitors.now) plan.now (string_bytes text))) }
+        IsOwnText is_paused players.now (open_in_map visitors.now) (who_in visitors.now) plan.now (string_bytes text))) }
 {
     match plan {
         Plan::Refuse(refusal) => Ok(Some(String::from_str(alloc, refusal.line())?)),
         Plan::Login(who) => Ok(Some(login_line(alloc, who, players)?)),
         Plan::Players => Ok(Some(player_rows(alloc, players)?)),
-        Plan::Who => Ok(Some(present_rows(alloc, players, visitors)?)),
+        Plan::Who => Ok(Some(present_rows(alloc, is_paused, players, visitors)?)),
         Plan::Pause => Ok(Some(String::from_str(alloc, "ok pause entries\n")?)),
         Plan::Resume => Ok(Some(String::from_str(alloc, "ok resume entries\n")?)),
         Plan::Order(_) => Ok(Some(String::from_str(alloc, Refusal::NotWritten.line())?)),

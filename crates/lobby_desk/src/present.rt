@@ -2,7 +2,7 @@
 ghost use Rattle.std.specs.Prelude.{◌≡◌, ◌++◌, ◌∷◌, [], IfOk, OnOk, if◌then◌else◌};
 ghost use Rattle.std.specs.String.{string_bytes};
 ghost use Rattle.lobby_words.specs.Answers.{ended};
-ghost use Rattle.lobby_desk.specs.Players.{is_named, is_present, present_names, who_text};
+ghost use Rattle.lobby_desk.specs.Players.{is_named, is_present, present_names, who_front, who_text};
 ghost use Rattle.lobby_desk.specs.Who.{who_in, open_in_map, IsPresence};
 
 use crate::carrying::who_acts;
@@ -77,27 +77,39 @@ fn push_name(text: &mut String, name: &Name) -> Result<(), AllocError>
     Ok(())
 }
 
-// The answer that tells names.
-fn who_text(alloc: Global, names: &[Name]) -> Result<String, AllocError>
-    ensures { IfOk result (λ text. string_bytes text ≡ who_text names.now) }
+// How the answer to `who` begins.
+fn who_front(is_paused: bool) -> &'static str
+    ensures { result.now ≡ who_front is_paused }
 {
-    let mut text = count_line(alloc, "ok who ", names.len())?;
+    if is_paused {
+        "ok who paused "
+    } else {
+        "ok who open "
+    }
+}
+
+// The answer that tells whether entries are paused, and names.
+fn who_text(alloc: Global, is_paused: bool, names: &[Name]) -> Result<String, AllocError>
+    ensures { IfOk result (λ text. string_bytes text ≡ who_text is_paused names.now) }
+{
+    let mut text = count_line(alloc, who_front(is_paused), names.len())?;
     for name in names {
         push_name(&mut text, name)?;
     }
     Ok(text)
 }
 
-/// The answer to `who`: the players for whom a connection acts that is open.
+/// The answer to `who`: whether entries are paused, and the players for whom a connection acts that is open.
 pub fn present_rows(
     alloc: Global,
+    is_paused: bool,
     players: &[Player],
     visitors: &BTreeMap<u64, Visitor>,
 ) -> Result<String, AllocError>
-    ensures { IfOk result (λ text. IsPresence players.now (open_in_map visitors.now) (who_in visitors.now) (string_bytes text)) }
+    ensures { IfOk result (λ text. IsPresence is_paused players.now (open_in_map visitors.now) (who_in visitors.now) (string_bytes text)) }
 {
     let all = open_ones(alloc, visitors)?;
     let names = present_names(alloc, players, visitors, all.as_slice())?;
-    let text = who_text(alloc, names.as_slice())?;
+    let text = who_text(alloc, is_paused, names.as_slice())?;
     Ok(text)
 }

@@ -10,6 +10,6 @@ returns c =
       c.in_ok-all.all.items,
       c.in_ok-all.ensures,
       c.in_ok-text.ensures
-          ∙ ap who_text (c.as_slice-2.ensures.value
+          ∙ ap (who_text c.args.is_paused) (c.as_slice-2.ensures.value
           ∙ (c.in_ok-names.ensures ∙ ap (λ (all : List ℕ). present_names (who_in visitors) all players) c.as_slice.ensures.value)),
     )

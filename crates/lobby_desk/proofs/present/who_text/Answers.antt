@@ -1,5 +1,6 @@
 use Rattle.std.proofs.Common.{ℕ, ◌++◌, List, length, codes, decimal, ap, ◌∙◌}
 use Rattle.lobby_words.specs.Answers.{ended}
+use Rattle.lobby_desk.specs.Players.{who_front}
 use Rattle.lobby_desk.proofs.PresentNames.{lines_more}
 use Rattle.lobby_desk.proofs.present.who_text.Goals as goal
 
@@ -9,4 +10,4 @@ loop-name-preserved c =
     let item = c.name-item.result in
     c.in_ok-push_name.ensures
     ∙ (ap (λ (t : List ℕ). t ++ ended item) c.loop-name.invariant
-    ∙ lines_more (codes "ok who " ++ decimal (length names) ++ codes "\n") names c.loop-name.name-index item c.loop-name-test.true c.name-item.is)
+    ∙ lines_more (who_front c.args.is_paused ++ decimal (length names) ++ codes "\n") names c.loop-name.name-index item c.loop-name-test.true c.name-item.is)
