@@ -25,6 +25,7 @@ export class ArbiterView {
     this.cards = new Map();
     this.first = 0;
     this.here = null;                  // the names of who is connected, once that was told
+    this.arePaused = null;             // whether new games are stopped, once that was told
     this.question = new Question();
     this.waits = new Waits(this);
     this.pairing = new Pairing(this, (key, number) => this.adjourned.goesOn(key, number));
@@ -96,7 +97,7 @@ export class ArbiterView {
     const may = this.app.isArbiter();
     byId('arbiter-only').hidden = may;
     byId('arbiter-desk').hidden = !may;
-    for (const id of ['pause-entries', 'resume-entries']) byId(id).disabled = !this.app.wire.state.open;
+    this.renderEntries();
     for (const card of this.cards.values()) this.renderActs(card);
     for (const part of [this.pairing, this.adjourned, this.links]) part.render();
     this.fill();
@@ -298,7 +299,10 @@ export class ArbiterView {
     if (this.root.hidden || document.hidden || !this.app.isArbiter() || !this.app.wire.state.open) return;
     const answer = await this.app.wire.say('who', true);
     if (!answer[0].startsWith('ok who')) return;
-    this.here = readWho(answer);
+    const { arePaused, names } = readWho(answer);
+    this.here = names;
+    this.arePaused = arePaused;
+    this.renderEntries();
     for (const card of this.cards.values()) this.renderAway(card);
     this.pairing.renderHints();
     this.links.render();
@@ -356,7 +360,7 @@ export class ArbiterView {
   async enter({ number, lines, button }) {
     const card = this.cards.get(number);
     if (!card) return;
-    const tell = (text) => this.tellCard(number, text);
+    const tell = (text, kind) => this.tellCard(number, text, kind);
     tell('');
     card.busy = true;
     this.renderActs(card);
@@ -364,7 +368,7 @@ export class ArbiterView {
       const answer = await this.app.wire.say(line), refusal = readRefusal(answer[0]);
       if (!answer[0].startsWith('ok ')) {
         if (refusal) tell(arbiterWords(refusal));
-        else if (answer[0].startsWith('fallen')) tell('The flag had fallen: the game is over by that.');
+        else if (answer[0].startsWith('fallen')) tell('The flag had fallen: the game is over by that.', 'news');
         else if (answer[0] === 'unsent') tell('There is no connection. Nothing was sent.');
         else tell('The connection broke before the answer came. Look how the game stands before you enter it again.');
         if (answer[0] !== 'unsent' && this.cards.has(number)) this.ask(number);
@@ -378,22 +382,33 @@ export class ArbiterView {
     if (!at || at === document.body || at === button) (button.hidden || button.disabled ? card.title : button).focus();
   }
 
-  tellCard(number, text) {
+  tellCard(number, text, kind = 'refused') {
     const card = this.cards.get(number);
     if (!card) return;
     setText(card.note, text);
-    card.note.classList.toggle('refused', Boolean(text));
+    for (const one of ['refused', 'news']) card.note.classList.toggle(one, Boolean(text) && one === kind);
   }
 
   /** Stops new games, and allows them. */
   async entries(word) {
     const answer = await this.app.wire.say(`${word} entries`), refusal = readRefusal(answer[0]);
     if (answer[0].startsWith('ok ')) {
-      const words = word === 'pause' ? 'New games are stopped: arbiters alone open games.' : 'New games are allowed.';
-      this.note(words, 'news');
+      this.arePaused = word === 'pause';
+      this.note('');
+      this.renderEntries();
     } else {
       this.note(refusal ? refusalWords(refusal) : 'The connection broke before the answer came. Do it again.', 'refused');
     }
+  }
+
+  /** Whether new games are stopped: the lobby tells it, which forgets it when it begins anew. */
+  renderEntries() {
+    const isOpen = this.app.wire.state.open;
+    if (!isOpen) this.arePaused = null;
+    for (const id of ['pause-entries', 'resume-entries']) byId(id).disabled = !isOpen;
+    byId('entries-state').classList.toggle('stopped', this.arePaused === true);
+    setText(byId('entries-state'), this.arePaused === null ? ''
+      : this.arePaused ? 'New games are stopped: arbiters alone open games.' : 'New games are allowed.');
   }
 
   note(text, kind = 'news') {

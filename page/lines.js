@@ -85,9 +85,9 @@ export function readAct(line) {
   return as ? { by: as[1], sent: as[2], arbiter: found[1] } : { by: found[1], sent: found[2], arbiter: '' };
 }
 
-/** The names of `ok who K`. */
+/** `ok who paused K` or `ok who open K`, and the names behind it. */
 export function readWho(lines) {
-  return new Set(lines.slice(1));
+  return { arePaused: lines[0].startsWith('ok who paused '), names: new Set(lines.slice(1)) };
 }
 
 /** `e2e4` as {from, to}; empty texts for `-` or anything else. */

@@ -240,17 +240,20 @@ class Page {
     return this.view === this.game && this.game.running() && this.game.seat() !== '';
   }
 
-  /** A game of one's own that has begun since the table was first told. */
+  /** A game of one's own that has begun since the table was first told; and one that runs already, for who comes by a
+   * personal link. */
   findBegun() {
     const me = this.me();
     if (!me) return;
     const own = [...this.table.rows.values()].filter(({ white, black, result }) => white && black && result === '*'
       && (white === me || black === me)).reverse();
-    const row = this.begunFor === me && own.find(({ number }) => !this.begun.has(number));
+    const begun = this.begunFor === me && own.find(({ number }) => !this.begun.has(number));
+    const row = begun || this.arrives && this.view === this.table && own[0];
     this.begunFor = me;
+    this.arrives = false;
     own.forEach(({ number }) => this.begun.add(number));
     if (row) this.begin(row.number, `Your game ${row.number} against ${
-      this.nameWords(row.white === me ? row.black : row.white)} has begun`);
+      this.nameWords(row.white === me ? row.black : row.white)} ${begun ? 'has begun' : 'goes on'}`);
   }
 
   /** One's own game has begun: one is taken to its board, or told the way where one plays at another. */
@@ -411,6 +414,7 @@ class Page {
     this.token = text;
     this.player = null;
     this.fromLink = true;
+    this.arrives = true;
     write(session, 'token', text);
     return true;
   }

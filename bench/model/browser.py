@@ -16,11 +16,12 @@ PATIENCE = 20
 SPY = '''new MutationObserver((_, watch) => {
   if (document.body) { window.hashAtBody = location.hash; watch.disconnect(); } }).observe(document, {childList: true,
   subtree: true});
-window.sentLines = []; window.breaches = []; window.tries = [];
+window.sentLines = []; window.breaches = []; window.tries = []; window.tables = 0;
 window.WebSocket = class extends WebSocket { constructor(...words) { super(...words); tries.push(performance.now()); } };
  window.spied = WebSocket.prototype.send;
 WebSocket.prototype.send = function (line) {
   if (window.lastSocket !== this) this.addEventListener('message', (event) => {
+    if (event.data.startsWith('ok lobby')) window.tables += 1;
     if (/^no (1|2|34|37) /.test(event.data)) window.breaches.push(event.data.trim()); });
   window.lastSocket = this; window.sentLines.push(line);
   return window.spied.call(this, line); };'''

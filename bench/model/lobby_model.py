@@ -193,7 +193,7 @@ class Lobby:
             return ['ok ' + text]
         acting = {one.player for one in self.connections}
         names = [row[0] for row in self.players.values() if row in acting]
-        return ['ok who %d' % len(names)] + names
+        return ['ok who %s %d' % ('paused' if self.paused else 'open', len(names))] + names
 
     def linked(self, word, name):
         """A player has another token in the file, which for `close` nobody is told; who acts by the old one acts no more."""

@@ -659,7 +659,7 @@ fn a_link_is_told_once_it_is_made(rt: HostRuntime) {
     assert!(rt;
         is_told(
             &hall,
-            b"ok login eve arbiter eve\n\x81\x0fno 38 NoPlayer\n\x81\x2dok link ann 07070707070707070707070707070707\n\x81\x11no 40 NotWritten\n\x81\x0dok who 1\neve\n",
+            b"ok login eve arbiter eve\n\x81\x0fno 38 NoPlayer\n\x81\x2dok link ann 07070707070707070707070707070707\n\x81\x11no 40 NotWritten\n\x81\x12ok who open 1\neve\n",
         )
     );
 }
