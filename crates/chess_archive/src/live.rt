@@ -45,6 +45,11 @@ fn is_played(row: Row<'_>) -> bool {
     row.white != "-" && row.black != "-"
 }
 
+// Whether a game that is on the table still is written as the archive has it: it is over, and was kept.
+fn is_kept(row: Row<'_>, archived: &[Board]) -> bool {
+    row.is_over && has_game(archived, row.game)
+}
+
 // Whether a PGN has a tag Date with this value.
 fn is_of_date(alloc: Global, pgn: &[u8], date: &str) -> Result<bool> {
     let tag = format!(in alloc; "[Date \"{date}\"]")?;
@@ -87,7 +92,7 @@ impl<R> Writer<'_, R>
 where
     R: Files<File = File> + Net<Stream = TcpStream> + AllocGlobal + Print + Eprint + Clock,
 {
-    // The games of the server's table that are played or over.
+    // The games of the server's table that are played or over, but those that were kept.
     fn push_table(&mut self, boards: &mut Vec<Board>) -> Result<()> {
         let alloc = self.rt.alloc();
         let server = self.living.server;
@@ -105,6 +110,7 @@ where
         };
         for row in rows.as_slice() {
             if is_played(*row)
+                && !is_kept(*row, self.archived.as_slice())
                 && let Some(pgn) = pgn_of(alloc, &mut link, &known, *row)?
             {
                 let game = row.game;
@@ -169,7 +175,9 @@ where
     fn write(&mut self) -> Result<()> {
         let alloc = self.rt.alloc();
         let mut boards = Vec::new(alloc);
+        self.read_archive()?;
         self.push_table(&mut boards)?;
+        // (once more, as a game may have been kept and dropped meanwhile)
         self.read_archive()?;
         let text = text_of(alloc, boards.as_slice(), self.archived.as_slice())?;
         if self.written.as_ref() != Some(&text) {
