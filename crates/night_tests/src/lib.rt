@@ -8,8 +8,6 @@ mod archive;
 #[cfg(test)]
 mod cuts;
 #[cfg(test)]
-mod players;
-#[cfg(test)]
 mod report;
 #[cfg(test)]
 mod rounds;

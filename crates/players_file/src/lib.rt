@@ -6,3 +6,6 @@ mod players;
 
 pub use file::{Hold, put, read};
 pub use players::{full_name, players_of};
+
+#[cfg(test)]
+mod tests;
