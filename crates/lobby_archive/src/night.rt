@@ -1,8 +1,8 @@
 //! What is done about the games of a table that are over.
-ghost use Rattle.std.specs.Prelude.{ℕ, ◌≡◌, ◌==◌, ◌||◌, Bool, true, false, is_none, OnOk, OnErr, IfOk, IfSome};
+ghost use Rattle.std.specs.Prelude.{ℕ, ◌≡◌, ◌==◌, ◌||◌, Bool, true, false, not, is_none, is_some, OnOk, OnErr, IfOk, IfSome};
 ghost use Rattle.lobby_archive.specs.Files.{contains};
 ghost use Rattle.lobby_archive.specs.Clerk.{view};
-ghost use Rattle.lobby_archive.specs.Night.{IsTold, IsAsking, IsLater, Stays, BecomesAt, IsOnlyAt, IsNowhere, AreAll, AreDone};
+ghost use Rattle.lobby_archive.specs.Night.{IsTold, IsAsking, AreSettled, AreSettledBut, IsLater, Stays, BecomesAt, StaysBut, IsOnlyAt, IsNowhere, AreAll, AreDone, AreSettledOf};
 
 use crate::clerk::Clerk;
 use std::alloc::{AllocError, Global};
@@ -37,6 +37,10 @@ pub trait Night {
     /// Whether nobody looks at a game, by an answer since which nothing else was done.
     ghost is_unwatched: { Self → ℕ → Bool };
 
+    /// Whether it is settled what comes of a game since it was asked for: the archive has another PGN of it, somebody looks at it,
+    /// or a drop was sent.
+    ghost is_settled: { Self → ℕ → Bool };
+
     /// The games of the archive, which are safe.
     fn games(&self) -> &[u32]
         ensures { (g : ℕ) → contains g result.now ≡ is_safe self.now g };
@@ -56,7 +60,8 @@ pub trait Night {
         ensures drops { drops_games self.new ≡ drops_games self.old }
         ensures told { IfOk result (λ pgn. IfSome pgn (λ one. (g : ℕ) → is_told self.new g one ≡ (game == g))) }
         ensures matched { BecomesAt game false (is_matched self.old) (is_matched self.new) }
-        ensures unwatched { IsNowhere (is_unwatched self.new) };
+        ensures unwatched { IsNowhere (is_unwatched self.new) }
+        ensures settled { BecomesAt game false (is_settled self.old) (is_settled self.new) };
 
     /// Whether the archive has a game with just this PGN, which the table told last.
     fn is_same(&mut self, game: u32, pgn: &Self::Pgn) -> Result<bool, Self::Fault>
@@ -68,7 +73,8 @@ pub trait Night {
         ensures told { (g : ℕ) (one : Self.Pgn) → is_told self.new g one ≡ is_told self.old g one }
         ensures matched { IfOk result (λ is_same. BecomesAt game is_same (is_matched self.old) (is_matched self.new)) }
         ensures unmatched { OnErr result (BecomesAt game false (is_matched self.old) (is_matched self.new)) }
-        ensures unwatched { IsNowhere (is_unwatched self.new) };
+        ensures unwatched { IsNowhere (is_unwatched self.new) }
+        ensures settled { IfOk result (λ is_same. BecomesAt game (not is_same) (is_settled self.old) (is_settled self.new)) };
 
     /// Puts the PGN of a game that is over and not there, which the table told last, into the archive, and syncs. `Ok` says that the
     /// sync has answered.
@@ -82,7 +88,8 @@ pub trait Night {
         ensures drops { drops_games self.new ≡ drops_games self.old }
         ensures matched { OnOk result (BecomesAt game true (is_matched self.old) (is_matched self.new)) }
         ensures unmatched { OnErr result (BecomesAt game false (is_matched self.old) (is_matched self.new)) }
-        ensures unwatched { IsNowhere (is_unwatched self.new) };
+        ensures unwatched { IsNowhere (is_unwatched self.new) }
+        ensures settled { OnOk result (BecomesAt game false (is_settled self.old) (is_settled self.new)) };
 
     /// Whether nobody looks at a game now. Where that cannot be told, games may not be dropped from now on.
     fn is_left(&mut self, game: u32) -> Result<bool, Self::Fault>
@@ -93,7 +100,8 @@ pub trait Night {
         ensures drops { IfOk result (λ is_left. is_left ≡ true → drops_games self.new ≡ drops_games self.old) }
         ensures matched { Stays (is_matched self.old) (is_matched self.new) }
         ensures unwatched { IfOk result (λ is_left. IsOnlyAt game is_left (is_unwatched self.new)) }
-        ensures unknown { OnErr result (IsNowhere (is_unwatched self.new)) };
+        ensures unknown { OnErr result (IsNowhere (is_unwatched self.new)) }
+        ensures settled { IfOk result (λ is_left. BecomesAt game (not is_left) (is_settled self.old) (is_settled self.new)) };
 
     /// Sends a drop for a game that is over, which has to be safe: where games are dropped, the archive has just the PGN that the
     /// table told last of it, and nobody looks at it, as was asked last. It answers whether the table took it.
@@ -108,13 +116,15 @@ pub trait Night {
         ensures later { IsLater (has_left self.old) (has_left self.new) }
         ensures drops { drops_games self.new ≡ drops_games self.old }
         ensures matched { Stays (is_matched self.old) (is_matched self.new) }
-        ensures unwatched { IsNowhere (is_unwatched self.new) };
+        ensures unwatched { IsNowhere (is_unwatched self.new) }
+        ensures settled { OnOk result (BecomesAt game true (is_settled self.old) (is_settled self.new)) };
 }
 
 // Asks for the PGN of a game, and puts it into the archive where the clerk says so. It answers whether the table has the game still.
 fn take_in<N: Night>(night: &mut N, clerk: &mut Clerk, game: u32) -> Result<bool, N::Fault>
     requires over { N.is_over night.now game ≡ true }
     requires asking { IsAsking game (view clerk.now) (N.is_safe night.now) (N.is_matched night.now) }
+    requires settled { AreSettledBut game (view clerk.now) (N.drops_games night.now) (N.is_settled night.now) }
     ensures over { OnOk result (Stays (N.is_over night.old) (N.is_over night.new)) }
     ensures told { OnOk result (IsTold (view clerk.new) (N.is_safe night.new) (N.is_matched night.new)) }
     ensures there { IfOk result (λ is_there. is_there ≡ true → N.is_safe night.new game ≡ true) }
@@ -122,6 +132,9 @@ fn take_in<N: Night>(night: &mut N, clerk: &mut Clerk, game: u32) -> Result<bool
     ensures safe { OnOk result (IsLater (N.is_safe night.old) (N.is_safe night.new)) }
     ensures later { OnOk result (IsLater (N.has_left night.old) (N.has_left night.new)) }
     ensures drops { OnOk result (N.drops_games night.new ≡ N.drops_games night.old) }
+    ensures settled { OnOk result (AreSettled (view clerk.new) (N.drops_games night.new) (N.is_settled night.new)) }
+    ensures seen { IfOk result (λ is_there. is_there ≡ true → is_some ((view clerk.new).stage game) ≡ true) }
+    ensures others { OnOk result (StaysBut game (N.is_settled night.old) (N.is_settled night.new)) }
 {
     let Some(pgn) = night.ask(game)? else {
         clerk.refused(game);
@@ -140,10 +153,15 @@ fn let_go<N: Night>(night: &mut N, clerk: &mut Clerk, game: u32) -> Result<(), N
     requires over { N.is_over night.now game ≡ true }
     requires drops { N.drops_games night.now ≡ true }
     requires told { IsTold (view clerk.now) (N.is_safe night.now) (N.is_matched night.now) }
+    requires settled { AreSettled (view clerk.now) (N.drops_games night.now) (N.is_settled night.now) }
+    requires seen { is_some ((view clerk.now).stage game) ≡ true }
     ensures over { OnOk result (Stays (N.is_over night.old) (N.is_over night.new)) }
     ensures told { OnOk result (IsTold (view clerk.new) (N.is_safe night.new) (N.is_matched night.new)) }
     ensures safe { OnOk result (Stays (N.is_safe night.old) (N.is_safe night.new)) }
     ensures later { OnOk result (IsLater (N.has_left night.old) (N.has_left night.new)) }
+    ensures settled { OnOk result (AreSettled (view clerk.new) (N.drops_games night.new) (N.is_settled night.new)) }
+    ensures here { OnOk result (N.is_settled night.new game ≡ true) }
+    ensures others { OnOk result (StaysBut game (N.is_settled night.old) (N.is_settled night.new)) }
 {
     if clerk.may_go(game) && night.is_left(game)? && clerk.left(game)? {
         if !night.drop_game(game)? {
@@ -163,11 +181,16 @@ fn look_at<N: Night>(
     requires over { N.is_over night.now game ≡ true }
     requires drops { droppable ≡ N.drops_games night.now }
     requires told { IsTold (view clerk.now) (N.is_safe night.now) (N.is_matched night.now) }
+    requires settled { AreSettled (view clerk.now) (N.drops_games night.now) (N.is_settled night.now) }
     ensures over { OnOk result (Stays (N.is_over night.old) (N.is_over night.new)) }
     ensures told { OnOk result (IsTold (view clerk.new) (N.is_safe night.new) (N.is_matched night.new)) }
     ensures done { OnOk result ((N.is_safe night.new game || N.has_left night.new game) ≡ true) }
     ensures safe { OnOk result (IsLater (N.is_safe night.old) (N.is_safe night.new)) }
     ensures later { OnOk result (IsLater (N.has_left night.old) (N.has_left night.new)) }
+    ensures fewer { OnOk result (N.drops_games night.new ≡ true → N.drops_games night.old ≡ true) }
+    ensures settled { OnOk result (AreSettled (view clerk.new) (N.drops_games night.new) (N.is_settled night.new)) }
+    ensures here { OnOk result (N.drops_games night.new ≡ true → (N.is_settled night.new game || N.has_left night.new game) ≡ true) }
+    ensures others { OnOk result (StaysBut game (N.is_settled night.old) (N.is_settled night.new)) }
 {
     if clerk.over(game, droppable)? && !take_in(night, clerk, game)? {
         return Ok(());
@@ -180,7 +203,8 @@ fn look_at<N: Night>(
 
 // A clerk who knows the archive of a night, all of which is safe.
 fn clerk_of<N: Night>(night: &N, alloc: Global) -> Result<Clerk, AllocError>
-    ensures { IfOk result (λ clerk. IsTold (view clerk) (N.is_safe night.now) (N.is_matched night.now)) }
+    ensures told { IfOk result (λ clerk. IsTold (view clerk) (N.is_safe night.now) (N.is_matched night.now)) }
+    ensures settled { IfOk result (λ clerk. AreSettled (view clerk) (N.drops_games night.now) (N.is_settled night.now)) }
 {
     let mut clerk = Clerk::new(alloc, night.games())?;
     clerk.synced();
@@ -193,7 +217,8 @@ fn clerk_of<N: Night>(night: &N, alloc: Global) -> Result<Clerk, AllocError>
 /// is what `drop_game` and `put` require.
 pub fn look<N: Night>(night: &mut N, alloc: Global, over: &[u32]) -> Result<(), N::Fault>
     requires { AreAll (N.is_over night.now) over.now }
-    ensures { OnOk result (AreDone (N.is_safe night.new) (N.has_left night.new) over.now) }
+    ensures done { OnOk result (AreDone (N.is_safe night.new) (N.has_left night.new) over.now) }
+    ensures settled { OnOk result (AreSettledOf (N.drops_games night.new) (N.is_settled night.new) (N.has_left night.new) over.now) }
 {
     let mut clerk = clerk_of(night, alloc)?;
     for game in over {
