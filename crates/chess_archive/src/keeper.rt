@@ -1,8 +1,9 @@
 //! One look at a server's games: what a clerk decides is done on its table, on the archive's file and at the lobby.
-ghost use Rattle.std.specs.Prelude.{ℕ, ◌≡◌, ◌==◌, true, OnOk, OnErr, if◌then◌else◌};
+ghost use Rattle.std.specs.Prelude.{ℕ, ◌≡◌, ◌==◌, ◌&&◌, true, false, OnOk, OnErr, if◌then◌else◌};
 ghost use Rattle.std.specs.BTreeSet as set;
 ghost use Rattle.std.specs.Ordering.{nat_cmp};
 ghost use Rattle.lobby_archive.specs.Files.{contains};
+ghost use Rattle.chess_archive.specs.Games.{games_over_in, is_at};
 
 use crate::asking::{Knowledge, pgn_of};
 use crate::command_line::Keeping;
@@ -18,7 +19,7 @@ use night_files::NamedFile;
 use server_link::{Link, Row};
 use std::alloc::{AllocError, Global};
 use std::collections::BTreeSet;
-use std::net::{Net, TcpStream};
+use std::net::{Net, SocketAddr, TcpStream};
 use std::rt::Clock;
 use text_parts::parts;
 
@@ -50,21 +51,74 @@ pub struct Keeper<'a, R> {
     pub known: Knowledge<'a>,
     /// The games of the table.
     pub rows: &'a [Row<'a>],
-    /// The games that have left the table since.
-    pub gone: BTreeSet<u32>,
     /// Whether games are dropped still.
     pub drops: bool,
+    pub done: Done,
     pub counts: Counts,
     /// What went wrong first, though the work went on.
     pub fault: Option<anyhow::Error>,
 }
 
-// A game has left the table.
-fn note_gone(gone: &mut BTreeSet<u32>, game: u32) -> Result<(), AllocError>
-    ensures gone { OnOk result ((g : ℕ) → set.contains nat_cmp gone.new g ≡ (if game == g then true else set.contains nat_cmp gone.old g)) }
-    ensures same { OnErr result ((g : ℕ) → set.contains nat_cmp gone.new g ≡ set.contains nat_cmp gone.old g) }
+/// A game's PGN, as it is made of what the table told.
+#[derive(Drop)]
+pub struct Told {
+    game: u32,
+    pgn: Vec<u8>,
+}
+
+/// What was done about the games.
+#[derive(Drop)]
+pub struct Done {
+    /// Those that have left the table.
+    gone: BTreeSet<u32>,
+    /// Whose PGN the table told last.
+    told: Option<u32>,
+    /// Those of which the archive has the PGN that the table told last.
+    matched: BTreeSet<u32>,
+    /// The one at which nobody looks, as the lobby answered right now.
+    unwatched: Option<u32>,
+    /// Those that have another PGN in the archive, that somebody looks at, or for which a drop was sent.
+    settled: BTreeSet<u32>,
+}
+
+impl Done {
+    /// Nothing was done yet.
+    pub fn nothing(alloc: Global) -> Done {
+        Done {
+            gone: BTreeSet::new(alloc),
+            told: None,
+            matched: BTreeSet::new(alloc),
+            unwatched: None,
+            settled: BTreeSet::new(alloc),
+        }
+    }
+}
+
+// A game is among games from now on.
+fn put_among(games: &mut BTreeSet<u32>, game: u32) -> Result<(), AllocError>
+    ensures put { OnOk result ((g : ℕ) → set.contains nat_cmp games.new g ≡ (if game == g then true else set.contains nat_cmp games.old g)) }
+    ensures same { OnErr result ((g : ℕ) → set.contains nat_cmp games.new g ≡ set.contains nat_cmp games.old g) }
 {
-    gone.insert(game)?;
+    games.insert(game)?;
+    Ok(())
+}
+
+// A game is not among games any more.
+fn take_off(games: &mut BTreeSet<u32>, game: u32)
+    ensures { (g : ℕ) → set.contains nat_cmp games.new g ≡ (if game == g then false else set.contains nat_cmp games.old g) }
+{
+    games.remove(&game);
+}
+
+// A game is among games from now on, or it is not any more.
+fn set_among(games: &mut BTreeSet<u32>, game: u32, is_among: bool) -> Result<(), AllocError>
+    ensures set { OnOk result ((g : ℕ) → set.contains nat_cmp games.new g ≡ (if game == g then is_among else set.contains nat_cmp games.old g)) }
+    ensures off { OnErr result ((g : ℕ) → set.contains nat_cmp games.new g ≡ (if game == g then false else set.contains nat_cmp games.old g)) }
+{
+    take_off(games, game);
+    if is_among {
+        put_among(games, game)?;
+    }
     Ok(())
 }
 
@@ -72,6 +126,42 @@ fn note_gone(gone: &mut BTreeSet<u32>, game: u32) -> Result<(), AllocError>
 fn note(fault: &mut Option<anyhow::Error>, new: anyhow::Error) {
     if fault.is_none() {
         *fault = Some(new);
+    }
+}
+
+// The game at which nobody looks, where that is so of this one.
+fn left_game(game: u32, is_left: bool) -> Option<u32>
+    ensures { (g : ℕ) → is_at g result ≡ (game == g && is_left) }
+{
+    if is_left { Some(game) } else { None }
+}
+
+// Whether the archive's lines have a game with just this PGN. Where they have another, that is noted.
+fn is_kept_as(
+    alloc: Global,
+    lines: &str,
+    game: u32,
+    pgn: &[u8],
+    fault: &mut Option<anyhow::Error>,
+) -> Result<bool> {
+    let is_same = has_game(alloc, lines, game, pgn)?;
+    if !is_same {
+        note(
+            fault,
+            anyhow!("the archive has another game {game} than the table: it is not dropped"),
+        );
+    }
+    Ok(is_same)
+}
+
+// Whether nobody looks at a game, as the lobby answers, where one is asked.
+fn nobody_looks<R>(rt: &R, lobby: Option<SocketAddr>, game: u32) -> Result<bool>
+where
+    R: Net<Stream = TcpStream> + AllocGlobal + Clock,
+{
+    match lobby {
+        Some(lobby) => Ok(!watched_games(rt, lobby)?.contains(&game)),
+        None => Ok(true),
     }
 }
 
@@ -141,14 +231,26 @@ impl<R> Night for Keeper<'_, R>
 where
     R: Net<Stream = TcpStream> + AllocGlobal + Clock,
 {
-    type Pgn = Vec<u8>;
+    type Pgn = Told;
 
     type Fault = anyhow::Error;
+
+    ghost is_over = { λ k game. contains game (games_over_in k.rows.now) };
 
     // (a game of the archive is safe: `Archive::keep`)
     ghost is_safe = { λ k game. contains game k.archive.games.items };
 
-    ghost has_left = { λ k game. set.contains nat_cmp k.gone game };
+    ghost has_left = { λ k game. set.contains nat_cmp k.done.gone game };
+
+    ghost drops_games = { λ k. k.drops };
+
+    ghost is_told = { λ k game pgn. is_at game k.done.told && pgn.game == game };
+
+    ghost is_matched = { λ k game. set.contains nat_cmp k.done.matched game };
+
+    ghost is_unwatched = { λ k game. is_at game k.done.unwatched };
+
+    ghost is_settled = { λ k game. set.contains nat_cmp k.done.settled game };
 
     fn games(&self) -> &[u32] {
         self.archive.games()
@@ -158,55 +260,71 @@ where
         self.drops
     }
 
-    fn ask(&mut self, game: u32) -> Result<Option<Vec<u8>>> {
+    fn ask(&mut self, game: u32) -> Result<Option<Told>> {
+        self.done.unwatched = None;
+        self.done.told = None;
+        take_off(&mut self.done.matched, game);
+        take_off(&mut self.done.settled, game);
         let row = row_of(self.rows, game)?;
-        let pgn = pgn_of(self.rt.alloc(), &mut self.link, &self.known, row)?;
-        if pgn.is_none() {
-            note_gone(&mut self.gone, game)?;
-        }
-        Ok(pgn)
+        let Some(pgn) = pgn_of(self.rt.alloc(), &mut self.link, &self.known, row)? else {
+            put_among(&mut self.done.gone, game)?;
+            return Ok(None);
+        };
+        self.done.told = Some(game);
+        Ok(Some(Told { game, pgn }))
     }
 
-    fn is_same(&mut self, game: u32, pgn: &Vec<u8>) -> Result<bool> {
-        if !self.archive.has(game) {
-            return Ok(false);
-        }
-        let is_same = has_game(self.rt.alloc(), self.lines.as_str(), game, pgn.as_slice())?;
-        if !is_same {
-            let fault = anyhow!(
-                "the archive has another game {game} than the table: it is not dropped"
-            );
-            note(&mut self.fault, fault);
-        }
+    fn is_same(&mut self, game: u32, told: &Told) -> Result<bool> {
+        self.done.unwatched = None;
+        take_off(&mut self.done.matched, game);
+        let alloc = self.rt.alloc();
+        let is_same = self.archive.has(game)
+            && is_kept_as(
+                alloc,
+                self.lines.as_str(),
+                game,
+                told.pgn.as_slice(),
+                &mut self.fault,
+            )?;
+        set_among(&mut self.done.settled, game, !is_same)?;
+        set_among(&mut self.done.matched, game, is_same)?;
         Ok(is_same)
     }
 
-    fn put(&mut self, game: u32, pgn: Vec<u8>) -> Result<()> {
-        let pgn = self.linked(game, pgn)?;
+    fn put(&mut self, game: u32, told: Told) -> Result<()> {
+        self.done.unwatched = None;
+        take_off(&mut self.done.matched, game);
+        take_off(&mut self.done.settled, game);
+        let pgn = self.linked(game, told.pgn)?;
         self.archive
             .keep(self.rt.alloc(), game, pgn.as_bytes())
             .context(format_args!("game {game}"))?;
         self.kept.push(Kept { game, pgn })?;
         self.counts.kept = self.counts.kept.saturating_add(1);
+        put_among(&mut self.done.matched, game)?;
         Ok(())
     }
 
     fn is_left(&mut self, game: u32) -> Result<bool> {
-        let Some(lobby) = self.keeping.lobby else {
-            return Ok(true);
-        };
-        match watched_games(self.rt, lobby) {
-            Ok(games) => Ok(!games.contains(&game)),
+        self.done.unwatched = None;
+        match nobody_looks(self.rt, self.keeping.lobby, game) {
+            Ok(is_left) => {
+                set_among(&mut self.done.settled, game, !is_left)?;
+                self.done.unwatched = left_game(game, is_left);
+                Ok(is_left)
+            }
             Err(error) => {
                 // (nor is any game behind this one)
                 self.drops = false;
                 note(&mut self.fault, error.context("nothing is dropped"));
+                put_among(&mut self.done.settled, game)?;
                 Ok(false)
             }
         }
     }
 
     fn drop_game(&mut self, game: u32) -> Result<bool> {
+        self.done.unwatched = None;
         let alloc = self.rt.alloc();
         let row = row_of(self.rows, game)?;
         let white = row.white;
@@ -217,6 +335,7 @@ where
         if is_done {
             self.counts.dropped = self.counts.dropped.saturating_add(1);
         }
+        put_among(&mut self.done.settled, game)?;
         Ok(is_done)
     }
 }

@@ -1,7 +1,7 @@
 //! The word that keeps games that are over.
 use crate::asking::Knowledge;
 use crate::command_line::Keeping;
-use crate::keeper::{Counts, Keeper, NOTHING};
+use crate::keeper::{Counts, Done, Keeper, NOTHING};
 use crate::log_reader::LogReader;
 use crate::rows::{games_over, rows_of};
 use crate::telling::Telling;
@@ -13,7 +13,6 @@ use lobby_desk::Player;
 use night_files::NamedFile;
 use players_file::players_of;
 use server_link::{Link, Row};
-use std::collections::BTreeSet;
 use std::fs::{self, File};
 use std::net::{Net, TcpStream};
 use std::rt::{Clock, Files};
@@ -87,8 +86,8 @@ where
                 records: self.log.records(),
             },
             rows: rows.as_slice(),
-            gone: BTreeSet::new(alloc),
             drops: self.keeping.drops,
+            done: Done::nothing(alloc),
             counts: NOTHING,
             fault: None,
         };

@@ -1,4 +1,7 @@
 //! The games of the server's list.
+ghost use Rattle.std.specs.Prelude.{◌≡◌, IfOk};
+ghost use Rattle.chess_archive.specs.Games.{games_over_in};
+
 use anyhow::{Result, bail};
 use server_link::{Row, row_of};
 use std::alloc::{AllocError, Global};
@@ -30,12 +33,11 @@ pub fn first_beside(rows: &[Row<'_>], game: u32) -> Option<u32> {
 }
 
 /// The games that are over, in the order of the list.
-pub fn games_over(alloc: Global, rows: &[Row<'_>]) -> Result<Vec<u32>, AllocError> {
-    let mut games = Vec::new(alloc);
-    for row in rows {
-        if row.is_over {
-            games.push(row.game)?;
-        }
-    }
-    Ok(games)
+pub fn games_over(alloc: Global, rows: &[Row<'_>]) -> Result<Vec<u32>, AllocError>
+    ensures { IfOk result (λ games. games.items ≡ games_over_in rows.now) }
+{
+    rows.iter()
+        .filter(|row| row.is_over)
+        .map(|row| row.game)
+        .collect(alloc)
 }
