@@ -2,6 +2,7 @@
 #![tactic(auto)]
 
 mod archive;
+mod behind;
 mod faults;
 mod law;
 mod line;
@@ -10,6 +11,7 @@ mod reading;
 mod tests;
 
 pub use archive::{Archive, games_of};
+pub use behind::look_behind;
 pub use faults::Fault;
 pub use law::law_of_lines;
 pub use reading::{game_of, pgn_of};
