@@ -25,10 +25,13 @@ is_one_line bytes = not (list_any (λ b. b == 10) (take (length bytes - 1) bytes
 abbrev pub is_torn_line : List ℕ → Bool
 is_torn_line behind = nat_le (length behind) 4_194_304 && begins beginning behind && is_one_line behind
 
--- a line begins at one of these bytes
+-- a line begins here, or at one of the bytes behind
+abbrev pub line_begins : List ℕ → Bool
+line_begins bytes = starts_with (λ x y. x == y) bytes beginning
+
 abbrev pub has_beginning : List ℕ → Bool
 has_beginning [] = false
-has_beginning (b ∷ bytes) = starts_with (λ x y. x == y) (b ∷ bytes) beginning || has_beginning bytes
+has_beginning (b ∷ bytes) = line_begins (b ∷ bytes) || has_beginning bytes
 
 -- Whether another line begins behind the first byte: where that is cut off, a game may be lost. Within a line nothing looks so, since
 -- the quotes of a PGN are escaped.
