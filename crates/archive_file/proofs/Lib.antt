@@ -1,3 +1,3 @@
 pub mod Cuts
 pub mod Keeping
-pub mod Behind
+pub mod Torn
