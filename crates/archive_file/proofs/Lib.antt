@@ -1,2 +1,3 @@
 pub mod Cuts
 pub mod Keeping
+pub mod Torn

@@ -1,5 +1,5 @@
 -- A game's line in the archive, which is an object of JSON.
-use Rattle.std.specs.Prelude.{ℕ, Bool, false, ◌==◌, ◌||◌, ◌&&◌, nat_le, List, [], ◌∷◌, ◌++◌, codes, decimal, Option, Some, None, drop, if◌then◌else◌}
+use Rattle.std.specs.Prelude.{ℕ, Bool, false, ◌==◌, ◌||◌, ◌&&◌, not, nat_le, List, [], ◌∷◌, ◌++◌, codes, decimal, Option, Some, None, drop, if◌then◌else◌}
 use Rattle.std.specs.List.{list_all, before_first, after_first}
 use Rattle.std.specs.Str.{bytes_eq}
 use Rattle.json_text.specs.Strings.{escaped, unescaped_from}
@@ -19,7 +19,7 @@ line_of game pgn = front ++ (58 ∷ (decimal game ++ (middle ++ (escaped pgn ++ 
 
 -- a line feed, or no control character of ASCII: these alone have an escape here, or need none in JSON
 abbrev pub is_text_byte : ℕ → Bool
-is_text_byte b = b == 10 || nat_le 32 b
+is_text_byte b = b == 10 || nat_le 32 b && not (b == 127)
 
 abbrev pub is_text : List ℕ → Bool
 is_text pgn = list_all is_text_byte pgn

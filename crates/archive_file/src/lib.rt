@@ -2,12 +2,14 @@
 #![tactic(auto)]
 
 mod archive;
+mod behind;
 mod faults;
 mod law;
 mod line;
 mod reading;
 
 pub use archive::{Archive, games_of};
+pub use behind::look_behind;
 pub use faults::Fault;
 pub use law::law_of_lines;
 pub use reading::{game_of, pgn_of};

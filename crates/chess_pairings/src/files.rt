@@ -1,5 +1,6 @@
 //! The files that are only read.
 use anyhow::{Context, Result};
+use night_files::whole_length;
 use pairing_texts::{Note, Pairing, note_of, read};
 use std::fs;
 use std::rt::Files;
@@ -17,38 +18,36 @@ const FRONT: &[u8] = b"{\"board\":";
 // More than the line of the longest note has.
 const MOST_BEHIND: usize = 8192;
 
-// How many bytes are lines that have ended, before the first zero.
-fn ended(bytes: &[u8]) -> usize {
-    let mut kept = 0;
-    for at in 0..bytes.len() {
-        match bytes[at] {
-            0 => return kept,
-            b'\n' => kept = at + 1,
-            _ => {}
-        }
-    }
-    kept
+// Whether what stands behind the lines may be left of the one that was being put: its bytes, or zeros, and a line feed at its end.
+fn is_torn_line(behind: &[u8]) -> bool {
+    let begins_so = behind
+        .iter()
+        .zip(FRONT.iter())
+        .all(|(byte, wanted)| *byte == *wanted || *byte == 0);
+    let (before, _last) = behind.split_at(behind.len().saturating_sub(1));
+    behind.len() <= MOST_BEHIND && begins_so && !before.contains(&b'\n')
 }
 
-// Whether what stands behind the lines may be the front of one that was being written: its bytes, or zeros.
-fn may_be_a_front(bytes: &[u8], from: usize) -> bool {
-    for at in from..bytes.len() {
-        match FRONT.get(at - from) {
-            Some(wanted) if bytes[at] == 0 || bytes[at] == *wanted => {}
-            Some(_) => return false,
-            None => return true,
+// Whether a note begins behind the first byte: where that is cut off, a note may be lost.
+fn hides_note(behind: &[u8]) -> bool {
+    for at in 1..behind.len() {
+        if behind[at..].starts_with(FRONT) {
+            return true;
         }
     }
-    true
+    false
 }
 
-/// The notes of a round's file, in their order. It fails where a line is no note's, or where what stands behind the lines is
-/// no front of one.
+/// The notes of a round's file, in their order. It fails where a line is no note's, and where more stands behind the lines than a
+/// torn one.
 pub fn notes_of<R: Files + AllocGlobal>(rt: &R, file: &str) -> Result<Vec<Note>> {
     let mut bytes = fs::read(rt, file).context(format_args!("reading {file}"))?;
-    let kept = ended(bytes.as_slice());
-    let behind = bytes.len().saturating_sub(kept);
-    if behind > MOST_BEHIND || !may_be_a_front(bytes.as_slice(), kept) {
+    let kept = whole_length(bytes.as_slice());
+    let behind = bytes.get(kept..).unwrap_or(&[]);
+    if hides_note(behind) {
+        anyhow::bail!("{file} has a note behind what is no whole line: see what the disk has lost");
+    }
+    if !is_torn_line(behind) {
         anyhow::bail!("{file} is no round's file: what stands behind its lines is no note");
     }
     bytes.truncate(kept);
