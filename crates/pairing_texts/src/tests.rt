@@ -1,7 +1,8 @@
 //! The texts of a round, and what is to be done about boards.
 use crate::{
     Fault, Note, Outcome, Row, RowFault, Seats, Stage, Step, candidates, game_in, is_newer,
-    last_of, newest, note_of, note_text, read, results, step_of, times_of, times_text, with_newest,
+    last_of, newest, note_of, note_text, read, results, step_of, times_of, times_text, unheard,
+    with_newest,
 };
 use rec_codec::Name;
 use std::test::Fail;
@@ -154,7 +155,7 @@ fn boards(rt: HostRuntime) -> Result<(), Fail> {
     let games = candidates(rt.alloc(), &[16], &ann, &rows)?;
     assert!(rt; games.as_slice() == [17, 18, 20].as_slice());
     let step = |stage: Option<&Stage>, games: &[u32], seats: Option<Seats>| {
-        step_of(&ann, &bob, stage, games, seats)
+        step_of(&ann, &bob, stage, &[], games, seats)
     };
     let opening = Stage::Opening(games);
     let opened = Stage::Opened(17);
@@ -167,6 +168,10 @@ fn boards(rt: HostRuntime) -> Result<(), Fail> {
     assert!(rt; step(Some(&opened), &[], seats("ann", "ann")) == Step::Ask);
     assert!(rt; step(Some(&opened), &[], None) == Step::Ask);
     assert!(rt; step(Some(&Stage::Joined(17)), &[], None) == Step::Has(17));
+    let away = unheard(rt.alloc(), &[1, 2, 3], &[20000003, 40000001], &[1, 2])?;
+    assert!(rt; away.as_slice() == [3, 4].as_slice());
+    assert!(rt; step_of(&ann, &bob, None, away.as_slice(), &[], None) == Step::LookAgain);
+    assert!(rt; step_of(&ann, &bob, Some(&opening), &[3], &[17], None) == Step::LookAgain);
     Ok(())
 }
 
