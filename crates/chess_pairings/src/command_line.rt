@@ -320,29 +320,36 @@ fn servers_of(alloc: Global, texts: &[&str]) -> Result<Option<Vec<u32>>, AllocEr
     Ok(Some(servers))
 }
 
+// The server's address; none where it is none.
+fn address_of(values: &ArgMatches<'_>) -> Option<SocketAddr> {
+    values.get_str("server")?.parse::<SocketAddr>().ok()
+}
+
 // What `start` asks for; none where an address, a board, a game or a server is none.
 fn starting_of<'a>(
     alloc: Global,
     values: &ArgMatches<'a>,
 ) -> Result<Option<Starting<'a>>, AllocError> {
-    let takes = takes_of(alloc, values.get_strs("take").unwrap_or(&[]))?;
-    let afters = takes_of(alloc, values.get_strs("after").unwrap_or(&[]))?;
-    let without = servers_of(alloc, values.get_strs("without").unwrap_or(&[]))?;
-    let server = match values.get_str("server") {
-        Some(text) => text.parse::<SocketAddr>().ok(),
-        None => None,
+    let (Some(round), Some(server)) = (round_of(values), address_of(values)) else {
+        return Ok(None);
     };
-    match (round_of(values), server, takes, afters, without) {
-        (Some(round), Some(server), Some(takes), Some(afters), Some(without)) => Ok(Some(Starting {
-            round,
-            server,
-            players: values.get_str("players"),
-            takes,
-            afters,
-            without,
-        })),
-        _ => Ok(None),
-    }
+    let Some(takes) = takes_of(alloc, values.get_strs("take").unwrap_or(&[]))? else {
+        return Ok(None);
+    };
+    let Some(afters) = takes_of(alloc, values.get_strs("after").unwrap_or(&[]))? else {
+        return Ok(None);
+    };
+    let Some(without) = servers_of(alloc, values.get_strs("without").unwrap_or(&[]))? else {
+        return Ok(None);
+    };
+    Ok(Some(Starting {
+        round,
+        server,
+        players: values.get_str("players"),
+        takes,
+        afters,
+        without,
+    }))
 }
 
 // The files of a round, `round1.csv,round1.games`.
@@ -391,15 +398,19 @@ fn reporting_of<'a>(
     alloc: Global,
     values: &ArgMatches<'a>,
 ) -> Result<Option<Reporting<'a>>, AllocError> {
-    let rounds = rounds_of(alloc, values.get_strs("rounds").unwrap_or(&[]))?;
-    let players = values.get_str("players");
-    match (players, rounds, source_of(values), event_of(values)) {
-        (Some(players), Some(rounds), Some(source), Some(event)) => Ok(Some(Reporting {
-            players,
-            rounds,
-            source,
-            event,
-        })),
-        _ => Ok(None),
-    }
+    let (Some(players), Some(source)) = (values.get_str("players"), source_of(values)) else {
+        return Ok(None);
+    };
+    let Some(event) = event_of(values) else {
+        return Ok(None);
+    };
+    let Some(rounds) = rounds_of(alloc, values.get_strs("rounds").unwrap_or(&[]))? else {
+        return Ok(None);
+    };
+    Ok(Some(Reporting {
+        players,
+        rounds,
+        source,
+        event,
+    }))
 }
