@@ -134,13 +134,7 @@ impl Board<'_> {
     }
 
     // What is to be done about it where this game was noted, by who sits in it.
-    fn step(
-        &self,
-        link: &mut Link,
-        stage: &Stage,
-        game: u32,
-        opened: Option<u32>,
-    ) -> Result<Step> {
+    fn step(&self, link: &mut Link, stage: &Stage, game: u32, opened: Option<u32>) -> Result<Step> {
         let seats = self.seats(link, game, opened)?;
         // (of a game that has left the table the arbiter's word is all there is)
         if seats.is_none() && self.taken == Some(game) {
@@ -180,9 +174,7 @@ impl Board<'_> {
             servers.push_str(format!(in self.alloc; " {server}")?.as_str())?;
         }
         let white = white.as_str();
-        Ok(anyhow!(
-            "these servers are away and may have games of {white}:{servers}"
-        ))
+        Ok(anyhow!("these servers are away and may have games of {white}:{servers}"))
     }
 
     /// Goes on with its game until Black has joined it, or until it is the arbiter's to say which it is. Wherever it fails

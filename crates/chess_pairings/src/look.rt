@@ -7,6 +7,7 @@ use std::alloc::Global;
 
 // A switch has so many servers at most, and a server's games so many numbers (docs/SERVERS.md, "Numbers").
 const SERVERS_MOST: u32 = 428;
+
 const NUMBERS: u32 = 10_000_000;
 
 /// What was seen of the table.
@@ -75,13 +76,14 @@ fn servers_of(alloc: Global, link: &mut Link) -> Result<Vec<u32>> {
     Ok(servers)
 }
 
-// Waits until each server has taken what an earlier connection sent: it takes that before the second answer on this one. Over
-// a switch a line that opens a game goes on to the next server where one has no room.
-fn settle(link: &mut Link, servers: usize) -> Result<()> {
-    for _ in 0..servers.saturating_add(1).saturating_mul(2) {
-        link.list()?;
+// How often the table is asked. What an earlier connection sent is taken by a server before the second answer on this one. Over
+// a switch a line that opens a game goes on to the next server where one has no room: so twice for each, and for one more.
+fn rounds_of(servers: usize, settles: bool) -> usize {
+    if settles {
+        servers.saturating_add(1).saturating_mul(2)
+    } else {
+        1
     }
-    Ok(())
 }
 
 // The list, and whether each server is there. They are said in one piece, which a switch takes at once: so a server that answers
@@ -107,7 +109,7 @@ fn hear_replies(alloc: Global, link: &mut Link, servers: &[u32]) -> Result<Vec<u
 }
 
 /// Looks at the table. `noted` are games of servers that it had, and `without` the servers that are not to be heard. Where it
-/// `settles` it sees what an earlier connection has sent.
+/// `settles` it sees what an earlier connection has sent. A server was heard that answers each time.
 pub fn look(
     alloc: Global,
     link: &mut Link,
@@ -116,12 +118,13 @@ pub fn look(
     settles: bool,
 ) -> Result<Sight> {
     let servers = servers_of(alloc, link)?;
-    if settles {
-        settle(link, servers.len())?;
+    let mut heard = Vec::from_slice(alloc, servers.as_slice())?;
+    let mut rows = Vec::new(alloc);
+    for _ in 0..rounds_of(servers.len(), settles) {
+        say_questions(alloc, link, heard.as_slice())?;
+        rows = rows_in(alloc, link.hear_list()?.as_str())?;
+        heard = hear_replies(alloc, link, heard.as_slice())?;
     }
-    say_questions(alloc, link, servers.as_slice())?;
-    let rows = rows_in(alloc, link.hear_list()?.as_str())?;
-    let mut heard = hear_replies(alloc, link, servers.as_slice())?;
     heard.extend_from_slice(without)?;
     let away = unheard(alloc, servers.as_slice(), noted, heard.as_slice())?;
     Ok(Sight { rows, away })

@@ -230,12 +230,7 @@ fn boards_of<'a, R: AllocGlobal>(
 }
 
 // Goes round the boards until each has its game or is the arbiter's. Where the server is gone it is tried again.
-fn go_round<R>(
-    rt: &R,
-    rounds: &mut Rounds,
-    server: SocketAddr,
-    boards: &[Board<'_>],
-) -> Result<()>
+fn go_round<R>(rt: &R, rounds: &mut Rounds, server: SocketAddr, boards: &[Board<'_>]) -> Result<()>
 where
     R: Net<Stream = TcpStream> + AllocGlobal + Print + Eprint + Clock,
 {

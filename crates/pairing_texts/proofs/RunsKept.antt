@@ -288,12 +288,12 @@ pass_note b (Some (Opening noted)) given more old new opened stays holds = (
   elim holds.1 [
     | inl none ↦ inl none
     | inr there ↦ inr (record {
-        game = there.game;
-        one = there.one;
-        new = there.new;
-        fits = there.fits;
-        there = stays there.game (is_opened opened there.game there.one) there.there;
-      })
+      game = there.game;
+      one = there.one;
+      new = there.new;
+      fits = there.fits;
+      there = stays there.game (is_opened opened there.game there.one) there.there;
+    })
   ],
 )
 pass_note b (Some (Opened game)) given more old new opened stays holds = holds
@@ -318,8 +318,8 @@ sound_more b (Looks servers heard seats) s sound allowed = record {
   given = sound.given;
   note = sound.note;
   does =
-    look_holds b s.note s.given s.rows (seen_of heard s.rows) s.opened seats (unheard servers (older_in s.note) heard)
-    (whole servers (older_in s.note) heard s.rows allowed) sound.given sound.note;
+      look_holds b s.note s.given s.rows (seen_of heard s.rows) s.opened seats (unheard servers (older_in s.note) heard)
+      (whole servers (older_in s.note) heard s.rows allowed) sound.given sound.note;
 }
 sound_more b (Acts older game is_noted) s sound allowed = acted_sound b s older game is_noted s.does sound sound.does allowed
 sound_more b Dies s sound allowed = record { given = sound.given; note = sound.note; does = tt }

@@ -5,7 +5,7 @@ use Rattle.std.proofs.lemmas.Bool.{false≢true}
 use Rattle.std.proofs.lemmas.Bool.Decides.{Decides-eqb}
 use Rattle.pairing_texts.specs.declared.steps.Row.{Row}
 use Rattle.pairing_texts.specs.Newer.{server_of}
-use Rattle.pairing_texts.specs.Steps.{is_unheard, unheard}
+use Rattle.pairing_texts.specs.Steps.{is_heard, unheard}
 use Rattle.pairing_texts.specs.Runs.{is_of, seen_of, are_of}
 
 and_first : (a b : Bool) → (a && b) ≡ true → a ≡ true
@@ -29,7 +29,7 @@ not_false false h = absurd (false≢true (sym h))
 abbrev Among : List ℕ → ℕ → Type 0
 Among servers server = list_any (λ one. one == server) servers ≡ true
 
-heard_one : (heard servers rest : List ℕ) (one server : ℕ) (u same : Bool) → is_unheard heard one ≡ u → (if u then one ∷ rest else rest) ≡ [] →
+heard_one : (heard servers rest : List ℕ) (one server : ℕ) (u same : Bool) → not (is_heard heard one) ≡ u → (if u then one ∷ rest else rest) ≡ [] →
     (one == server) ≡ same → (same || list_any (λ x. x == server) servers) ≡ true →
     (rest ≡ [] → Among servers server → Among heard server) → Among heard server
 heard_one heard servers rest one server true same is none e among more = cc
@@ -37,10 +37,10 @@ heard_one heard servers rest one server false true is none e among more =
     subst (λ (s : ℕ). Among heard s) ((Decides-eqb one server).0 e) (not_false (list_any (λ x. x == one) heard) is)
 heard_one heard servers rest one server false false is none e among more = more none among
 
-heard_all : (heard servers : List ℕ) (server : ℕ) → filter (λ s. is_unheard heard s) servers ≡ [] → Among servers server → Among heard server
+heard_all : (heard servers : List ℕ) (server : ℕ) → filter (λ s. not (is_heard heard s)) servers ≡ [] → Among servers server → Among heard server
 heard_all heard [] server none among = absurd (false≢true among)
 heard_all heard (one ∷ servers) server none among =
-    heard_one heard servers (filter (λ s. is_unheard heard s) servers) one server (is_unheard heard one) (one == server) refl none refl among
+    heard_one heard servers (filter (λ s. not (is_heard heard s)) servers) one server (not (is_heard heard one)) (one == server) refl none refl among
     (heard_all heard servers server)
 
 -- ---- the games of the servers that were heard

@@ -33,11 +33,11 @@ abbrev pub numbers_of : List Row → List ℕ
 numbers_of rows = map (λ row. row.game) rows
 
 -- Of the servers that the table has, and of those of games that were noted, the ones that were not heard in a look.
-abbrev pub is_unheard : List ℕ → ℕ → Bool
-is_unheard heard server = not (list_any (λ one. one == server) heard)
+abbrev pub is_heard : List ℕ → ℕ → Bool
+is_heard heard server = list_any (λ one. one == server) heard
 
 abbrev pub unheard : List ℕ → List ℕ → List ℕ → List ℕ
-unheard servers noted heard = filter (λ server. is_unheard heard server) (servers ++ map (λ game. server_of game) noted)
+unheard servers noted heard = filter (λ server. not (is_heard heard server)) (servers ++ map (λ game. server_of game) noted)
 
 -- A step that a look allows where each server was heard: one that was not may have the board's game, and others of White's.
 abbrev pub where_whole : List ℕ → Step → Step

@@ -122,10 +122,10 @@ pub fn with_newest(alloc: Global, games: &[u32], game: u32) -> Result<Vec<u32>, 
     Ok(with)
 }
 
-fn is_unheard(heard: &[u32], server: u32) -> bool
-    ensures { result ≡ spec.is_unheard heard.now server }
+fn is_heard(heard: &[u32], server: u32) -> bool
+    ensures { result ≡ spec.is_heard heard.now server }
 {
-    !heard.iter().any(|one| *one == server)
+    heard.iter().any(|one| *one == server)
 }
 
 /// Of these servers, and of those of the games that were noted, the ones that were not heard.
@@ -141,7 +141,7 @@ pub fn unheard(
         .iter()
         .copied()
         .chain(noted.iter().map(|game| server_of(*game)))
-        .filter(|server| is_unheard(heard, *server))
+        .filter(|server| !is_heard(heard, *server))
         .collect(alloc)
 }
 
