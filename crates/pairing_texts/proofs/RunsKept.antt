@@ -14,7 +14,7 @@ use Rattle.pairing_texts.specs.declared.steps.Row.{Row}
 use Rattle.pairing_texts.specs.Newer.{is_newer, is_past}
 use Rattle.pairing_texts.specs.Notes.{Reached, Opening, Opened, Joined}
 use Rattle.pairing_texts.specs.Steps.{sits, is_free_for, may_be, candidates_in, numbers_of, unheard, step_of_games, step_of_seats}
-use Rattle.pairing_texts.specs.Runs.{Board, Standing, Event, Looks, Acts, Dies, Passes, step_at, games_at, seen_of, older_in, noted, row_of, acted, happened, TellNewer, IsDone, has_game, Stays, IsAllowed, after_all, AreAllowed, IsBeginning, game_noted, HasOneGame}
+use Rattle.pairing_texts.specs.Runs.{Board, Standing, Event, Looks, Acts, Dies, Passes, step_at, seen_of, older_in, noted, row_of, acted, happened, TellNewer, IsDone, has_game, Stays, IsAllowed, after_all, AreAllowed, IsBeginning, game_noted, HasOneGame}
 use Rattle.pairing_texts.proofs.WholeLooks.{whole}
 
 -- ---- the games that may be the board's
