@@ -1,7 +1,8 @@
 //! The game of one board: it is opened, noted, joined and noted.
+use crate::look::{Sight, look};
 use crate::round_file::RoundFile;
-use crate::table::{has_times, rows_of, show_game};
-use anyhow::Result;
+use crate::table::{has_times, show_game};
+use anyhow::{Error, Result, anyhow};
 use pairing_texts::{
     Game, Note, Pairing, Row, Seats, Stage, Step, Times, candidates, newest, step_of, times_text,
 };
@@ -19,15 +20,25 @@ pub enum Became {
 
 /// A board whose game is opened.
 #[derive(Clone, Copy)]
-pub struct Board {
+pub struct Board<'a> {
     pub alloc: Global,
     pub pairing: Pairing,
     pub game: Game,
     /// The game that the arbiter said is its.
     pub taken: Option<u32>,
+    /// The servers that the arbiter said are not waited for.
+    pub without: &'a [u32],
 }
 
-impl Board {
+// What is to be done about a board, and what that was seen by: the games of the table, and the servers that were not heard.
+#[derive(Drop)]
+struct Seen {
+    step: Step,
+    rows: Vec<Row>,
+    away: Vec<u32>,
+}
+
+impl Board<'_> {
     /// A note of it.
     pub fn note(&self, stage: Stage) -> Note {
         Note {
@@ -78,24 +89,11 @@ impl Board {
         Ok(())
     }
 
-    // The games of the table, with what an earlier connection has sent.
-    fn settled_rows(&self, link: &mut Link) -> Result<Vec<Row>> {
-        let mut rows = rows_of(self.alloc, link)?;
-        // What an earlier connection sent is taken by a server before the second answer on this one. Over a switch a line that
-        // opens a game goes on to the next server where one has no room: so twice for each that has games, and for one more.
-        let servers = newest(self.alloc, rows.as_slice())?.len();
-        for _ in 0..servers.saturating_mul(2).saturating_add(1) {
-            rows = rows_of(self.alloc, link)?;
-        }
-        Ok(rows)
-    }
-
     // The games that may be its and have its times, since it was noted that it is about to be opened, and is newer than these.
-    fn games(&self, link: &mut Link, noted: &[u32]) -> Result<Vec<u32>> {
-        let rows = self.settled_rows(link)?;
+    fn games(&self, link: &mut Link, noted: &[u32], rows: &[Row]) -> Result<Vec<u32>> {
         let white = self.pairing.white;
         let times = times_text(self.alloc, self.game.times)?;
-        let found = candidates(self.alloc, noted, &white, rows.as_slice())?;
+        let found = candidates(self.alloc, noted, &white, rows)?;
         let mut games = Vec::new(self.alloc);
         for game in found.as_slice() {
             if has_times(self.alloc, link, *game, times.as_str())? {
@@ -116,31 +114,67 @@ impl Board {
         Ok(show_game(self.alloc, link, game)?.map(|shown| shown.seats))
     }
 
-    // What is to be done about it now.
-    fn step(&self, link: &mut Link, file: &RoundFile, opened: Option<u32>) -> Result<Step> {
-        let stage = file.stage_of(self.pairing.board);
-        let mut games = Vec::new(self.alloc);
-        let mut seats = None;
-        match stage {
-            Some(Stage::Opening(noted)) => games = self.games(link, noted.as_slice())?,
-            Some(Stage::Opened(game)) => {
-                seats = self.seats(link, *game, opened)?;
-                // (of a game that has left the table the arbiter's word is all there is)
-                if seats.is_none() && self.taken == Some(*game) {
-                    return Ok(Step::Note(*game));
-                }
-            }
-            Some(Stage::Joined(_)) | None => {}
-        }
+    // What is to be done about it where its game was not opened, by a look at the table.
+    fn look(&self, link: &mut Link, stage: Option<&Stage>, noted: &[u32]) -> Result<Seen> {
+        let Sight { rows, away } = look(self.alloc, link, noted, self.without, stage.is_some())?;
+        let games = match stage {
+            Some(_) if away.is_empty() => self.games(link, noted, rows.as_slice())?,
+            _ => Vec::new(self.alloc),
+        };
         let (white, black) = (self.pairing.white, self.game.black);
-        Ok(step_of(&white, &black, stage, games.as_slice(), seats))
+        let step = step_of(
+            &white,
+            &black,
+            stage,
+            away.as_slice(),
+            games.as_slice(),
+            None,
+        );
+        Ok(Seen { step, rows, away })
     }
 
-    // Notes that its game is about to be opened, and is newer than the table's games.
-    fn begin(&self, link: &mut Link, file: &mut RoundFile) -> Result<()> {
-        let rows = rows_of(self.alloc, link)?;
-        let older = newest(self.alloc, rows.as_slice())?;
+    // What is to be done about it where this game was noted, by who sits in it.
+    fn step(&self, link: &mut Link, stage: &Stage, game: u32, opened: Option<u32>) -> Result<Step> {
+        let seats = self.seats(link, game, opened)?;
+        // (of a game that has left the table the arbiter's word is all there is)
+        if seats.is_none() && self.taken == Some(game) {
+            return Ok(Step::Note(game));
+        }
+        let (white, black) = (self.pairing.white, self.game.black);
+        Ok(step_of(&white, &black, Some(stage), &[], &[], seats))
+    }
+
+    // What is to be done about it now.
+    fn seen(&self, link: &mut Link, file: &RoundFile, opened: Option<u32>) -> Result<Seen> {
+        let stage = file.stage_of(self.pairing.board);
+        let step = match stage {
+            None => return self.look(link, None, &[]),
+            Some(Stage::Opening(noted)) => return self.look(link, stage, noted.as_slice()),
+            Some(Stage::Joined(game)) => Step::Has(*game),
+            Some(noted @ Stage::Opened(game)) => self.step(link, noted, *game, opened)?,
+        };
+        Ok(Seen {
+            step,
+            rows: Vec::new(self.alloc),
+            away: Vec::new(self.alloc),
+        })
+    }
+
+    // Notes that its game is about to be opened, and is newer than these of the table.
+    fn begin(&self, file: &mut RoundFile, rows: &[Row]) -> Result<()> {
+        let older = newest(self.alloc, rows)?;
         file.put(self.note(Stage::Opening(older)))
+    }
+
+    // That servers were not heard, one of which may have its game.
+    fn not_heard(&self, away: &[u32]) -> Result<Error> {
+        let white = self.pairing.white;
+        let mut servers = String::new(self.alloc);
+        for server in away {
+            servers.push_str(format!(in self.alloc; " {server}")?.as_str())?;
+        }
+        let white = white.as_str();
+        Ok(anyhow!("these servers are away and may have games of {white}:{servers}"))
     }
 
     /// Goes on with its game until Black has joined it, or until it is the arbiter's to say which it is. Wherever it fails
@@ -148,9 +182,10 @@ impl Board {
     pub fn go_on(&self, link: &mut Link, file: &mut RoundFile) -> Result<Became> {
         let mut opened = None;
         for _ in 0..8 {
-            match self.step(link, file, opened)? {
+            let seen = self.seen(link, file, opened)?;
+            match seen.step {
                 Step::Begin => {
-                    self.begin(link, file)?;
+                    self.begin(file, seen.rows.as_slice())?;
                     opened = Some(self.open(link, file)?);
                 }
                 Step::Open => opened = Some(self.open(link, file)?),
@@ -161,6 +196,7 @@ impl Board {
                 }
                 Step::Note(game) => file.put(self.note(Stage::Joined(game)))?,
                 Step::Has(game) => return Ok(Became::Has(game)),
+                Step::LookAgain => return Err(self.not_heard(seen.away.as_slice())?),
                 Step::Ask => return Ok(Became::Asks),
             }
         }

@@ -11,7 +11,8 @@ It opens and joins the game of each board of --pairings on the game server at --
 the board's start, and notes in --round-file which game is which board's; it makes that file
 where there is none. It ends once each board has its game, and may be killed at any moment
 and given again: no board gets a second game, but in two cases, of which docs/NIGHT.md tells.
-While the server is not there it waits for it.
+While the server is not there it waits for it, and so while one of a switch's servers is not,
+which may have the game of a board; by --without it does not wait for that one.
 
 Where it cannot know which game is a board's, or whether it has one, it says so, leaves that
 board alone, and ends with status 1. Look at the games then, and give it again with --take for the
@@ -87,6 +88,8 @@ pub struct Starting<'a> {
     pub takes: Vec<(u32, u32)>,
     /// Boards, and games up to which none is theirs.
     pub afters: Vec<(u32, u32)>,
+    /// Servers that are not waited for.
+    pub without: Vec<u32>,
 }
 
 /// Where results are looked for.
@@ -158,6 +161,12 @@ fn start_command<'a>(alloc: Global) -> Result<Command<'a>, AllocError> {
         "BOARD=GAME",
         "No game up to this one of its server is the board's; it may be given several times",
     );
+    let without = option(
+        alloc,
+        "without",
+        "SERVER",
+        "This server of a switch is not waited for; it may be given several times",
+    );
     with_round(
         alloc,
         Command::new(alloc, "start")
@@ -167,7 +176,8 @@ fn start_command<'a>(alloc: Global) -> Result<Command<'a>, AllocError> {
     .arg(server.required(true))?
     .arg(players)?
     .arg(take.action(ArgAction::Append))?
-    .arg(after.action(ArgAction::Append))
+    .arg(after.action(ArgAction::Append))?
+    .arg(without.action(ArgAction::Append))
 }
 
 fn results_command<'a>(alloc: Global) -> Result<Command<'a>, AllocError> {
@@ -241,7 +251,7 @@ pub fn read_words<'a>(alloc: Global, words: &'a [String]) -> Result<Word<'a>, Er
         Some(word) => Ok(word),
         None => Err(command.error(
             ErrorKind::InvalidValue,
-            "an address, a board, a game or a round's files are none, or neither --archive nor --server is given",
+            "an address, a board, a game, a server or a round's files are none, or neither --archive nor --server is given",
         )?),
     }
 }
@@ -299,27 +309,47 @@ fn takes_of(alloc: Global, texts: &[&str]) -> Result<Option<Vec<(u32, u32)>>, Al
     Ok(Some(takes))
 }
 
-// What `start` asks for; none where an address, a board or a game is none.
+fn servers_of(alloc: Global, texts: &[&str]) -> Result<Option<Vec<u32>>, AllocError> {
+    let mut servers = Vec::new(alloc);
+    for text in texts {
+        match number_of(text) {
+            Some(server) => servers.push(server)?,
+            None => return Ok(None),
+        }
+    }
+    Ok(Some(servers))
+}
+
+// The server's address; none where it is none.
+fn address_of(values: &ArgMatches<'_>) -> Option<SocketAddr> {
+    values.get_str("server")?.parse::<SocketAddr>().ok()
+}
+
+// What `start` asks for; none where an address, a board, a game or a server is none.
 fn starting_of<'a>(
     alloc: Global,
     values: &ArgMatches<'a>,
 ) -> Result<Option<Starting<'a>>, AllocError> {
-    let takes = takes_of(alloc, values.get_strs("take").unwrap_or(&[]))?;
-    let afters = takes_of(alloc, values.get_strs("after").unwrap_or(&[]))?;
-    let server = match values.get_str("server") {
-        Some(text) => text.parse::<SocketAddr>().ok(),
-        None => None,
+    let (Some(round), Some(server)) = (round_of(values), address_of(values)) else {
+        return Ok(None);
     };
-    match (round_of(values), server, takes, afters) {
-        (Some(round), Some(server), Some(takes), Some(afters)) => Ok(Some(Starting {
-            round,
-            server,
-            players: values.get_str("players"),
-            takes,
-            afters,
-        })),
-        _ => Ok(None),
-    }
+    let Some(takes) = takes_of(alloc, values.get_strs("take").unwrap_or(&[]))? else {
+        return Ok(None);
+    };
+    let Some(afters) = takes_of(alloc, values.get_strs("after").unwrap_or(&[]))? else {
+        return Ok(None);
+    };
+    let Some(without) = servers_of(alloc, values.get_strs("without").unwrap_or(&[]))? else {
+        return Ok(None);
+    };
+    Ok(Some(Starting {
+        round,
+        server,
+        players: values.get_str("players"),
+        takes,
+        afters,
+        without,
+    }))
 }
 
 // The files of a round, `round1.csv,round1.games`.
@@ -368,15 +398,19 @@ fn reporting_of<'a>(
     alloc: Global,
     values: &ArgMatches<'a>,
 ) -> Result<Option<Reporting<'a>>, AllocError> {
-    let rounds = rounds_of(alloc, values.get_strs("rounds").unwrap_or(&[]))?;
-    let players = values.get_str("players");
-    match (players, rounds, source_of(values), event_of(values)) {
-        (Some(players), Some(rounds), Some(source), Some(event)) => Ok(Some(Reporting {
-            players,
-            rounds,
-            source,
-            event,
-        })),
-        _ => Ok(None),
-    }
+    let (Some(players), Some(source)) = (values.get_str("players"), source_of(values)) else {
+        return Ok(None);
+    };
+    let Some(event) = event_of(values) else {
+        return Ok(None);
+    };
+    let Some(rounds) = rounds_of(alloc, values.get_strs("rounds").unwrap_or(&[]))? else {
+        return Ok(None);
+    };
+    Ok(Some(Reporting {
+        players,
+        rounds,
+        source,
+        event,
+    }))
 }

@@ -4,6 +4,7 @@
 mod board;
 mod command_line;
 mod files;
+mod look;
 mod outcomes;
 mod report_word;
 mod results_word;

@@ -48,7 +48,7 @@ impl Rounds {
     fn tell<R: AllocGlobal + Print + Eprint>(
         &mut self,
         rt: &R,
-        board: &Board,
+        board: &Board<'_>,
         became: Became,
     ) -> Result<()> {
         let number = board.pairing.board;
@@ -71,7 +71,7 @@ impl Rounds {
     }
 
     // Whether nothing is to be done about a board now.
-    fn rests(&self, board: &Board, now: i64) -> bool {
+    fn rests(&self, board: &Board<'_>, now: i64) -> bool {
         let number = board.pairing.board;
         let is_late = match board.game.start {
             Some(start) => start <= now,
@@ -86,7 +86,7 @@ impl Rounds {
         rt: &R,
         server: SocketAddr,
         link: &mut Option<Link>,
-        board: &Board,
+        board: &Board<'_>,
     ) -> Result<()>
     where
         R: Net<Stream = TcpStream> + AllocGlobal + Print + Eprint,
@@ -106,7 +106,7 @@ impl Rounds {
 
     // Goes on with each board whose start has come. It tells the first of the failures, after which a board may be gone on
     // with again.
-    fn go_on<R>(&mut self, rt: &R, server: SocketAddr, boards: &[Board]) -> Result<()>
+    fn go_on<R>(&mut self, rt: &R, server: SocketAddr, boards: &[Board<'_>]) -> Result<()>
     where
         R: Net<Stream = TcpStream> + AllocGlobal + Print + Eprint + Clock,
     {
@@ -130,7 +130,7 @@ impl Rounds {
 }
 
 // The pairing of a board.
-fn board_of(boards: &[Board], number: u32) -> Result<Board> {
+fn board_of<'a>(boards: &[Board<'a>], number: u32) -> Result<Board<'a>> {
     for board in boards {
         if board.pairing.board == number {
             return Ok(*board);
@@ -152,7 +152,7 @@ fn is_after(file: &RoundFile, board: u32, game: u32) -> bool {
 fn take_words<R: AllocGlobal>(
     rt: &R,
     file: &mut RoundFile,
-    boards: &[Board],
+    boards: &[Board<'_>],
     starting: &Starting<'_>,
 ) -> Result<()> {
     for (number, game) in starting.takes.as_slice() {
@@ -209,11 +209,11 @@ fn check_players(players: &[Player], pairings: &[Pairing]) -> Result<()> {
 }
 
 // The boards of pairings that have a game.
-fn boards_of<R: AllocGlobal>(
+fn boards_of<'a, R: AllocGlobal>(
     rt: &R,
     pairings: &[Pairing],
-    takes: &[(u32, u32)],
-) -> Result<Vec<Board>> {
+    starting: &'a Starting<'_>,
+) -> Result<Vec<Board<'a>>> {
     let mut boards = Vec::new(rt.alloc());
     for pairing in pairings {
         if let Some(game) = pairing.game {
@@ -221,7 +221,8 @@ fn boards_of<R: AllocGlobal>(
                 alloc: rt.alloc(),
                 pairing: *pairing,
                 game,
-                taken: taken_of(takes, pairing.board),
+                taken: taken_of(starting.takes.as_slice(), pairing.board),
+                without: starting.without.as_slice(),
             })?;
         }
     }
@@ -229,7 +230,7 @@ fn boards_of<R: AllocGlobal>(
 }
 
 // Goes round the boards until each has its game or is the arbiter's. Where the server is gone it is tried again.
-fn go_round<R>(rt: &R, rounds: &mut Rounds, server: SocketAddr, boards: &[Board]) -> Result<()>
+fn go_round<R>(rt: &R, rounds: &mut Rounds, server: SocketAddr, boards: &[Board<'_>]) -> Result<()>
 where
     R: Net<Stream = TcpStream> + AllocGlobal + Print + Eprint + Clock,
 {
@@ -265,7 +266,7 @@ where
         let players = players_of(rt, file)?;
         check_players(players.as_slice(), pairings.as_slice()).context(format_args!("{rows}"))?;
     }
-    let boards = boards_of(rt, pairings.as_slice(), starting.takes.as_slice())?;
+    let boards = boards_of(rt, pairings.as_slice(), starting)?;
     let mut file = RoundFile::open(rt, starting.round.games)?;
     check_notes(starting.round.games, file.notes(), pairings.as_slice())?;
     take_words(rt, &mut file, boards.as_slice(), starting)?;

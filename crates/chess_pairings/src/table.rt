@@ -11,11 +11,10 @@ fn seat_of(text: &str) -> Option<Name> {
     Name::try_new(text)
 }
 
-/// The games of the table.
-pub fn rows_of(alloc: Global, link: &mut Link) -> Result<Vec<Row>> {
-    let list = link.list()?;
+/// The games of the server's list.
+pub fn rows_in(alloc: Global, list: &str) -> Result<Vec<Row>> {
     let mut rows = Vec::new(alloc);
-    for line in parts(alloc, list.as_str(), '\n')?.as_slice() {
+    for line in parts(alloc, list, '\n')?.as_slice() {
         match row_of(line) {
             Some(row) => rows.push(Row {
                 game: row.game,

@@ -1,7 +1,8 @@
 //! The texts of a round, and what is to be done about boards.
 use pairing_texts::{
     Fault, Note, Outcome, Row, RowFault, Seats, Stage, Step, candidates, game_in, is_newer,
-    last_of, newest, note_of, note_text, read, results, step_of, times_of, times_text, with_newest,
+    last_of, newest, note_of, note_text, read, results, step_of, times_of, times_text, unheard,
+    with_newest,
 };
 use rec_codec::Name;
 use std::alloc::Global;
@@ -157,7 +158,14 @@ fn games_of_a_board(rt: HostRuntime) {
 
 // The step about a board of ann and bob.
 fn step(rt: &impl Abort, stage: Option<&Stage>, games: &[u32], seats: Option<Seats>) -> Step {
-    step_of(&name(rt, "ann"), &name(rt, "bob"), stage, games, seats)
+    step_of(
+        &name(rt, "ann"),
+        &name(rt, "bob"),
+        stage,
+        &[],
+        games,
+        seats,
+    )
 }
 
 fn seats(white: &str, black: &str) -> Option<Seats> {
@@ -174,6 +182,17 @@ fn steps_before_a_game(rt: HostRuntime) {
     assert!(rt; step(&rt, Some(&opening), &[], None) == Step::Open);
     assert!(rt; step(&rt, Some(&opening), &[17], None) == Step::Take(17));
     assert!(rt; step(&rt, Some(&opening), &[17, 19], None) == Step::Ask);
+}
+
+#[test]
+fn steps_while_a_server_is_away(rt: HostRuntime) {
+    let alloc = rt.alloc();
+    let away = unheard(alloc, &[1, 2, 3], &[20_000_003, 40_000_001], &[1, 2]).expect(&rt, "memory");
+    assert!(rt; away.as_slice() == [3, 4].as_slice());
+    let (ann, bob) = (name(&rt, "ann"), name(&rt, "bob"));
+    assert!(rt; step_of(&ann, &bob, None, &away, &[], None) == Step::LookAgain);
+    let opening = Stage::Opening(Vec::new(alloc));
+    assert!(rt; step_of(&ann, &bob, Some(&opening), &[3], &[17], None) == Step::LookAgain);
 }
 
 #[test]

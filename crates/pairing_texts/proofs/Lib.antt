@@ -4,4 +4,5 @@ pub mod TimesBack
 pub mod NumbersBack
 pub mod NotesBack
 pub mod RunsKept
+pub mod WholeLooks
 pub mod NewestKept

@@ -13,8 +13,9 @@ use Rattle.pairing_texts.specs.declared.steps.Step.TheVariants as steps
 use Rattle.pairing_texts.specs.declared.steps.Row.{Row}
 use Rattle.pairing_texts.specs.Newer.{is_newer, is_past}
 use Rattle.pairing_texts.specs.Notes.{Reached, Opening, Opened, Joined}
-use Rattle.pairing_texts.specs.Steps.{sits, is_free_for, may_be, candidates_in, numbers_of, step_of, step_of_games, step_of_seats}
-use Rattle.pairing_texts.specs.Runs.{Board, Standing, Event, Looks, Acts, Dies, Passes, games_at, noted, row_of, acted, happened, TellNewer, IsDone, is_there, has_game, Stays, IsAllowed, after_all, AreAllowed, IsBeginning, game_noted, HasOneGame}
+use Rattle.pairing_texts.specs.Steps.{sits, is_free_for, may_be, candidates_in, numbers_of, unheard, step_of_games, step_of_seats}
+use Rattle.pairing_texts.specs.Runs.{Board, Standing, Event, Looks, Acts, Dies, Passes, step_at, seen_of, older_in, noted, row_of, acted, happened, TellNewer, IsDone, has_game, Stays, IsAllowed, after_all, AreAllowed, IsBeginning, game_noted, HasOneGame}
+use Rattle.pairing_texts.proofs.WholeLooks.{whole}
 
 -- ---- the games that may be the board's
 
@@ -41,6 +42,13 @@ and_second false b h = absurd (false≢true h)
 both_true : (a b : Bool) → a ≡ true → b ≡ true → (a && b) ≡ true
 both_true a b h k = rw h k
 
+-- the table has this game, which may be the board's
+abbrev is_there : Board → List ℕ → ℕ → Row → Bool
+is_there b noted game row = (row.game == game) && (may_be noted b.white row && b.fits row.game)
+
+abbrev has_found : Board → List ℕ → ℕ → List Row → Bool
+has_found b noted game rows = list_any (is_there b noted game) rows
+
 -- one row more
 one_more : (game n : ℕ) (fits : ℕ → Bool) (m f : Bool) (more : List ℕ) (rest : Bool) → fits n ≡ f →
     list_any (λ x. x == game) (filter fits more) ≡ rest →
@@ -51,19 +59,19 @@ one_more game n fits false f more rest e r = rw r (ap (λ (b : Bool). b || rest)
 
 -- a game that may be the board's is among those that `start` finds
 found : (b : Board) (noted : List ℕ) (game : ℕ) (rows : List Row) →
-    list_any (λ x. x == game) (filter b.fits (candidates_in noted b.white rows)) ≡ has_game b noted game rows
+    list_any (λ x. x == game) (filter b.fits (candidates_in noted b.white rows)) ≡ has_found b noted game rows
 found b noted game [] = refl
 found b noted game (row ∷ rows) =
-    one_more game row.game b.fits (may_be noted b.white row) (b.fits row.game) (candidates_in noted b.white rows) (has_game b noted game rows) refl
+    one_more game row.game b.fits (may_be noted b.white row) (b.fits row.game) (candidates_in noted b.white rows) (has_found b noted game rows) refl
     (found b noted game rows)
 
 not_none : (b : Board) (noted : List ℕ) (game : ℕ) (rows : List Row) → filter b.fits (candidates_in noted b.white rows) ≡ [] →
-    has_game b noted game rows ≡ true → ⊥
+    has_found b noted game rows ≡ true → ⊥
 not_none b noted game rows none there =
     false≢true (ap (list_any (λ x. x == game)) (sym none) ∙ (found b noted game rows ∙ there))
 
 the_one : (b : Board) (noted : List ℕ) (game one : ℕ) (rows : List Row) → filter b.fits (candidates_in noted b.white rows) ≡ one ∷ [] →
-    has_game b noted game rows ≡ true → game ≡ one
+    has_found b noted game rows ≡ true → game ≡ one
 the_one b noted game one rows alone there =
     let among : list_any (λ x. x == game) (one ∷ []) ≡ true = ap (list_any (λ x. x == game)) (sym alone) ∙ (found b noted game rows ∙ there) in
     sym ((Decides-eqb one game).0 (sym (or_false (one == game)) ∙ among))
@@ -76,6 +84,26 @@ any_append : {A : Type 0} (p : A → Bool) (xs : List A) (x : A) → p x ≡ tru
 any_append p [] x h = or_false (p x) ∙ h
 any_append p (y ∷ ys) x h = either (p y) (list_any p (ys ++ x ∷ [])) (any_append p ys x h)
 
+-- a game that is newer than was noted, and has the board's times, may be the board's where White sits in it
+there_by : (b : Board) (noted : List ℕ) (game n : ℕ) (s : Bool) → is_newer noted game ≡ true → b.fits game ≡ true → ((n == game) && s) ≡ true →
+    ((n == game) && ((is_newer noted n && s) && b.fits n)) ≡ true
+there_by b noted game n s new fits h =
+    subst (λ (m : ℕ). ((m == game) && ((is_newer noted m && s) && b.fits m)) ≡ true)
+    (sym ((Decides-eqb n game).0 (and_first (n == game) s h)))
+    (both_true (game == game) ((is_newer noted game && s) && b.fits game) ((Decides-eqb game game).1 refl)
+    (both_true (is_newer noted game && s) (b.fits game) (both_true (is_newer noted game) s new (and_second (n == game) s h)) fits))
+
+or_more : (a b c d : Bool) → (a ≡ true → c ≡ true) → (b ≡ true → d ≡ true) → (a || b) ≡ true → (c || d) ≡ true
+or_more true b c d f g h = ap (λ (x : Bool). x || d) (f refl)
+or_more false b c d f g h = either c d (g h)
+
+found_by : (b : Board) (noted : List ℕ) (game : ℕ) (rows : List Row) → is_newer noted game ≡ true → b.fits game ≡ true →
+    has_game b.white game rows ≡ true → has_found b noted game rows ≡ true
+found_by b noted game [] new fits h = absurd (false≢true h)
+found_by b noted game (row ∷ rows) new fits h =
+    or_more ((row.game == game) && sits b.white row.white) (has_game b.white game rows) (is_there b noted game row) (has_found b noted game rows)
+    (there_by b noted game row.game (sits b.white row.white) new fits) (found_by b noted game rows new fits) h
+
 -- ---- what always holds
 
 abbrev IsNoneOr : List ℕ → ℕ → Type 0
@@ -84,7 +112,9 @@ IsNoneOr opened game = (opened ≡ []) ⊎ (opened ≡ game ∷ [])
 record IsThere (b : Board) (noted : List ℕ) (rows : List Row) (opened : List ℕ) : Type 0 where
   game : ℕ
   one : opened ≡ game ∷ []
-  there : has_game b noted game rows ≡ true
+  new : is_newer noted game ≡ true
+  fits : b.fits game ≡ true
+  there : has_game b.white game rows ≡ true
 
 abbrev NoteHolds : Board → Option Reached → List ℕ → List Row → List ℕ → Type 0
 NoteHolds b None given rows opened = opened ≡ []
@@ -105,6 +135,7 @@ DoesHold (Some (steps.Join game)) note given seen opened = Unit {0}
 DoesHold (Some (steps.Note game)) note given seen opened = IsNoneOr opened game
 DoesHold (Some (steps.Has game)) note given seen opened = Unit {0}
 DoesHold (Some steps.Ask) note given seen opened = Unit {0}
+DoesHold (Some steps.LookAgain) note given seen opened = Unit {0}
 
 record IsSound (b : Board) (s : Standing) : Type 0 where
   given : TellNewer s.given (numbers_of s.rows)
@@ -113,17 +144,21 @@ record IsSound (b : Board) (s : Standing) : Type 0 where
 
 -- ---- it looks
 
+-- the game that was opened is among those that `start` finds
+is_found : (b : Board) (noted : List ℕ) (rows : List Row) (opened : List ℕ) (t : IsThere b noted rows opened) → has_found b noted t.game rows ≡ true
+is_found b noted rows opened t = found_by b noted t.game rows t.new t.fits t.there
+
 games_hold : (b : Board) (noted given : List ℕ) (rows : List Row) (opened games : List ℕ) →
     filter b.fits (candidates_in noted b.white rows) ≡ games → NoteHolds b (Some (Opening noted)) given rows opened →
     DoesHold (Some (step_of_games games)) (Some (Opening noted)) given rows opened
 games_hold b noted given rows opened [] e holds = (
   record { noted = noted; is = refl },
-  elim holds.1 [ inl none ↦ none | inr there ↦ absurd (not_none b noted there.game rows e there.there) ],
+  elim holds.1 [ inl none ↦ none | inr there ↦ absurd (not_none b noted there.game rows e (is_found b noted rows opened there)) ],
 )
 games_hold b noted given rows opened (one ∷ []) e holds =
     elim holds.1 [
       | inl none ↦ inl none
-      | inr there ↦ inr (there.one ∙ ap (λ (n : ℕ). n ∷ []) (the_one b noted there.game one rows e there.there))
+      | inr there ↦ inr (there.one ∙ ap (λ (n : ℕ). n ∷ []) (the_one b noted there.game one rows e (is_found b noted rows opened there)))
     ]
 games_hold b noted given rows opened (one ∷ two ∷ more) e holds = tt
 
@@ -140,15 +175,33 @@ seats_hold white black game note given rows opened None h = tt
 seats_hold white black game note given rows opened (Some seats) h =
     if_holds game note given rows opened (not (sits white seats.white)) (sits black seats.black) (is_free_for black seats.black) h
 
-look_holds : (b : Board) (note : Option Reached) (given : List ℕ) (rows : List Row) (opened : List ℕ) (seats : Option Seats) →
+-- a look at which each server was heard
+whole_holds : (b : Board) (note : Option Reached) (given : List ℕ) (rows : List Row) (opened : List ℕ) (seats : Option Seats) →
     TellNewer given (numbers_of rows) → NoteHolds b note given rows opened →
-    DoesHold (Some (step_of b.white b.black note (games_at b note rows) seats)) note given rows opened
-look_holds b None given rows opened seats tell holds = (refl, tell)
-look_holds b (Some (Opening noted)) given rows opened seats tell holds =
+    DoesHold (Some (step_at b note [] rows seats)) note given rows opened
+whole_holds b None given rows opened seats tell holds = (refl, tell)
+whole_holds b (Some (Opening noted)) given rows opened seats tell holds =
     games_hold b noted given rows opened (filter b.fits (candidates_in noted b.white rows)) refl holds
-look_holds b (Some (Opened game)) given rows opened seats tell holds =
+whole_holds b (Some (Opened game)) given rows opened seats tell holds =
     seats_hold b.white b.black game (Some (Opened game)) given rows opened seats holds
-look_holds b (Some (Joined game)) given rows opened seats tell holds = tt
+whole_holds b (Some (Joined game)) given rows opened seats tell holds = tt
+
+-- another one
+part_holds : (b : Board) (note : Option Reached) (given : List ℕ) (rows seen : List Row) (opened : List ℕ) (seats : Option Seats) (server : ℕ)
+    (away : List ℕ) → NoteHolds b note given rows opened → DoesHold (Some (step_at b note (server ∷ away) seen seats)) note given seen opened
+part_holds b None given rows seen opened seats server away holds = tt
+part_holds b (Some (Opening noted)) given rows seen opened seats server away holds = tt
+part_holds b (Some (Opened game)) given rows seen opened seats server away holds =
+    seats_hold b.white b.black game (Some (Opened game)) given seen opened seats holds
+part_holds b (Some (Joined game)) given rows seen opened seats server away holds = tt
+
+look_holds : (b : Board) (note : Option Reached) (given : List ℕ) (rows seen : List Row) (opened : List ℕ) (seats : Option Seats) (away : List ℕ) →
+    (away ≡ [] → seen ≡ rows) → TellNewer given (numbers_of rows) → NoteHolds b note given rows opened →
+    DoesHold (Some (step_at b note away seen seats)) note given seen opened
+look_holds b note given rows seen opened seats [] is_whole tell holds =
+    subst (λ (rs : List Row). DoesHold (Some (step_at b note [] rs seats)) note given rs opened) (sym (is_whole refl))
+    (whole_holds b note given rows opened seats tell holds)
+look_holds b note given rows seen opened seats (server ∷ away) is_whole tell holds = part_holds b note given rows seen opened seats server away holds
 
 -- ---- it does
 
@@ -166,11 +219,9 @@ one_given given rows row tell n h =
     (tell n (and_first (is_newer given n) (is_newer (row.game ∷ []) n) both))
     (and_second (is_newer given n) (is_newer (row.game ∷ []) n) both))
 
-row_there : (b : Board) (noted : List ℕ) (game : ℕ) → is_newer noted game ≡ true → b.fits game ≡ true → is_there b noted game (row_of b game) ≡ true
-row_there b noted game new fits =
-    both_true (game == game) ((is_newer noted game && bytes_eq b.white b.white) && b.fits game) ((Decides-eqb game game).1 refl)
-    (both_true (is_newer noted game && bytes_eq b.white b.white) (b.fits game)
-    (both_true (is_newer noted game) (bytes_eq b.white b.white) new ((bytes_eq-Decides b.white b.white).1 refl)) fits)
+row_there : (white : List ℕ) (game : ℕ) → ((game == game) && bytes_eq white white) ≡ true
+row_there white game =
+    both_true (game == game) (bytes_eq white white) ((Decides-eqb game game).1 refl) ((bytes_eq-Decides white white).1 refl)
 
 one_opened : (opened : List ℕ) (game : ℕ) → opened ≡ [] → opened ++ game ∷ [] ≡ game ∷ []
 one_opened opened game none = ap (λ (xs : List ℕ). xs ++ game ∷ []) none
@@ -186,7 +237,9 @@ open_holds b note given rows opened game is none holds new fits =
       inr (record {
         game = game;
         one = one_opened opened game none;
-        there = any_append (is_there b is.noted game) rows (row_of b game) (row_there b is.noted game (at.0 game new) fits);
+        new = at.0 game new;
+        fits = fits;
+        there = any_append (λ (r : Row). (r.game == game) && sits b.white r.white) rows (row_of b game) (row_there b.white game);
       }),
     )
 
@@ -218,18 +271,29 @@ acted_sound b s older game is_noted (Some (steps.Take one)) sound holds done = r
 acted_sound b s older game is_noted (Some (steps.Join one)) sound holds done = record { given = sound.given; note = sound.note; does = tt }
 acted_sound b s older game is_noted (Some (steps.Note one)) sound holds done = record { given = sound.given; note = holds; does = tt }
 acted_sound b s older game is_noted (Some (steps.Has one)) sound holds done = record { given = sound.given; note = sound.note; does = tt }
+acted_sound b s older game is_noted (Some steps.LookAgain) sound holds done = record { given = sound.given; note = sound.note; does = tt }
 acted_sound b s older game is_noted (Some steps.Ask) sound holds done = record { given = sound.given; note = sound.note; does = tt }
 
 -- ---- the table changes
 
-pass_note : (b : Board) (note : Option Reached) (given more : List ℕ) (old new : List Row) (opened : List ℕ) → Stays b note old new →
+is_opened : (opened : List ℕ) (game : ℕ) → opened ≡ game ∷ [] → list_any (λ one. one == game) opened ≡ true
+is_opened opened game one =
+    subst (λ (xs : List ℕ). list_any (λ x. x == game) xs ≡ true) (sym one) (or_false (game == game) ∙ (Decides-eqb game game).1 refl)
+
+pass_note : (b : Board) (note : Option Reached) (given more : List ℕ) (old new : List Row) (opened : List ℕ) → Stays b note opened old new →
     NoteHolds b note given old opened → NoteHolds b note (given ++ more) new opened
 pass_note b None given more old new opened stays holds = holds
 pass_note b (Some (Opening noted)) given more old new opened stays holds = (
   more_given given more noted holds.0,
   elim holds.1 [
     | inl none ↦ inl none
-    | inr there ↦ inr (record { game = there.game; one = there.one; there = stays there.game there.there })
+    | inr there ↦ inr (record {
+      game = there.game;
+      one = there.one;
+      new = there.new;
+      fits = there.fits;
+      there = stays there.game (is_opened opened there.game there.one) there.there;
+    })
   ],
 )
 pass_note b (Some (Opened game)) given more old new opened stays holds = holds
@@ -245,14 +309,17 @@ pass_does (Some (steps.Join game)) note given more seen opened holds = tt
 pass_does (Some (steps.Note game)) note given more seen opened holds = holds
 pass_does (Some (steps.Has game)) note given more seen opened holds = tt
 pass_does (Some steps.Ask) note given more seen opened holds = tt
+pass_does (Some steps.LookAgain) note given more seen opened holds = tt
 
 -- ---- all of it
 
 sound_more : (b : Board) (event : Event) (s : Standing) → IsSound b s → IsAllowed b event s → IsSound b (happened b event s)
-sound_more b (Looks seats) s sound allowed = record {
+sound_more b (Looks servers heard seats) s sound allowed = record {
   given = sound.given;
   note = sound.note;
-  does = look_holds b s.note s.given s.rows s.opened seats sound.given sound.note;
+  does =
+      look_holds b s.note s.given s.rows (seen_of heard s.rows) s.opened seats (unheard servers (older_in s.note) heard)
+      (whole servers (older_in s.note) heard s.rows allowed) sound.given sound.note;
 }
 sound_more b (Acts older game is_noted) s sound allowed = acted_sound b s older game is_noted s.does sound sound.does allowed
 sound_more b Dies s sound allowed = record { given = sound.given; note = sound.note; does = tt }

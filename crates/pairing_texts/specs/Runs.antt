@@ -1,14 +1,14 @@
 -- What becomes of a board while `start` is killed at any moments and given again, its server goes on, and others open, join,
 -- end and drop games.
-use Rattle.std.specs.Prelude.{ℕ, ◌≡◌, ◌≤◌, ◌==◌, ◌&&◌, Bool, true, false, not, List, [], ◌∷◌, ◌++◌, length, filter, Option, None, Some, if◌then◌else◌}
-use Rattle.std.specs.List.{list_any}
+use Rattle.std.specs.Prelude.{ℕ, ◌≡◌, ◌≤◌, ◌==◌, ◌&&◌, Bool, true, false, not, List, [], ◌∷◌, ◌++◌, length, filter, map, Option, None, Some, if◌then◌else◌}
+use Rattle.std.specs.List.{list_any, list_all}
 use Rattle.pairing_texts.specs.declared.steps.Seats.{Seats}
 use Rattle.pairing_texts.specs.declared.steps.Step.{Step}
 use Rattle.pairing_texts.specs.declared.steps.Step.TheVariants as steps
 use Rattle.pairing_texts.specs.declared.steps.Row.{Row}
-use Rattle.pairing_texts.specs.Newer.{is_newer}
+use Rattle.pairing_texts.specs.Newer.{server_of, is_newer}
 use Rattle.pairing_texts.specs.Notes.{Reached, Opening, Opened, Joined, game_in}
-use Rattle.pairing_texts.specs.Steps.{may_be, candidates_in, numbers_of, step_of}
+use Rattle.pairing_texts.specs.Steps.{sits, candidates_in, numbers_of, unheard, step_of}
 
 -- A board: its players, and which games have its times and begin with the initial position. That is so of a game, or is not,
 -- all the time: a game has the times that it was opened with, and the board has those that it had at first.
@@ -17,8 +17,8 @@ pub record Board : Type 0 where
   pub black : List ℕ
   pub fits : ℕ → Bool
 
--- How it stands: the games on the table; the numbers of all games that were given so far; the board's last note; of a `start`
--- that runs the table as it saw it, and what it is about to do; and the games that `start` has opened for the board.
+-- How it stands: the games on the table of all servers; the numbers of all games that were given so far; the board's last note; of
+-- a `start` that runs what it saw of the table, and what it is about to do; and the games that `start` has opened for the board.
 pub record Standing : Type 0 where
   pub rows : List Row
   pub given : List ℕ
@@ -27,11 +27,12 @@ pub record Standing : Type 0 where
   pub does : Option Step
   pub opened : List ℕ
 
--- What happens. `start` looks at the table, and sees these seats of the game that was noted; what it is about to do is done:
--- it notes these games as the older ones, and a game that is opened gets this number, which is noted, or it is killed before;
--- it is killed; and the table is another, with more games given: players act, also for `start`, which has Black join.
+-- What happens. `start` looks at the table, is told that it has these servers, hears these, and sees these seats of the game that
+-- was noted; what it is about to do is done: it notes these games as the older ones, and a game that is opened gets this number,
+-- which is noted, or it is killed before; it is killed; and the table is another, with more games given: players act, also for
+-- `start`, which has Black join.
 pub data Event : Type 0 where
-  Looks : (seats : Option Seats) → Event
+  Looks : (servers : List ℕ) → (heard : List ℕ) → (seats : Option Seats) → Event
   Acts : (older : List ℕ) → (game : ℕ) → (is_noted : Bool) → Event
   Dies : Event
   Passes : (rows : List Row) → (more : List ℕ) → Event
@@ -43,8 +44,28 @@ games_at b (Some (Opening noted)) rows = filter b.fits (candidates_in noted b.wh
 games_at b (Some (Opened game)) rows = []
 games_at b (Some (Joined game)) rows = []
 
-abbrev pub looked : Board → Option Seats → Standing → Standing
-looked b seats s = record s { seen = s.rows; does = Some (step_of b.white b.black s.note (games_at b s.note s.rows) seats) }
+-- of the table the games of the servers that were heard
+abbrev pub is_of : List ℕ → Row → Bool
+is_of servers row = list_any (λ one. one == server_of row.game) servers
+
+abbrev pub seen_of : List ℕ → List Row → List Row
+seen_of heard rows = filter (λ row. is_of heard row) rows
+
+-- the games that were noted as the older ones, where the board's is about to be opened
+abbrev pub older_in : Option Reached → List ℕ
+older_in None = []
+older_in (Some (Opening older)) = older
+older_in (Some (Opened game)) = []
+older_in (Some (Joined game)) = []
+
+abbrev pub step_at : Board → Option Reached → List ℕ → List Row → Option Seats → Step
+step_at b note away seen seats = step_of b.white b.black note away (games_at b note seen) seats
+
+abbrev pub looked : Board → List ℕ → List ℕ → Option Seats → Standing → Standing
+looked b servers heard seats s = record s {
+  seen = seen_of heard s.rows;
+  does = Some (step_at b s.note (unheard servers (older_in s.note) heard) (seen_of heard s.rows) seats);
+}
 
 abbrev pub noted : Reached → Option Step → Standing → Standing
 noted note next s = record s { note = Some note; does = next }
@@ -72,9 +93,10 @@ acted b older game is_noted (Some (steps.Join one)) s = record s { does = None }
 acted b older game is_noted (Some (steps.Note one)) s = noted (Joined one) None s
 acted b older game is_noted (Some (steps.Has one)) s = record s { does = None }
 acted b older game is_noted (Some steps.Ask) s = record s { does = None }
+acted b older game is_noted (Some steps.LookAgain) s = record s { does = None }
 
 abbrev pub happened : Board → Event → Standing → Standing
-happened b (Looks seats) s = looked b seats s
+happened b (Looks servers heard seats) s = looked b servers heard seats s
 happened b (Acts older game is_noted) s = acted b older game is_noted s.does s
 happened b Dies s = record s { does = None }
 happened b (Passes rows more) s = record s { rows = rows; given = s.given ++ more }
@@ -89,24 +111,26 @@ IsDone b older game (Some steps.Begin) s = TellNewer (numbers_of s.seen) older
 IsDone b older game (Some steps.Open) s = (is_newer s.given game ≡ true) × (b.fits game ≡ true)
 IsDone b older game _ s = Unit {0}
 
--- the table has this game, which may be the board's
-abbrev pub is_there : Board → List ℕ → ℕ → Row → Bool
-is_there b noted game row = (row.game == game) && (may_be noted b.white row && b.fits row.game)
+-- the table has this game, and White sits in it
+abbrev pub has_game : List ℕ → ℕ → List Row → Bool
+has_game white game rows = list_any (λ row. (row.game == game) && sits white row.white) rows
 
-abbrev pub has_game : Board → List ℕ → ℕ → List Row → Bool
-has_game b noted game rows = list_any (is_there b noted game) rows
+-- While it is noted that the board's game is about to be opened, the one that `start` opened for it stays on the table.
+abbrev pub Stays : Board → Option Reached → List ℕ → List Row → List Row → Type 0
+Stays b (Some (Opening noted)) opened old new =
+    (game : ℕ) → list_any (λ one. one == game) opened ≡ true → has_game b.white game old ≡ true → has_game b.white game new ≡ true
+Stays b _ opened old new = Unit {0}
 
--- While it is noted that the board's game is about to be opened, none that may be it leaves the table.
-abbrev pub Stays : Board → Option Reached → List Row → List Row → Type 0
-Stays b (Some (Opening noted)) old new = (game : ℕ) → has_game b noted game old ≡ true → has_game b noted game new ≡ true
-Stays b _ old new = Unit {0}
+-- Each game of the table is of a server that the table is told to have, or of one of which a game was noted as an older one.
+abbrev pub are_of : List ℕ → List ℕ → List Row → Bool
+are_of servers older rows = list_all (λ row. is_of (servers ++ map (λ game. server_of game) older) row) rows
 
 -- What may happen. The arbiter says nothing meanwhile.
 abbrev pub IsAllowed : Board → Event → Standing → Type 0
-IsAllowed b (Looks seats) s = Unit {0}
+IsAllowed b (Looks servers heard seats) s = are_of servers (older_in s.note) s.rows ≡ true
 IsAllowed b (Acts older game is_noted) s = IsDone b older game s.does s
 IsAllowed b Dies s = Unit {0}
-IsAllowed b (Passes rows more) s = TellNewer (s.given ++ more) (numbers_of rows) × Stays b s.note s.rows rows
+IsAllowed b (Passes rows more) s = TellNewer (s.given ++ more) (numbers_of rows) × Stays b s.note s.opened s.rows rows
 
 abbrev pub after_all : Board → List Event → Standing → Standing
 after_all b [] s = s

@@ -41,6 +41,8 @@ pub enum Step {
     Note(u32),
     /// This is its game, and nothing more is to be done.
     Has(u32),
+    /// Not each server was heard: it is to be looked at the table again.
+    LookAgain,
     /// The arbiter is to say which game is its, or that it is to be opened.
     Ask,
 }
@@ -63,11 +65,18 @@ fn sits(name: &Name, seat: Option<Name>) -> bool
     }
 }
 
+// The server of a game.
+fn server_of(number: u32) -> u32
+    ensures { result ≡ newer.server_of number }
+{
+    number / SERVER
+}
+
 // Whether two games have numbers of one server.
 fn is_same_server(one: u32, other: u32) -> bool
     ensures { result ≡ newer.is_same_server one other }
 {
-    one / SERVER == other / SERVER
+    server_of(one) == server_of(other)
 }
 
 fn is_past(one: u32, number: u32) -> bool
@@ -113,6 +122,29 @@ pub fn with_newest(alloc: Global, games: &[u32], game: u32) -> Result<Vec<u32>, 
     Ok(with)
 }
 
+fn is_heard(heard: &[u32], server: u32) -> bool
+    ensures { result ≡ spec.is_heard heard.now server }
+{
+    heard.iter().any(|one| *one == server)
+}
+
+/// Of these servers, and of those of the games that were noted, the ones that were not heard.
+pub fn unheard(
+    alloc: Global,
+    servers: &[u32],
+    noted: &[u32],
+    heard: &[u32],
+) -> Result<Vec<u32>, AllocError>
+    ensures { IfOk result (λ away. away.items ≡ spec.unheard servers.now noted.now heard.now) }
+{
+    servers
+        .iter()
+        .copied()
+        .chain(noted.iter().map(|game| server_of(*game)))
+        .filter(|server| !is_heard(heard, *server))
+        .collect(alloc)
+}
+
 fn may_be(noted: &[u32], white: &Name, row: &Row) -> bool
     ensures { result ≡ spec.may_be noted.now white.now row.now }
 {
@@ -150,6 +182,16 @@ pub fn candidates(
     Ok(games)
 }
 
+// A step that a look allows where each server was heard.
+fn where_whole(away: &[u32], step: Step) -> Step
+    ensures { result ≡ spec.where_whole away.now step }
+{
+    match away {
+        [] => step,
+        _ => Step::LookAgain,
+    }
+}
+
 // What is to be done about a board of which it was noted that its game is about to be opened, by the games that may be its
 // and have its times.
 fn step_of_games(games: &[u32]) -> Step
@@ -180,20 +222,22 @@ fn step_of_seats(game: u32, white: &Name, black: &Name, seats: Option<Seats>) ->
     }
 }
 
-/// What is to be done about a board, by its last note. `games` are those that may be its and have its times, where it was
-/// noted that it is about to be opened; `seats` those of its game, where that was opened and is on the table.
+/// What is to be done about a board, by its last note. `away` are the servers that were not heard, and `games` those that may
+/// be its and have its times, where it was noted that it is about to be opened; `seats` those of its game, where that was
+/// opened and is on the table.
 pub fn step_of(
     white: &Name,
     black: &Name,
     stage: Option<&Stage>,
+    away: &[u32],
     games: &[u32],
     seats: Option<Seats>,
 ) -> Step
-    ensures { result ≡ spec.step_of white.now black.now (option_map (λ s. reached s.now) stage.entry) games.now seats }
+    ensures { result ≡ spec.step_of white.now black.now (option_map (λ s. reached s.now) stage.entry) away.now games.now seats }
 {
     match stage {
-        None => Step::Begin,
-        Some(Stage::Opening(_)) => step_of_games(games),
+        None => where_whole(away, Step::Begin),
+        Some(Stage::Opening(_)) => where_whole(away, step_of_games(games)),
         Some(Stage::Opened(game)) => step_of_seats(*game, white, black, seats),
         Some(Stage::Joined(game)) => Step::Has(*game),
     }

@@ -75,14 +75,19 @@ impl Link {
         Ok(())
     }
 
-    /// Asks a line. Where the answer begins with `front`, a number behind that says how many lines follow.
-    pub fn ask(&mut self, line: &str, front: &str) -> Result<Answer> {
+    /// Says a line, or several with a line feed between two.
+    pub fn say(&mut self, lines: &str) -> Result<()> {
         // (in one write: a second one would wait for the system's word on the first)
-        let text = format!(in self.alloc; "{line}\n")?;
+        let text = format!(in self.alloc; "{lines}\n")?;
         self.stream
             .get_mut()
             .write_all(text.as_bytes())
-            .map_err(told)?;
+            .map_err(told)
+    }
+
+    /// The answer to the first line that was said and is not answered yet. Where it begins with `front`, a number behind that
+    /// says how many lines follow.
+    pub fn hear(&mut self, front: &str) -> Result<Answer> {
         let mut first = String::new(self.alloc);
         self.read_line(&mut first)?;
         first.pop();
@@ -93,9 +98,21 @@ impl Link {
         Ok(Answer { first, behind })
     }
 
+    /// Asks a line.
+    pub fn ask(&mut self, line: &str, front: &str) -> Result<Answer> {
+        self.say(line)?;
+        self.hear(front)
+    }
+
     /// The rows of the server's list, a line each. It fails where the server does not tell them.
     pub fn list(&mut self) -> Result<String> {
-        let answer = self.ask("list", "ok list ")?;
+        self.say("list")?;
+        self.hear_list()
+    }
+
+    /// The same of a list that was asked for by `say`.
+    pub fn hear_list(&mut self) -> Result<String> {
+        let answer = self.hear("ok list ")?;
         if !answer.first.starts_with("ok list ") {
             return Err(refused("list", answer.first.as_str()));
         }
