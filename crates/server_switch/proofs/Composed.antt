@@ -22,10 +22,10 @@ same_view old new same =
 pub text_becomes : (line text : List ℕ) (old new : View) → text ≡ line → is_plain line ≡ true → TextBecomes text old new → LineBecomes line old new
 text_becomes line text old new same plain done =
     let whole = subst (λ (t : List ℕ). TextBecomes t old new) same done in
-    (whole.0, (subst (λ (b : Bool). BytesAskFor b line whole.0) (sym plain) whole.1, whole.2))
+    (whole.0, subst (λ (b : Bool). BytesAskFor b line whole.0) (sym plain) whole.1, whole.2)
 
 pub other_becomes : (line : List ℕ) (old new : View) → is_plain line ≡ false → Becomes None line old new → LineBecomes line old new
-other_becomes line old new none done = (None, (subst (λ (b : Bool). BytesAskFor b line None) (sym none) refl, done))
+other_becomes line old new none done = (None, subst (λ (b : Bool). BytesAskFor b line None) (sym none) refl, done)
 
 -- a line of a server, with which an answer is whole, and one with which none is
 pub answer_heard : (place : ℕ) (line : List ℕ) (old taken new : View) (text : List ℕ) → Some text ≡ whole_answer line (slice_get old.servers place) →

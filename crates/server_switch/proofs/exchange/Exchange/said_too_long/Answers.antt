@@ -4,4 +4,4 @@ use Rattle.server_switch.proofs.exchange.Exchange.said_too_long.Goals as goal
 
 pub returns : goal.returns
 returns c =
-    on_ok_weaker c.flush.result (λ told. (view c.answer.new.self, (c.in_ok-answer.ensures, told))) c.flush.ensures
+    on_ok_weaker c.flush.result (λ told. (view c.answer.new.self, c.in_ok-answer.ensures, told)) c.flush.ensures
