@@ -1,6 +1,6 @@
 -- How an exchange stands after each thing that comes in, and so after all.
-use Rattle.std.proofs.Common.{ℕ, zero, suc, ◌≡◌, ◌+◌, ◌-◌, ◌<◌, ◌≤◌, ◌==◌, Bool, true, false, ◌&&◌, ◌||◌, List, [], ◌∷◌, ◌++◌, length, map, take, drop, Option, Some, None, ◌⊎◌, inl, inr, refl, sym, ap, subst, ◌∙◌, arith, append_assoc, append-nil}
-use Rattle.std.specs.Prelude.{slice_get, slice_set, option_map, flat_map, codes, decimal, nat_le, not, replicate, if◌then◌else◌}
+use Rattle.std.proofs.Common.{ℕ, zero, suc, ◌≡◌, ◌+◌, ◌-◌, ◌<◌, ◌≤◌, ◌==◌, Bool, true, false, ◌||◌, List, [], ◌∷◌, ◌++◌, length, map, take, drop, Option, Some, None, inl, inr, refl, sym, ap, subst, ◌∙◌, arith, append-nil}
+use Rattle.std.specs.Prelude.{slice_get, option_map, flat_map, codes, decimal, nat_le, not, replicate, if◌then◌else◌}
 use Rattle.std.specs.List.{list_any, last_or}
 use Rattle.std.proofs.lemmas.Bool.{ne_eqb, eqb-true, eqb-false}
 use Rattle.std.proofs.lemmas.Bool.Decides.{nat_tests}
@@ -8,18 +8,18 @@ use Rattle.std.proofs.lemmas.List.{length-append, length-drop, map-append, lengt
 use Rattle.std.proofs.lemmas.Grind.{flat_map-append}
 use Rattle.std.proofs.lemmas.Option.{slice_get-map, slice_get_within}
 use Rattle.lobby_words.specs.Answers.{is_whole, answer, left_after}
-use Rattle.server_switch.specs.Lines.{Standing, ended, put_behind, change_at, renewed, took, whole_of, gone_ahead}
+use Rattle.server_switch.specs.Lines.{Standing, ended, put_behind, change_at, renewed, took, gone_ahead}
 use Rattle.server_switch.specs.Numbers.{server_of, game_of}
 use Rattle.server_switch.specs.Routes.{Way, Says, Lists, Opens, Plays}
 use Rattle.server_switch.specs.Waits.{Share, Due, Absent, Wait, Answered, Sent, Naming, Opening, Refused, Listing, Refusal, is_due, waits_for, listing_by, listing, put_at, next_filled, answered_waits, lost_of, lost_at, lost_waits, refusal_of, text_behind, text_ahead}
-use Rattle.server_switch.specs.Exchanges.{View, fresh, is_here_of, is_here, is_away_of, is_away, wire_of, wire_at, Outcome, Answers, Sends, IsOutcome, game_outcome, IsSame, IsNoneHere, IsOpened, IsListed, IsNamed, asked, share_asked, Becomes, IsTold, with_answer, refusal_in, without_last, IsPassedOn, IsHandedOn, IsAnswered, with_line, whole_answer, IsHeard, with_connection, with_lost, IsHere, IsGone, IsSent, IsTook}
+use Rattle.server_switch.specs.Exchanges.{View, is_here_of, is_here, is_away_of, is_away, wire_of, wire_at, Outcome, Answers, Sends, IsOutcome, game_outcome, IsSame, IsOpened, IsListed, asked, share_asked, Becomes, IsTold, with_answer, refusal_in, without_last, IsPassedOn, IsAnswered, with_line, whole_answer, IsHeard, with_connection, with_lost, IsHere, IsGone, IsSent, IsTook}
 use Rattle.server_switch.specs.Runs.{Call, Said, Said_too_long, Heard, Here, Gone, Wrote, Took, MayCome, IsCall, IsRun, first_answer}
-use Rattle.server_switch.specs.Story.{name_of, there, connections, lines_by, whole_with, begun_with, answers_in, answers_by, Ticket, Reply, Awaited, reply, Games, Starts, Ask, All_of, share_by, share_at, shares_from, state, states, Story, asked_itself, asked_of, asked_game, first_there, asked_start, tickets_from, asked_all, asked_for, asked_again, begun_at, story, answers_told, taken, written, lines_sent}
+use Rattle.server_switch.specs.Story.{name_of, there, connections, lines_by, begun_with, answers_in, answers_by, Ticket, reply, Games, Starts, Ask, All_of, share_by, share_at, shares_from, state, states, Story, asked_itself, asked_of, first_there, asked_start, tickets_from, asked_all, asked_for, asked_again, begun_at, story, answers_told, taken, written, lines_sent}
 use Rattle.server_switch.proofs.Replies.{is_self, begun_in, left_in, begun_more, left_more, lines_other, lines_own, lines_fresh, Whole, answers_now, heard_other, heard_part, gone_there, gone_own, gone_other, here_there, here_own, here_count, here_next, here_other, is_awaited}
 use Rattle.server_switch.proofs.Runs.{are_here, all_told}
-use Rattle.server_switch.proofs.Tickets.{joined, awaited_in, awaits, waits_awaits, IsDealt, next_number, AreDealt, same_dealt, same_states}
+use Rattle.server_switch.proofs.Tickets.{joined, awaited_in, awaits, waits_awaits, next_number, AreDealt, same_dealt, same_states}
 use Rattle.server_switch.proofs.Turns.{no_less, heard_states, heard_dealt, gone_states, gone_dealt, here_states, here_dealt}
-use Rattle.server_switch.proofs.Queues.{AreAnswered, Holds, any_done, answered_done, lost_done, text_done, holds_told, holds_more, holds_same, holds_took, drop_twice, last_more, last_added, take_done}
+use Rattle.server_switch.proofs.Queues.{Holds, any_done, answered_done, lost_done, text_done, holds_told, holds_more, holds_same, holds_took, drop_twice, last_more, last_added, take_done}
 use Rattle.server_switch.proofs.Follows.{Bears, Fits, next_of, Follows, IsLastKept, got_own, got_other, many_changed, is_there, dealt_more, dealt_least, fresh_reply, itself_follows, itself_last, Alike, sends_follow, sends_last}
 
 never : true ≡ false → ⊥
@@ -36,13 +36,15 @@ abbrev pub Goes : ℕ → List Call → Story → View → Type 0
 Goes servers calls s v = Follows servers calls s v × IsLastKept calls s
 
 told_goes : (servers : ℕ) (calls : List Call) (s : Story) (old v : View) → Goes servers calls s old → IsTold old v → Goes servers calls s v
-told_goes servers calls s old v h told =
-    (record {
-      many = ap length told.2 ∙ h.0.many;
-      lines = λ q. subst (λ (all : List Standing). Fits q calls (s.said q) (s.sent q) (slice_get all q)) (sym told.2) (h.0.lines q);
-      dealt = h.0.dealt;
-      holds = holds_told (states calls s.asks) (taken calls) old v h.0.holds told;
-    }, h.1)
+told_goes servers calls s old v h told = (
+  record {
+    many = ap length told.2 ∙ h.0.many;
+    lines = λ q. subst (λ (all : List Standing). Fits q calls (s.said q) (s.sent q) (slice_get all q)) (sym told.2) (h.0.lines q);
+    dealt = h.0.dealt;
+    holds = holds_told (states calls s.asks) (taken calls) old v h.0.holds told;
+  },
+  h.1,
+)
 
 answers_go : (servers : ℕ) (calls : List Call) (s : Story) (text : List ℕ) (old v : View) → Follows servers calls s old →
     IsOutcome (Answers text) old v → Goes servers calls (asked_itself text s) v
@@ -108,9 +110,10 @@ opened_goes servers from calls past s line refusal old v h alike name (inl done)
     first_is (servers - from) from place past done.1 (omega (arith, inside, many, done.1)) (at place ∙ done.2)
     (λ q low high. at q ∙ done.3 q low high) in
     let stays : there place calls ≡ true = sym (is_there servers calls s old place h) ∙ done.2 in
-    subst (λ (o : Option ℕ). Goes servers calls (asked_start o line refusal past s) v) (sym found)
-    (sends_follow servers calls past s (Starts line) place line old v h alike name stays done.4,
-    sends_last servers calls past s (Starts line) place line old h alike stays)
+    subst (λ (o : Option ℕ). Goes servers calls (asked_start o line refusal past s) v) (sym found) (
+      sends_follow servers calls past s (Starts line) place line old v h alike name stays done.4,
+      sends_last servers calls past s (Starts line) place line old h alike stays,
+    )
 opened_goes servers from calls past s line refusal old v h alike name (inr done) =
     let at : (q : ℕ) → there q past ≡ is_here old q = λ q. alike.place q ∙ sym (is_there servers calls s old q h) in
     let many = h.many in
@@ -144,12 +147,18 @@ fits_asked q calls said sent (Some st) false e h =
 fits_asked q calls said sent (Some st) true e h =
     let text : flat_map ended (sent ++ codes "list" ∷ []) ≡ flat_map ended sent ++ ended (codes "list") =
     flat_map-append ended sent (codes "list" ∷ []) ∙ ap (λ (rest : List ℕ). flat_map ended sent ++ rest) (append-nil (ended (codes "list"))) in
-    subst (λ (x : Standing). Fits q calls said (sent ++ codes "list" ∷ []) (Some x)) (sym (asked_line true st (h.0 ∙ e)))
-    (h.0, λ stays. let b = h.1 stays in
-    (b.0, b.1, b.2, subst (λ (all : List ℕ). written q calls ≤ length all) (sym text)
-    (let long = length-append (flat_map ended sent) (ended (codes "list")) in omega (arith, long, b.3)),
-    ap (λ (w : List ℕ). w ++ ended (codes "list")) b.4
-    ∙ (sym (drop-append-le (written q calls) (flat_map ended sent) (ended (codes "list")) b.3) ∙ ap (drop (written q calls)) (sym text))))
+    subst (λ (x : Standing). Fits q calls said (sent ++ codes "list" ∷ []) (Some x)) (sym (asked_line true st (h.0 ∙ e))) (
+      h.0,
+      λ stays. let b = h.1 stays in (
+        b.0,
+        b.1,
+        b.2,
+        subst (λ (all : List ℕ). written q calls ≤ length all) (sym text)
+            (let long = length-append (flat_map ended sent) (ended (codes "list")) in omega (arith, long, b.3)),
+        ap (λ (w : List ℕ). w ++ ended (codes "list")) b.4
+            ∙ (sym (drop-append-le (written q calls) (flat_map ended sent) (ended (codes "list")) b.3) ∙ ap (drop (written q calls)) (sym text)),
+      ),
+    )
 
 abbrev pub new_ticket : ℕ → List Call → Story → Option Ticket
 new_ticket q past s = if there q past then Some (record { connection = connections q past; number = length (s.sent q) }) else None
@@ -177,20 +186,23 @@ all_in true q m servers calls s e at least last =
     let number = last e in
     let long : length (s.sent q ++ codes "list" ∷ []) ≡ length (s.sent q) + 1 = length-append (s.sent q) (codes "list" ∷ []) in
     subst (λ (b : Bool). AreDealt q m calls (if b then s.sent q ++ codes "list" ∷ [] else s.sent q) (All_of (tickets_from 0 servers calls s) ∷ []))
-    (sym e)
-    ((λ u has. let same : t ≡ u = same_some t u (sym own ∙ has) in
-    (subst (λ (u : Ticket). u.connection ≤ connections q calls) same (omega arith),
-    λ waits. subst (λ (u : Ticket). u.number ≡ m) same (sym number))),
-    subst (λ (b : Bool). AreDealt q (next_number b m) calls (s.sent q ++ codes "list" ∷ []) [])
-    (sym (ap (awaited_in calls q) own ∙ ap is_awaited (fresh_reply calls q t e refl (least e))))
-    (λ is_there_now. omega (arith, number, long)))
+    (sym e) (
+      (λ u has. let same : t ≡ u = same_some t u (sym own ∙ has) in (
+        subst (λ (u : Ticket). u.connection ≤ connections q calls) same (omega arith),
+        λ waits. subst (λ (u : Ticket). u.number ≡ m) same (sym number),
+      )),
+      subst (λ (b : Bool). AreDealt q (next_number b m) calls (s.sent q ++ codes "list" ∷ []) [])
+          (sym (ap (awaited_in calls q) own ∙ ap is_awaited (fresh_reply calls q t e refl (least e))))
+          (λ is_there_now. omega (arith, number, long)),
+    )
 all_in false q m servers calls s e at least last =
     let none : joined (slice_get (tickets_from 0 servers calls s) q) ≡ None =
     at ∙ ap (λ (b : Bool). if b then Some (record { connection = connections q calls; number = length (s.sent q) }) else None) e in
     subst (λ (b : Bool). AreDealt q m calls (if b then s.sent q ++ codes "list" ∷ [] else s.sent q) (All_of (tickets_from 0 servers calls s) ∷ []))
-    (sym e)
-    ((λ u has. absurd (none_some u (sym none ∙ has))),
-    subst (λ (b : Bool). AreDealt q (next_number b m) calls (s.sent q) []) (sym (ap (awaited_in calls q) none)) last)
+    (sym e) (
+      (λ u has. absurd (none_some u (sym none ∙ has))),
+      subst (λ (b : Bool). AreDealt q (next_number b m) calls (s.sent q) []) (sym (ap (awaited_in calls q) none)) last,
+    )
 
 at_server : (q servers : ℕ) (calls : List Call) (s : Story) (b : Bool) → nat_le servers q ≡ b → (there q calls ≡ true → q < servers) →
     joined (slice_get (tickets_from 0 servers calls s) q) ≡ new_ticket q calls s
@@ -200,7 +212,6 @@ at_server q servers calls s true e inside =
     (away_by (there q calls) (λ stays. let less = inside stays in omega (arith, less, le_from servers q e))))
 at_server q servers calls s false e inside =
     ap joined (ticket_far 0 servers q q calls s (omega arith) (lt_from servers q e))
-
 
 listing_kept : (b : Bool) (shares : List Share) → refusal_of (listing_by b shares) ≡ None
 listing_kept true shares = refl
@@ -254,19 +265,20 @@ all_goes servers calls s old v h done =
     (ap (slice_get old.servers) (let same : q ≡ k = omega (arith, e) in same) ∙ is)) least in
     let all : states calls (s.asks ++ All_of (tickets_from 0 servers calls s) ∷ []) ≡ states calls s.asks ++ listing (map share_asked old.servers) ∷ [] =
     map-append (state calls) s.asks (All_of (tickets_from 0 servers calls s) ∷ [])
-    ∙ ap (λ (xs : List Share). states calls s.asks ++ listing xs ∷ []) shares in
-    (record {
-      many = ap length done.1 ∙ (length-map old.servers asked ∙ h.many);
-      lines = λ q. subst (λ (o : Option Standing). Fits q calls (s.said q) (if there q calls then s.sent q ++ codes "list" ∷ [] else s.sent q) o)
-          (sym (ap (λ (all : List Standing). slice_get all q) done.1 ∙ slice_get-map asked old.servers q))
-          (fits_asked q calls (s.said q) (s.sent q) (slice_get old.servers q) (there q calls) refl (h.lines q));
-      dealt = λ q. all_dealt servers q calls s old h;
-      holds = holds_more (states calls s.asks) (states calls (s.asks ++ All_of (tickets_from 0 servers calls s) ∷ []))
-          (listing (map share_asked old.servers) ∷ []) (taken calls) old v h.holds all done.0 done.3;
-    },
-    ap (λ (ws : List Wait). refusal_in (last_or None ws)) all
-    ∙ (ap refusal_in (last_added (states calls s.asks) (listing (map share_asked old.servers)))
-    ∙ listing_kept (list_any is_due (map share_asked old.servers)) (map share_asked old.servers)))
+    ∙ ap (λ (xs : List Share). states calls s.asks ++ listing xs ∷ []) shares in (
+      record {
+        many = ap length done.1 ∙ (length-map old.servers asked ∙ h.many);
+        lines = λ q. subst (λ (o : Option Standing). Fits q calls (s.said q) (if there q calls then s.sent q ++ codes "list" ∷ [] else s.sent q) o)
+            (sym (ap (λ (all : List Standing). slice_get all q) done.1 ∙ slice_get-map asked old.servers q))
+            (fits_asked q calls (s.said q) (s.sent q) (slice_get old.servers q) (there q calls) refl (h.lines q));
+        dealt = λ q. all_dealt servers q calls s old h;
+        holds = holds_more (states calls s.asks) (states calls (s.asks ++ All_of (tickets_from 0 servers calls s) ∷ []))
+            (listing (map share_asked old.servers) ∷ []) (taken calls) old v h.holds all done.0 done.3;
+      },
+      ap (λ (ws : List Wait). refusal_in (last_or None ws)) all
+          ∙ (ap refusal_in (last_added (states calls s.asks) (listing (map share_asked old.servers)))
+          ∙ listing_kept (list_any is_due (map share_asked old.servers)) (map share_asked old.servers)),
+    )
 
 -- what comes in and is no reply of a server
 record Quiet (calls later : List Call) : Type 0 where
@@ -288,12 +300,16 @@ same_fits : (q : ℕ) (calls later : List Call) (said : Option (List ℕ)) (sent
     there q later ≡ there q calls → connections q later ≡ connections q calls → ((n : ℕ) → lines_by q n later ≡ lines_by q n calls) →
     written q later ≡ written q calls → Fits q calls said sent o → Fits q later said sent o
 same_fits q calls later said sent None place one lines wrote h = place ∙ h
-same_fits q calls later said sent (Some st) place one lines wrote h =
-    (h.0 ∙ sym place, λ stays. let b = h.1 (sym place ∙ stays) in
-    (b.0, b.1 ∙ sym (ap (begun_in [] 0) (lines_same q calls later one lines)),
+same_fits q calls later said sent (Some st) place one lines wrote h = (
+  h.0 ∙ sym place,
+  λ stays. let b = h.1 (sym place ∙ stays) in (
+    b.0,
+    b.1 ∙ sym (ap (begun_in [] 0) (lines_same q calls later one lines)),
     b.2 ∙ sym (ap (left_in 0) (lines_same q calls later one lines)),
     subst (λ (n : ℕ). n ≤ length (flat_map ended sent)) (sym wrote) b.3,
-    b.4 ∙ sym (ap (λ (n : ℕ). drop n (flat_map ended sent)) wrote)))
+    b.4 ∙ sym (ap (λ (n : ℕ). drop n (flat_map ended sent)) wrote),
+  ),
+)
 
 dealt_at : (q : ℕ) (calls later : List Call) (sent : List (List ℕ)) (asks : List Ask) → there q later ≡ there q calls →
     connections q later ≡ connections q calls → ((n : ℕ) → lines_by q n later ≡ lines_by q n calls) →
@@ -341,9 +357,10 @@ minus_none n = omega arith
 said_goes : (servers : ℕ) (way : Option Way) (line : List ℕ) (own : Option Way) (past : List Call) (s : Story) (old v : View) →
     Follows servers (Said line own ∷ past) s old → old.name ≡ name_of past → Becomes way line old v →
     Goes servers (Said line own ∷ past) (asked_for servers way line past s) v
-said_goes servers (Some (Says name)) line own past s old v h named done =
-    (itself_follows servers (Said line own ∷ past) s (codes "ok name " ++ (name ++ codes "\n")) old v h done.0 done.1 done.3,
-    itself_last (Said line own ∷ past) s (codes "ok name " ++ (name ++ codes "\n")))
+said_goes servers (Some (Says name)) line own past s old v h named done = (
+  itself_follows servers (Said line own ∷ past) s (codes "ok name " ++ (name ++ codes "\n")) old v h done.0 done.1 done.3,
+  itself_last (Said line own ∷ past) s (codes "ok name " ++ (name ++ codes "\n")),
+)
 said_goes servers (Some Lists) line own past s old v h named done =
     subst (λ (tickets : List (Option Ticket)). Goes servers (Said line own ∷ past)
     (record {
@@ -378,12 +395,17 @@ heard_at : (at : ℕ) (line : List ℕ) (past : List Call) (said : Option (List 
     Fits at past said sent o → Fits at (Heard at line ∷ past) said sent (option_map (took line) o)
 heard_at at line past said sent None h = h
 heard_at at line past said sent (Some st) h =
-    let own = lines_by at (connections at past) past in
-    (h.0, λ stays. let b = h.1 stays in
-    (b.0, ap (λ (l : ℕ). begun_with st.begun l line) b.2 ∙ (ap (λ (x : List ℕ). begun_with x (left_in 0 own) line) b.1
-    ∙ sym (ap (begun_in [] 0) (lines_own at line past) ∙ begun_more [] 0 own line)),
-    ap (λ (l : ℕ). left_after l line) b.2 ∙ sym (ap (left_in 0) (lines_own at line past) ∙ left_more 0 own line),
-    b.3, b.4))
+    let own = lines_by at (connections at past) past in (
+      h.0,
+      λ stays. let b = h.1 stays in (
+        b.0,
+        ap (λ (l : ℕ). begun_with st.begun l line) b.2 ∙ (ap (λ (x : List ℕ). begun_with x (left_in 0 own) line) b.1
+            ∙ sym (ap (begun_in [] 0) (lines_own at line past) ∙ begun_more [] 0 own line)),
+        ap (λ (l : ℕ). left_after l line) b.2 ∙ sym (ap (left_in 0) (lines_own at line past) ∙ left_more 0 own line),
+        b.3,
+        b.4,
+      ),
+    )
 
 heard_fits : (at q : ℕ) (line : List ℕ) (past : List Call) (said : Option (List ℕ)) (sent : List (List ℕ)) (servers : List Standing) (b : Bool) →
     (q == at) ≡ b → Fits q past said sent (slice_get servers q) →
@@ -458,8 +480,14 @@ whole_follows servers at line text past s old h stays some whole =
       many = many_changed (took line) at old.servers ∙ h.many;
       lines = λ q. heard_fits at q line past (s.said q) (s.sent q) old.servers (q == at) refl (h.lines q);
       dealt = λ q. whole_dealt at line text past q (s.sent q) s.asks (q == at) refl whole stays any (h.dealt q);
-      holds = (done.0, done.1, heard_states at line text past (s.sent at) s.asks whole stays (h.dealt at)
-          ∙ (ap (answered_waits at text false) done.2 ∙ answered_done at text done.0 old.waits done.1), done.3, done.4);
+      holds = (
+        done.0,
+        done.1,
+        heard_states at line text past (s.sent at) s.asks whole stays (h.dealt at)
+            ∙ (ap (answered_waits at text false) done.2 ∙ answered_done at text done.0 old.waits done.1),
+        done.3,
+        done.4,
+      );
     }
 
 -- where the last line opens a game and was refused, another server is asked
@@ -517,14 +545,16 @@ passed_goes : (servers at : ℕ) (line text : List ℕ) (past : List Call) (s : 
     refusal_in (last_or None (states (Heard at line ∷ past) s.asks)) ≡ o → IsPassedOn o (with_answer at text (with_line at line old)) between →
     Goes servers (Heard at line ∷ past) (asked_again servers o (Heard at line ∷ past) s) between
 passed_goes servers at line text past s old between None h some named stays whole e done =
-    let now = whole_follows servers at line text past s old h stays some whole in
-    (record {
-      many = ap length done.1 ∙ now.many;
-      lines = λ q. subst (λ (all : List Standing). Fits q (Heard at line ∷ past) (s.said q) (s.sent q) (slice_get all q)) (sym done.1) (now.lines q);
-      dealt = now.dealt;
-      holds = holds_same (states (Heard at line ∷ past) s.asks) (states (Heard at line ∷ past) s.asks) (taken past)
-          (with_answer at text (with_line at line old)) between now.holds refl done.0 done.3;
-    }, e)
+    let now = whole_follows servers at line text past s old h stays some whole in (
+      record {
+        many = ap length done.1 ∙ now.many;
+        lines = λ q. subst (λ (all : List Standing). Fits q (Heard at line ∷ past) (s.said q) (s.sent q) (slice_get all q)) (sym done.1) (now.lines q);
+        dealt = now.dealt;
+        holds = holds_same (states (Heard at line ∷ past) s.asks) (states (Heard at line ∷ past) s.asks) (taken past)
+            (with_answer at text (with_line at line old)) between now.holds refl done.0 done.3;
+      },
+      e,
+    )
 passed_goes servers at line text past s old between (Some r) h some named stays whole e done =
     let later : List Call = Heard at line ∷ past in
     let one : View = with_answer at text (with_line at line old) in
@@ -650,14 +680,15 @@ gone_goes : (servers at : ℕ) (past : List Call) (s : Story) (old v : View) →
     Goes servers (Gone at ∷ past) s v
 gone_goes servers at past s old v h done =
     let was = h.0.holds in
-    told_goes servers (Gone at ∷ past) s (with_lost at (with_connection at false old)) v
-    (record {
-      many = many_changed (λ s. renewed false) at old.servers ∙ h.0.many;
-      lines = λ q. gone_fits at q past (s.said q) (s.sent q) old.servers (q == at) refl (h.0.lines q);
-      dealt = λ q. gone_at_dealt at q past (s.sent q) s.asks (q == at) refl (h.0.dealt q);
-      holds = (was.0, was.1, gone_states at past s.asks ∙ (ap (lost_waits at) was.2 ∙ lost_done at was.0 old.waits was.1), was.3, was.4);
-    },
-    ap (λ (all : List Wait). refusal_in (last_or None all)) (gone_states at past s.asks) ∙ lost_last at None (states past s.asks) h.1)
+    told_goes servers (Gone at ∷ past) s (with_lost at (with_connection at false old)) v (
+      record {
+        many = many_changed (λ s. renewed false) at old.servers ∙ h.0.many;
+        lines = λ q. gone_fits at q past (s.said q) (s.sent q) old.servers (q == at) refl (h.0.lines q);
+        dealt = λ q. gone_at_dealt at q past (s.sent q) s.asks (q == at) refl (h.0.dealt q);
+        holds = (was.0, was.1, gone_states at past s.asks ∙ (ap (lost_waits at) was.2 ∙ lost_done at was.0 old.waits was.1), was.3, was.4);
+      },
+      ap (λ (all : List Wait). refusal_in (last_or None all)) (gone_states at past s.asks) ∙ lost_last at None (states past s.asks) h.1,
+    )
     done
 
 -- a server is there
@@ -667,10 +698,16 @@ here_own_fits q past None away = absurd (never (sym away))
 here_own_fits q past (Some st) away =
     let none : lines_by q (connections q (Here q ∷ past)) (Here q ∷ past) ≡ [] =
     ap (λ (n : ℕ). lines_by q n past) (here_next q past) ∙ lines_fresh q (suc (connections q past)) past (omega arith) in
-    let zero_now : written q (Here q ∷ past) ≡ 0 = ap (λ (b : Bool). if b then 0 else written q past) (is_self q) in
-    (sym (here_own q past), λ stays.
-    (refl, sym (ap (begun_in [] 0) none), sym (ap (left_in 0) none),
-    (let low : written q (Here q ∷ past) ≤ 0 = omega (arith, zero_now) in low), sym (ap (λ (n : ℕ). drop n []) zero_now)))
+    let zero_now : written q (Here q ∷ past) ≡ 0 = ap (λ (b : Bool). if b then 0 else written q past) (is_self q) in (
+      sym (here_own q past),
+      λ stays. (
+        refl,
+        sym (ap (begun_in [] 0) none),
+        sym (ap (left_in 0) none),
+        (let low : written q (Here q ∷ past) ≤ 0 = omega (arith, zero_now) in low),
+        sym (ap (λ (n : ℕ). drop n []) zero_now),
+      ),
+    )
 
 here_fits_at : (at q : ℕ) (past : List Call) (said : Option (List ℕ)) (sent : List (List ℕ)) (servers : List Standing) (b : Bool) → (q == at) ≡ b →
     is_away_of (slice_get servers at) ≡ true → Fits q past said sent (slice_get servers q) →
@@ -713,16 +750,17 @@ here_goes : (servers at : ℕ) (past : List Call) (s : Story) (old v : View) →
     Goes servers (Here at ∷ past) (begun_at at s) v
 here_goes servers at past s old v h away done =
     let gone : there at past ≡ false = sym (is_there servers past s old at h.0) ∙ away_of (slice_get old.servers at) away in
-    let same : states (Here at ∷ past) s.asks ≡ states past s.asks = here_states at (next_of at past) past (s.sent at) s.asks gone (h.0.dealt at) in
-    (record {
-      many = ap length done.1 ∙ (many_changed (λ s. renewed true) at old.servers ∙ h.0.many);
-      lines = λ q. subst (λ (all : List Standing). Fits q (Here at ∷ past) (if q == at then None else s.said q) (if q == at then [] else s.sent q)
-          (slice_get all q)) (sym done.1)
-          (here_fits_at at q past (s.said q) (s.sent q) old.servers (q == at) refl away (h.0.lines q));
-      dealt = λ q. here_at_dealt at q past (s.sent q) s.asks (q == at) refl gone (h.0.dealt q);
-      holds = holds_same (states past s.asks) (states (Here at ∷ past) s.asks) (taken past) old v h.0.holds same done.0 done.3;
-    },
-    ap (λ (all : List Wait). refusal_in (last_or None all)) same ∙ h.1)
+    let same : states (Here at ∷ past) s.asks ≡ states past s.asks = here_states at (next_of at past) past (s.sent at) s.asks gone (h.0.dealt at) in (
+      record {
+        many = ap length done.1 ∙ (many_changed (λ s. renewed true) at old.servers ∙ h.0.many);
+        lines = λ q. subst (λ (all : List Standing). Fits q (Here at ∷ past) (if q == at then None else s.said q) (if q == at then [] else s.sent q)
+            (slice_get all q)) (sym done.1)
+            (here_fits_at at q past (s.said q) (s.sent q) old.servers (q == at) refl away (h.0.lines q));
+        dealt = λ q. here_at_dealt at q past (s.sent q) s.asks (q == at) refl gone (h.0.dealt q);
+        holds = holds_same (states past s.asks) (states (Here at ∷ past) s.asks) (taken past) old v h.0.holds same done.0 done.3;
+      },
+      ap (λ (all : List Wait). refusal_in (last_or None all)) same ∙ h.1,
+    )
 
 -- bytes have gone to a server, and to the client
 wrote_own_fits : (q count : ℕ) (past : List Call) (said : Option (List ℕ)) (sent : List (List ℕ)) (o : Option Standing) →
@@ -730,13 +768,19 @@ wrote_own_fits : (q count : ℕ) (past : List Call) (said : Option (List ℕ)) (
 wrote_own_fits q count past said sent None most h = h
 wrote_own_fits q count past said sent (Some st) most h =
     let now : written q (Wrote q count ∷ past) ≡ written q past + count =
-    ap (λ (b : Bool). if b then written q past + count else written q past) (is_self q) in
-    (h.0, λ stays. let b = h.1 stays in
-    let most_now : count ≤ length st.wire = most in
-    let long : length st.wire ≡ length (flat_map ended sent) - written q past =
-    ap length b.4 ∙ length-drop (written q past) (flat_map ended sent) in
-    (b.0, b.1, b.2, omega (arith, now, b.3, most_now, long),
-    ap (drop count) b.4 ∙ (drop_twice (written q past) count (flat_map ended sent) ∙ ap (λ (n : ℕ). drop n (flat_map ended sent)) (sym now))))
+    ap (λ (b : Bool). if b then written q past + count else written q past) (is_self q) in (
+      h.0,
+      λ stays. let b = h.1 stays in
+          let most_now : count ≤ length st.wire = most in
+          let long : length st.wire ≡ length (flat_map ended sent) - written q past =
+          ap length b.4 ∙ length-drop (written q past) (flat_map ended sent) in (
+            b.0,
+            b.1,
+            b.2,
+            omega (arith, now, b.3, most_now, long),
+            ap (drop count) b.4 ∙ (drop_twice (written q past) count (flat_map ended sent) ∙ ap (λ (n : ℕ). drop n (flat_map ended sent)) (sym now)),
+          ),
+    )
 
 wrote_fits : (at q count : ℕ) (past : List Call) (said : Option (List ℕ)) (sent : List (List ℕ)) (servers : List Standing) (b : Bool) → (q == at) ≡ b →
     count ≤ length (wire_of (slice_get servers at)) → Fits q past said sent (slice_get servers q) →
@@ -756,29 +800,31 @@ wrote_fits at q count past said sent servers false e most h =
 wrote_goes : (servers at count : ℕ) (past : List Call) (s : Story) (old v : View) → Goes servers past s old → count ≤ length (wire_at old at) →
     IsSent at count old v → Goes servers (Wrote at count ∷ past) s v
 wrote_goes servers at count past s old v h most done =
-    let same : states (Wrote at count ∷ past) s.asks ≡ states past s.asks = same_states past (Wrote at count ∷ past) s.asks (λ q t. refl) in
-    (record {
-      many = ap length done.1 ∙ (many_changed (gone_ahead count) at old.servers ∙ h.0.many);
-      lines = λ q. subst (λ (all : List Standing). Fits q (Wrote at count ∷ past) (s.said q) (s.sent q) (slice_get all q)) (sym done.1)
-          (wrote_fits at q count past (s.said q) (s.sent q) old.servers (q == at) refl most (h.0.lines q));
-      dealt = λ q. dealt_at q past (Wrote at count ∷ past) (s.sent q) s.asks refl refl (λ n. refl) (λ t. refl) (h.0.dealt q);
-      holds = holds_same (states past s.asks) (states (Wrote at count ∷ past) s.asks) (taken past) old v h.0.holds same done.0 done.3;
-    },
-    ap (λ (all : List Wait). refusal_in (last_or None all)) same ∙ h.1)
+    let same : states (Wrote at count ∷ past) s.asks ≡ states past s.asks = same_states past (Wrote at count ∷ past) s.asks (λ q t. refl) in (
+      record {
+        many = ap length done.1 ∙ (many_changed (gone_ahead count) at old.servers ∙ h.0.many);
+        lines = λ q. subst (λ (all : List Standing). Fits q (Wrote at count ∷ past) (s.said q) (s.sent q) (slice_get all q)) (sym done.1)
+            (wrote_fits at q count past (s.said q) (s.sent q) old.servers (q == at) refl most (h.0.lines q));
+        dealt = λ q. dealt_at q past (Wrote at count ∷ past) (s.sent q) s.asks refl refl (λ n. refl) (λ t. refl) (h.0.dealt q);
+        holds = holds_same (states past s.asks) (states (Wrote at count ∷ past) s.asks) (taken past) old v h.0.holds same done.0 done.3;
+      },
+      ap (λ (all : List Wait). refusal_in (last_or None all)) same ∙ h.1,
+    )
 
 took_goes : (servers count : ℕ) (past : List Call) (s : Story) (old v : View) → Goes servers past s old → count ≤ length old.told →
     IsTook count old v → Goes servers (Took count ∷ past) s v
 took_goes servers count past s old v h most done =
-    let same : states (Took count ∷ past) s.asks ≡ states past s.asks = same_states past (Took count ∷ past) s.asks (λ q t. refl) in
-    (record {
-      many = ap length done.1 ∙ h.0.many;
-      lines = λ q. subst (λ (all : List Standing). Fits q (Took count ∷ past) (s.said q) (s.sent q) (slice_get all q)) (sym done.1)
-          (same_fits q past (Took count ∷ past) (s.said q) (s.sent q) (slice_get old.servers q) refl refl (λ n. refl) refl (h.0.lines q));
-      dealt = λ q. dealt_at q past (Took count ∷ past) (s.sent q) s.asks refl refl (λ n. refl) (λ t. refl) (h.0.dealt q);
-      holds = subst (λ (all : List Wait). Holds all (taken past + count) v) (sym same)
-          (holds_took (states past s.asks) (taken past) count old v h.0.holds most done.0 done.3);
-    },
-    ap (λ (all : List Wait). refusal_in (last_or None all)) same ∙ h.1)
+    let same : states (Took count ∷ past) s.asks ≡ states past s.asks = same_states past (Took count ∷ past) s.asks (λ q t. refl) in (
+      record {
+        many = ap length done.1 ∙ h.0.many;
+        lines = λ q. subst (λ (all : List Standing). Fits q (Took count ∷ past) (s.said q) (s.sent q) (slice_get all q)) (sym done.1)
+            (same_fits q past (Took count ∷ past) (s.said q) (s.sent q) (slice_get old.servers q) refl refl (λ n. refl) refl (h.0.lines q));
+        dealt = λ q. dealt_at q past (Took count ∷ past) (s.sent q) s.asks refl refl (λ n. refl) (λ t. refl) (h.0.dealt q);
+        holds = subst (λ (all : List Wait). Holds all (taken past + count) v) (sym same)
+            (holds_took (states past s.asks) (taken past) count old v h.0.holds most done.0 done.3);
+      },
+      ap (λ (all : List Wait). refusal_in (last_or None all)) same ∙ h.1,
+    )
 
 -- the name that the client said last
 opened_named : (from : ℕ) (line refusal : List ℕ) (old v : View) → IsOpened from line refusal old v → v.name ≡ old.name
@@ -848,13 +894,15 @@ called_goes servers (Wrote at count) past old v before may done h = wrote_goes s
 called_goes servers (Took count) past old v before may done h = took_goes servers count past (story servers past) old v h may done
 
 runs_go : (servers : ℕ) (calls : List Call) (now : View) → IsRun servers calls now → Goes servers calls (story servers calls) now
-runs_go servers [] now h =
-    (record {
-      many = ap length h.1 ∙ length-replicate servers (renewed false);
-      lines = λ q. subst (λ (all : List Standing). Fits q [] None [] (slice_get all q)) (sym h.1) (fresh_fits servers q q);
-      dealt = λ q. λ stays. absurd (never (sym stays));
-      holds = ([], tt, sym h.0, no_less 0, h.3);
-    }, refl)
+runs_go servers [] now h = (
+  record {
+    many = ap length h.1 ∙ length-replicate servers (renewed false);
+    lines = λ q. subst (λ (all : List Standing). Fits q [] None [] (slice_get all q)) (sym h.1) (fresh_fits servers q q);
+    dealt = λ q. λ stays. absurd (never (sym stays));
+    holds = ([], tt, sym h.0, no_less 0, h.3);
+  },
+  refl,
+)
 runs_go servers (call ∷ past) now h = called_goes servers call past h.0 now h.1 h.2 h.3 (runs_go servers past h.0 h.1)
 
 nothing_ahead : (ws : List Wait) → first_answer ws ≡ None → text_ahead ws ≡ []

@@ -1,18 +1,18 @@
 -- How an exchange stands, by what came in.
-use Rattle.std.proofs.Common.{ℕ, zero, suc, ◌≡◌, ◌+◌, ◌-◌, ◌<◌, ◌≤◌, ◌==◌, Bool, true, false, ◌&&◌, ◌||◌, List, [], ◌∷◌, ◌++◌, length, map, take, drop, Option, Some, None, refl, sym, ap, subst, ◌∙◌, arith, append_assoc, append-nil}
-use Rattle.std.specs.Prelude.{slice_get, slice_set, option_map, flat_map, codes, if◌then◌else◌}
-use Rattle.std.specs.List.{list_any, last_or}
+use Rattle.std.proofs.Common.{ℕ, zero, suc, ◌≡◌, ◌+◌, ◌-◌, ◌≤◌, ◌==◌, Bool, true, false, ◌&&◌, List, [], ◌∷◌, ◌++◌, length, drop, Option, Some, None, refl, sym, ap, subst, ◌∙◌, arith, append-nil}
+use Rattle.std.specs.Prelude.{slice_get, option_map, flat_map, codes, if◌then◌else◌}
+use Rattle.std.specs.List.{last_or}
 use Rattle.std.proofs.lemmas.Bool.{ne_eqb, eqb-true, eqb-false}
-use Rattle.std.proofs.lemmas.List.{length-append, map-append, length-map, length-set, drop-append-le}
+use Rattle.std.proofs.lemmas.List.{length-append, map-append, length-set, drop-append-le}
 use Rattle.std.proofs.lemmas.Grind.{flat_map-append}
 use Rattle.std.proofs.lemmas.Option.{slice_get_past}
 use Rattle.server_switch.specs.Lines.{Standing, ended, is_said, is_new, naming, said_then, changed, change_at, put_under}
-use Rattle.server_switch.specs.Waits.{Wait, Answered, Sent, Naming, Opening, Refusal, refusal_of, waits_for}
-use Rattle.server_switch.specs.Exchanges.{View, is_here_of, is_here, said_of, said_at, name_waits, Answers, Sends, IsOutcome, refusal_in, without_last}
+use Rattle.server_switch.specs.Waits.{Wait, Answered, Naming, refusal_of}
+use Rattle.server_switch.specs.Exchanges.{View, is_here_of, is_here, said_of, said_at, name_waits, Sends, IsOutcome, refusal_in}
 use Rattle.server_switch.specs.Runs.{Call}
-use Rattle.server_switch.specs.Story.{name_of, there, connections, lines_by, answers_by, Ticket, Reply, Awaited, reply_by, reply, Kind, Names, Games, Starts, Ask, Itself, One, All_of, awaited, stands, state, states, Story, asked_itself, name_or_nothing, lines_under, asks_under, asked_of, taken, written}
+use Rattle.server_switch.specs.Story.{name_of, there, connections, lines_by, answers_by, Ticket, Reply, Awaited, reply_by, reply, Kind, Names, Games, Starts, Ask, Itself, One, awaited, stands, state, states, Story, asked_itself, lines_under, asks_under, asked_of, taken, written}
 use Rattle.server_switch.proofs.Replies.{is_self, begun_in, left_in, is_awaited}
-use Rattle.server_switch.proofs.Tickets.{awaited_in, awaits, IsTicket, waits_awaits, IsDealt, next_number, AreDealt}
+use Rattle.server_switch.proofs.Tickets.{awaited_in, awaits, next_number, AreDealt}
 use Rattle.server_switch.proofs.Queues.{Holds, holds_more, last_added, last_two}
 
 never : true ≡ false → ⊥
@@ -122,19 +122,22 @@ fresh_reply calls place t stays one least =
 add_other : (q n : ℕ) (calls : List Call) (new : List (List ℕ)) (kind : Kind) (place : ℕ) (t : Ticket) (asks : List Ask) → (place == q) ≡ false →
     AreDealt q n calls new asks → AreDealt q n calls new (One kind place t ∷ asks)
 add_other q n calls new kind place t asks e dealt =
-    let none : (if place == q then Some t else None) ≡ None = ap (λ (b : Bool). if b then Some t else None) e in
-    ((λ u is. absurd (none_some u (sym none ∙ is))),
-    subst (λ (b : Bool). AreDealt q (next_number b n) calls new asks) (sym (ap (awaited_in calls q) none)) dealt)
+    let none : (if place == q then Some t else None) ≡ None = ap (λ (b : Bool). if b then Some t else None) e in (
+      (λ u is. absurd (none_some u (sym none ∙ is))),
+      subst (λ (b : Bool). AreDealt q (next_number b n) calls new asks) (sym (ap (awaited_in calls q) none)) dealt,
+    )
 
 add_own : (q n : ℕ) (calls : List Call) (new : List (List ℕ)) (kind : Kind) (place : ℕ) (t : Ticket) (asks : List Ask) → (place == q) ≡ true →
     t.connection ≡ connections q calls → t.number ≡ n → reply calls q t ≡ Awaited → AreDealt q (suc n) calls new asks →
     AreDealt q n calls new (One kind place t ∷ asks)
 add_own q n calls new kind place t asks e one number fresh dealt =
-    let own : (if place == q then Some t else None) ≡ Some t = ap (λ (b : Bool). if b then Some t else None) e in
-    ((λ u is. let same : t ≡ u = same_some t u (sym own ∙ is) in
-    (subst (λ (u : Ticket). u.connection ≤ connections q calls) same (omega (arith, one)),
-    λ waits. subst (λ (u : Ticket). u.number ≡ n) same number)),
-    subst (λ (b : Bool). AreDealt q (next_number b n) calls new asks) (sym (ap (awaited_in calls q) own ∙ ap is_awaited fresh)) dealt)
+    let own : (if place == q then Some t else None) ≡ Some t = ap (λ (b : Bool). if b then Some t else None) e in (
+      (λ u is. let same : t ≡ u = same_some t u (sym own ∙ is) in (
+        subst (λ (u : Ticket). u.connection ≤ connections q calls) same (omega (arith, one)),
+        λ waits. subst (λ (u : Ticket). u.number ≡ n) same number,
+      )),
+      subst (λ (b : Bool). AreDealt q (next_number b n) calls new asks) (sym (ap (awaited_in calls q) own ∙ ap is_awaited fresh)) dealt,
+    )
 
 -- the switch itself answers
 itself_dealt : (q n : ℕ) (calls : List Call) (sent : List (List ℕ)) (text : List ℕ) → (there q calls ≡ true → n ≡ length sent) →
@@ -174,15 +177,20 @@ fits_under q calls said name line sent None h = h
 fits_under q calls said name line sent (Some st) h =
     let more = lines_under (is_new said name) name line in
     let text : flat_map ended (sent ++ more) ≡ flat_map ended sent ++ (naming said name ++ ended line) =
-    flat_map-append ended sent more ∙ ap (λ (rest : List ℕ). flat_map ended sent ++ rest) (lines_text said name line) in
-    (h.0, λ stays. let b = h.1 stays in
-    (ap (λ (o : Option (List ℕ)). said_then o name) b.0, b.1, b.2,
-    subst (λ (all : List ℕ). written q calls ≤ length all) (sym text)
-    (let long = length-append (flat_map ended sent) (naming said name ++ ended line) in omega (arith, long, b.3)),
-    ap (λ (o : Option (List ℕ)). st.wire ++ (naming o name ++ ended line)) b.0
-    ∙ (ap (λ (w : List ℕ). w ++ (naming said name ++ ended line)) b.4
-    ∙ (sym (drop-append-le (written q calls) (flat_map ended sent) (naming said name ++ ended line) b.3)
-    ∙ ap (drop (written q calls)) (sym text)))))
+    flat_map-append ended sent more ∙ ap (λ (rest : List ℕ). flat_map ended sent ++ rest) (lines_text said name line) in (
+      h.0,
+      λ stays. let b = h.1 stays in (
+        ap (λ (o : Option (List ℕ)). said_then o name) b.0,
+        b.1,
+        b.2,
+        subst (λ (all : List ℕ). written q calls ≤ length all) (sym text)
+            (let long = length-append (flat_map ended sent) (naming said name ++ ended line) in omega (arith, long, b.3)),
+        ap (λ (o : Option (List ℕ)). st.wire ++ (naming o name ++ ended line)) b.0
+            ∙ (ap (λ (w : List ℕ). w ++ (naming said name ++ ended line)) b.4
+            ∙ (sym (drop-append-le (written q calls) (flat_map ended sent) (naming said name ++ ended line) b.3)
+            ∙ ap (drop (written q calls)) (sym text))),
+      ),
+    )
 
 fits_put : (place q : ℕ) (calls : List Call) (name : Option (List ℕ)) (line : List ℕ) (said : Option (List ℕ)) (sent : List (List ℕ))
     (servers : List Standing) (b : Bool) → (q == place) ≡ b → Fits q calls said sent (slice_get servers q) →

@@ -1,11 +1,10 @@
 -- The lines that wait, among all that the client has said.
-use Rattle.std.proofs.Common.{ℕ, zero, suc, ◌≡◌, ◌+◌, ◌-◌, ◌<◌, ◌≤◌, Bool, true, false, ◌||◌, List, [], ◌∷◌, ◌++◌, length, map, take, drop, Option, Some, None, refl, sym, ap, subst, ◌∙◌, arith, append_assoc, append-nil}
+use Rattle.std.proofs.Common.{ℕ, zero, suc, ◌≡◌, ◌+◌, ◌-◌, ◌≤◌, Bool, true, false, ◌||◌, List, [], ◌∷◌, ◌++◌, length, take, drop, Option, Some, None, refl, sym, ap, subst, ◌∙◌, arith, append_assoc}
 use Rattle.std.specs.Prelude.{if◌then◌else◌}
 use Rattle.std.specs.List.{list_any, last_or}
 use Rattle.std.proofs.lemmas.List.{length-append, length-drop, drop-append-le}
-use Rattle.std.proofs.Math.Seq.{take-append_seam}
-use Rattle.server_switch.specs.Waits.{Wait, Answered, Sent, Naming, Opening, Refused, Listing, Refusal, refusal_of, waits_for, next_filled, answered_waits, filled, lost_of, lost_at, lost_waits, answer_of, text_behind, text_ahead, left_behind, left_ahead}
-use Rattle.server_switch.specs.Exchanges.{View, refusal_in, IsTold}
+use Rattle.server_switch.specs.Waits.{Wait, Answered, Sent, Naming, Opening, Refused, Listing, waits_for, answered_waits, filled, lost_of, lost_at, lost_waits, answer_of, text_behind, text_ahead, left_behind, left_ahead}
+use Rattle.server_switch.specs.Exchanges.{View, IsTold}
 
 never : true ≡ false → ⊥
 never h = cc
@@ -75,9 +74,12 @@ front_by : (o : Option (List ℕ)) (w : Wait) (ws : List Wait) → answer_of w �
     Front (w ∷ ws) (left_behind o (w ∷ ws) (left_ahead ws))
 front_by None w ws e h =
     ([], tt, refl, sym (ap (λ (o : Option (List ℕ)). text_behind o (text_ahead ws)) e))
-front_by (Some text) w ws e h =
-    (w ∷ h.0, ((text, e), h.1), ap (λ (all : List Wait). w ∷ all) h.2,
-    ap (λ (all : List ℕ). text_behind (answer_of w) all) h.3)
+front_by (Some text) w ws e h = (
+  w ∷ h.0,
+  ((text, e), h.1),
+  ap (λ (all : List Wait). w ∷ all) h.2,
+  ap (λ (all : List ℕ). text_behind (answer_of w) all) h.3,
+)
 
 pub front_of : (ws : List Wait) → Front ws (left_ahead ws)
 front_of [] = ([], tt, refl, refl)
@@ -92,21 +94,27 @@ pub holds_told : (full : List Wait) (gone : ℕ) (old new : View) → Holds full
 holds_told full gone old new h told =
     let front = front_of old.waits in
     let text : text_ahead (h.0 ++ front.0) ≡ text_ahead h.0 ++ text_ahead old.waits =
-    text_done h.0 front.0 h.1 ∙ ap (λ (all : List ℕ). text_ahead h.0 ++ all) front.3 in
-    (h.0 ++ front.0,
-    more_answered h.0 front.0 h.1 front.1,
-    h.2 ∙ (ap (λ (all : List Wait). h.0 ++ all) front.2
-    ∙ (sym (append_assoc h.0 front.0 (left_ahead old.waits)) ∙ ap (λ (all : List Wait). (h.0 ++ front.0) ++ all) (sym told.1))),
-    subst (λ (all : List ℕ). gone ≤ length all) (sym text)
-    (omega (arith, length-append (text_ahead h.0) (text_ahead old.waits), h.3)),
-    told.0 ∙ (ap (λ (all : List ℕ). all ++ text_ahead old.waits) h.4
-    ∙ (sym (drop-append-le gone (text_ahead h.0) (text_ahead old.waits) h.3) ∙ ap (drop gone) (sym text))))
+    text_done h.0 front.0 h.1 ∙ ap (λ (all : List ℕ). text_ahead h.0 ++ all) front.3 in (
+      h.0 ++ front.0,
+      more_answered h.0 front.0 h.1 front.1,
+      h.2 ∙ (ap (λ (all : List Wait). h.0 ++ all) front.2
+          ∙ (sym (append_assoc h.0 front.0 (left_ahead old.waits)) ∙ ap (λ (all : List Wait). (h.0 ++ front.0) ++ all) (sym told.1))),
+      subst (λ (all : List ℕ). gone ≤ length all) (sym text)
+          (omega (arith, length-append (text_ahead h.0) (text_ahead old.waits), h.3)),
+      told.0 ∙ (ap (λ (all : List ℕ). all ++ text_ahead old.waits) h.4
+          ∙ (sym (drop-append-le gone (text_ahead h.0) (text_ahead old.waits) h.3) ∙ ap (drop gone) (sym text))),
+    )
 
 pub holds_more : (full new more : List Wait) (gone : ℕ) (old v : View) → Holds full gone old → new ≡ full ++ more → v.waits ≡ old.waits ++ more →
     v.told ≡ old.told → Holds new gone v
-holds_more full new more gone old v h all waits told =
-    (h.0, h.1, all ∙ (ap (λ (ws : List Wait). ws ++ more) h.2
-    ∙ (append_assoc h.0 old.waits more ∙ ap (λ (ws : List Wait). h.0 ++ ws) (sym waits))), h.3, told ∙ h.4)
+holds_more full new more gone old v h all waits told = (
+  h.0,
+  h.1,
+  all ∙ (ap (λ (ws : List Wait). ws ++ more) h.2
+      ∙ (append_assoc h.0 old.waits more ∙ ap (λ (ws : List Wait). h.0 ++ ws) (sym waits))),
+  h.3,
+  told ∙ h.4,
+)
 
 pub holds_same : (full new : List Wait) (gone : ℕ) (old v : View) → Holds full gone old → new ≡ full → v.waits ≡ old.waits → v.told ≡ old.told →
     Holds new gone v
@@ -129,10 +137,13 @@ drop_twice (suc m) n (x ∷ xs) = drop_twice m n xs ∙ ap (λ (k : ℕ). drop k
 pub holds_took : (full : List Wait) (gone count : ℕ) (old v : View) → Holds full gone old → count ≤ length old.told → v.waits ≡ old.waits →
     v.told ≡ drop count old.told → Holds full (gone + count) v
 holds_took full gone count old v h most waits told =
-    let many : length old.told ≡ length (text_ahead h.0) - gone = ap length h.4 ∙ length-drop gone (text_ahead h.0) in
-    (h.0, h.1, h.2 ∙ ap (λ (ws : List Wait). h.0 ++ ws) (sym waits),
-    omega (arith, h.3, most, many),
-    told ∙ (ap (drop count) h.4 ∙ drop_twice gone count (text_ahead h.0)))
+    let many : length old.told ≡ length (text_ahead h.0) - gone = ap length h.4 ∙ length-drop gone (text_ahead h.0) in (
+      h.0,
+      h.1,
+      h.2 ∙ ap (λ (ws : List Wait). h.0 ++ ws) (sym waits),
+      omega (arith, h.3, most, many),
+      told ∙ (ap (drop count) h.4 ∙ drop_twice gone count (text_ahead h.0)),
+    )
 
 -- the last line
 pub last_more : (o : Option Wait) (xs : List Wait) (w : Wait) (ys : List Wait) → last_or o (xs ++ w ∷ ys) ≡ last_or None (w ∷ ys)

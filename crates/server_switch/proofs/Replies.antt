@@ -1,10 +1,10 @@
 -- What servers have replied, from one thing that comes in to the next.
-use Rattle.std.proofs.Common.{ℕ, zero, suc, ◌≡◌, ◌+◌, ◌<◌, ◌≤◌, ◌==◌, Bool, true, false, ◌&&◌, List, [], ◌∷◌, ◌++◌, length, Option, Some, None, refl, sym, ap, subst, ◌∙◌, append_assoc, append-nil, arith}
+use Rattle.std.proofs.Common.{ℕ, zero, suc, ◌≡◌, ◌+◌, ◌<◌, ◌≤◌, ◌==◌, Bool, true, false, ◌&&◌, List, [], ◌∷◌, ◌++◌, length, Option, Some, None, refl, sym, ap, ◌∙◌, append_assoc, append-nil, arith}
 use Rattle.std.specs.Prelude.{slice_get, if◌then◌else◌}
 use Rattle.std.proofs.lemmas.Bool.{ne_eqb, eqb-true, eqb-false, true_from_ne_false}
 use Rattle.std.proofs.lemmas.List.{length-append}
 use Rattle.std.proofs.lemmas.Option.{slice_get_past}
-use Rattle.lobby_words.specs.Answers.{is_whole, answer, left_after}
+use Rattle.lobby_words.specs.Answers.{left_after}
 use Rattle.server_switch.specs.Runs.{Call, Said, Said_too_long, Heard, Here, Gone, Wrote, Took}
 use Rattle.server_switch.specs.Story.{there, connections, lines_by, whole_with, begun_with, answers_in, answers_by, Ticket, Reply, Awaited, Missed, Got, reply_by, reply}
 
@@ -301,4 +301,3 @@ pub away_awaits : (calls : List Call) (at : ℕ) (t : Ticket) → there at calls
 away_awaits calls at t away =
     ap (λ (b : Bool). is_awaited (reply_by (b && connections at calls == t.connection) (slice_get (answers_by at t.connection calls) t.number))) away
     ∙ closed (slice_get (answers_by at t.connection calls) t.number)
-

@@ -1,5 +1,5 @@
 -- What holds of each run.
-use Rattle.std.proofs.Common.{ℕ, zero, suc, ◌≡◌, ◌+◌, ◌-◌, ◌==◌, Bool, true, false, ◌||◌, List, [], ◌∷◌, ◌++◌, length, map, take, drop, Option, Some, None, ◌⊎◌, inl, inr, refl, sym, ap, subst, ◌∙◌}
+use Rattle.std.proofs.Common.{ℕ, zero, suc, ◌≡◌, ◌+◌, ◌-◌, ◌==◌, Bool, true, false, ◌||◌, List, [], ◌∷◌, ◌++◌, length, map, take, drop, Option, Some, None, inl, inr, refl, sym, ap, subst, ◌∙◌}
 use Rattle.std.specs.Prelude.{slice_get, codes, decimal, nat_le, if◌then◌else◌}
 use Rattle.std.specs.List.{list_any, last_or}
 use Rattle.std.proofs.lemmas.Bool.{ne_eqb, eqb-true, eqb-false, true_from_ne_false}
@@ -9,8 +9,8 @@ use Rattle.server_switch.specs.Answers.{told, is_full, rows_told}
 use Rattle.server_switch.specs.Lines.{Standing, is_new, put_behind, changed, change_at, put_under, renewed, took, gone_ahead}
 use Rattle.server_switch.specs.Numbers.{server_of, game_of}
 use Rattle.server_switch.specs.Routes.{Way, Says, Lists, Opens, Plays}
-use Rattle.server_switch.specs.Waits.{Share, Due, Rows, Absent, Wait, Answered, Sent, Naming, Opening, Refused, Listing, Refusal, is_due, is_due_share, is_due_at, waits_for, listing_by, put_at, share_in, filled, next_filled, answered_waits, lost_of, lost_at, lost_waits, answer_of, left_behind, left_ahead}
-use Rattle.server_switch.specs.Exchanges.{View, fresh, is_here_of, is_here, said_at, Outcome, Answers, Sends, name_waits, IsSame, IsOutcome, IsOpened, IsListed, IsNamed, Becomes, IsTold, asked, share_asked, refusal_in, without_last, IsPassedOn, IsHandedOn, with_answer, IsAnswered, whole_answer, with_line, IsHeard, with_connection, with_lost, IsHere, IsGone, IsSent}
+use Rattle.server_switch.specs.Waits.{Share, Due, Rows, Absent, Wait, Answered, Sent, Naming, Opening, Refused, Listing, Refusal, is_due, is_due_at, waits_for, listing_by, put_at, share_in, filled, next_filled, answered_waits, lost_of, lost_at, lost_waits, answer_of, left_behind, left_ahead}
+use Rattle.server_switch.specs.Exchanges.{View, fresh, is_here_of, is_here, said_at, Answers, Sends, name_waits, IsSame, IsOutcome, IsOpened, IsListed, Becomes, IsTold, asked, share_asked, refusal_in, without_last, IsPassedOn, with_answer, IsAnswered, whole_answer, with_line, IsHeard, with_connection, with_lost}
 use Rattle.server_switch.specs.Runs.{Call, Said, Said_too_long, Heard, Here, Gone, Wrote, Took, IsCall, IsRun, AreHere, first_answer, IsAllTold, IsFirstDue, IsUnstuck}
 
 never : true ≡ false → ⊥

@@ -1,11 +1,11 @@
 -- How the client's lines stand, from one thing that comes in to the next.
-use Rattle.std.proofs.Common.{ℕ, zero, suc, ◌≡◌, ◌+◌, ◌<◌, ◌≤◌, ◌==◌, Bool, true, false, ◌&&◌, ◌||◌, List, [], ◌∷◌, ◌++◌, length, map, Option, Some, None, refl, sym, ap, subst, ◌∙◌, arith}
-use Rattle.std.specs.Prelude.{slice_get, slice_set, option_map, if◌then◌else◌}
+use Rattle.std.proofs.Common.{ℕ, zero, suc, ◌≡◌, ◌+◌, ◌<◌, ◌≤◌, ◌==◌, Bool, true, false, ◌||◌, List, [], ◌∷◌, length, Option, Some, None, refl, sym, ap, subst, ◌∙◌, arith}
+use Rattle.std.specs.Prelude.{slice_get, option_map, if◌then◌else◌}
 use Rattle.std.specs.List.{list_any}
-use Rattle.std.proofs.lemmas.Bool.{ne_eqb, eqb-true, eqb-false}
+use Rattle.std.proofs.lemmas.Bool.{eqb-true}
 use Rattle.lobby_words.specs.Waiting.{is_list}
-use Rattle.server_switch.specs.Answers.{lost, told, is_full, rows_told}
-use Rattle.server_switch.specs.Waits.{Share, Due, Rows, Absent, Wait, Answered, Sent, Naming, Opening, Refused, Listing, is_due, is_due_share, is_due_at, waits_for, listing_by, listing, put_at, share_in, open_filled, filled, next_filled, answered_waits, lost_of, lost_at, lost_waits}
+use Rattle.server_switch.specs.Answers.{told, is_full, rows_told}
+use Rattle.server_switch.specs.Waits.{Share, Rows, Absent, Wait, Answered, Refused, is_due, is_due_share, is_due_at, waits_for, listing_by, listing, put_at, filled, lost_of}
 use Rattle.server_switch.specs.Runs.{Call}
 use Rattle.server_switch.specs.Story.{there, connections, Ticket, Reply, Awaited, Missed, Got, reply, Kind, Names, Games, Starts, Ask, Itself, One, All_of, awaited, missed, got, stands, share_by, share_at, shares_from, state, states}
 use Rattle.server_switch.proofs.Replies.{is_self, is_awaited, awaited_is}
@@ -256,10 +256,11 @@ pub same_dealt : (calls later : List Call) (q n : ℕ) (sent : List (List ℕ)) 
     connections q calls ≤ connections q later → ((t : Ticket) → reply later q t ≡ reply calls q t) →
     AreDealt q n calls sent asks → AreDealt q n later sent asks
 same_dealt calls later q n sent [] is_there more h dealt = λ stays. dealt (sym is_there ∙ stays)
-same_dealt calls later q n sent (ask ∷ asks) is_there more h dealt =
-    (same_one calls later q n ask more (λ t is. h t) dealt.0,
-    subst (λ (b : Bool). AreDealt q (next_number b n) later sent asks) (sym (same_awaits calls later q ask (λ t is. h t)))
-    (same_dealt calls later q (next_number (awaits calls q ask) n) sent asks is_there more h dealt.1))
+same_dealt calls later q n sent (ask ∷ asks) is_there more h dealt = (
+  same_one calls later q n ask more (λ t is. h t) dealt.0,
+  subst (λ (b : Bool). AreDealt q (next_number b n) later sent asks) (sym (same_awaits calls later q ask (λ t is. h t)))
+      (same_dealt calls later q (next_number (awaits calls q ask) n) sent asks is_there more h dealt.1),
+)
 
 -- where no answer changes, each line stands as before
 pub same_states : (calls later : List Call) (asks : List Ask) → ((q : ℕ) (t : Ticket) → reply later q t ≡ reply calls q t) →

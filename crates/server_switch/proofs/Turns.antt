@@ -1,13 +1,13 @@
 -- How all of the client's lines stand once a server has answered, is gone or is there again.
-use Rattle.std.proofs.Common.{ℕ, zero, suc, ◌≡◌, ◌+◌, ◌-◌, ◌<◌, ◌≤◌, ◌==◌, Bool, true, false, ◌||◌, List, [], ◌∷◌, ◌++◌, length, map, take, Option, Some, None, refl, sym, ap, subst, ◌∙◌, arith}
+use Rattle.std.proofs.Common.{ℕ, suc, ◌≡◌, ◌-◌, ◌<◌, ◌≤◌, ◌==◌, Bool, true, false, ◌||◌, List, [], ◌∷◌, length, Option, Some, None, refl, sym, ap, subst, ◌∙◌, arith}
 use Rattle.std.specs.Prelude.{if◌then◌else◌}
 use Rattle.std.specs.List.{list_any}
 use Rattle.std.proofs.lemmas.Bool.{eqb-true, eqb-false}
-use Rattle.server_switch.specs.Waits.{Wait, waits_for, filled, next_filled, answered_waits, lost_of, lost_at, lost_waits}
+use Rattle.server_switch.specs.Waits.{Wait, waits_for, filled, answered_waits, lost_of, lost_at, lost_waits}
 use Rattle.server_switch.specs.Runs.{Call, Heard, Here, Gone}
-use Rattle.server_switch.specs.Story.{there, connections, answers_by, Ticket, Reply, Missed, Got, reply, Ask, state, states}
-use Rattle.server_switch.proofs.Replies.{is_awaited, Whole, heard_other, heard_still, heard_hit, heard_far, gone_own, gone_other, gone_still, gone_hit, here_own, here_next, here_other, here_still, away_awaits}
-use Rattle.server_switch.proofs.Tickets.{ticket_at, awaited_in, awaits, IsTicket, waits_awaits, same_state, reply_of, turned, turned_state, IsDealt, next_number, AreDealt, same_awaits}
+use Rattle.server_switch.specs.Story.{there, connections, answers_by, Ticket, reply, Ask, state, states}
+use Rattle.server_switch.proofs.Replies.{is_awaited, Whole, heard_other, heard_still, heard_hit, heard_far, gone_own, gone_other, gone_still, gone_hit, here_next, here_other, here_still, away_awaits}
+use Rattle.server_switch.proofs.Tickets.{ticket_at, awaited_in, awaits, IsTicket, waits_awaits, same_state, turned_state, IsDealt, next_number, AreDealt, same_awaits}
 
 never : true ≡ false → ⊥
 never h = cc
@@ -117,11 +117,12 @@ behind_dealt : (at n : ℕ) (line text : List ℕ) (past : List Call) (sent : Li
     AreDealt at n (Heard at line ∷ past) sent asks
 behind_dealt at n line text past sent [] whole is_there more dealt = dealt
 behind_dealt at n line text past sent (ask ∷ asks) whole is_there more dealt =
-    let same = behind_one at n line text past ask (awaits past at ask) refl whole is_there more dealt.0 in
-    ((λ t is. ((dealt.0 t is).0, λ waits. (dealt.0 t is).1 (ap is_awaited (sym (same t is)) ∙ waits))),
-    subst (λ (b : Bool). AreDealt at (next_number b n) (Heard at line ∷ past) sent asks) (sym (same_awaits past (Heard at line ∷ past) at ask same))
-    (behind_dealt at (next_number (awaits past at ask) n) line text past sent asks whole is_there
-    (later_number (awaits past at ask) (length (answers_by at (connections at past) past)) n more) dealt.1))
+    let same = behind_one at n line text past ask (awaits past at ask) refl whole is_there more dealt.0 in (
+      (λ t is. ((dealt.0 t is).0, λ waits. (dealt.0 t is).1 (ap is_awaited (sym (same t is)) ∙ waits))),
+      subst (λ (b : Bool). AreDealt at (next_number b n) (Heard at line ∷ past) sent asks) (sym (same_awaits past (Heard at line ∷ past) at ask same))
+          (behind_dealt at (next_number (awaits past at ask) n) line text past sent asks whole is_there
+          (later_number (awaits past at ask) (length (answers_by at (connections at past) past)) n more) dealt.1),
+    )
 
 front_dealt : (at : ℕ) (line text : List ℕ) (past : List Call) (sent : List (List ℕ)) (ask : Ask) (asks : List Ask) (b : Bool) →
     awaits past at ask ≡ b → Whole at line past (text ∷ []) → there at past ≡ true →
@@ -133,19 +134,21 @@ front_dealt at line text past sent ask asks true e whole is_there dealt more res
     let n = length (answers_by at (connections at past) past) in
     let hit : (t : Ticket) → IsTicket ask at t → is_awaited (reply (Heard at line ∷ past) at t) ≡ false =
     λ t is. let waits = in_some past at (ticket_at at ask) t e is in
-    ap is_awaited (heard_hit at line past text t whole is_there waits ((dealt t is).1 waits)) in
-    ((λ t is. ((dealt t is).0, λ waits. absurd (never (sym waits ∙ hit t is)))),
-    subst (λ (b : Bool). AreDealt at (next_number b (suc n)) (Heard at line ∷ past) sent asks)
-    (sym (none_in (Heard at line ∷ past) at (ticket_at at ask) hit))
-    (behind_dealt at (suc n) line text past sent asks whole is_there (less_suc (length (answers_by at (connections at past) past))) more))
+    ap is_awaited (heard_hit at line past text t whole is_there waits ((dealt t is).1 waits)) in (
+      (λ t is. ((dealt t is).0, λ waits. absurd (never (sym waits ∙ hit t is)))),
+      subst (λ (b : Bool). AreDealt at (next_number b (suc n)) (Heard at line ∷ past) sent asks)
+          (sym (none_in (Heard at line ∷ past) at (ticket_at at ask) hit))
+          (behind_dealt at (suc n) line text past sent asks whole is_there (less_suc (length (answers_by at (connections at past) past))) more),
+    )
 front_dealt at line text past sent ask asks false e whole is_there dealt more rest =
     let n = length (answers_by at (connections at past) past) in
     let quiet : (t : Ticket) → IsTicket ask at t → is_awaited (reply (Heard at line ∷ past) at t) ≡ false =
     λ t is. let none = in_none past at (ticket_at at ask) t e is in
-    ap is_awaited (heard_still at line past (text ∷ []) t whole is_there none) ∙ none in
-    ((λ t is. ((dealt t is).0, λ waits. absurd (never (sym waits ∙ quiet t is)))),
-    subst (λ (b : Bool). AreDealt at (next_number b (suc n)) (Heard at line ∷ past) sent asks)
-    (sym (none_in (Heard at line ∷ past) at (ticket_at at ask) quiet)) (rest refl))
+    ap is_awaited (heard_still at line past (text ∷ []) t whole is_there none) ∙ none in (
+      (λ t is. ((dealt t is).0, λ waits. absurd (never (sym waits ∙ quiet t is)))),
+      subst (λ (b : Bool). AreDealt at (next_number b (suc n)) (Heard at line ∷ past) sent asks)
+          (sym (none_in (Heard at line ∷ past) at (ticket_at at ask) quiet)) (rest refl),
+    )
 
 pub heard_dealt : (at : ℕ) (line text : List ℕ) (past : List Call) (sent : List (List ℕ)) (asks : List Ask) → Whole at line past (text ∷ []) →
     there at past ≡ true → list_any (waits_for at) (states past asks) ≡ true →
@@ -181,11 +184,12 @@ known_dealt : (q n m : ℕ) (calls later : List Call) (sent new : List (List ℕ
     ((t : Ticket) → t.connection ≤ connections q calls → is_awaited (reply later q t) ≡ false) → (there q later ≡ true → m ≡ length new) →
     AreDealt q n calls sent asks → AreDealt q m later new asks
 known_dealt q n m calls later sent new [] more none last dealt = last
-known_dealt q n m calls later sent new (ask ∷ asks) more none last dealt =
-    ((λ t is. (omega (arith, more, (dealt.0 t is).0), λ waits. absurd (never (sym waits ∙ none t (dealt.0 t is).0)))),
-    subst (λ (b : Bool). AreDealt q (next_number b m) later new asks)
-    (sym (none_in later q (ticket_at q ask) (λ t is. none t (dealt.0 t is).0)))
-    (known_dealt q (next_number (awaits calls q ask) n) m calls later sent new asks more none last dealt.1))
+known_dealt q n m calls later sent new (ask ∷ asks) more none last dealt = (
+  (λ t is. (omega (arith, more, (dealt.0 t is).0), λ waits. absurd (never (sym waits ∙ none t (dealt.0 t is).0)))),
+  subst (λ (b : Bool). AreDealt q (next_number b m) later new asks)
+      (sym (none_in later q (ticket_at q ask) (λ t is. none t (dealt.0 t is).0)))
+      (known_dealt q (next_number (awaits calls q ask) n) m calls later sent new asks more none last dealt.1),
+)
 
 pub gone_dealt : (at n m : ℕ) (past : List Call) (sent : List (List ℕ)) (asks : List Ask) → AreDealt at n past sent asks →
     AreDealt at m (Gone at ∷ past) sent asks
