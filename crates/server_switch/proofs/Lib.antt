@@ -14,3 +14,4 @@ pub mod Turns
 pub mod Queues
 pub mod Follows
 pub mod Courses
+pub mod Worked
