@@ -27,8 +27,6 @@ const FIRST_MOST: u64 = 2_000;
 // So many pieces are dropped of what comes behind a line that is too long, before it is closed.
 const DROPPED_MOST: u32 = 255;
 
-const LONG_LINE: &[u8] = b"bye LineTooLong\n";
-
 /// A client.
 #[derive(Drop)]
 pub struct Client {
@@ -42,7 +40,7 @@ pub struct Client {
     // Whether its first line may be said, and by when it may.
     has_begun: bool,
     begin_by: Option<u64>,
-    // Whether it was told that its line was too long, and how many pieces were dropped since.
+    // Whether it was told that its line is too long, and how many pieces were dropped since.
     has_left: bool,
     dropped: u32,
 }
@@ -106,11 +104,12 @@ impl Client {
         if self.wire.is_lost {
             return true;
         }
-        if !self.exchange.told.is_empty() {
+        if !self.exchange.told().is_empty() {
             return false;
         }
         if self.has_left {
-            return !self.wire.is_readable() || self.dropped > DROPPED_MOST;
+            let may_close = !self.wire.is_readable() || self.dropped > DROPPED_MOST;
+            return may_close && self.exchange.is_idle();
         }
         let waits = self.lines.has_line() || !self.exchange.is_idle() || self.lines.is_too_long();
         self.wire.has_ended && !waits
@@ -128,7 +127,7 @@ impl Client {
     }
 
     fn is_full(&self) -> bool {
-        self.exchange.told.len() > TOLD_MOST
+        self.exchange.told().len() > TOLD_MOST
     }
 
     // Drops a piece of what comes behind a line that is too long.
@@ -184,9 +183,9 @@ impl Client {
             }
             has_said = true;
         }
-        let is_last = self.lines.is_too_long() && !self.lines.has_line() && self.exchange.is_idle();
-        if is_last && !self.has_left {
-            self.exchange.told.extend_from_slice(LONG_LINE)?;
+        let is_last = self.lines.is_too_long() && !self.lines.has_line();
+        if is_last && !self.has_left && self.exchange.is_ready() {
+            self.exchange.said_too_long()?;
             self.has_left = true;
         }
         Ok(has_said)
@@ -230,6 +229,17 @@ impl Client {
         Ok(has_worked)
     }
 
+    // Writes what is to go to it.
+    fn write_told(&mut self) -> bool {
+        match self.wire.write(self.exchange.told()) {
+            Some(count) => {
+                self.exchange.took(count);
+                true
+            }
+            None => false,
+        }
+    }
+
     /// One turn. It tells whether there was anything to do.
     pub fn turn(
         &mut self,
@@ -242,7 +252,7 @@ impl Client {
         self.begin(at);
         let has_said = self.say_lines()?;
         let has_worked = self.turn_links(net, registry, piece, at)?;
-        let has_written = self.wire.write_out(&mut self.exchange.told);
+        let has_written = self.write_told();
         Ok(has_read | has_said | has_worked | has_written)
     }
 }

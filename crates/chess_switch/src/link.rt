@@ -189,7 +189,7 @@ impl Link {
             self.call_at = at.saturating_add(RETRY);
             return Ok(true);
         }
-        if first_feed(self.held.as_slice()).is_some() {
+        if first_feed(self.held.as_slice()).is_some() && exchange.is_away(self.place) {
             self.held.clear();
             self.stage = Stage::Here(wire);
             exchange.here(self.place);
@@ -209,19 +209,21 @@ impl Link {
         Ok(Some(line))
     }
 
-    // Tells each whole line of a piece; false where one is no text.
+    // Tells each whole line of a piece; false where one is no text, or nothing asks for it.
     fn hear_lines(&mut self, alloc: Global, exchange: &mut Exchange) -> Result<bool> {
-        let mut is_sound = true;
         for _ in 0..PIECE_ROOM {
             let Some(line) = self.take_line(alloc)? else {
                 break;
             };
-            match str::from_utf8(line.as_slice()) {
-                Ok(line) => exchange.heard(self.place, line)?,
-                Err(_) => is_sound = false,
+            let Ok(line) = str::from_utf8(line.as_slice()) else {
+                return Ok(false);
+            };
+            if !exchange.waits_for(self.place) {
+                return Ok(false);
             }
+            exchange.heard(self.place, line)?;
         }
-        Ok(is_sound && self.held.len() <= LINE_MOST)
+        Ok(self.held.len() <= LINE_MOST)
     }
 
     // The server is gone.

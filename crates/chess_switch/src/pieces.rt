@@ -1,4 +1,6 @@
 //! A socket that does not wait.
+ghost use Rattle.std.specs.Prelude.{◌≤◌, length, IfSome};
+
 use mio::net::TcpStream;
 use std::alloc::{AllocError, Global};
 use std::io::{ErrorKind, Read, Write};
@@ -79,7 +81,9 @@ impl Wire {
     }
 
     /// Writes what the peer takes of some bytes, and tells how many those are; none where there was nothing to do.
-    pub fn write(&mut self, bytes: &[u8]) -> Option<usize> {
+    pub fn write(&mut self, bytes: &[u8]) -> Option<usize>
+        ensures { IfSome result (λ count. count ≤ length bytes.now) }
+    {
         if !self.can_write || self.is_lost || bytes.is_empty() {
             return None;
         }

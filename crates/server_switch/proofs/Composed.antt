@@ -1,10 +1,10 @@
 -- What calls come to, one behind another.
-use Rattle.std.proofs.Common.{ℕ, ◌≡◌, Bool, true, false, List, Option, Some, None, sym, ap, subst, ◌∙◌}
+use Rattle.std.proofs.Common.{ℕ, ◌≡◌, Bool, true, false, List, Option, Some, None, refl, sym, ap, subst, ◌∙◌}
 use Rattle.std.specs.Prelude.{slice_get}
 use Rattle.server_switch.specs.Lines.{Standing}
 use Rattle.server_switch.specs.Routes.{is_plain}
 use Rattle.server_switch.specs.Waits.{Wait, lost_waits}
-use Rattle.server_switch.specs.Exchanges.{View, IsSame, IsTold, IsAnswered, IsHeard, IsGone, Becomes, TextBecomes, BytesBecome, LineBecomes, whole_answer, with_line, with_connection, with_lost}
+use Rattle.server_switch.specs.Exchanges.{View, IsSame, IsTold, IsAnswered, IsHeard, IsGone, Becomes, TextBecomes, BytesAskFor, LineBecomes, whole_answer, with_line, with_connection, with_lost}
 
 view_of : Option (List ℕ) → List Standing → List Wait → List ℕ → View
 view_of name servers waits told = record { name = name; servers = servers; waits = waits; told = told }
@@ -21,10 +21,11 @@ same_view old new same =
 -- a line whose bytes are a text, and another
 pub text_becomes : (line text : List ℕ) (old new : View) → text ≡ line → is_plain line ≡ true → TextBecomes text old new → LineBecomes line old new
 text_becomes line text old new same plain done =
-    subst (λ (b : Bool). BytesBecome b line old new) (sym plain) (subst (λ (t : List ℕ). TextBecomes t old new) same done)
+    let whole = subst (λ (t : List ℕ). TextBecomes t old new) same done in
+    (whole.0, subst (λ (b : Bool). BytesAskFor b line whole.0) (sym plain) whole.1, whole.2)
 
 pub other_becomes : (line : List ℕ) (old new : View) → is_plain line ≡ false → Becomes None line old new → LineBecomes line old new
-other_becomes line old new none done = subst (λ (b : Bool). BytesBecome b line old new) (sym none) done
+other_becomes line old new none done = (None, subst (λ (b : Bool). BytesAskFor b line None) (sym none) refl, done)
 
 -- a line of a server, with which an answer is whole, and one with which none is
 pub answer_heard : (place : ℕ) (line : List ℕ) (old taken new : View) (text : List ℕ) → Some text ≡ whole_answer line (slice_get old.servers place) →

@@ -8,3 +8,10 @@ pub mod Lasts
 pub mod Composed
 pub mod Takes
 pub mod Runs
+pub mod Replies
+pub mod Tickets
+pub mod Turns
+pub mod Queues
+pub mod Follows
+pub mod Courses
+pub mod Worked

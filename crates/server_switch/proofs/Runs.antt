@@ -1,5 +1,5 @@
 -- What holds of each run.
-use Rattle.std.proofs.Common.{ℕ, zero, suc, ◌≡◌, ◌+◌, ◌-◌, ◌==◌, Bool, true, false, ◌||◌, List, [], ◌∷◌, ◌++◌, length, map, take, drop, Option, Some, None, ◌⊎◌, inl, inr, refl, sym, ap, subst, ◌∙◌}
+use Rattle.std.proofs.Common.{ℕ, zero, suc, ◌≡◌, ◌+◌, ◌-◌, ◌==◌, Bool, true, false, ◌||◌, List, [], ◌∷◌, ◌++◌, length, map, take, drop, Option, Some, None, inl, inr, refl, sym, ap, subst, ◌∙◌}
 use Rattle.std.specs.Prelude.{slice_get, codes, decimal, nat_le, if◌then◌else◌}
 use Rattle.std.specs.List.{list_any, last_or}
 use Rattle.std.proofs.lemmas.Bool.{ne_eqb, eqb-true, eqb-false, true_from_ne_false}
@@ -8,10 +8,10 @@ use Rattle.lobby_words.specs.Waiting.{is_list}
 use Rattle.server_switch.specs.Answers.{told, is_full, rows_told}
 use Rattle.server_switch.specs.Lines.{Standing, is_new, put_behind, changed, change_at, put_under, renewed, took, gone_ahead}
 use Rattle.server_switch.specs.Numbers.{server_of, game_of}
-use Rattle.server_switch.specs.Routes.{Way, Says, Lists, Opens, Plays, is_plain}
-use Rattle.server_switch.specs.Waits.{Share, Due, Rows, Absent, Wait, Answered, Sent, Naming, Opening, Refused, Listing, Refusal, is_due, is_due_share, is_due_at, waits_for, listing_by, put_at, share_in, filled, next_filled, answered_waits, lost_of, lost_at, lost_waits, answer_of, left_behind, left_ahead}
-use Rattle.server_switch.specs.Exchanges.{View, fresh, is_here_of, is_here, said_at, Outcome, Answers, Sends, name_waits, IsSame, IsOutcome, IsOpened, IsListed, IsNamed, Becomes, BytesBecome, LineBecomes, IsTold, IsSaid, asked, share_asked, refusal_in, without_last, IsPassedOn, IsHandedOn, with_answer, IsAnswered, whole_answer, with_line, IsHeard, with_connection, with_lost, IsHere, IsGone, IsSent}
-use Rattle.server_switch.specs.Runs.{Call, Said, Heard, Here, Gone, Wrote, Took, IsCall, IsRun, AreHere, first_answer, IsAllTold, IsFirstDue, IsUnstuck}
+use Rattle.server_switch.specs.Routes.{Way, Says, Lists, Opens, Plays}
+use Rattle.server_switch.specs.Waits.{Share, Due, Rows, Absent, Wait, Answered, Sent, Naming, Opening, Refused, Listing, Refusal, is_due, is_due_at, waits_for, listing_by, put_at, share_in, filled, next_filled, answered_waits, lost_of, lost_at, lost_waits, answer_of, left_behind, left_ahead}
+use Rattle.server_switch.specs.Exchanges.{View, fresh, is_here_of, is_here, said_at, Answers, Sends, name_waits, IsSame, IsOutcome, IsOpened, IsListed, Becomes, IsTold, asked, share_asked, refusal_in, without_last, IsPassedOn, with_answer, IsAnswered, whole_answer, with_line, IsHeard, with_connection, with_lost}
+use Rattle.server_switch.specs.Runs.{Call, Said, Said_too_long, Heard, Here, Gone, Wrote, Took, IsCall, IsRun, AreHere, first_answer, IsAllTold, IsFirstDue, IsUnstuck}
 
 never : true ≡ false → ⊥
 never h = cc
@@ -266,10 +266,6 @@ become (Some (Plays word number tail)) line old new h before =
     (word ++ (codes " " ++ (decimal (game_of number) ++ tail))) (codes "no 3 NoGame\n") (codes "no 36 NoServer\n") old new refl h before
 become None line old new h before = answers (codes "no 1 BadLine\n") old new h before
 
-bytes_become : (b : Bool) (line : List ℕ) (old new : View) → BytesBecome b line old new → NoneWaits old → NoneWaits new
-bytes_become true line old new h before = become h.0 line old new h.2 before
-bytes_become false line old new h before = become None line old new h before
-
 told_none : (old new : View) → IsTold old new → NoneWaits old → NoneWaits new
 told_none old new h before = λ q away.
     ap (list_any (waits_for q)) h.1 ∙ left_quiet q old.waits (before q (same_here old new h.2 q away))
@@ -302,7 +298,8 @@ gone_by place q old false e before away =
     lost_others place q old.waits (before q (sym (here_other (λ s. renewed false) old.servers place q (eqb-false place q e)) ∙ away))
 
 called : (call : Call) (old new : View) → IsCall call old new → NoneWaits old → NoneWaits new
-called (Said line) old new h before = told_none h.0 new h.2 (bytes_become (is_plain line) line old h.0 h.1 before)
+called (Said line way) old new h before = told_none h.1 new h.3 (become way line old h.1 h.2 before)
+called Said_too_long old new h before = told_none h.0 new h.2 (answers (codes "bye LineTooLong\n") old h.0 h.1 before)
 called (Heard place line) old new h before = heard place line old new h before
 called (Here place) old new h before =
     same_none (with_connection place true old) new h (λ q away. before q (not_before old.servers place q away))
@@ -316,7 +313,7 @@ called (Took count) old new h before =
 
 run : (servers : ℕ) (calls : List Call) (now : View) → IsRun servers calls now → NoneWaits now
 run servers [] now h = same_none (fresh servers) now h (λ q away. refl)
-run servers (call ∷ past) now h = called call h.0 now h.2 (run servers past h.0 h.1)
+run servers (call ∷ past) now h = called call h.0 now h.3 (run servers past h.0 h.1)
 
 here_by : (a b : Bool) → (b ≡ false → a ≡ false) → a ≡ true → b ≡ true
 here_by a true f h = refl
@@ -345,7 +342,8 @@ answered_first place None old new h before = ap first_answer h.0 ∙ before
 answered_first place (Some answer) old new h before = told_first h.0 new h.2
 
 called_first : (call : Call) (old new : View) → IsCall call old new → first_answer old.waits ≡ None → first_answer new.waits ≡ None
-called_first (Said line) old new h before = told_first h.0 new h.2
+called_first (Said line way) old new h before = told_first h.1 new h.3
+called_first Said_too_long old new h before = told_first h.0 new h.2
 called_first (Heard place line) old new h before =
     answered_first place (whole_answer line (slice_get old.servers place)) (with_line place line old) new h before
 called_first (Here place) old new h before = ap first_answer h.0 ∙ before
@@ -355,7 +353,7 @@ called_first (Took count) old new h before = ap first_answer h.0 ∙ before
 
 pub all_told : (servers : ℕ) (calls : List Call) (now : View) → IsRun servers calls now → IsAllTold now
 all_told servers [] now h = ap first_answer h.0
-all_told servers (call ∷ past) now h = called_first call h.0 now h.2 (all_told servers past h.0 h.1)
+all_told servers (call ∷ past) now h = called_first call h.0 now h.3 (all_told servers past h.0 h.1)
 
 -- a line that has no answer waits for a server
 abbrev pub IsDue : Wait → Type 0
@@ -485,10 +483,6 @@ become_due (Some (Plays word number tail)) line old new h before =
     (word ++ (codes " " ++ (decimal (game_of number) ++ tail))) (codes "no 3 NoGame\n") (codes "no 36 NoServer\n") old new h before
 become_due None line old new h before = answers_due (codes "no 1 BadLine\n") old new h before
 
-bytes_due : (b : Bool) (line : List ℕ) (old new : View) → BytesBecome b line old new → AreDue old.waits → AreDue new.waits
-bytes_due true line old new h before = become_due h.0 line old new h.2 before
-bytes_due false line old new h before = become_due None line old new h before
-
 told_all_due : (old new : View) → IsTold old new → AreDue old.waits → AreDue new.waits
 told_all_due old new h before = subst AreDue (sym h.1) (left_due old.waits before)
 
@@ -508,7 +502,9 @@ heard_due place (Some answer) old new h before =
     (answered_due place answer false old.waits before))
 
 called_due : (call : Call) (old new : View) → IsCall call old new → AreDue old.waits → AreDue new.waits
-called_due (Said line) old new h before = told_all_due h.0 new h.2 (bytes_due (is_plain line) line old h.0 h.1 before)
+called_due (Said line way) old new h before = told_all_due h.1 new h.3 (become_due way line old h.1 h.2 before)
+called_due Said_too_long old new h before =
+    told_all_due h.0 new h.2 (answers_due (codes "bye LineTooLong\n") old h.0 h.1 before)
 called_due (Heard place line) old new h before =
     heard_due place (whole_answer line (slice_get old.servers place)) (with_line place line old) new h before
 called_due (Here place) old new h before = same_due (with_connection place true old) new h before
@@ -519,7 +515,7 @@ called_due (Took count) old new h before = subst AreDue (sym h.0) before
 
 all_due : (servers : ℕ) (calls : List Call) (now : View) → IsRun servers calls now → AreDue now.waits
 all_due servers [] now h = subst AreDue (sym h.0) tt
-all_due servers (call ∷ past) now h = called_due call h.0 now h.2 (all_due servers past h.0 h.1)
+all_due servers (call ∷ past) now h = called_due call h.0 now h.3 (all_due servers past h.0 h.1)
 
 first_due : (v : View) (ws : List Wait) → AreDue ws → first_answer ws ≡ None → ((place : ℕ) → list_any (waits_for place) ws ≡ true → is_here v place ≡ true) →
     IsFirstDue v ws

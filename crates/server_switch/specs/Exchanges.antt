@@ -1,5 +1,5 @@
 -- One client's exchange with the servers.
-use Rattle.std.specs.Prelude.{ℕ, ◌≡◌, ◌<◌, ◌≤◌, ◌+◌, ◌-◌, ◌⊎◌, ◌==◌, Bool, false, true, ◌&&◌, not, nat_le, nat_lt, List, [], ◌∷◌, ◌++◌, map, take, length, replicate, codes, decimal, Option, None, Some, slice_get, if◌then◌else◌}
+use Rattle.std.specs.Prelude.{ℕ, ◌≡◌, ◌<◌, ◌≤◌, ◌+◌, ◌-◌, ◌⊎◌, ◌==◌, Bool, false, true, ◌&&◌, not, nat_le, nat_lt, List, [], ◌∷◌, ◌++◌, map, take, drop, length, replicate, codes, decimal, Option, None, Some, slice_get, if◌then◌else◌}
 use Rattle.std.specs.List.{list_any, last_or}
 use Rattle.server_switch.specs.Lines.{Standing, standing_of, change_at, put_behind, put_under, is_new, renewed, took, whole_of, gone_ahead}
 use Rattle.server_switch.specs.Numbers.{server_of, game_of}
@@ -41,6 +41,14 @@ is_here v place = is_here_of (slice_get v.servers place)
 
 abbrev pub said_at : View → ℕ → Option (List ℕ)
 said_at v place = said_of (slice_get v.servers place)
+
+-- whether there is a server at a place, and it is not there
+abbrev pub is_away_of : Option Standing → Bool
+is_away_of None = false
+is_away_of (Some server) = not server.is_here
+
+abbrev pub is_away : View → ℕ → Bool
+is_away v place = is_away_of (slice_get v.servers place)
 
 -- whether the next line may be taken: not too many wait, and none that opens a game
 abbrev pub is_ready : View → Bool
@@ -118,22 +126,32 @@ Becomes None line old new = IsOutcome (Answers (codes "no 1 BadLine\n")) old new
 abbrev pub TextBecomes : List ℕ → View → View → Type 0
 TextBecomes line old new = (way : Option Way) × IsRoute line way × Becomes way line old new
 
--- the same of a line of any bytes: one with a byte that is not 32 to 126 asks for nothing
-abbrev pub BytesBecome : Bool → List ℕ → View → View → Type 0
-BytesBecome true line old new = TextBecomes line old new
-BytesBecome false line old new = Becomes None line old new
+-- What a line of any bytes asks for: one with a byte that is not 32 to 126 asks for nothing.
+abbrev pub BytesAskFor : Bool → List ℕ → Option Way → Type 0
+BytesAskFor true line way = IsRoute line way
+BytesAskFor false line way = way ≡ None
+
+abbrev pub AsksFor : List ℕ → Option Way → Type 0
+AsksFor line way = BytesAskFor (is_plain line) line way
 
 abbrev pub LineBecomes : List ℕ → View → View → Type 0
-LineBecomes line old new = BytesBecome (is_plain line) line old new
+LineBecomes line old new = (way : Option Way) × AsksFor line way × Becomes way line old new
 
 -- The client is told the answers that are next, and no other; those behind the first line that waits stay.
 abbrev pub IsTold : View → View → Type 0
 IsTold old new =
     (new.told ≡ old.told ++ text_ahead old.waits) × (new.waits ≡ left_ahead old.waits) × (new.servers ≡ old.servers) × (new.name ≡ old.name)
 
--- The client says a line.
+-- The client says a line, which asks for something or nothing.
+abbrev pub IsSaidFor : Option Way → List ℕ → View → View → Type 0
+IsSaidFor way line old new = AsksFor line way × (between : View) × Becomes way line old between × IsTold between new
+
 abbrev pub IsSaid : List ℕ → View → View → Type 0
-IsSaid line old new = (between : View) × LineBecomes line old between × IsTold between new
+IsSaid line old new = (way : Option Way) × IsSaidFor way line old new
+
+-- The client's line is too long: it is told so, behind the answers to those before it.
+abbrev pub IsSaidTooLong : View → View → Type 0
+IsSaidTooLong old new = (between : View) × IsOutcome (Answers (codes "bye LineTooLong\n")) old between × IsTold between new
 
 -- An answer of a server is that of the first line that waits for it.
 abbrev pub with_answer : ℕ → List ℕ → View → View
@@ -195,6 +213,11 @@ IsGone place old new = IsTold (with_lost place (with_connection place false old)
 abbrev pub IsSent : ℕ → ℕ → View → View → Type 0
 IsSent place count old new =
     IsSame (record { name = old.name; servers = change_at (gone_ahead count) place old.servers; waits = old.waits; told = old.told }) new
+
+-- so many bytes have gone to the client
+abbrev pub IsTook : ℕ → View → View → Type 0
+IsTook count old new =
+    IsSame (record { name = old.name; servers = old.servers; waits = old.waits; told = drop count old.told }) new
 
 abbrev pub wire_of : Option Standing → List ℕ
 wire_of None = []

@@ -6,3 +6,4 @@ pub mod Routes
 pub mod Waits
 pub mod Exchanges
 pub mod Runs
+pub mod Story

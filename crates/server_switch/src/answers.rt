@@ -19,6 +19,9 @@ pub const NO_SERVER: &str = "no 36 NoServer\n";
 /// What is told of a line that has no form.
 pub const BAD_LINE: &str = "no 1 BadLine\n";
 
+/// What is told of a line that is too long.
+pub const TOO_LONG: &str = "bye LineTooLong\n";
+
 /// What is told of a game of no server.
 pub const NO_GAME: &str = "no 3 NoGame\n";
 

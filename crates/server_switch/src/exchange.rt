@@ -3,18 +3,18 @@ ghost use Rattle.std.specs.Prelude.{◌≡◌, ◌≤◌, ◌<◌, ◌+◌, ◌�
 ghost use Rattle.std.specs.List.{list_any};
 ghost use Rattle.std.specs.String.{string_bytes};
 ghost use Rattle.server_switch.specs.Exchanges as exchanges;
-ghost use Rattle.server_switch.specs.Exchanges.{View, view, fresh, is_here, said_at, wire_at, name_waits, IsNoneHere, IsSame, IsOutcome, Answers, Sends, game_outcome, IsOpened, IsNamed, IsListed, share_asked, asked, TextBecomes, LineBecomes, IsTold, IsSaid, whole_answer, with_line, IsAnswered, IsHandedOn, IsHeard, with_connection, IsHere, IsGone, IsSent};
+ghost use Rattle.server_switch.specs.Exchanges.{View, view, fresh, is_here, is_away, said_at, wire_at, name_waits, IsNoneHere, IsSame, IsOutcome, Answers, Sends, game_outcome, IsOpened, IsNamed, IsListed, share_asked, asked, TextBecomes, LineBecomes, IsTold, IsSaid, IsSaidTooLong, IsTook, whole_answer, with_line, IsAnswered, IsHandedOn, IsHeard, with_connection, IsHere, IsGone, IsSent};
 ghost use Rattle.server_switch.specs.Fields.{tail_text};
 ghost use Rattle.server_switch.specs.Lines.{standing_of, change_at, put_under, is_new, renewed, took};
 ghost use Rattle.server_switch.specs.Waits.{wait_of, share_of};
 ghost use Rattle.server_switch.specs.Waits as waits;
 
-use crate::answers::{BAD_LINE, NO_GAME, NO_SERVER};
+use crate::answers::{BAD_LINE, NO_GAME, NO_SERVER, TOO_LONG};
 use crate::fields::push_number;
 use crate::lists::{Part, ask_each, listing_of};
 use crate::numbers::{game_of, server_of};
 use crate::routes::{Route, route_of, text_of};
-use crate::server_line::ServerLine;
+use crate::server_line::{ServerLine, give_up};
 use crate::slots::{Slot, answer_first, any_opens, any_waits, lose_each, refused, take_ahead};
 use rec_codec::Name;
 use std::alloc::{AllocError, Global};
@@ -31,8 +31,8 @@ pub struct Exchange {
     name: Option<Name>,
     servers: Vec<ServerLine>,
     slots: VecDeque<Slot>,
-    /// What is to go to the client.
-    pub told: Vec<u8>,
+    // What is to go to the client.
+    told: Vec<u8>,
 }
 
 // The lines to servers that are not there.
@@ -117,10 +117,37 @@ impl Exchange {
 
     /// So many bytes of what is to go to a server have gone.
     pub fn sent(&mut self, place: usize, count: usize)
+        requires { count ≤ length (wire_at (view self.old) place) }
         ensures { IsSent place count (view self.old) (view self.new) }
     {
         if place < self.servers.len() {
             self.servers[place].sent(count);
+        }
+    }
+
+    /// What is to go to the client.
+    pub fn told(&self) -> &[u8]
+        ensures { result.now ≡ (view self.now).told }
+    {
+        self.told.as_slice()
+    }
+
+    /// So many bytes of what is to go to the client have gone.
+    pub fn took(&mut self, count: usize)
+        requires { count ≤ length (view self.old).told }
+        ensures { IsTook count (view self.old) (view self.new) }
+    {
+        give_up(&mut self.told, count);
+    }
+
+    /// Whether there is a server at a place, and it is not there.
+    pub fn is_away(&self, place: usize) -> bool
+        ensures { result ≡ is_away (view self.now) place }
+    {
+        let servers = self.servers.as_slice();
+        match line_at(servers, place) {
+            Some(server) => !server.is_here,
+            None => false,
         }
     }
 
@@ -286,9 +313,20 @@ impl Exchange {
     /// The client says a line, without the line feed that ends it. What becomes of it is said by `LineBecomes`, and then the client is
     /// told the answers that are next. Where memory is refused, what has become of it is not known.
     pub fn said(&mut self, line: &[u8]) -> Result<(), AllocError>
+        requires { exchanges.is_ready (view self.old) ≡ true }
         ensures { OnOk result (IsSaid line.now (view self.old) (view self.new)) }
     {
         self.go_bytes(line)?;
+        self.flush()
+    }
+
+    /// The client's line is too long: it is told so behind the answers to the lines before it. Where memory is refused, what has become
+    /// of it is not known.
+    pub fn said_too_long(&mut self) -> Result<(), AllocError>
+        requires { exchanges.is_ready (view self.old) ≡ true }
+        ensures { OnOk result (IsSaidTooLong (view self.old) (view self.new)) }
+    {
+        self.answer(TOO_LONG)?;
         self.flush()
     }
 
@@ -350,6 +388,7 @@ impl Exchange {
     /// A line comes from a server, without the line feed that ends it. Where an answer is whole with it, that is the answer of the
     /// first line that waits for the server. Where memory is refused, what has become of it is not known.
     pub fn heard(&mut self, place: usize, line: &str) -> Result<(), AllocError>
+        requires { list_any (waits.waits_for place) (view self.old).waits ≡ true }
         ensures { OnOk result (IsHeard place line.now (view self.old) (view self.new)) }
     {
         let taken = self.take_line(place, line)?;
@@ -370,6 +409,7 @@ impl Exchange {
 
     /// A server is there, by a connection on which nothing was said. To no other goes anything, and the client is told nothing.
     pub fn here(&mut self, place: usize)
+        requires { is_away (view self.old) place ≡ true }
         ensures { IsHere place (view self.old) (view self.new) }
     {
         self.renew(place, true);

@@ -34,8 +34,8 @@ fn is_said(said: &Option<Name>, name: &Name) -> bool
     }
 }
 
-// Gives up the first bytes.
-fn give_up(bytes: &mut Vec<u8>, count: usize)
+/// Gives up the first bytes.
+pub fn give_up(bytes: &mut Vec<u8>, count: usize)
     requires { count ≤ length bytes.old.items }
     ensures { bytes.new.items ≡ drop count bytes.old.items }
 {
@@ -109,9 +109,9 @@ impl ServerLine {
 
     /// So many bytes of what is to go there have gone.
     pub fn sent(&mut self, count: usize)
+        requires { count ≤ length self.old.wire.items }
         ensures { standing_of self.new ≡ gone_ahead count (standing_of self.old) }
     {
-        let count = count.min(self.wire.len());
         give_up(&mut self.wire, count);
     }
 

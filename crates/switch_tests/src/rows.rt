@@ -10,6 +10,7 @@ use std::test::Fail;
 enum Comes {
     /// A line of the client.
     Said(&'static str),
+    SaidTooLong,
     /// Lines of a server.
     Heard(usize, &'static str),
     Here(usize),
@@ -24,27 +25,39 @@ const NOTHING: [&str; 3] = ["", "", ""];
 // Two of three servers are there; the third comes later.
 const HERE: [Row; 2] = [(Comes::Here(0), "", NOTHING), (Comes::Here(1), "", NOTHING)];
 
-fn come(exchange: &mut Exchange, comes: Comes) -> Result<(), Fail> {
+fn come<R: Abort>(rt: &R, exchange: &mut Exchange, comes: Comes) -> Result<(), Fail> {
     match comes {
-        Comes::Said(line) => exchange.said(line.as_bytes())?,
+        Comes::Said(line) => {
+            assert!(rt; exchange.is_ready());
+            exchange.said(line.as_bytes())?;
+        }
+        Comes::SaidTooLong => {
+            assert!(rt; exchange.is_ready());
+            exchange.said_too_long()?;
+        }
         Comes::Heard(place, lines) => {
             for line in lines.lines() {
+                assert!(rt; exchange.waits_for(place));
                 exchange.heard(place, line)?;
             }
         }
-        Comes::Here(place) => exchange.here(place),
+        Comes::Here(place) => {
+            assert!(rt; exchange.is_away(place));
+            exchange.here(place);
+        }
         Comes::Gone(place) => exchange.gone(place)?,
     }
     Ok(())
 }
 
 // What waits to go, which goes.
-fn taken(alloc: Global, bytes: &mut Vec<u8>) -> Result<String, Fail> {
+fn taken(alloc: Global, exchange: &mut Exchange) -> Result<String, Fail> {
     let mut text = String::new(alloc);
-    if let Ok(some) = str::from_utf8(bytes.as_slice()) {
+    if let Ok(some) = str::from_utf8(exchange.told()) {
         text.push_str(some)?;
     }
-    bytes.clear();
+    let count = exchange.told().len();
+    exchange.took(count);
     Ok(text)
 }
 
@@ -60,8 +73,8 @@ fn sent_to(alloc: Global, exchange: &mut Exchange, place: usize) -> Result<Strin
 
 fn play<R: AllocGlobal + Abort>(rt: &R, exchange: &mut Exchange, rows: &[Row]) -> Result<(), Fail> {
     for (comes, told, sent) in rows {
-        come(exchange, *comes)?;
-        let told_now = taken(rt.alloc(), &mut exchange.told)?;
+        come(rt, exchange, *comes)?;
+        let told_now = taken(rt.alloc(), exchange)?;
         assert_eq!(rt; told_now.as_str(), *told);
         for place in 0..3 {
             let wire = sent_to(rt.alloc(), exchange, place)?;
@@ -136,7 +149,7 @@ fn lines_go_to_their_servers(rt: HostRuntime) -> Result<(), Fail> {
 #[test]
 fn answers_come_in_order(rt: HostRuntime) -> Result<(), Fail> {
     let mut exchange = begun(&rt)?;
-    let rows: [Row; 7] = [
+    let rows: [Row; 8] = [
         (Comes::Said("fen 10000001"), "", ["fen 1\n", "", ""]),
         (Comes::Said("pgn 20000001"), "", ["", "pgn 1\n", ""]),
         (Comes::Said("nothing"), "", NOTHING),
@@ -154,9 +167,10 @@ fn answers_come_in_order(rt: HostRuntime) -> Result<(), Fail> {
             "ok fen 10000001 8/8/8 w - - 0 1\nok pgn 20000001 3\n[White \"ann\"]\n\n*\nno 1 BadLine\n",
             NOTHING,
         ),
+        (Comes::SaidTooLong, "", NOTHING),
         (
             Comes::Heard(0, "ok list 2\n1 ann bob 7 1-0\n12345678 ann bob 7 *"),
-            "ok list 2\n10000001 ann bob 7 1-0\n20000004 ann - 0 *\n",
+            "ok list 2\n10000001 ann bob 7 1-0\n20000004 ann - 0 *\nbye LineTooLong\n",
             NOTHING,
         ),
     ];

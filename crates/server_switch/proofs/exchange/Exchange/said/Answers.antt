@@ -4,4 +4,5 @@ use Rattle.server_switch.proofs.exchange.Exchange.said.Goals as goal
 
 pub returns : goal.returns
 returns c =
-    on_ok_weaker c.flush.result (λ told. (view c.go_bytes.new.self, c.in_ok-go_bytes.ensures, told)) c.flush.ensures
+    on_ok_weaker c.flush.result (λ told.
+    (c.in_ok-go_bytes.ensures.0, (c.in_ok-go_bytes.ensures.1, view c.go_bytes.new.self, c.in_ok-go_bytes.ensures.2, told))) c.flush.ensures
