@@ -1,6 +1,7 @@
 -- A player of a players' file has a new link.
 use Rattle.std.specs.Prelude.{ℕ, ◌≡◌, true, false, List}
 use Rattle.std.specs.List.{list_any}
+use Rattle.std.specs.String.{string_bytes}
 use Rattle.sha2.specs.Sha256.{sha256}
 use Rattle.lobby_desk.specs.declared.players.Player.{Player}
 use Rattle.lobby_desk.specs.Lines.{bytes_of}
@@ -10,6 +11,15 @@ use Rattle.lobby_players.specs.declared.faults.LinkFault.TheVariants as faults
 use Rattle.lobby_players.specs.File.{Entry, IsFileOf, lines_of, entries_of, has_name, has_sum}
 use Rattle.lobby_players.specs.Faults.{IsFault}
 use Rattle.lobby_players.specs.Adding.{in_place, is_of}
+
+-- the player of this name, with this sum
+abbrev pub entry_linked : List ℕ → List ℕ → Player → Entry
+entry_linked name sum player = record {
+  name = name;
+  is_arbiter = player.is_arbiter;
+  sum = sum;
+  full_name = string_bytes player.full_name;
+}
 
 -- The new text is the file in which the player of this name has this token, and all else of the players is as it was. All other
 -- lines stand in it as they did and where they did.
