@@ -168,35 +168,33 @@ none_others : (p q : Entry → Bool) (xs : List Entry) → list_any q xs ≡ fal
 none_others p q [] none = refl
 none_others p q (x ∷ xs) none = none_others_by p q x xs (p x) (or_first _ _ none) (none_others p q xs (or_second _ _ none))
 
-file_told : (name token text new : List ℕ) (p : Player) (before after : List Player) → IsFileOf text (entries_of before) →
-    find (named name) before ≡ Some p → list_any (has_sum (sha256 token)) (entries_of before) ≡ false →
-    decode_sized (encode_lower (sha256 token)) 32 ≡ Ok (sha256 token) → AreWithSum name (sha256 token) before after →
-    new ≡ added_text text (entry_linked name (sha256 token) p) → IsFileRelinked name token text new before after
-file_told name token text new p before after file found fresh digits each written =
-    let sum = sha256 token in
+pub file_relinked : (name sum text new : List ℕ) (p : Player) (before after : List Player) → IsFileOf text (entries_of before) →
+    find (named name) before ≡ Some p → list_any (has_sum sum) (entries_of before) ≡ false → decode_sized (encode_lower sum) 32 ≡ Ok sum →
+    AreWithSum name sum before after → new ≡ added_text text (entry_linked name sum p) → IsFileRelinked name text new before after
+file_relinked name sum text new p before after file found fresh digits each written =
     let e = entry_linked name sum p in
-    let none = any_mapped entry_of (has_sum sum) before ∙ fresh in
     let line = spelled name p (spoken (lines_of text)) before file.told found in
     let add = file_added text (entries_of before) e new file line.is_name digits line.is_full
     (none_others (is_other name) (has_sum sum) (entries_of before) fresh) written in
     record {
       old_file = file;
       new_file = subst (λ (es : List Entry). IsFileOf new es) (sym (placed name sum p before after file.apart found each)) add.after;
-      changed = record { each = each; fresh = none; holds = shown name token p before after found none each };
       line = line_of e;
       written = written;
     }
 
-pub file_relinked : (name token sum text new : List ℕ) (p : Player) (before after : List Player) → sum ≡ sha256 token →
-    IsFileOf text (entries_of before) → find (named name) before ≡ Some p → list_any (has_sum sum) (entries_of before) ≡ false →
-    decode_sized (encode_lower sum) 32 ≡ Ok sum → AreWithSum name sum before after → new ≡ added_text text (entry_linked name sum p) →
-    IsFileRelinked name token text new before after
-file_relinked name token sum text new p before after is file found fresh digits each written =
-    file_told name token text new p before after file found
-    (subst (λ (s : List ℕ). list_any (has_sum s) (entries_of before) ≡ false) is fresh)
-    (subst (λ (s : List ℕ). decode_sized (encode_lower s) 32 ≡ Ok s) is digits)
+players_told : (name token : List ℕ) (p : Player) (before after : List Player) → find (named name) before ≡ Some p →
+    list_any (has_sum_now (sha256 token)) before ≡ false → AreWithSum name (sha256 token) before after → IsRelinked name token before after
+players_told name token p before after found fresh each =
+    record { each = each; fresh = fresh; holds = shown name token p before after found fresh each }
+
+pub players_relinked : (name token sum : List ℕ) (p : Player) (before after : List Player) → sum ≡ sha256 token →
+    find (named name) before ≡ Some p → list_any (has_sum sum) (entries_of before) ≡ false → AreWithSum name sum before after →
+    IsRelinked name token before after
+players_relinked name token sum p before after is found fresh each =
+    players_told name token p before after found
+    (subst (λ (s : List ℕ). list_any (has_sum_now s) before ≡ false) is (any_mapped entry_of (has_sum sum) before ∙ fresh))
     (subst (λ (s : List ℕ). AreWithSum name s before after) is each)
-    (subst (λ (s : List ℕ). new ≡ added_text text (entry_linked name s p)) is written)
 
 -- ---- nobody has the name
 

@@ -5,7 +5,7 @@ ghost use Rattle.std.specs.Option.{option_copied};
 ghost use Rattle.std.specs.Str.{bytes_eq};
 ghost use Rattle.std.specs.String.{string_bytes};
 ghost use Rattle.hex.specs.Hex.{decode_sized, encode_lower};
-ghost use Rattle.lobby_desk.specs.Players.{IsWithSum, sum_given};
+ghost use Rattle.lobby_desk.specs.Players.{IsRelinked, IsWithSum, sum_given};
 ghost use Rattle.lobby_players.specs.Adding.{added_text};
 ghost use Rattle.lobby_players.specs.Relinking.{IsFileRelinked, IsLinkFault, entry_linked};
 
@@ -113,7 +113,8 @@ pub fn relinked(
     name: &Name,
     token: &[u8; 16],
 ) -> Result<ChangedFile, LinkFault>
-    ensures relinked { IfOk result (λ new. IsFileRelinked name.now (string_bytes new.linked.token) text.now (string_bytes new.text) new.before.items new.linked.players.items) }
+    ensures file { IfOk result (λ new. IsFileRelinked name.now text.now (string_bytes new.text) new.before.items new.linked.players.items) }
+    ensures players { IfOk result (λ new. IsRelinked name.now (string_bytes new.linked.token) new.before.items new.linked.players.items) }
     ensures token { IfOk result (λ new. string_bytes new.linked.token ≡ encode_lower token.now) }
     ensures fault { IfErr result (IsLinkFault name.now (encode_lower token.now) text.now) }
 {
