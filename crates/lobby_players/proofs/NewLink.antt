@@ -16,7 +16,7 @@ use Rattle.lobby_players.specs.File.{Entry, IsLineOf, AreTwo, IsFileOf, lines_of
 use Rattle.lobby_players.specs.Adding.{added_text, added_entries, in_place, is_of, is_other, line_of}
 use Rattle.lobby_players.specs.Relinking.{IsFileRelinked, entry_linked}
 use Rattle.lobby_players.proofs.Entries.{any_mapped, or_first, or_second, pairs_head, pairs_tail}
-use Rattle.lobby_players.proofs.Written.{file_added}
+use Rattle.lobby_players.proofs.Written.{file_after}
 
 abbrev pub named : List ℕ → Player → Bool
 named name player = bytes_eq player.name name
@@ -26,7 +26,7 @@ AreWithSum name sum before after = AllZip (λ (old new : Player). IsWithSum (sum
 
 -- ---- one of a list
 
-or_player : Player → Option Player → Player
+abbrev or_player : Player → Option Player → Player
 or_player player None = player
 or_player player (Some other) = other
 
@@ -36,7 +36,7 @@ same_player x p is = ap (or_player x) is
 not_none : (p : Player) → None ≡ Some p → ⊥
 not_none p is = false≢true (ap is_some is)
 
-entry_by : List ℕ → Bool → List ℕ → List ℕ → Entry
+abbrev entry_by : List ℕ → Bool → List ℕ → List ℕ → Entry
 entry_by name is_arbiter sum full_name = record { name = name; is_arbiter = is_arbiter; sum = sum; full_name = full_name }
 
 same_entry : (a b : Entry) → a.name ≡ b.name → a.is_arbiter ≡ b.is_arbiter → a.sum ≡ b.sum → a.full_name ≡ b.full_name → a ≡ b
@@ -174,11 +174,12 @@ pub file_relinked : (name sum text new : List ℕ) (p : Player) (before after : 
 file_relinked name sum text new p before after file found fresh digits each written =
     let e = entry_linked name sum p in
     let line = spelled name p (spoken (lines_of text)) before file.told found in
-    let add = file_added text (entries_of before) e new file line.is_name digits line.is_full
+    let add : IsFileOf new (in_place (has_name name) e (entries_of before)) =
+    file_after text (entries_of before) e new file line.is_name digits line.is_full
     (none_others (is_other name) (has_sum sum) (entries_of before) fresh) written in
     record {
       old_file = file;
-      new_file = subst (λ (es : List Entry). IsFileOf new es) (sym (placed name sum p before after file.apart found each)) add.after;
+      new_file = subst (λ (es : List Entry). IsFileOf new es) (sym (placed name sum p before after file.apart found each)) add;
       line = line_of e;
       written = written;
     }

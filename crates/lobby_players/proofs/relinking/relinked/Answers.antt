@@ -12,15 +12,15 @@ use Rattle.lobby_players.proofs.Entries.{any_of}
 use Rattle.lobby_players.proofs.NewLink.{AreWithSum, named, file_relinked, players_relinked, nobody}
 use Rattle.lobby_players.proofs.relinking.relinked.Goals as goal
 
-pub returns-in-None-clause-fault : goal.returns-in-None-clause-fault
-returns-in-None-clause-fault c =
+pub returns-in_default-clause-fault : goal.returns-in_default-clause-fault
+returns-in_default-clause-fault c =
     let before = c.in-Ok-read_text.players.items in
     record {
       entries = entries_of before;
       before = subst (λ (t : List ℕ). IsFileOf t (entries_of before)) c.in-Ok.ensures.text c.in-Ok-read_text.ensures.players;
       none = nobody c.args.name.now before
           (ap (λ (ps : List Player). find (named c.args.name.now) ps) (sym c.as_slice.ensures.value)
-          ∙ (sym c.named.ensures ∙ ap option_copied c.in-None.is));
+          ∙ (sym c.named.ensures ∙ ap option_copied c.in_default.is));
     }
 
 pub returns-then-has_sum-clause-fault : goal.returns-then-has_sum-clause-fault
