@@ -84,7 +84,7 @@ placed_at : (name sum : List ℕ) (p x : Player) (xs : List Player) (y : Player)
     AreWithSum name sum xs ys →
     (find (named name) xs ≡ Some p → entries_of ys ≡ in_place (has_name name) (entry_linked name sum p) (entries_of xs)) →
     entries_of (y ∷ ys) ≡ cond b (entry_linked name sum p ∷ entries_of xs)
-        (entry_of x ∷ in_place (has_name name) (entry_linked name sum p) (entries_of xs))
+    (entry_of x ∷ in_place (has_name name) (entry_linked name sum p) (entries_of xs))
 placed_at name sum p x xs y ys true here pairs found is zip next =
     let same = same_player x p found in
     let called : x.name ≡ name = (bytes_eq-Decides x.name name).0 here in
