@@ -17,7 +17,10 @@ const REST: u64 = 1_000;
 
 // What a regular file has. It is opened for writing too, though nothing is written: a pipe that was put there since it was looked at
 // would else hold its opening up until somebody writes into it.
-fn read_regular<R: Files<File = OpenFile> + AllocGlobal>(rt: &R, file: &str) -> io::Result<Vec<u8>> {
+fn read_regular<R: Files<File = OpenFile> + AllocGlobal>(
+    rt: &R,
+    file: &str,
+) -> io::Result<Vec<u8>> {
     let mut options = OpenOptions::new();
     options.read(true).write(true);
     let mut opened = options.open(rt, file)?;

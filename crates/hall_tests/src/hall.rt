@@ -609,7 +609,8 @@ struct Once {
 }
 
 // The file of ann, whose token is `t`, and of eve, whose token is `e`.
-const FILE: &[u8] = b"ann player e3b98a4da31a127d4bde6e43033f66ba274cab0eb7eb1c70ec41402bf6273dd8 ann\neve arbiter 3f79bb7b435b05321651daefd374cdc681dc06faa65e374e38337b88ca046dea eve\n";
+const FILE: &[u8] =
+    b"ann player e3b98a4da31a127d4bde6e43033f66ba274cab0eb7eb1c70ec41402bf6273dd8 ann\neve arbiter 3f79bb7b435b05321651daefd374cdc681dc06faa65e374e38337b88ca046dea eve\n";
 
 impl Links for Once {
     ghost found = { λ once. once.found.items };

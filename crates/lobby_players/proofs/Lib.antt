@@ -2,4 +2,4 @@ pub mod Words
 pub mod Told
 pub mod Entries
 pub mod Written
-pub mod Relinked
+pub mod NewLink

@@ -370,22 +370,27 @@ keep_step p line old lines rest put is_put text new all cut other same told befo
     ∙ (ap (λ (ls : List (List ℕ)). text ++ bytes_of ls) (sym (left_other p line old rest put other))
     ∙ (ap (λ (ls : List (List ℕ)). text ++ bytes_of (left p line put ls)) (sym cut) ∙ before))))
 
-pub file_added : (text : List ℕ) (es : List Entry) (e : Entry) (new : List ℕ) → IsFileOf text es → IsName e.name →
+pub file_after : (text : List ℕ) (es : List Entry) (e : Entry) (new : List ℕ) → IsFileOf text es → IsName e.name →
     decode_sized (encode_lower e.sum) 32 ≡ Ok e.sum → is_full_name e.full_name ≡ true →
-    list_any (has_sum e.sum) (filter (is_other e.name) es) ≡ false → new ≡ added_text text e → IsAdded text e new
-file_added text es e new before name sum full shown written =
+    list_any (has_sum e.sum) (filter (is_other e.name) es) ≡ false → new ≡ added_text text e → IsFileOf new (added_entries es e)
+file_after text es e new before name sum full shown written =
     let line = line_of e in
     let lines = in_place (is_of e.name) line (lines_of text) in
     let rest = 32 ∷ (role_text e.is_arbiter ++ (32 ∷ (encode_lower e.sum ++ (32 ∷ e.full_name)))) in
-    record {
-      entries = es;
-      before = before;
-      written = written;
-      after = subst (λ (ls : List (List ℕ)). AreLinesOf ls (added_entries es e))
-          (sym (ap lines_of written
-          ∙ lines_back lines (place_free (is_of e.name) line (lines_of text) (line_free e name sum full) (lines_free text))))
-          (record {
-            told = place_zip line e (lines_of text) es (speaks_by e.name rest name) (line_is e name sum full) before.told;
-            apart = place_pairs e es before.apart shown;
-          });
-    }
+    subst (λ (ls : List (List ℕ)). AreLinesOf ls (added_entries es e))
+    (sym (ap lines_of written
+    ∙ lines_back lines (place_free (is_of e.name) line (lines_of text) (line_free e name sum full) (lines_free text))))
+    (record {
+      told = place_zip line e (lines_of text) es (speaks_by e.name rest name) (line_is e name sum full) before.told;
+      apart = place_pairs e es before.apart shown;
+    })
+
+pub file_added : (text : List ℕ) (es : List Entry) (e : Entry) (new : List ℕ) → IsFileOf text es → IsName e.name →
+    decode_sized (encode_lower e.sum) 32 ≡ Ok e.sum → is_full_name e.full_name ≡ true →
+    list_any (has_sum e.sum) (filter (is_other e.name) es) ≡ false → new ≡ added_text text e → IsAdded text e new
+file_added text es e new before name sum full shown written = record {
+  entries = es;
+  before = before;
+  written = written;
+  after = file_after text es e new before name sum full shown written;
+}

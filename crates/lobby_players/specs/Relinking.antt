@@ -1,22 +1,30 @@
 -- A player of a players' file has a new link.
 use Rattle.std.specs.Prelude.{ℕ, ◌≡◌, true, false, List}
 use Rattle.std.specs.List.{list_any}
+use Rattle.std.specs.String.{string_bytes}
 use Rattle.sha2.specs.Sha256.{sha256}
 use Rattle.lobby_desk.specs.declared.players.Player.{Player}
 use Rattle.lobby_desk.specs.Lines.{bytes_of}
-use Rattle.lobby_desk.specs.Players.{IsRelinked}
 use Rattle.lobby_players.specs.declared.faults.LinkFault.{LinkFault}
 use Rattle.lobby_players.specs.declared.faults.LinkFault.TheVariants as faults
 use Rattle.lobby_players.specs.File.{Entry, IsFileOf, lines_of, entries_of, has_name, has_sum}
 use Rattle.lobby_players.specs.Faults.{IsFault}
 use Rattle.lobby_players.specs.Adding.{in_place, is_of}
 
--- The new text is the file in which the player of this name has this token, and all else of the players is as it was. All other
--- lines stand in it as they did and where they did.
-pub record IsFileRelinked (name token text new : List ℕ) (before after : List Player) : Type 0 where
+-- the player of this name, with this sum
+abbrev pub entry_linked : List ℕ → List ℕ → Player → Entry
+entry_linked name sum player = record {
+  name = name;
+  is_arbiter = player.is_arbiter;
+  sum = sum;
+  full_name = string_bytes player.full_name;
+}
+
+-- The texts are files of these players, and the new one is the old one but for the line of this name: all other lines stand in it as
+-- they did and where they did.
+pub record IsFileRelinked (name text new : List ℕ) (before after : List Player) : Type 0 where
   pub old_file : IsFileOf text (entries_of before)
   pub new_file : IsFileOf new (entries_of after)
-  pub changed : IsRelinked name token before after
   pub line : List ℕ
   pub written : new ≡ bytes_of (in_place (is_of name) line (lines_of text))
 

@@ -118,7 +118,8 @@ pub fn text_with(
     let mut line = String::new(alloc);
     push_player(&mut line, alloc, who, sum)?;
     let shown = line.as_str();
-    with_line(alloc, text, who.name, shown)
+    let new = with_line(alloc, text, who.name, shown)?;
+    Ok(new)
 }
 
 /// The text of the file with the player's line: in the place of the line that had the name, so that a player who is there

@@ -12,5 +12,5 @@ mod token;
 pub use adding::{Addition, added};
 pub use faults::{AddFault, LineFault, LinkFault, PlayersFault};
 pub use reading::read;
-pub use relinking::{Relinked, relinked};
+pub use relinking::{ChangedFile, relinked};
 pub use token::{link_text, new_token, token_text};

@@ -4,9 +4,10 @@ ghost use Rattle.std.specs.List.{AllZip};
 ghost use Rattle.std.specs.Option.{option_copied};
 ghost use Rattle.std.specs.Str.{bytes_eq};
 ghost use Rattle.std.specs.String.{string_bytes};
-ghost use Rattle.hex.specs.Hex.{encode_lower};
-ghost use Rattle.lobby_desk.specs.Players.{IsWithSum, sum_given};
-ghost use Rattle.lobby_players.specs.Relinking.{IsFileRelinked, IsLinkFault};
+ghost use Rattle.hex.specs.Hex.{decode_sized, encode_lower};
+ghost use Rattle.lobby_desk.specs.Players.{IsRelinked, IsWithSum, sum_given};
+ghost use Rattle.lobby_players.specs.Adding.{added_text};
+ghost use Rattle.lobby_players.specs.Relinking.{IsFileRelinked, IsLinkFault, entry_linked};
 
 use crate::adding::{Addition, text_with};
 use crate::faults::LinkFault;
@@ -19,7 +20,7 @@ use std::alloc::{AllocError, Global};
 
 /// A players' file in which a player has a new link.
 #[derive(Drop)]
-pub struct Relinked {
+pub struct ChangedFile {
     /// The file's new text.
     pub text: String,
     /// The players of the old text.
@@ -83,6 +84,26 @@ fn all_with_sum(
     Ok(after)
 }
 
+// A text in which the line of a name is that of this player, with this sum.
+fn text_linked(
+    alloc: Global,
+    text: &str,
+    player: &Player,
+    name: &Name,
+    sum: &[u8; 32],
+) -> Result<String, AllocError>
+    ensures written { IfOk result (λ new. string_bytes new ≡ added_text text.now (entry_linked name.now sum.now player.now)) }
+    ensures digits { IfOk result (λ _. decode_sized (encode_lower sum.now) 32 ≡ Ok sum.now) }
+{
+    let who = Addition {
+        name: name.as_str(),
+        full_name: player.full_name.as_str(),
+        is_arbiter: player.is_arbiter,
+    };
+    let new = text_with(alloc, text, &who, sum)?;
+    Ok(new)
+}
+
 /// The file in which the player of this name has this token, in the place of the one that he had: in the player's line the sum is
 /// another, and all other lines stand as and where they stood. It fails at the first of these: the file is none, it has no such
 /// player, or one of its players has the token; or where memory is refused.
@@ -91,8 +112,9 @@ pub fn relinked(
     text: &[u8],
     name: &Name,
     token: &[u8; 16],
-) -> Result<Relinked, LinkFault>
-    ensures relinked { IfOk result (λ new. IsFileRelinked name.now (string_bytes new.linked.token) text.now (string_bytes new.text) new.before.items new.linked.players.items) }
+) -> Result<ChangedFile, LinkFault>
+    ensures file { IfOk result (λ new. IsFileRelinked name.now text.now (string_bytes new.text) new.before.items new.linked.players.items) }
+    ensures players { IfOk result (λ new. IsRelinked name.now (string_bytes new.linked.token) new.before.items new.linked.players.items) }
     ensures token { IfOk result (λ new. string_bytes new.linked.token ≡ encode_lower token.now) }
     ensures fault { IfErr result (IsLinkFault name.now (encode_lower token.now) text.now) }
 {
@@ -107,21 +129,19 @@ pub fn relinked(
     let Some(player) = named(before.as_slice(), name) else {
         return Err(LinkFault::NoPlayer);
     };
-    let token = token_text(alloc, token)?;
-    let sum = Sha256::digest(token.as_str());
+    let shown = token_text(alloc, token)?;
+    let sum = Sha256::digest(shown.as_str());
     if has_sum(before.as_slice(), &sum) {
         return Err(LinkFault::TokenTaken);
     }
-    let who = Addition {
-        name: name.as_str(),
-        full_name: player.full_name.as_str(),
-        is_arbiter: player.is_arbiter,
-    };
-    let new = text_with(alloc, text, &who, &sum)?;
+    let new = text_linked(alloc, text, player, name, &sum)?;
     let players = all_with_sum(alloc, before.as_slice(), name, &sum)?;
-    Ok(Relinked {
+    Ok(ChangedFile {
         text: new,
         before,
-        linked: Linked { players, token },
+        linked: Linked {
+            players,
+            token: shown,
+        },
     })
 }

@@ -1,6 +1,6 @@
 use Rattle.std.proofs.Common.{take}
-use Rattle.lobby_players.proofs.Relinked.{AreWithSum}
+use Rattle.lobby_players.proofs.NewLink.{AreWithSum}
 use Rattle.lobby_players.proofs.relinking.all_with_sum.Given as goal
 
 abbrev pub invariant-loop-player : goal.invariant-loop-player
-invariant-loop-player l = AreWithSum l.name.now l.sum.now (take l.player-index l.players) l.after.items
+invariant-loop-player l = AreWithSum l.name l.sum (take l.player-index l.players) l.after.items

@@ -14,11 +14,11 @@ use Rattle.lobby_desk.specs.declared.players.Player.{Player}
 use Rattle.lobby_desk.specs.Players.{has_sum as has_sum_now, identity_of, is_named, holder_of, is_token_of, sum_given, IsWithSum, IsRelinked}
 use Rattle.lobby_players.specs.File.{Entry, IsLineOf, AreTwo, IsFileOf, lines_of, spoken, is_full_name, has_name, has_sum, entry_of, entries_of}
 use Rattle.lobby_players.specs.Adding.{added_text, added_entries, in_place, is_of, is_other, line_of}
-use Rattle.lobby_players.specs.Relinking.{IsFileRelinked}
+use Rattle.lobby_players.specs.Relinking.{IsFileRelinked, entry_linked}
 use Rattle.lobby_players.proofs.Entries.{any_mapped, or_first, or_second, pairs_head, pairs_tail}
-use Rattle.lobby_players.proofs.Written.{file_added}
+use Rattle.lobby_players.proofs.Written.{file_after}
 
-abbrev named : List ℕ → Player → Bool
+abbrev pub named : List ℕ → Player → Bool
 named name player = bytes_eq player.name name
 
 abbrev pub AreWithSum : List ℕ → List ℕ → List Player → List Player → Type 0
@@ -26,7 +26,7 @@ AreWithSum name sum before after = AllZip (λ (old new : Player). IsWithSum (sum
 
 -- ---- one of a list
 
-or_player : Player → Option Player → Player
+abbrev or_player : Player → Option Player → Player
 or_player player None = player
 or_player player (Some other) = other
 
@@ -36,7 +36,7 @@ same_player x p is = ap (or_player x) is
 not_none : (p : Player) → None ≡ Some p → ⊥
 not_none p is = false≢true (ap is_some is)
 
-entry_by : List ℕ → Bool → List ℕ → List ℕ → Entry
+abbrev entry_by : List ℕ → Bool → List ℕ → List ℕ → Entry
 entry_by name is_arbiter sum full_name = record { name = name; is_arbiter = is_arbiter; sum = sum; full_name = full_name }
 
 same_entry : (a b : Entry) → a.name ≡ b.name → a.is_arbiter ≡ b.is_arbiter → a.sum ≡ b.sum → a.full_name ≡ b.full_name → a ≡ b
@@ -79,23 +79,19 @@ none_behind name x (y ∷ ys) here all =
     let other : named name y ≡ false = other_by name x y (named name y) refl here (All-head (AreTwo (entry_of x)) (entry_of y) (entries_of ys) all) in
     rw other (none_behind name x ys here (All-tail (AreTwo (entry_of x)) (entry_of y) (entries_of ys) all))
 
--- the player who has the name then
-abbrev pub relinked_entry : List ℕ → List ℕ → Player → Entry
-relinked_entry name sum p = record { name = name; is_arbiter = p.is_arbiter; sum = sum; full_name = string_bytes p.full_name }
-
 placed_at : (name sum : List ℕ) (p x : Player) (xs : List Player) (y : Player) (ys : List Player) (b : Bool) → named name x ≡ b →
     AllPairs AreTwo (entries_of (x ∷ xs)) → cond b (Some x) (find (named name) xs) ≡ Some p → IsWithSum (sum_given name sum x) x y →
     AreWithSum name sum xs ys →
-    (find (named name) xs ≡ Some p → entries_of ys ≡ in_place (has_name name) (relinked_entry name sum p) (entries_of xs)) →
-    entries_of (y ∷ ys) ≡ cond b (relinked_entry name sum p ∷ entries_of xs)
-        (entry_of x ∷ in_place (has_name name) (relinked_entry name sum p) (entries_of xs))
+    (find (named name) xs ≡ Some p → entries_of ys ≡ in_place (has_name name) (entry_linked name sum p) (entries_of xs)) →
+    entries_of (y ∷ ys) ≡ cond b (entry_linked name sum p ∷ entries_of xs)
+    (entry_of x ∷ in_place (has_name name) (entry_linked name sum p) (entries_of xs))
 placed_at name sum p x xs y ys true here pairs found is zip next =
     let same = same_player x p found in
     let called : x.name ≡ name = (bytes_eq-Decides x.name name).0 here in
     ap (λ (e : Entry). e ∷ entries_of ys)
-    (same_entry (entry_of y) (relinked_entry name sum p) (is.name ∙ called) (is.is_arbiter ∙ ap (λ (q : Player). q.is_arbiter) same)
+    (same_entry (entry_of y) (entry_linked name sum p) (is.name ∙ called) (is.is_arbiter ∙ ap (λ (q : Player). q.is_arbiter) same)
     (sum_of_named name sum x y here is) (is.full_name ∙ ap (λ (q : Player). string_bytes q.full_name) same))
-    ∙ ap (λ (es : List Entry). relinked_entry name sum p ∷ es)
+    ∙ ap (λ (es : List Entry). entry_linked name sum p ∷ es)
     (others_same name sum xs ys (none_behind name x xs called (pairs_head AreTwo (entry_of x) (entries_of xs) pairs)) zip)
 placed_at name sum p x xs y ys false other pairs found is zip next =
     ap (λ (e : Entry). e ∷ entries_of ys) (other_entry name sum x y other is)
@@ -104,7 +100,7 @@ placed_at name sum p x xs y ys false other pairs found is zip next =
 -- they are those before, with him in the place of who had the name
 placed : (name sum : List ℕ) (p : Player) (before after : List Player) → AllPairs AreTwo (entries_of before) →
     find (named name) before ≡ Some p → AreWithSum name sum before after →
-    entries_of after ≡ in_place (has_name name) (relinked_entry name sum p) (entries_of before)
+    entries_of after ≡ in_place (has_name name) (entry_linked name sum p) (entries_of before)
 placed name sum p [] after pairs found zip = absurd (not_none p found)
 placed name sum p (x ∷ xs) [] pairs found zip = absurd zip
 placed name sum p (x ∷ xs) (y ∷ ys) pairs found zip =
@@ -143,19 +139,25 @@ shown name token p before after found fresh zip = shown_found name (sha256 token
 
 -- ---- the new file
 
-full_at : (line : List ℕ) (x p : Player) (lines : List (List ℕ)) (xs : List Player) (name : List ℕ) (b : Bool) → IsLineOf line (entry_of x) →
-    cond b (Some x) (find (named name) xs) ≡ Some p →
-    (find (named name) xs ≡ Some p → is_full_name (string_bytes p.full_name) ≡ true) → is_full_name (string_bytes p.full_name) ≡ true
-full_at line x p lines xs name true told found next =
-    ap (λ (q : Player). is_full_name (string_bytes q.full_name)) (sym (same_player x p found)) ∙ told.full_name
-full_at line x p lines xs name false told found next = next found
+-- the line of the player who is found
+pub record IsSpelled (name : List ℕ) (p : Player) : Type 0 where
+  pub is_name : IsName name
+  pub is_full : is_full_name (string_bytes p.full_name) ≡ true
 
-full_found : (name : List ℕ) (p : Player) (lines : List (List ℕ)) (xs : List Player) → AllZip IsLineOf lines (entries_of xs) →
-    find (named name) xs ≡ Some p → is_full_name (string_bytes p.full_name) ≡ true
-full_found name p lines [] zip found = absurd (not_none p found)
-full_found name p [] (x ∷ xs) zip found = absurd zip
-full_found name p (line ∷ lines) (x ∷ xs) zip found =
-    full_at line x p lines xs name (named name x) zip.0 found (λ more. full_found name p lines xs zip.1 more)
+spelled_at : (name line : List ℕ) (x p : Player) (xs : List Player) (b : Bool) → named name x ≡ b → IsLineOf line (entry_of x) →
+    cond b (Some x) (find (named name) xs) ≡ Some p → (find (named name) xs ≡ Some p → IsSpelled name p) → IsSpelled name p
+spelled_at name line x p xs true here told found next = record {
+  is_name = subst IsName ((bytes_eq-Decides x.name name).0 here) told.name;
+  is_full = ap (λ (q : Player). is_full_name (string_bytes q.full_name)) (sym (same_player x p found)) ∙ told.full_name;
+}
+spelled_at name line x p xs false here told found next = next found
+
+spelled : (name : List ℕ) (p : Player) (lines : List (List ℕ)) (xs : List Player) → AllZip IsLineOf lines (entries_of xs) →
+    find (named name) xs ≡ Some p → IsSpelled name p
+spelled name p lines [] zip found = absurd (not_none p found)
+spelled name p [] (x ∷ xs) zip found = absurd zip
+spelled name p (line ∷ lines) (x ∷ xs) zip found =
+    spelled_at name line x p xs (named name x) refl zip.0 found (λ more. spelled name p lines xs zip.1 more)
 
 none_others_by : (p q : Entry → Bool) (x : Entry) (xs : List Entry) (b : Bool) → q x ≡ false → list_any q (filter p xs) ≡ false →
     list_any q (cond b (x ∷ filter p xs) (filter p xs)) ≡ false
@@ -166,20 +168,45 @@ none_others : (p q : Entry → Bool) (xs : List Entry) → list_any q xs ≡ fal
 none_others p q [] none = refl
 none_others p q (x ∷ xs) none = none_others_by p q x xs (p x) (or_first _ _ none) (none_others p q xs (or_second _ _ none))
 
-pub file_relinked : (name token text new : List ℕ) (p : Player) (before after : List Player) → IsName name → IsFileOf text (entries_of before) →
-    find (named name) before ≡ Some p → list_any (has_sum (sha256 token)) (entries_of before) ≡ false →
-    decode_sized (encode_lower (sha256 token)) 32 ≡ Ok (sha256 token) → AreWithSum name (sha256 token) before after →
-    new ≡ added_text text (relinked_entry name (sha256 token) p) → IsFileRelinked name token text new before after
-file_relinked name token text new p before after is file found fresh digits each written =
-    let sum = sha256 token in
-    let e = relinked_entry name sum p in
-    let none = any_mapped entry_of (has_sum sum) before ∙ fresh in
-    let add = file_added text (entries_of before) e new file is digits (full_found name p (spoken (lines_of text)) before file.told found)
+pub file_relinked : (name sum text new : List ℕ) (p : Player) (before after : List Player) → IsFileOf text (entries_of before) →
+    find (named name) before ≡ Some p → list_any (has_sum sum) (entries_of before) ≡ false → decode_sized (encode_lower sum) 32 ≡ Ok sum →
+    AreWithSum name sum before after → new ≡ added_text text (entry_linked name sum p) → IsFileRelinked name text new before after
+file_relinked name sum text new p before after file found fresh digits each written =
+    let e = entry_linked name sum p in
+    let line = spelled name p (spoken (lines_of text)) before file.told found in
+    let add : IsFileOf new (in_place (has_name name) e (entries_of before)) =
+    file_after text (entries_of before) e new file line.is_name digits line.is_full
     (none_others (is_other name) (has_sum sum) (entries_of before) fresh) written in
     record {
       old_file = file;
-      new_file = subst (λ (es : List Entry). IsFileOf new es) (sym (placed name sum p before after file.apart found each)) add.after;
-      changed = record { each = each; fresh = none; holds = shown name token p before after found none each };
+      new_file = subst (λ (es : List Entry). IsFileOf new es) (sym (placed name sum p before after file.apart found each)) add;
       line = line_of e;
       written = written;
     }
+
+players_told : (name token : List ℕ) (p : Player) (before after : List Player) → find (named name) before ≡ Some p →
+    list_any (has_sum_now (sha256 token)) before ≡ false → AreWithSum name (sha256 token) before after → IsRelinked name token before after
+players_told name token p before after found fresh each =
+    record { each = each; fresh = fresh; holds = shown name token p before after found fresh each }
+
+pub players_relinked : (name token sum : List ℕ) (p : Player) (before after : List Player) → sum ≡ sha256 token →
+    find (named name) before ≡ Some p → list_any (has_sum sum) (entries_of before) ≡ false → AreWithSum name sum before after →
+    IsRelinked name token before after
+players_relinked name token sum p before after is found fresh each =
+    players_told name token p before after found
+    (subst (λ (s : List ℕ). list_any (has_sum_now s) before ≡ false) is (any_mapped entry_of (has_sum sum) before ∙ fresh))
+    (subst (λ (s : List ℕ). AreWithSum name s before after) is each)
+
+-- ---- nobody has the name
+
+none_at : (name : List ℕ) (x : Player) (xs : List Player) (b : Bool) → cond b (Some x) (find (named name) xs) ≡ None →
+    (find (named name) xs ≡ None → list_any (named name) xs ≡ false) → (b || list_any (named name) xs) ≡ false
+none_at name x xs true none next = absurd (not_none x (sym none))
+none_at name x xs false none next = next none
+
+none_called : (name : List ℕ) (xs : List Player) → find (named name) xs ≡ None → list_any (named name) xs ≡ false
+none_called name [] none = refl
+none_called name (x ∷ xs) none = none_at name x xs (named name x) none (λ more. none_called name xs more)
+
+pub nobody : (name : List ℕ) (xs : List Player) → find (named name) xs ≡ None → list_any (has_name name) (entries_of xs) ≡ false
+nobody name xs none = sym (any_mapped entry_of (has_name name) xs) ∙ none_called name xs none
