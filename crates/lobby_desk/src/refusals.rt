@@ -150,11 +150,7 @@ fn add_one(refused: &mut Vec<Refused>, game: Option<u32>) -> Result<(), AllocErr
 }
 
 /// Notes the answer to an act.
-pub fn note_refused(
-    refused: &mut Vec<Refused>,
-    text: &str,
-    answer: &str,
-) -> Result<(), AllocError>
+pub fn note_refused(refused: &mut Vec<Refused>, text: &str, answer: &str) -> Result<(), AllocError>
     ensures { OnOk result (refused.new.items ≡ spec.refused_told text.now answer.now refused.old.items) }
 {
     if is_act_accepted(answer) {
