@@ -400,6 +400,7 @@ pub record Carried (old : Desk) (from : ℕ) (text : List ℕ) (plan : Plan) (un
   pub watches : new.watches.items ≡ plan_watches plan from old.watches.items
   pub table : new.table.items ≡ plan_table plan from old.table.items
   pub waiting : new.line.waiting ≡ old.line.waiting
+  pub refused : new.line.refused ≡ old.line.refused
   pub coming : new.line.coming ≡ old.line.coming
   pub last : new.line.last ≡ old.line.last
   pub players : new.players ≡ old.players
