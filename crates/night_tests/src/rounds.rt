@@ -158,14 +158,7 @@ fn games_of_a_board(rt: HostRuntime) {
 
 // The step about a board of ann and bob.
 fn step(rt: &impl Abort, stage: Option<&Stage>, games: &[u32], seats: Option<Seats>) -> Step {
-    step_of(
-        &name(rt, "ann"),
-        &name(rt, "bob"),
-        stage,
-        &[],
-        games,
-        seats,
-    )
+    step_of(&name(rt, "ann"), &name(rt, "bob"), stage, &[], games, seats)
 }
 
 fn seats(white: &str, black: &str) -> Option<Seats> {
