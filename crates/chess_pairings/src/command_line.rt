@@ -1,7 +1,7 @@
 //! The words of the command line, with the texts of their help.
 use clap::error::ErrorKind;
 use clap::{Arg, ArgAction, ArgMatches, Command, Error};
-use command_words::{VERSION, option};
+use command_words::{VERSION, flag, option};
 use std::alloc::{AllocError, Global};
 use std::net::SocketAddr;
 use trf_texts::Event;
@@ -19,7 +19,8 @@ board alone, and ends with status 1. Look at the games then, and give it again w
 game that is the board's, or with --after where none up to a game is: it is opened then.
 
 A row of --pairings with a board and White alone is a bye: nothing is opened for it. By
---players a name that is not in that file is refused before anything is opened.
+--players a name that is not in that file is refused before anything is opened. So is an
+initial time of less than 60 seconds, since 15+10 is 15 seconds here, but with --short.
 
 Exit status: 0; 1 with what is wrong on standard error; 2 for words that the program does
 not know.
@@ -90,6 +91,8 @@ pub struct Starting<'a> {
     pub afters: Vec<(u32, u32)>,
     /// Servers that are not waited for.
     pub without: Vec<u32>,
+    /// Whether games of less than a minute are meant.
+    pub is_short: bool,
 }
 
 /// Where results are looked for.
@@ -177,7 +180,12 @@ fn start_command<'a>(alloc: Global) -> Result<Command<'a>, AllocError> {
     .arg(players)?
     .arg(take.action(ArgAction::Append))?
     .arg(after.action(ArgAction::Append))?
-    .arg(without.action(ArgAction::Append))
+    .arg(without.action(ArgAction::Append))?
+    .arg(flag(
+        alloc,
+        "short",
+        "Initial times of less than 60 seconds are meant",
+    ))
 }
 
 fn results_command<'a>(alloc: Global) -> Result<Command<'a>, AllocError> {
@@ -349,6 +357,7 @@ fn starting_of<'a>(
         takes,
         afters,
         without,
+        is_short: values.get_flag("short"),
     }))
 }
 

@@ -18,6 +18,9 @@ use std::time::{Duration, SystemTime};
 // How often it is looked for the server, and for boards whose start has come: the milliseconds between.
 const PAUSE: u64 = 500;
 
+// The seconds below which an initial time is taken for minutes.
+const SHORT: u32 = 60;
+
 /// What became of the boards of a round.
 #[derive(Drop)]
 struct Rounds {
@@ -208,6 +211,23 @@ fn check_players(players: &[Player], pairings: &[Pairing]) -> Result<()> {
     Ok(())
 }
 
+// Whether all games have a minute at least. It fails at the first that has not: whoever writes 15 means minutes.
+fn check_times(pairings: &[Pairing]) -> Result<()> {
+    let mut row: usize = 1;
+    for pairing in pairings {
+        row = row.saturating_add(1);
+        if let Some(game) = pairing.game
+            && game.times.initial < SHORT
+        {
+            let seconds = game.times.initial;
+            anyhow::bail!(
+                "row {row}: the initial time is {seconds} seconds: 15 minutes are 900. Where seconds are meant, it is given again with --short"
+            );
+        }
+    }
+    Ok(())
+}
+
 // The boards of pairings that have a game.
 fn boards_of<'a, R: AllocGlobal>(
     rt: &R,
@@ -266,6 +286,9 @@ where
         let players = players_of(rt, file)?;
         check_players(players.as_slice(), pairings.as_slice()).context(format_args!("{rows}"))?;
     }
+    if !starting.is_short {
+        check_times(pairings.as_slice()).context(format_args!("{rows}"))?;
+    }
     let boards = boards_of(rt, pairings.as_slice(), starting)?;
     let mut file = RoundFile::open(rt, starting.round.games)?;
     check_notes(starting.round.games, file.notes(), pairings.as_slice())?;
@@ -280,7 +303,7 @@ where
     let (boards, games) = (boards.len(), rounds.done.len());
     println!(rt; "boards {boards}, games {games}")?;
     if games < boards {
-        anyhow::bail!("the arbiter is to say which games the others have");
+        anyhow::bail!("the arbiter is to say, by --take or --after, which games the others have");
     }
     Ok(())
 }

@@ -33,7 +33,7 @@ pub enum RowFault {
 /// Why a text is no file of pairings.
 #[derive(Clone, Copy, Debug, PartialEq, Eq, Error)]
 pub enum Fault {
-    #[error("the first row is not board,white,black,times,start")]
+    #[error("the first row is not board,white,black,times,start with commas between")]
     NoHeader,
     /// The row of this number, the header being row 1, has this fault.
     #[error("row {0}: {1}")]
