@@ -14,4 +14,3 @@ pub mod Turns
 pub mod Queues
 pub mod Follows
 pub mod Courses
-pub mod Worked
