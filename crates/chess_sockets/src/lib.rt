@@ -5,7 +5,4 @@ mod laws;
 mod server;
 
 pub use laws::law_of_short_answers;
-pub use server::{Server, Turned};
-
-#[cfg(test)]
-mod tests;
+pub use server::{Server, Turned, serve_clients};

@@ -76,9 +76,9 @@ fn told_as(has_worked: bool) -> Turned
     }
 }
 
-// Reads for each session, has the hub answer lines that wait, and writes; and tells whether there was anything to read or
-// to write.
-pub(crate) fn serve_clients<S: Read + Write, D: Device>(
+/// Reads for each session, has the hub answer lines that wait, and writes; and tells whether there was anything to read or
+/// to write.
+pub fn serve_clients<S: Read + Write, D: Device>(
     clients: &mut Vec<Client<S>>,
     hub: &mut Hub<D>,
     reading: Reading,

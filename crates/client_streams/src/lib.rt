@@ -17,9 +17,6 @@ mod wire;
 
 pub use client::Client;
 pub use closing::Closing;
-pub use door::{Door, Found, Listens, may_wait, next_connection};
+pub use door::{Door, Found, Listens, found_of, may_wait, next_connection};
 pub use rounds::{Reading, hand_out_all, take_in_all};
 pub use watch::Watch;
-
-#[cfg(test)]
-mod tests;

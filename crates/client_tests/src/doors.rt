@@ -1,5 +1,5 @@
 //! Listeners whose tries fail.
-use crate::door::{Found, Listens, found_of, next_connection};
+use client_streams::{Found, Listens, found_of, next_connection};
 use std::io::Error;
 use std::process::Abort;
 
@@ -44,30 +44,40 @@ impl Listens for Queue {
     }
 }
 
-// Which connection comes, after how many tries, and what the last of them found.
-fn come(codes: &'static [i32]) -> (Option<usize>, usize, Found) {
+// The tries of a listener; which connection comes, after how many tries, and what the last of them found.
+type Row = (&'static [i32], Option<usize>, usize, Found);
+
+const ROWS: [Row; 10] = [
+    (&[], None, 1, Found::Nobody),
+    (&[0], Some(1), 1, Found::Connection),
+    // ECONNABORTED, ECONNRESET and EINTR are passed over.
+    (&[103, 104, 4, 0], Some(4), 4, Found::Connection),
+    (&[103], None, 2, Found::Nobody),
+    (&[103; 100], None, 64, Found::Lost),
+    // At EMFILE, ENFILE, ENOMEM, ENOBUFS and EINVAL one may wait that is tried again in a later turn.
+    (&[24, 0], None, 1, Found::Refused),
+    (&[23, 0], None, 1, Found::Refused),
+    (&[12, 0], None, 1, Found::Refused),
+    (&[105, 0], None, 1, Found::Refused),
+    (&[103, 22, 0], None, 2, Found::Refused),
+];
+
+fn check_row(rt: &impl Abort, row: &Row) {
+    let (codes, wanted, tries, found) = row;
     let mut queue = Queue {
         codes,
         tries: 0,
         found: Found::Lost,
         given: 0,
     };
-    let came = next_connection(&mut queue);
-    (came, queue.tries, queue.found)
+    assert!(rt; next_connection(&mut queue) == *wanted);
+    assert!(rt; queue.tries == *tries);
+    assert!(rt; queue.found == *found);
 }
 
 #[test]
 fn only_a_listener_without_connections_has_nobody(rt: HostRuntime) {
-    assert_eq!(rt; come(&[]), (None, 1, Found::Nobody));
-    assert_eq!(rt; come(&[0]), (Some(1), 1, Found::Connection));
-    // ECONNABORTED, ECONNRESET and EINTR are passed over.
-    assert_eq!(rt; come(&[103, 104, 4, 0]), (Some(4), 4, Found::Connection));
-    assert_eq!(rt; come(&[103]), (None, 2, Found::Nobody));
-    assert_eq!(rt; come(&[103; 100]), (None, 64, Found::Lost));
-    // At EMFILE, ENFILE, ENOMEM, ENOBUFS and EINVAL one may wait that is tried again in a later turn.
-    assert_eq!(rt; come(&[24, 0]), (None, 1, Found::Refused));
-    assert_eq!(rt; come(&[23, 0]), (None, 1, Found::Refused));
-    assert_eq!(rt; come(&[12, 0]), (None, 1, Found::Refused));
-    assert_eq!(rt; come(&[105, 0]), (None, 1, Found::Refused));
-    assert_eq!(rt; come(&[103, 22, 0]), (None, 2, Found::Refused));
+    for row in &ROWS {
+        check_row(&rt, row);
+    }
 }

@@ -1,0 +1,17 @@
+//! Tests of clients over connections, by what their crates export alone: so none of these is proved twice.
+#![tactic(auto)]
+
+#[cfg(test)]
+mod clients;
+#[cfg(test)]
+mod crowds;
+#[cfg(test)]
+mod doors;
+#[cfg(test)]
+mod memory;
+#[cfg(test)]
+mod peers;
+#[cfg(test)]
+mod serving;
+#[cfg(test)]
+mod watching;
