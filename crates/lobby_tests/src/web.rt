@@ -117,131 +117,128 @@ fn has(trial: &Trial, said: &[u8], answer: &[u8], is_over: bool) -> bool {
         && trial.browser.is_over() == is_over
 }
 
-// Whether what these bytes bring is this, in whatever pieces they come.
-fn brings(
-    rt: &impl Abort,
-    lab: &Lab,
-    bytes: &[u8],
-    said: &[u8],
-    answer: &[u8],
-    is_over: bool,
-) -> bool {
+// What these bytes bring is this, in whatever pieces they come.
+fn check(rt: &impl Abort, lab: &Lab, bytes: &[u8], said: &[u8], answer: &[u8], is_over: bool) {
     let at_once = whole(rt, lab, bytes);
+    assert!(rt; has(&at_once, said, answer, is_over));
     let one_by_one = single(rt, lab, bytes);
-    has(&at_once, said, answer, is_over)
-        && has(&one_by_one, said, answer, is_over)
-        && one_by_one.written.as_slice() == at_once.written.as_slice()
+    assert!(rt; has(&one_by_one, said, answer, is_over));
+    assert!(rt; one_by_one.written.as_slice() == at_once.written.as_slice());
 }
+
+// A request, how its answer begins, and whether the connection is over then.
+type Request = (&'static [u8], &'static [u8], bool);
+
+const REQUESTS: [Request; 22] = [
+    (
+        b"GET / HTTP/1.1\r\nHost: a:1\r\n\r\n",
+        b"HTTP/1.1 200 OK\r\n",
+        false,
+    ),
+    (
+        b"HEAD / HTTP/1.1\r\nHost: a:1\r\n\r\n",
+        b"HTTP/1.1 200 OK\r\n",
+        false,
+    ),
+    (b"GET / HTTP/1.1\r\n\r\n", b"HTTP/1.1 400 ", true),
+    (
+        b"GET / HTTP/1.1\r\nHost: a:1\r\nHost: a:1\r\n\r\n",
+        b"HTTP/1.1 400 ",
+        true,
+    ),
+    (
+        b"GET / HTTP/1.1\r\nHost: b:1\r\n\r\n",
+        b"HTTP/1.1 403 ",
+        false,
+    ),
+    (
+        b"GET / HTTP/1.1\r\nHost: a\r\n\r\n",
+        b"HTTP/1.1 403 ",
+        false,
+    ),
+    (
+        b"GET http://a:1/ HTTP/1.1\r\nHost: a:1\r\n\r\n",
+        b"HTTP/1.1 403 ",
+        false,
+    ),
+    (
+        b"POST / HTTP/1.1\r\nHost: a:1\r\nContent-Length: 1\r\n\r\nx",
+        b"HTTP/1.1 413 ",
+        true,
+    ),
+    (
+        b"GET / HTTP/1.1\r\nHost: a:1\r\nTransfer-Encoding: chunked\r\n\r\n1\r\nx\r\n0\r\n\r\n",
+        b"HTTP/1.1 413 ",
+        true,
+    ),
+    (
+        b"POST / HTTP/1.1\r\nHost: a:1\r\n\r\n",
+        b"HTTP/1.1 405 ",
+        false,
+    ),
+    (
+        b"DELETE / HTTP/1.1\r\nHost: a:1\r\n\r\n",
+        b"HTTP/1.1 405 ",
+        false,
+    ),
+    (
+        b"GET /../club.players HTTP/1.1\r\nHost: a:1\r\n\r\n",
+        b"HTTP/1.1 404 ",
+        false,
+    ),
+    (
+        b"GET /%2e%2e/club.players HTTP/1.1\r\nHost: a:1\r\n\r\n",
+        b"HTTP/1.1 404 ",
+        false,
+    ),
+    (
+        b"GET //etc/passwd HTTP/1.1\r\nHost: a:1\r\n\r\n",
+        b"HTTP/1.1 404 ",
+        false,
+    ),
+    (b"GET / HTTP/1.1\r\nHost: a:1\r\n", b"", false),
+    (
+        b"\x16\x03\x01\x02\0\x01\0\x01\xfc\x03\x03\r\n\r\n",
+        b"HTTP/1.1 400 ",
+        true,
+    ),
+    (
+        b"GET /ws HTTP/1.1\r\nHost: a:1\r\n\r\n",
+        b"HTTP/1.1 403 ",
+        false,
+    ),
+    (
+        b"GET /ws HTTP/1.1\r\nHost: a:1\r\nOrigin: http://a:1\r\n\r\n",
+        b"HTTP/1.1 400 ",
+        false,
+    ),
+    (
+        b"GET /ws HTTP/1.1\r\nHost: a:1\r\nOrigin: http://b:1\r\nConnection: Upgrade\r\nUpgrade: websocket\r\nSec-WebSocket-Version: 13\r\nSec-WebSocket-Key: AAAAAAAAAAAAAAAAAAAAAA==\r\n\r\n",
+        b"HTTP/1.1 403 ",
+        false,
+    ),
+    (
+        b"GET /ws HTTP/1.1\r\nHost: a:1\r\nOrigin: null\r\nConnection: Upgrade\r\nUpgrade: websocket\r\nSec-WebSocket-Version: 13\r\nSec-WebSocket-Key: AAAAAAAAAAAAAAAAAAAAAA==\r\n\r\n",
+        b"HTTP/1.1 403 ",
+        false,
+    ),
+    (
+        b"GET /ws HTTP/1.1\r\nHost: a:1\r\nOrigin: http://a:1\r\nConnection: Upgrade\r\nUpgrade: websocket\r\nSec-WebSocket-Version: 8\r\nSec-WebSocket-Key: AAAAAAAAAAAAAAAAAAAAAA==\r\n\r\n",
+        b"HTTP/1.1 400 ",
+        false,
+    ),
+    (
+        b"GET /ws HTTP/1.1\r\nHost: a:1\r\nOrigin: http://a:1\r\nConnection: Upgrade\r\nUpgrade: websocket\r\nSec-WebSocket-Version: 13\r\nSec-WebSocket-Key: AAAA\r\n\r\n",
+        b"HTTP/1.1 400 ",
+        false,
+    ),
+];
 
 #[test]
 fn a_request_is_answered_or_refused(rt: HostRuntime) {
     let lab = lab_of(&rt, rt.alloc(), RandomState::new(&rt).expect(&rt, "keys"));
-    let cases: [(&[u8], &[u8], bool); 22] = [
-        (
-            b"GET / HTTP/1.1\r\nHost: a:1\r\n\r\n",
-            b"HTTP/1.1 200 OK\r\n",
-            false,
-        ),
-        (
-            b"HEAD / HTTP/1.1\r\nHost: a:1\r\n\r\n",
-            b"HTTP/1.1 200 OK\r\n",
-            false,
-        ),
-        (b"GET / HTTP/1.1\r\n\r\n", b"HTTP/1.1 400 ", true),
-        (
-            b"GET / HTTP/1.1\r\nHost: a:1\r\nHost: a:1\r\n\r\n",
-            b"HTTP/1.1 400 ",
-            true,
-        ),
-        (
-            b"GET / HTTP/1.1\r\nHost: b:1\r\n\r\n",
-            b"HTTP/1.1 403 ",
-            false,
-        ),
-        (
-            b"GET / HTTP/1.1\r\nHost: a\r\n\r\n",
-            b"HTTP/1.1 403 ",
-            false,
-        ),
-        (
-            b"GET http://a:1/ HTTP/1.1\r\nHost: a:1\r\n\r\n",
-            b"HTTP/1.1 403 ",
-            false,
-        ),
-        (
-            b"POST / HTTP/1.1\r\nHost: a:1\r\nContent-Length: 1\r\n\r\nx",
-            b"HTTP/1.1 413 ",
-            true,
-        ),
-        (
-            b"GET / HTTP/1.1\r\nHost: a:1\r\nTransfer-Encoding: chunked\r\n\r\n1\r\nx\r\n0\r\n\r\n",
-            b"HTTP/1.1 413 ",
-            true,
-        ),
-        (
-            b"POST / HTTP/1.1\r\nHost: a:1\r\n\r\n",
-            b"HTTP/1.1 405 ",
-            false,
-        ),
-        (
-            b"DELETE / HTTP/1.1\r\nHost: a:1\r\n\r\n",
-            b"HTTP/1.1 405 ",
-            false,
-        ),
-        (
-            b"GET /../club.players HTTP/1.1\r\nHost: a:1\r\n\r\n",
-            b"HTTP/1.1 404 ",
-            false,
-        ),
-        (
-            b"GET /%2e%2e/club.players HTTP/1.1\r\nHost: a:1\r\n\r\n",
-            b"HTTP/1.1 404 ",
-            false,
-        ),
-        (
-            b"GET //etc/passwd HTTP/1.1\r\nHost: a:1\r\n\r\n",
-            b"HTTP/1.1 404 ",
-            false,
-        ),
-        (b"GET / HTTP/1.1\r\nHost: a:1\r\n", b"", false),
-        (
-            b"\x16\x03\x01\x02\0\x01\0\x01\xfc\x03\x03\r\n\r\n",
-            b"HTTP/1.1 400 ",
-            true,
-        ),
-        (
-            b"GET /ws HTTP/1.1\r\nHost: a:1\r\n\r\n",
-            b"HTTP/1.1 403 ",
-            false,
-        ),
-        (
-            b"GET /ws HTTP/1.1\r\nHost: a:1\r\nOrigin: http://a:1\r\n\r\n",
-            b"HTTP/1.1 400 ",
-            false,
-        ),
-        (
-            b"GET /ws HTTP/1.1\r\nHost: a:1\r\nOrigin: http://b:1\r\nConnection: Upgrade\r\nUpgrade: websocket\r\nSec-WebSocket-Version: 13\r\nSec-WebSocket-Key: AAAAAAAAAAAAAAAAAAAAAA==\r\n\r\n",
-            b"HTTP/1.1 403 ",
-            false,
-        ),
-        (
-            b"GET /ws HTTP/1.1\r\nHost: a:1\r\nOrigin: null\r\nConnection: Upgrade\r\nUpgrade: websocket\r\nSec-WebSocket-Version: 13\r\nSec-WebSocket-Key: AAAAAAAAAAAAAAAAAAAAAA==\r\n\r\n",
-            b"HTTP/1.1 403 ",
-            false,
-        ),
-        (
-            b"GET /ws HTTP/1.1\r\nHost: a:1\r\nOrigin: http://a:1\r\nConnection: Upgrade\r\nUpgrade: websocket\r\nSec-WebSocket-Version: 8\r\nSec-WebSocket-Key: AAAAAAAAAAAAAAAAAAAAAA==\r\n\r\n",
-            b"HTTP/1.1 400 ",
-            false,
-        ),
-        (
-            b"GET /ws HTTP/1.1\r\nHost: a:1\r\nOrigin: http://a:1\r\nConnection: Upgrade\r\nUpgrade: websocket\r\nSec-WebSocket-Version: 13\r\nSec-WebSocket-Key: AAAA\r\n\r\n",
-            b"HTTP/1.1 400 ",
-            false,
-        ),
-    ];
-    for (request, answer, is_over) in cases {
-        assert!(rt; brings(&rt, &lab, request, b"", answer, is_over));
+    for (request, answer, is_over) in &REQUESTS {
+        check(&rt, &lab, request, b"", answer, *is_over);
     }
 }
 
@@ -260,97 +257,90 @@ fn ends(rt: &impl Abort, lab: &Lab, request: &[u8], end: &[u8]) -> bool {
     whole(rt, lab, request).written.as_slice().ends_with(end)
 }
 
+const GAMES: &[u8] = b"GET /live.pgn HTTP/1.1\r\nHost: a:1\r\n\r\n";
+
+const FIGURES: &[u8] = b"GET /health HTTP/1.1\r\nHost: a:1\r\n\r\n";
+
+const PAGE: &[u8] = b"GET / HTTP/1.1\r\nHost: a:1\r\n\r\n";
+
+const MISSING: &[u8] = b"HTTP/1.1 404 ";
+
+const PGN: &[u8] = b"HTTP/1.1 200 OK\r\ncontent-type: application/x-chess-pgn; charset=utf-8\r\n";
+
+const PLAIN: &[u8] =
+    b"HTTP/1.1 200 OK\r\ncontent-type: text/plain; version=0.0.4; charset=utf-8\r\n";
+
+// Both files have these bytes, and are answered so.
+fn check_files(rt: &impl Abort, lab: &mut Lab, bytes: &'static [u8]) {
+    put(rt, lab, b"/live.pgn", Kind::Pgn, bytes);
+    put(rt, lab, b"/health", Kind::Figures, bytes);
+    check(rt, lab, GAMES, b"", PGN, false);
+    check(rt, lab, FIGURES, b"", PLAIN, false);
+    assert!(rt; ends(rt, lab, GAMES, bytes));
+    assert!(rt; ends(rt, lab, FIGURES, bytes));
+}
+
+// How answers end where both files have no byte.
+const ENDS: [(&[u8], &[u8]); 3] = [
+    (
+        GAMES,
+        b"\r\naccess-control-allow-origin: *\r\ncontent-length: 0\r\n\r\n",
+    ),
+    (
+        FIGURES,
+        b"\r\ncache-control: no-cache\r\ncontent-length: 0\r\n\r\n",
+    ),
+    (PAGE, b"the page"),
+];
+
 #[test]
 fn files_come_and_go(rt: HostRuntime) {
     let mut lab = lab_of(&rt, rt.alloc(), RandomState::new(&rt).expect(&rt, "keys"));
-    let games = b"GET /live.pgn HTTP/1.1\r\nHost: a:1\r\n\r\n";
-    let figures = b"GET /health HTTP/1.1\r\nHost: a:1\r\n\r\n";
-    assert!(rt; brings(&rt, &lab, games, b"", b"HTTP/1.1 404 ", false));
+    check(&rt, &lab, GAMES, b"", MISSING, false);
     for bytes in [b"one".as_slice(), b"two", b""] {
-        put(&rt, &mut lab, b"/live.pgn", Kind::Pgn, bytes);
-        put(&rt, &mut lab, b"/health", Kind::Figures, bytes);
-        assert!(rt;
-            brings(
-                &rt,
-                &lab,
-                games,
-                b"",
-                b"HTTP/1.1 200 OK\r\ncontent-type: application/x-chess-pgn; charset=utf-8\r\n",
-                false
-            )
-        );
-        assert!(rt;
-            brings(
-                &rt,
-                &lab,
-                figures,
-                b"",
-                b"HTTP/1.1 200 OK\r\ncontent-type: text/plain; version=0.0.4; charset=utf-8\r\n",
-                false
-            )
-        );
-        assert!(rt; ends(&rt, &lab, games, bytes) && ends(&rt, &lab, figures, bytes));
+        check_files(&rt, &mut lab, bytes);
     }
-    assert!(rt;
-        ends(
-            &rt,
-            &lab,
-            games,
-            b"\r\naccess-control-allow-origin: *\r\ncontent-length: 0\r\n\r\n"
-        )
-    );
-    assert!(rt;
-        ends(
-            &rt,
-            &lab,
-            figures,
-            b"\r\ncache-control: no-cache\r\ncontent-length: 0\r\n\r\n"
-        )
-    );
-    assert!(rt;
-        ends(
-            &rt,
-            &lab,
-            b"GET / HTTP/1.1\r\nHost: a:1\r\n\r\n",
-            b"the page"
-        )
-    );
+    for (request, end) in &ENDS {
+        assert!(rt; ends(&rt, &lab, request, end));
+    }
     lab.site.take_off(b"/live.pgn");
-    assert!(rt; brings(&rt, &lab, games, b"", b"HTTP/1.1 404 ", false));
-    assert!(rt; brings(&rt, &lab, figures, b"", b"HTTP/1.1 200 OK\r\n", false));
+    check(&rt, &lab, GAMES, b"", MISSING, false);
+    check(&rt, &lab, FIGURES, b"", PLAIN, false);
 }
+
+// A request, and how its answer ends.
+const BOARDS: [(&[u8], &[u8]); 9] = [
+    (b"GET /board/7 HTTP/1.1\r\nHost: a:1\r\n\r\n", b"a board"),
+    (
+        b"GET /board/4294967296 HTTP/1.1\r\nHost: a:1\r\n\r\n",
+        b"a board",
+    ),
+    (b"GET /boards HTTP/1.1\r\nHost: a:1\r\n\r\n", b"a board"),
+    (b"GET /board.html HTTP/1.1\r\nHost: a:1\r\n\r\n", b"a board"),
+    (b"GET /board/7?x HTTP/1.1\r\nHost: a:1\r\n\r\n", b"a board"),
+    (
+        b"GET /board/ HTTP/1.1\r\nHost: a:1\r\n\r\n",
+        b"There is no such page here.",
+    ),
+    (
+        b"GET /board/7a HTTP/1.1\r\nHost: a:1\r\n\r\n",
+        b"There is no such page here.",
+    ),
+    (
+        b"GET /board/7/ HTTP/1.1\r\nHost: a:1\r\n\r\n",
+        b"There is no such page here.",
+    ),
+    (
+        b"GET /board HTTP/1.1\r\nHost: a:1\r\n\r\n",
+        b"There is no such page here.",
+    ),
+];
 
 #[test]
 fn boards_have_one_page(rt: HostRuntime) {
     let mut lab = lab_of(&rt, rt.alloc(), RandomState::new(&rt).expect(&rt, "keys"));
     put(&rt, &mut lab, b"/board.html", Kind::Html, b"a board");
-    let cases: [(&[u8], &[u8]); 9] = [
-        (b"GET /board/7 HTTP/1.1\r\nHost: a:1\r\n\r\n", b"a board"),
-        (
-            b"GET /board/4294967296 HTTP/1.1\r\nHost: a:1\r\n\r\n",
-            b"a board",
-        ),
-        (b"GET /boards HTTP/1.1\r\nHost: a:1\r\n\r\n", b"a board"),
-        (b"GET /board.html HTTP/1.1\r\nHost: a:1\r\n\r\n", b"a board"),
-        (b"GET /board/7?x HTTP/1.1\r\nHost: a:1\r\n\r\n", b"a board"),
-        (
-            b"GET /board/ HTTP/1.1\r\nHost: a:1\r\n\r\n",
-            b"There is no such page here.",
-        ),
-        (
-            b"GET /board/7a HTTP/1.1\r\nHost: a:1\r\n\r\n",
-            b"There is no such page here.",
-        ),
-        (
-            b"GET /board/7/ HTTP/1.1\r\nHost: a:1\r\n\r\n",
-            b"There is no such page here.",
-        ),
-        (
-            b"GET /board HTTP/1.1\r\nHost: a:1\r\n\r\n",
-            b"There is no such page here.",
-        ),
-    ];
-    for (request, end) in cases {
+    for (request, end) in &BOARDS {
         assert!(rt; ends(&rt, &lab, request, end));
     }
 }
@@ -401,98 +391,102 @@ fn joined(rt: &impl Abort, lab: &Lab, front: &[u8], rest: &[u8]) -> Vec<u8> {
     all
 }
 
-// Whether what these frames bring behind an upgrade is this, in whatever pieces they come, also right behind the head.
-fn bring(
+// What these frames bring behind an upgrade is this, in whatever pieces they come, also right behind the head.
+fn check_frames(
     rt: &impl Abort,
     lab: &Lab,
     frames: &[u8],
     said: &[u8],
     answer: &[u8],
     is_over: bool,
-) -> bool {
+) {
     let bytes = joined(rt, lab, UPGRADE, frames);
     let written = joined(rt, lab, SWITCH, answer);
     let told = joined(rt, lab, b"open\n", said);
-    brings(rt, lab, &bytes, &told, &written, is_over)
-        && whole(rt, lab, &bytes).written.as_slice() == written.as_slice()
+    check(rt, lab, &bytes, &told, &written, is_over);
+    assert!(rt; whole(rt, lab, &bytes).written.as_slice() == written.as_slice());
 }
+
+// Frames, what is heard of them, what is written behind the switch, and whether the connection is over then.
+type Frames = (&'static [u8], &'static [u8], &'static [u8], bool);
+
+const FRAMES: [Frames; 25] = [
+    (b"", b"", b"", false),
+    (b"\x81\x84\0\0\0\0list", b"list\n", b"", false),
+    (b"\x81\x84\x01\x02\x03\x04mkpp", b"list\n", b"", false),
+    (b"\x81\x80\0\0\0\0", b"\n", b"", false),
+    // half a frame
+    (b"\x81\x84\0\0\0\0li", b"", b"", false),
+    // unmasked
+    (b"\x81\x04list", b"", b"\x88\x02\x03\xea", true),
+    // reserved bits, and an unknown opcode
+    (b"\xc1\x84\0\0\0\0list", b"", b"\x88\x02\x03\xea", true),
+    (b"\x91\x84\0\0\0\0list", b"", b"\x88\x02\x03\xea", true),
+    (b"\x83\x84\0\0\0\0list", b"", b"\x88\x02\x03\xea", true),
+    // a ping that is cut in two
+    (b"\x09\x82\0\0\0\0hi", b"", b"\x88\x02\x03\xea", true),
+    // no UTF-8
+    (b"\x81\x82\0\0\0\0\xc3\x28", b"", b"\x88\x02\x03\xef", true),
+    // 4,097 bytes, and 2^32
+    (b"\x81\xfe\x10\x01\0\0\0\0", b"", b"\x88\x02\x03\xf1", true),
+    (
+        b"\x81\xff\0\0\0\x01\0\0\0\0\0\0\0\0",
+        b"",
+        b"\x88\x02\x03\xf1",
+        true,
+    ),
+    // no text
+    (b"\x82\x81\0\0\0\0x", b"", b"\x88\x02\x03\xeb", true),
+    // fragments: of nothing, broken by a message, whole, with a ping between them, with a letter that they cut
+    (b"\x80\x81\0\0\0\0x", b"", b"\x88\x02\x03\xea", true),
+    (
+        b"\x01\x81\0\0\0\0a\x81\x81\0\0\0\0b",
+        b"",
+        b"\x88\x02\x03\xea",
+        true,
+    ),
+    (
+        b"\x01\x82\0\0\0\0li\x80\x82\0\0\0\0st",
+        b"list\n",
+        b"",
+        false,
+    ),
+    (
+        b"\x01\x82\0\0\0\0li\x89\x81\0\0\0\0p\x80\x82\0\0\0\0st",
+        b"list\n",
+        b"\x8a\x01p",
+        false,
+    ),
+    (
+        b"\x01\x81\0\0\0\0\xc3\x80\x81\0\0\0\0\xa4",
+        b"\xc3\xa4\n",
+        b"",
+        false,
+    ),
+    // closes: with a code, without one, with half of one, with one that is not sent, and nothing is heard behind them
+    (b"\x88\x82\0\0\0\0\x03\xe8", b"", b"\x88\x02\x03\xe8", true),
+    (b"\x88\x80\0\0\0\0", b"", b"\x88\0", true),
+    (b"\x88\x81\0\0\0\0\x03", b"", b"\x88\x02\x03\xea", true),
+    (
+        b"\x88\x82\0\0\0\0\x03\xed",
+        b"",
+        b"\x88\x14\x03\xeaProtocol violation",
+        true,
+    ),
+    (
+        b"\x88\x80\0\0\0\0\x81\x84\0\0\0\0list",
+        b"",
+        b"\x88\0",
+        true,
+    ),
+    (b"\x8a\x80\0\0\0\0", b"", b"", false),
+];
 
 #[test]
 fn frames_are_heard_or_refused(rt: HostRuntime) {
     let lab = lab_of(&rt, rt.alloc(), RandomState::new(&rt).expect(&rt, "keys"));
-    let cases: [(&[u8], &[u8], &[u8], bool); 25] = [
-        (b"", b"", b"", false),
-        (b"\x81\x84\0\0\0\0list", b"list\n", b"", false),
-        (b"\x81\x84\x01\x02\x03\x04mkpp", b"list\n", b"", false),
-        (b"\x81\x80\0\0\0\0", b"\n", b"", false),
-        // half a frame
-        (b"\x81\x84\0\0\0\0li", b"", b"", false),
-        // unmasked
-        (b"\x81\x04list", b"", b"\x88\x02\x03\xea", true),
-        // reserved bits, and an unknown opcode
-        (b"\xc1\x84\0\0\0\0list", b"", b"\x88\x02\x03\xea", true),
-        (b"\x91\x84\0\0\0\0list", b"", b"\x88\x02\x03\xea", true),
-        (b"\x83\x84\0\0\0\0list", b"", b"\x88\x02\x03\xea", true),
-        // a ping that is cut in two
-        (b"\x09\x82\0\0\0\0hi", b"", b"\x88\x02\x03\xea", true),
-        // no UTF-8
-        (b"\x81\x82\0\0\0\0\xc3\x28", b"", b"\x88\x02\x03\xef", true),
-        // 4,097 bytes, and 2^32
-        (b"\x81\xfe\x10\x01\0\0\0\0", b"", b"\x88\x02\x03\xf1", true),
-        (
-            b"\x81\xff\0\0\0\x01\0\0\0\0\0\0\0\0",
-            b"",
-            b"\x88\x02\x03\xf1",
-            true,
-        ),
-        // no text
-        (b"\x82\x81\0\0\0\0x", b"", b"\x88\x02\x03\xeb", true),
-        // fragments: of nothing, broken by a message, whole, with a ping between them, with a letter that they cut
-        (b"\x80\x81\0\0\0\0x", b"", b"\x88\x02\x03\xea", true),
-        (
-            b"\x01\x81\0\0\0\0a\x81\x81\0\0\0\0b",
-            b"",
-            b"\x88\x02\x03\xea",
-            true,
-        ),
-        (
-            b"\x01\x82\0\0\0\0li\x80\x82\0\0\0\0st",
-            b"list\n",
-            b"",
-            false,
-        ),
-        (
-            b"\x01\x82\0\0\0\0li\x89\x81\0\0\0\0p\x80\x82\0\0\0\0st",
-            b"list\n",
-            b"\x8a\x01p",
-            false,
-        ),
-        (
-            b"\x01\x81\0\0\0\0\xc3\x80\x81\0\0\0\0\xa4",
-            b"\xc3\xa4\n",
-            b"",
-            false,
-        ),
-        // closes: with a code, without one, with half of one, with one that is not sent, and nothing is heard behind them
-        (b"\x88\x82\0\0\0\0\x03\xe8", b"", b"\x88\x02\x03\xe8", true),
-        (b"\x88\x80\0\0\0\0", b"", b"\x88\0", true),
-        (b"\x88\x81\0\0\0\0\x03", b"", b"\x88\x02\x03\xea", true),
-        (
-            b"\x88\x82\0\0\0\0\x03\xed",
-            b"",
-            b"\x88\x14\x03\xeaProtocol violation",
-            true,
-        ),
-        (
-            b"\x88\x80\0\0\0\0\x81\x84\0\0\0\0list",
-            b"",
-            b"\x88\0",
-            true,
-        ),
-        (b"\x8a\x80\0\0\0\0", b"", b"", false),
-    ];
-    for (frames, said, answer, is_over) in cases {
-        assert!(rt; bring(&rt, &lab, frames, said, answer, is_over));
+    for (frames, said, answer, is_over) in &FRAMES {
+        check_frames(&rt, &lab, frames, said, answer, *is_over);
     }
 }
 
@@ -500,7 +494,7 @@ fn frames_are_heard_or_refused(rt: HostRuntime) {
 fn a_control_frame_too_long_is_refused(rt: HostRuntime) {
     let lab = lab_of(&rt, rt.alloc(), RandomState::new(&rt).expect(&rt, "keys"));
     let ping = long(&rt, &lab, b"\x89\xfe\0\x7e\0\0\0\0", 8 + 126);
-    assert!(rt; bring(&rt, &lab, &ping, b"", b"\x88\x02\x03\xea", true));
+    check_frames(&rt, &lab, &ping, b"", b"\x88\x02\x03\xea", true);
 }
 
 // It is told a text of so many bytes so often; true where it took all.

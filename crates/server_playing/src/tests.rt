@@ -1,3 +1,2 @@
 mod clock;
-mod faults;
 mod serving;

@@ -3,45 +3,55 @@ use crate::journals::{is_blank, stays_blank};
 use chess_store::StoreFault;
 use sector_dev::{CrashDevice, Device, MemoryDevice};
 use server_work::Fault;
-use std::test::Fail;
+use std::alloc::Global;
+use std::process::Abort;
 
-#[test]
-fn looks_at_the_front(rt: HostRuntime) -> Result<(), Fail> {
-    let alloc = rt.alloc();
-    let mut zeros = [0u8; 2000];
-    assert!(rt; is_blank(alloc, &zeros[..0])?);
-    assert!(rt; is_blank(alloc, &zeros[..100])?);
-    assert!(rt; is_blank(alloc, &zeros[..])?);
-    zeros[1024] = 1;
-    assert!(rt; is_blank(alloc, &zeros[..])?);
-    zeros[1023] = 1;
-    assert!(rt; !is_blank(alloc, &zeros[..])?);
-    zeros[0] = 1;
-    assert!(rt; !is_blank(alloc, &zeros[..1])?);
-    Ok(())
+fn check_front(rt: &impl Abort, alloc: Global, bytes: &[u8], wanted: bool) {
+    assert!(rt; is_blank(alloc, bytes).expect(rt, "a read") == wanted);
 }
 
 #[test]
-fn looks_at_a_device(rt: HostRuntime) -> Result<(), Fail> {
-    let alloc = rt.alloc();
+fn looks_at_the_front(rt: HostRuntime) {
+    let mut bytes = [0u8; 2000];
+    check_front(&rt, rt.alloc(), &bytes[..0], true);
+    check_front(&rt, rt.alloc(), &bytes[..100], true);
+    bytes[1024] = 1;
+    check_front(&rt, rt.alloc(), &bytes, true);
+    bytes[1023] = 1;
+    check_front(&rt, rt.alloc(), &bytes, false);
+    bytes[0] = 1;
+    check_front(&rt, rt.alloc(), &bytes[..1], false);
+}
+
+// A byte that is not zero stands in this sector.
+fn spoil(rt: &impl Abort, device: &mut MemoryDevice, at: u32) {
+    let mut bytes = [0; 512];
+    bytes[511] = 1;
+    assert!(rt; at < device.sectors());
+    assert!(rt; device.write(at, &bytes).is_ok());
+}
+
+#[test]
+fn looks_at_a_device(rt: HostRuntime) {
     let exists = Err(Fault::Store(StoreFault::Exists));
-    for (sectors, at, wanted) in [
+    let cases = [
         (1, 0, exists),
         (3, 0, exists),
         (3, 1, exists),
         (3, 2, Ok(())),
-    ] {
-        let mut device = MemoryDevice::new(alloc, sectors)?;
-        assert_eq!(rt; stays_blank(&mut device), Ok(()));
-        let mut bytes = [0; 512];
-        bytes[511] = 1;
-        assert!(rt; at < device.sectors());
-        assert!(rt; device.write(at, &bytes).is_ok());
-        assert_eq!(rt; stays_blank(&mut device), wanted);
+    ];
+    for (sectors, at, wanted) in cases {
+        let mut device = MemoryDevice::new(rt.alloc(), sectors).expect(&rt, "memory");
+        assert!(rt; stays_blank(&mut device) == Ok(()));
+        spoil(&rt, &mut device, at);
+        assert!(rt; stays_blank(&mut device) == wanted);
     }
-    let mut failing = MemoryDevice::new(alloc, 2)?;
-    failing.arm(1);
+}
+
+#[test]
+fn a_device_that_fails_is_no_journals(rt: HostRuntime) {
+    let mut device = MemoryDevice::new(rt.alloc(), 2).expect(&rt, "memory");
+    device.arm(1);
     let failed = Err(Fault::Store(StoreFault::Device { pending: 0 }));
-    assert_eq!(rt; stays_blank(&mut failing), failed);
-    Ok(())
+    assert!(rt; stays_blank(&mut device) == failed);
 }

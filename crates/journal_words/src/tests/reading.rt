@@ -7,7 +7,7 @@ use journal_copy::{Copied, Still, copy};
 use sector_dev::MemoryDevice;
 use server_work::open_on;
 use std::alloc::Global;
-use std::test::Fail;
+use std::process::Abort;
 
 const LIMITS: Limits = Limits {
     games: 4,
@@ -83,26 +83,22 @@ const SHOWN: &str = "\
 
 ";
 
-#[test]
-fn shows_the_games_of_a_copy(rt: HostRuntime) -> Result<(), Fail> {
-    let alloc = rt.alloc();
-    let Some(device) = played(alloc) else {
-        assert!(rt; false, "no journal");
-        return Ok(());
+// The games of the journal on a device are shown so.
+fn check_shown(rt: &impl Abort, alloc: Global, device: MemoryDevice) {
+    let Ok(store) = open_on(alloc, device) else {
+        panic!(rt; "no table");
     };
-    let mut source = Still::new(device);
-    let mut target = MemoryDevice::new(alloc, 212)?;
-    assert_eq!(rt; copy(&mut source, &mut target, 1), Ok(Copied::Whole));
-    for device in [source.into_device(), target] {
-        match open_on(alloc, device) {
-            Ok(store) => {
-                let table = store.into_parts().table;
-                let mut shown = Vec::new(alloc);
-                assert!(rt; write_games(alloc, &table, &mut shown).is_ok());
-                assert!(rt; shown.as_slice() == SHOWN.as_bytes());
-            }
-            Err(_) => assert!(rt; false, "no table"),
-        }
-    }
-    Ok(())
+    let table = store.into_parts().table;
+    let mut shown = Vec::new(alloc);
+    assert!(rt; write_games(alloc, &table, &mut shown).is_ok());
+    assert!(rt; shown.as_slice() == SHOWN.as_bytes());
+}
+
+#[test]
+fn shows_the_games_of_a_copy(rt: HostRuntime) {
+    let mut source = Still::new(played(rt.alloc()).expect(&rt, "a journal"));
+    let mut target = MemoryDevice::new(rt.alloc(), 212).expect(&rt, "memory");
+    assert!(rt; copy(&mut source, &mut target, 1) == Ok(Copied::Whole));
+    check_shown(&rt, rt.alloc(), source.into_device());
+    check_shown(&rt, rt.alloc(), target);
 }

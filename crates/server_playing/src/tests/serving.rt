@@ -91,7 +91,7 @@ impl Eprint for Machine<'_> {
 const TURNS: u32 = 30;
 
 /// What came of serving.
-#[derive(Clone, Copy, Debug, PartialEq, Eq)]
+#[derive(Clone, Copy)]
 struct Outcome {
     /// Whether the client's connection was closed while the server served.
     has_closed: bool,
@@ -130,10 +130,8 @@ fn served(rt: &HostRuntime, silence: Option<u64>) -> Option<Outcome> {
 #[test]
 fn closes_the_silent_and_rests(rt: HostRuntime) {
     for (silence, has_closed) in [(Some(5), true), (Some(60_000), false), (None, false)] {
-        let wanted = Outcome {
-            has_closed,
-            has_rested: true,
-        };
-        assert_eq!(rt; served(&rt, silence), Some(wanted));
+        let outcome = served(&rt, silence).expect(&rt, "an outcome");
+        assert!(rt; outcome.has_closed == has_closed);
+        assert!(rt; outcome.has_rested);
     }
 }
