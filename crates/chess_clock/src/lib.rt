@@ -9,6 +9,3 @@ mod time_control;
 pub use clocks::Clock;
 pub use events::Event;
 pub use time_control::is_time_control;
-
-#[cfg(test)]
-mod tests;

@@ -4,6 +4,8 @@
 #[cfg(test)]
 mod answer;
 #[cfg(test)]
+mod clock;
+#[cfg(test)]
 mod game;
 #[cfg(test)]
 mod line;

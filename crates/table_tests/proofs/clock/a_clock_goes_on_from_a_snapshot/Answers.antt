@@ -6,7 +6,7 @@ use Rattle.chess_clock.specs.TimeControl.{time_control, moves_to_go}
 use Rattle.chess_clock.specs.ClockState.{ClockState, started, with_time}
 use Rattle.chess_clock.specs.Replay.{TurnsEndInTime, TimesAlwaysFit}
 use Rattle.chess_clock.proofs.Deciding.{TurnsEndInTime-from_test, TimesAlwaysFit-from_test}
-use Rattle.chess_clock.proofs.tests.a_clock_goes_on_from_a_snapshot.Goals as goal
+use Rattle.table_tests.proofs.clock.a_clock_goes_on_from_a_snapshot.Goals as goal
 
 abbrev white_set : ClockState → ClockState
 white_set s = with_time White s (record { held = 82000; to_go = moves_to_go s.control.period 1 })

@@ -5,7 +5,7 @@ use Rattle.chess_clock.specs.declared.events.Event.TheVariants.{Turn}
 use Rattle.chess_clock.specs.TimeControl.{time_control}
 use Rattle.chess_clock.specs.ClockState.{ClockState, started}
 use Rattle.chess_clock.proofs.Deciding.{TurnsEndInTime-from_test, TimesAlwaysFit-from_test}
-use Rattle.chess_clock.proofs.tests.a_wrong_claim_gives_time_to_the_opponent.Goals as goal
+use Rattle.table_tests.proofs.clock.a_wrong_claim_gives_time_to_the_opponent.Goals as goal
 
 abbrev start : ClockState
 start = started (time_control 300 0 None) White 1000
