@@ -1,6 +1,6 @@
 //! One client that gives and takes little, or fails, beside another.
 use crate::peers::{Gives, Peer, Takes, made};
-use crate::serving::{Turns, connect, hub, lines_of, take_turns};
+use crate::serving::{Turns, connect, each_millisecond, hub, lines_of, take_turns};
 use chess_hub::Hub;
 use client_streams::Client;
 use sector_dev::MemoryDevice;
@@ -347,4 +347,34 @@ fn lines_go_on_in_portions(rt: HostRuntime) {
     for row in &IN_PORTIONS {
         check_row(&rt, rt.alloc(), row);
     }
+}
+
+// A game is opened, and its position is asked for: 16 answers of 66 bytes.
+const FENS: &[Gives] = &[
+    Gives::Text("name a\nopen white 300 0\n"),
+    Gives::Text(
+        "\
+fen 1\nfen 1\nfen 1\nfen 1\nfen 1\nfen 1\nfen 1\nfen 1\n\
+fen 1\nfen 1\nfen 1\nfen 1\nfen 1\nfen 1\nfen 1\nfen 1\n",
+    ),
+    Gives::Nothing,
+];
+
+#[test]
+fn who_has_much_to_take_is_given_it_whole(rt: HostRuntime) {
+    let mut hub = hub(rt.alloc()).expect(&rt, "a hub");
+    let mut clients = Vec::new(rt.alloc());
+    let peer = made(rt.alloc(), FENS, Takes::Some(100));
+    assert!(rt; connect(&mut clients, &mut hub, rt.alloc(), peer));
+    take_turns(&rt, &mut clients, &mut hub, each_millisecond(40));
+    let client = clients.first().expect(&rt, "a client");
+    assert!(rt; hub.is_open(client.sid()));
+    assert!(rt; client.stream().written.len() == 1_076);
+    assert!(rt;
+        client
+            .stream()
+            .written
+            .as_slice()
+            .ends_with(b" w KQkq - 0 1\n".as_slice())
+    );
 }
