@@ -1,5 +1,5 @@
 -- A player has a new link.
-use Rattle.std.proofs.Common.{ℕ, ◌≡◌, Bool, true, false, not, cond, ◌||◌, List, [], ◌∷◌, refl, sym, ap, ◌∙◌, subst, Ok, Option, None, Some}
+use Rattle.std.proofs.Common.{ℕ, ◌≡◌, Bool, true, false, cond, ◌||◌, List, [], ◌∷◌, refl, sym, ap, ◌∙◌, subst, Ok, Option, None, Some}
 use Rattle.std.specs.Prelude.{find, is_some, option_map, if◌then◌else◌}
 use Rattle.std.specs.Str.{bytes_eq}
 use Rattle.std.specs.String.{string_bytes}
@@ -13,7 +13,7 @@ use Rattle.rec_codec.specs.Name.{IsName}
 use Rattle.lobby_desk.specs.declared.players.Player.{Player}
 use Rattle.lobby_desk.specs.Players.{has_sum as has_sum_now, identity_of, is_named, holder_of, is_token_of, sum_given, IsWithSum, IsRelinked}
 use Rattle.lobby_players.specs.File.{Entry, IsLineOf, AreTwo, IsFileOf, lines_of, spoken, is_full_name, has_name, has_sum, entry_of, entries_of}
-use Rattle.lobby_players.specs.Adding.{added_text, added_entries, in_place, is_of, is_other, line_of}
+use Rattle.lobby_players.specs.Adding.{added_text, in_place, is_other, line_of}
 use Rattle.lobby_players.specs.Relinking.{IsFileRelinked, entry_linked}
 use Rattle.lobby_players.proofs.Entries.{any_mapped, or_first, or_second, pairs_head, pairs_tail}
 use Rattle.lobby_players.proofs.Written.{file_after}

@@ -1,7 +1,7 @@
 -- What a line tells.
-use Rattle.std.proofs.Common.{ℕ, ◌≡◌, ◌≢◌, ◌<◌, Bool, true, false, not, List, ◌∷◌, ◌++◌, length, get_or, refl, sym, ap, ◌∙◌, arith, Option, Some, None, Result, Ok, Err, codes}
-use Rattle.std.specs.Prelude.{IfNone, IfSome, IfOk, IsOk, ◌==◌}
-use Rattle.std.specs.List.{AllPass, list_all}
+use Rattle.std.proofs.Common.{ℕ, ◌≡◌, Bool, true, false, not, List, ◌∷◌, ◌++◌, refl, sym, ap, ◌∙◌, Option, Some, None, Result, Ok, Err, codes}
+use Rattle.std.specs.Prelude.{IfNone, IfSome, IfOk, ◌==◌}
+use Rattle.std.specs.List.{AllPass}
 use Rattle.std.proofs.lemmas.Bool.{false≢true}
 use Rattle.std.proofs.lemmas.List.Elements.{All-get_or}
 use Rattle.std.proofs.lemmas.List.Sums.{AllPass-from_list_all}

@@ -1,4 +1,3 @@
-use Rattle.std.proofs.Common.{Option}
 use Rattle.lobby_desk.specs.declared.players.Player.{Player}
 use Rattle.lobby_players.specs.File.{Entry, TellsOf, IsLineOf, entry_of, role_text}
 use Rattle.lobby_players.proofs.Told.{fields_told, line_told, line_tells, some_weaker, none_weaker}

@@ -1,7 +1,6 @@
-use Rattle.std.proofs.Common.{ℕ, true, false, inr, ap, sym, ◌≡◌, ◌∙◌, map, ◌++◌, ◌∷◌, [], List}
+use Rattle.std.proofs.Common.{true, false, inr, ap, sym, ◌∙◌, ◌∷◌, []}
 use Rattle.std.proofs.lemmas.List.{map-append}
-use Rattle.lobby_desk.specs.declared.players.Player.{Player}
-use Rattle.lobby_players.specs.File.{Entry, has_name, has_sum, entry_of, entries_of}
+use Rattle.lobby_players.specs.File.{has_name, has_sum, entry_of, entries_of}
 use Rattle.lobby_players.proofs.Entries.{any_of}
 use Rattle.lobby_players.proofs.reading.take.Goals as goal
 
