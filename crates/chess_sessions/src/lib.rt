@@ -8,3 +8,6 @@ mod taking;
 
 pub use sessions::{ConnectFault, SESSION_ROOM, Session, Sessions, Sid};
 pub use taking::Taken;
+
+#[cfg(test)]
+mod tests;
