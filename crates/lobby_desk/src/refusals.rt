@@ -1,9 +1,7 @@
 //! The acts that the server refused, of each game since it accepted one there.
 ghost use Rattle.std.specs.Prelude.{◌≡◌, ◌==◌, codes, OnOk};
 ghost use Rattle.std.specs.List.{starts_with};
-ghost use Rattle.std.specs.String.{string_bytes};
 ghost use Rattle.lobby_words.specs.Words.{line_said};
-ghost use Rattle.lobby_words.specs.Answers.{act_game};
 ghost use Rattle.lobby_desk.specs.Refusals as spec;
 
 use crate::desk::number_after;
