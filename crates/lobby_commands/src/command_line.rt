@@ -107,108 +107,106 @@ pub struct Adding<'a> {
     pub page: &'a str,
 }
 
+// (Each argument is made where it is added: so a call that fails has the command alone to drop.)
 fn serve_command<'a>(alloc: Global) -> Result<Command<'a>, AllocError> {
-    let players = option(alloc, "players", "FILE", "The players' file").required(true);
-    let server = option(alloc, "server", "A:P", "Where the game server listens").required(true);
-    let port = option(
+    let command = Command::new(alloc, "serve")
+        .about("Serves the page and its players, over a game server")
+        .after_help(HELP_OF_SERVE)
+        .arg(option(alloc, "players", "FILE", "The players' file").required(true))?
+        .arg(option(alloc, "server", "A:P", "Where the game server listens").required(true))?
+        .arg(port_option(alloc))?
+        .arg(option(
+            alloc,
+            "address",
+            "A",
+            "The address of this machine, 127.0.0.1 without it",
+        ))?;
+    with_files(alloc, command)
+}
+
+fn port_option<'a>(alloc: Global) -> Arg<'a> {
+    option(
         alloc,
         "port",
         "P",
         "The port, 0 to 65535, 8080 without it; 0 leaves the choice to the system",
     )
-    .value_parser(ValueParser::Unsigned(0, 65_535));
-    let address = option(
-        alloc,
-        "address",
-        "A",
-        "The address of this machine, 127.0.0.1 without it",
-    );
-    let page = option(
-        alloc,
-        "page",
-        "FOLDER",
-        "The folder of the page's files, page without it",
-    );
-    let host = option(
+    .value_parser(ValueParser::Unsigned(0, 65_535))
+}
+
+fn host_option<'a>(alloc: Global) -> Arg<'a> {
+    option(
         alloc,
         "host",
         "NAME",
         "A name by which browsers reach it; it may be given several times",
     )
-    .action(ArgAction::Append);
-    let live = option(
-        alloc,
-        "live",
-        "FILE",
-        "A file of games that is served as /live.pgn, as it stands",
-    );
-    let log = option(
-        alloc,
-        "log",
-        "FILE",
-        "The file of a log of all acts, none without it",
-    );
-    Command::new(alloc, "serve")
-        .about("Serves the page and its players, over a game server")
-        .after_help(HELP_OF_SERVE)
-        .arg(players)?
-        .arg(server)?
-        .arg(port)?
-        .arg(address)?
-        .arg(page)?
-        .arg(host)?
-        .arg(live)?
-        .arg(log)
+    .action(ArgAction::Append)
+}
+
+fn with_files<'a>(alloc: Global, command: Command<'a>) -> Result<Command<'a>, AllocError> {
+    command
+        .arg(option(
+            alloc,
+            "page",
+            "FOLDER",
+            "The folder of the page's files, page without it",
+        ))?
+        .arg(host_option(alloc))?
+        .arg(option(
+            alloc,
+            "live",
+            "FILE",
+            "A file of games that is served as /live.pgn, as it stands",
+        ))?
+        .arg(option(
+            alloc,
+            "log",
+            "FILE",
+            "The file of a log of all acts, none without it",
+        ))
 }
 
 fn evidence_command<'a>(alloc: Global) -> Result<Command<'a>, AllocError> {
-    let game = option(alloc, "game", "G", "The game's number")
-        .value_parser(ValueParser::Unsigned(0, u64::from(u32::MAX)))
-        .required(true);
-    let log = option(alloc, "log", "FILE", "The log").required(true);
+    let game = option(alloc, "game", "G", "The game's number").value_parser(ValueParser::Unsigned(
+        0,
+        u64::from(u32::MAX),
+    ));
     Command::new(alloc, "evidence")
         .about("Tells what the log has of a game")
         .after_help(HELP_OF_EVIDENCE)
-        .arg(game)?
-        .arg(log)
+        .arg(game.required(true))?
+        .arg(option(alloc, "log", "FILE", "The log").required(true))
 }
 
 fn player_command<'a>(alloc: Global) -> Result<Command<'a>, AllocError> {
     let name = Arg::new(alloc, "name")
         .value_name("NAME")
-        .help("1 to 16 of A-Z a-z 0-9 _")
-        .required(true);
-    let full_name = option(alloc, "full-name", "TEXT", "The name as it is shown").required(true);
-    let players = option(alloc, "players", "FILE", "The players' file").required(true);
-    let url = option(
-        alloc,
-        "url",
-        "URL",
-        "The page's address, http://127.0.0.1:8080/ without it",
-    );
-    let arbiter = flag(alloc, "arbiter", "An arbiter, who may drop games");
+        .help("1 to 16 of A-Z a-z 0-9 _");
     Command::new(alloc, "player")
         .about("Puts a player into the players' file, and prints the personal link")
         .after_help(HELP_OF_PLAYER)
-        .arg(name)?
-        .arg(full_name)?
-        .arg(players)?
-        .arg(url)?
-        .arg(arbiter)
+        .arg(name.required(true))?
+        .arg(option(alloc, "full-name", "TEXT", "The name as it is shown").required(true))?
+        .arg(option(alloc, "players", "FILE", "The players' file").required(true))?
+        .arg(option(
+            alloc,
+            "url",
+            "URL",
+            "The page's address, http://127.0.0.1:8080/ without it",
+        ))?
+        .arg(flag(alloc, "arbiter", "An arbiter, who may drop games"))
 }
 
 /// The lobby's command line.
 pub fn command<'a>(alloc: Global) -> Result<Command<'a>, AllocError> {
-    let serve = serve_command(alloc)?;
-    let player = player_command(alloc)?;
-    let evidence = evidence_command(alloc)?;
-    Command::new(alloc, "chess-lobby")
+    let command = Command::new(alloc, "chess-lobby")
         .about("The lobby of a chess club: players and spectators come by a browser.")
         .version(VERSION)
-        .subcommand_required(true)
-        .subcommand(serve)?
-        .subcommand(player)?
-        .subcommand(evidence)
+        .subcommand_required(true);
+    let command = command.subcommand(serve_command(alloc)?)?;
+    let command = command.subcommand(player_command(alloc)?)?;
+    command.subcommand(evidence_command(alloc)?)
 }
 
 /// Reads the words, the program's own name first. An `Err` is a usage fault, or a request for help.

@@ -101,11 +101,11 @@ happened b (Acts older game is_noted) s = acted b older game is_noted s.does s
 happened b Dies s = record s { does = None }
 happened b (Passes rows more) s = record s { rows = rows; given = s.given ++ more }
 
--- these tell no less than those of which games are newer
+-- what is newer than those games is newer than these
 abbrev pub TellNewer : List ℕ → List ℕ → Type 0
 TellNewer those these = (n : ℕ) → is_newer those n ≡ true → is_newer these n ≡ true
 
--- what `start` notes are the newest games that it saw, and what the server opens has a new number, and the board's times
+-- what `start` notes is no newer than the games that it saw, and what the server opens has a new number, and the board's times
 abbrev pub IsDone : Board → List ℕ → ℕ → Option Step → Standing → Type 0
 IsDone b older game (Some steps.Begin) s = TellNewer (numbers_of s.seen) older
 IsDone b older game (Some steps.Open) s = (is_newer s.given game ≡ true) × (b.fits game ≡ true)

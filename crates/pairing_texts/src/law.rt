@@ -24,7 +24,7 @@ pub fn law_of_notes()
 /// - One `start` runs at a time, and what it sends to open a game is taken before anything else happens, or never (`Acts`).
 /// - A look has all games of each server that was heard in it (`seen_of`), and each game of the table is of a server that the
 ///   look was told of, or of one of which a game was noted as an older one (`are_of`).
-/// - What is noted as older tells no less than the games that were seen: what is newer than it is newer than these (`IsDone`).
+/// - What is noted as older is no newer than the games that were seen: what is newer than these is newer than it (`IsDone`).
 /// - A game that `start` opens has the board's times, and is newer than all of its server before it (`IsDone`); and the table
 ///   never has a game that is newer than all of its server that were given (`IsBeginning`, `IsAllowed`).
 /// - While `opening` is the last note, a game that `start` opened for the board stays on the table, and White in it (`Stays`).
