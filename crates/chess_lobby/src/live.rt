@@ -16,14 +16,17 @@ const PATH: &[u8] = b"/live.pgn";
 const REST: u64 = 1_000;
 
 // What a regular file has. It is opened for writing too, though nothing is written: a pipe that was put there since it was looked at
-// would else hold its opening up until somebody writes into it.
+// would else hold its opening up until somebody writes into it. A lobby that may only read the file goes by the look.
 fn read_regular<R: Files<File = OpenFile> + AllocGlobal>(
     rt: &R,
     file: &str,
 ) -> io::Result<Vec<u8>> {
     let mut options = OpenOptions::new();
     options.read(true).write(true);
-    let mut opened = options.open(rt, file)?;
+    let mut opened = match options.open(rt, file) {
+        Err(error) if error.kind() == ErrorKind::PermissionDenied => OpenFile::open(rt, file)?,
+        opened => opened?,
+    };
     if !opened.metadata()?.is_file() {
         return Err(io::Error::from(ErrorKind::InvalidInput));
     }

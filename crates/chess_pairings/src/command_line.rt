@@ -10,7 +10,7 @@ const HELP_OF_START: &str = "\
 It opens and joins the game of each board of --pairings on the game server at --server, at
 the board's start, and notes in --round-file which game is which board's; it makes that file
 where there is none. It ends once each board has its game, and may be killed at any moment
-and given again: no board gets a second game, but in two cases, of which docs/NIGHT.md tells.
+and given again: no board gets a second game, but in the cases of which docs/NIGHT.md tells.
 While the server is not there it waits for it, and so while one of a switch's servers is not,
 which may have the game of a board; by --without it does not wait for that one.
 
