@@ -20,14 +20,12 @@ pub enum Became {
 
 /// A board whose game is opened.
 #[derive(Clone, Copy)]
-pub struct Board<'a> {
+pub struct Board {
     pub alloc: Global,
     pub pairing: Pairing,
     pub game: Game,
     /// The game that the arbiter said is its.
     pub taken: Option<u32>,
-    /// The servers that the arbiter said are not waited for.
-    pub without: &'a [u32],
 }
 
 // What is to be done about a board, and what that was seen by: the games of the table, and the servers that were not heard.
@@ -38,7 +36,7 @@ struct Seen {
     away: Vec<u32>,
 }
 
-impl Board<'_> {
+impl Board {
     /// A note of it.
     pub fn note(&self, stage: Stage) -> Note {
         Note {
@@ -114,9 +112,15 @@ impl Board<'_> {
         Ok(show_game(self.alloc, link, game)?.map(|shown| shown.seats))
     }
 
-    // What is to be done about it where its game was not opened, by a look at the table.
-    fn look(&self, link: &mut Link, stage: Option<&Stage>, noted: &[u32]) -> Result<Seen> {
-        let Sight { rows, away } = look(self.alloc, link, noted, self.without, stage.is_some())?;
+    // What is to be done about it where its game was not opened, by a look at the table without these servers.
+    fn look(
+        &self,
+        link: &mut Link,
+        stage: Option<&Stage>,
+        noted: &[u32],
+        without: &[u32],
+    ) -> Result<Seen> {
+        let Sight { rows, away } = look(self.alloc, link, noted, without, stage.is_some())?;
         let games = match stage {
             Some(_) if away.is_empty() => self.games(link, noted, rows.as_slice())?,
             _ => Vec::new(self.alloc),
@@ -145,11 +149,19 @@ impl Board<'_> {
     }
 
     // What is to be done about it now.
-    fn seen(&self, link: &mut Link, file: &RoundFile, opened: Option<u32>) -> Result<Seen> {
+    fn seen(
+        &self,
+        link: &mut Link,
+        file: &RoundFile,
+        without: &[u32],
+        opened: Option<u32>,
+    ) -> Result<Seen> {
         let stage = file.stage_of(self.pairing.board);
         let step = match stage {
-            None => return self.look(link, None, &[]),
-            Some(Stage::Opening(noted)) => return self.look(link, stage, noted.as_slice()),
+            None => return self.look(link, None, &[], without),
+            Some(Stage::Opening(noted)) => {
+                return self.look(link, stage, noted.as_slice(), without);
+            }
             Some(Stage::Joined(game)) => Step::Has(*game),
             Some(noted @ Stage::Opened(game)) => self.step(link, noted, *game, opened)?,
         };
@@ -177,12 +189,12 @@ impl Board<'_> {
         Ok(anyhow!("these servers are away and may have games of {white}:{servers}"))
     }
 
-    /// Goes on with its game until Black has joined it, or until it is the arbiter's to say which it is. Wherever it fails
-    /// or the process is killed, it may be called again.
-    pub fn go_on(&self, link: &mut Link, file: &mut RoundFile) -> Result<Became> {
+    /// Goes on with its game until Black has joined it, or until it is the arbiter's to say which it is; these servers are not
+    /// waited for. Wherever it fails or the process is killed, it may be called again.
+    pub fn go_on(&self, link: &mut Link, file: &mut RoundFile, without: &[u32]) -> Result<Became> {
         let mut opened = None;
         for _ in 0..8 {
-            let seen = self.seen(link, file, opened)?;
+            let seen = self.seen(link, file, without, opened)?;
             match seen.step {
                 Step::Begin => {
                     self.begin(file, seen.rows.as_slice())?;

@@ -31,6 +31,8 @@ struct Rounds {
     done: Vec<u32>,
     // Whether nobody could be told.
     is_unheard: bool,
+    // The servers that are not waited for.
+    without: Vec<u32>,
 }
 
 // The moment, in milliseconds from 1970 on.
@@ -51,7 +53,7 @@ impl Rounds {
     fn tell<R: AllocGlobal + Print + Eprint>(
         &mut self,
         rt: &R,
-        board: &Board<'_>,
+        board: &Board,
         became: Became,
     ) -> Result<()> {
         let number = board.pairing.board;
@@ -74,7 +76,7 @@ impl Rounds {
     }
 
     // Whether nothing is to be done about a board now.
-    fn rests(&self, board: &Board<'_>, now: i64) -> bool {
+    fn rests(&self, board: &Board, now: i64) -> bool {
         let number = board.pairing.board;
         let is_late = match board.game.start {
             Some(start) => start <= now,
@@ -89,7 +91,7 @@ impl Rounds {
         rt: &R,
         server: SocketAddr,
         link: &mut Option<Link>,
-        board: &Board<'_>,
+        board: &Board,
     ) -> Result<()>
     where
         R: Net<Stream = TcpStream> + AllocGlobal + Print + Eprint,
@@ -100,7 +102,7 @@ impl Rounds {
         };
         let number = board.pairing.board;
         let became = board
-            .go_on(&mut held, &mut self.file)
+            .go_on(&mut held, &mut self.file, self.without.as_slice())
             .context(format_args!("board {number}, by the server at {server}"))?;
         self.tell(rt, board, became)?;
         *link = Some(held);
@@ -109,7 +111,7 @@ impl Rounds {
 
     // Goes on with each board whose start has come. It tells the first of the failures, after which a board may be gone on
     // with again.
-    fn go_on<R>(&mut self, rt: &R, server: SocketAddr, boards: &[Board<'_>]) -> Result<()>
+    fn go_on<R>(&mut self, rt: &R, server: SocketAddr, boards: &[Board]) -> Result<()>
     where
         R: Net<Stream = TcpStream> + AllocGlobal + Print + Eprint + Clock,
     {
@@ -133,7 +135,7 @@ impl Rounds {
 }
 
 // The pairing of a board.
-fn board_of<'a>(boards: &[Board<'a>], number: u32) -> Result<Board<'a>> {
+fn board_of(boards: &[Board], number: u32) -> Result<Board> {
     for board in boards {
         if board.pairing.board == number {
             return Ok(*board);
@@ -155,7 +157,7 @@ fn is_after(file: &RoundFile, board: u32, game: u32) -> bool {
 fn take_words<R: AllocGlobal>(
     rt: &R,
     file: &mut RoundFile,
-    boards: &[Board<'_>],
+    boards: &[Board],
     starting: &Starting<'_>,
 ) -> Result<()> {
     for (number, game) in starting.takes.as_slice() {
@@ -229,11 +231,11 @@ fn check_times(pairings: &[Pairing]) -> Result<()> {
 }
 
 // The boards of pairings that have a game.
-fn boards_of<'a, R: AllocGlobal>(
+fn boards_of<R: AllocGlobal>(
     rt: &R,
     pairings: &[Pairing],
-    starting: &'a Starting<'_>,
-) -> Result<Vec<Board<'a>>> {
+    takes: &[(u32, u32)],
+) -> Result<Vec<Board>> {
     let mut boards = Vec::new(rt.alloc());
     for pairing in pairings {
         if let Some(game) = pairing.game {
@@ -241,8 +243,7 @@ fn boards_of<'a, R: AllocGlobal>(
                 alloc: rt.alloc(),
                 pairing: *pairing,
                 game,
-                taken: taken_of(starting.takes.as_slice(), pairing.board),
-                without: starting.without.as_slice(),
+                taken: taken_of(takes, pairing.board),
             })?;
         }
     }
@@ -250,7 +251,7 @@ fn boards_of<'a, R: AllocGlobal>(
 }
 
 // Goes round the boards until each has its game or is the arbiter's. Where the server is gone it is tried again.
-fn go_round<R>(rt: &R, rounds: &mut Rounds, server: SocketAddr, boards: &[Board<'_>]) -> Result<()>
+fn go_round<R>(rt: &R, rounds: &mut Rounds, server: SocketAddr, boards: &[Board]) -> Result<()>
 where
     R: Net<Stream = TcpStream> + AllocGlobal + Print + Eprint + Clock,
 {
@@ -289,7 +290,7 @@ where
     if !starting.is_short {
         check_times(pairings.as_slice()).context(format_args!("{rows}"))?;
     }
-    let boards = boards_of(rt, pairings.as_slice(), starting)?;
+    let boards = boards_of(rt, pairings.as_slice(), starting.takes.as_slice())?;
     let mut file = RoundFile::open(rt, starting.round.games)?;
     check_notes(starting.round.games, file.notes(), pairings.as_slice())?;
     take_words(rt, &mut file, boards.as_slice(), starting)?;
@@ -298,6 +299,7 @@ where
         asks: Vec::new(rt.alloc()),
         done: Vec::new(rt.alloc()),
         is_unheard: false,
+        without: Vec::from_slice(rt.alloc(), starting.without.as_slice())?,
     };
     go_round(rt, &mut rounds, starting.server, boards.as_slice())?;
     let (boards, games) = (boards.len(), rounds.done.len());
