@@ -168,13 +168,19 @@ fn seats(white: &str, black: &str) -> Option<Seats> {
     })
 }
 
+// The step about a board that is about to be opened, by the games that may be its.
+fn step_at_opening(rt: &impl Abort, alloc: Global, games: &[u32]) -> Step {
+    let (ann, bob) = (name(rt, "ann"), name(rt, "bob"));
+    let opening = Stage::Opening(Vec::new(alloc));
+    step_of(&ann, &bob, Some(&opening), &[], games, None)
+}
+
 #[test]
 fn steps_before_a_game(rt: HostRuntime) {
-    let opening = Stage::Opening(Vec::new(rt.alloc()));
     assert!(rt; step(&rt, None, &[], None) == Step::Begin);
-    assert!(rt; step(&rt, Some(&opening), &[], None) == Step::Open);
-    assert!(rt; step(&rt, Some(&opening), &[17], None) == Step::Take(17));
-    assert!(rt; step(&rt, Some(&opening), &[17, 19], None) == Step::Ask);
+    assert!(rt; step_at_opening(&rt, rt.alloc(), &[]) == Step::Open);
+    assert!(rt; step_at_opening(&rt, rt.alloc(), &[17]) == Step::Take(17));
+    assert!(rt; step_at_opening(&rt, rt.alloc(), &[17, 19]) == Step::Ask);
 }
 
 #[test]
