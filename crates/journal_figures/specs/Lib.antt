@@ -1,0 +1,2 @@
+pub mod Figures
+pub mod Faults
