@@ -1,7 +1,6 @@
 //! What is told of a lobby to who looks after it, as Prometheus reads it.
-use crate::figure_lines::{put_head, put_labelled, put_number, seconds};
-use crate::journals::Journals;
 use bytes::Bytes;
+use lobby_figures::{Journals, put_head, put_labelled, put_number, seconds};
 use lobby_loop::{ACTS, BOUNDS, Counts, Lobby};
 use lobby_web::{File, Kind};
 use std::alloc::{AllocError, Global};

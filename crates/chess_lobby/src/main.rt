@@ -3,9 +3,7 @@
 
 mod adding;
 mod evidence;
-mod figure_lines;
 mod health;
-mod journals;
 mod links;
 mod live;
 mod log;

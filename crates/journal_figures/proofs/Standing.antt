@@ -1,6 +1,6 @@
 -- What stands still while figures are read, and what was so where there are none.
 use Rattle.std.proofs.Common.{◌≡◌, ◌≢◌, ◌⊎◌, ◌<◌, ◌≤◌, ◌+◌, ◌∙◌, ℕ, List, refl, sym, ap, subst, arith, inl, inr}
-use Rattle.std.specs.Prelude.{Some}
+use Rattle.std.specs.Prelude.{Some, Result, Ok, Err, IfOk, IfErr, IsErrAnd}
 use Rattle.sector_dev.specs.Image.{Sectors}
 use Rattle.rec_codec.specs.declared.header.Header.{Header}
 use Rattle.journal_layout.specs.Parts.{bytes_at}
@@ -10,7 +10,8 @@ use Rattle.journal_copy.specs.Copying.{Follows}
 use Rattle.journal_copy.proofs.Steps.{unmoved}
 use Rattle.journal_figures.specs.declared.fault.FiguresFault.{FiguresFault}
 use Rattle.journal_figures.specs.declared.fault.FiguresFault.TheVariants as fault
-use Rattle.journal_figures.specs.Figures.{HasNoMoment}
+use Rattle.journal_figures.specs.declared.reading.Figures.{Figures}
+use Rattle.journal_figures.specs.Figures.{HasNoMoment, AreFiguresOf}
 use Rattle.journal_figures.specs.Faults.{IsAtSome, IsTooLarge, HasGoneOn, IsCause}
 
 -- a sector that the header names has at the header's moment what was read between it and one that follows
@@ -64,3 +65,34 @@ cause_wider image from to first last count fault.Changing before behind gone = r
   differ = gone.differ;
 }
 cause_wider image from to first last count fault.Device before behind cause = cause
+
+-- the same, of a part of which the source is known by equations
+pub cause_later : (image one : ℕ → Sectors) (from mid to count also : ℕ) (fault : FiguresFault) → one ≡ image
+    → also ≡ count → from ≤ mid → IsCause one mid to also fault → IsCause image from to count fault
+cause_later image one from mid to count also fault same counts before cause =
+    let le : to ≤ to = omega arith in
+    cause_wider image mid to from to count fault before le
+    (subst (λ (n : ℕ). IsCause image mid to n fault) counts
+    (subst (λ (i : ℕ → Sectors). IsCause i mid to also fault) same cause))
+
+-- what is so of a fault that is handed on
+pub err_of : {T E : Type 0} (r : Result T E) (fault : E) (P : E → Type 0) → IsErrAnd r (λ e. e ≡ fault) → P fault
+    → IfErr r P
+err_of (Ok x) fault P is holds = absurd is
+err_of (Err e) fault P is holds = subst P (sym is) holds
+
+-- what a later part of a call answers, the call does
+pub whole_on : (image one : ℕ → Sectors) (from mid to : ℕ) (r : Result Figures FiguresFault) → one ≡ image → from ≤ mid
+    → IfOk r (λ figures. IsAtSome (AreFiguresOf figures) one mid to)
+    → IfOk r (λ figures. IsAtSome (AreFiguresOf figures) image from to)
+whole_on image one from mid to (Ok figures) same before some =
+    let le : to ≤ to = omega arith in
+    some_wider (AreFiguresOf figures) image mid to from to before le
+    (subst (λ (i : ℕ → Sectors). IsAtSome (AreFiguresOf figures) i mid to) same some)
+whole_on image one from mid to (Err fault) same before some = tt
+
+pub cause_on : (image one : ℕ → Sectors) (from mid to count also : ℕ) (r : Result Figures FiguresFault) → one ≡ image
+    → also ≡ count → from ≤ mid → IfErr r (IsCause one mid to also) → IfErr r (IsCause image from to count)
+cause_on image one from mid to count also (Ok figures) same counts before cause = tt
+cause_on image one from mid to count also (Err fault) same counts before cause =
+    cause_later image one from mid to count also fault same counts before cause

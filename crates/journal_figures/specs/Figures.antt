@@ -47,13 +47,13 @@ snapshot_moment meta = greatest_of meta.entries meta.moment
 pub record IsEntered (image : Sectors) (h : Header) (moment : Option ℕ) : Type 0 where
   pub entry : Entry
   pub last : IsJournalsLast h.version image h (kind.Entry entry)
-  pub moment : moment ≡ Some entry.moment
+  pub told : moment ≡ Some entry.moment
 
 -- the snapshot's first record tells this moment
 pub record IsKept (image : Sectors) (h : Header) (moment : Option ℕ) : Type 0 where
   pub meta : Meta
   pub first : IsSnapshotsFirst h.version image h (kind.Meta meta)
-  pub moment : moment ≡ snapshot_moment meta
+  pub told : moment ≡ snapshot_moment meta
 
 -- The moment of the last entry that a header names, if there is one. (No entry's moment is before that of an earlier one,
 -- so it is the greatest.)

@@ -3,6 +3,7 @@
 
 mod fault;
 mod file;
+mod laws;
 mod places;
 mod reading;
 mod records;
@@ -10,4 +11,5 @@ mod slots;
 
 pub use fault::FiguresFault;
 pub use file::{JournalFile, LookFault};
+pub use laws::law_of_contents;
 pub use reading::{Figures, read_figures};

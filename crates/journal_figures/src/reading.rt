@@ -47,6 +47,11 @@ fn try_figures<S: Source>(source: &mut S) -> Result<Figures, FiguresFault>
     })
 }
 
+// Whether another header came into force.
+fn is_changing(read: &Result<Figures, FiguresFault>) -> bool {
+    matches!(read, Err(FiguresFault::Changing))
+}
+
 /// Reads the figures of the journal that a source holds: those that it had at some moment of the call. It reads the header
 /// in force, the one sector that tells of the last entry, and the header again: where that is of neither the same commit
 /// nor the next, or of the other half, it begins anew, so often at most.
@@ -60,9 +65,9 @@ pub fn read_figures<S: Source>(source: &mut S, tries: u32) -> Result<Figures, Fi
         (IsCause (S.image source.old) (S.moment source.old) (S.moment source.new) (S.sector_count source.old)) }
 {
     for _ in 1..tries {
-        match try_figures(source) {
-            Err(FiguresFault::Changing) => {}
-            answer => return answer,
+        let read = try_figures(source);
+        if !is_changing(&read) {
+            return read;
         }
     }
     try_figures(source)

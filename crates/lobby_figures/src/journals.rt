@@ -1,5 +1,5 @@
 //! What is told of the journals behind a lobby.
-use crate::figure_lines::{put_head, put_labelled, put_labelled_text, seconds};
+use crate::lines::{put_head, put_labelled, put_labelled_text, seconds};
 use journal_figures::{Figures, JournalFile, LookFault};
 use std::alloc::{AllocError, Global};
 use std::fs::File;
