@@ -158,10 +158,10 @@ class Relay:
 
 class Programs:
     """Server, relay and lobby, over a players' file with lines `NAME ROLE TOKEN FULL NAME`, or over the `club.players` that
-    is in the folder; `more` are options of the lobby."""
+    is in the folder; `more` are options of the lobby, and `errors` is the file of its standard error."""
 
-    def __init__(self, folder, players=None, has_relay=True, more=()):
-        self.folder, self.port, self.more = folder, 0, more
+    def __init__(self, folder, players=None, has_relay=True, more=(), errors=subprocess.DEVNULL):
+        self.folder, self.port, self.more, self.errors = folder, 0, more, errors
         self.club = os.path.join(folder, 'club.players')
         if players:
             self.add_players(players)
@@ -185,7 +185,7 @@ class Programs:
             [self.program, 'serve', '--players', self.club,
              '--server', '127.0.0.1:%d' % self.before(),
              '--port', str(self.port), '--page', os.path.join(TOP, 'page'), *self.more],
-            stdout=subprocess.PIPE, stderr=subprocess.DEVNULL, text=True)
+            stdout=subprocess.PIPE, stderr=self.errors, text=True)
         self.address = self.process.stdout.readline().strip()
         self.port = int(self.address.rstrip('/').rsplit(':', 1)[1])
 

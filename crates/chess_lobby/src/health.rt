@@ -1,63 +1,18 @@
 //! What is told of a lobby to who looks after it, as Prometheus reads it.
 use bytes::Bytes;
+use lobby_figures::{Journals, put_head, put_labelled, put_number, seconds};
 use lobby_loop::{ACTS, BOUNDS, Counts, Lobby};
 use lobby_web::{File, Kind};
 use std::alloc::{AllocError, Global};
 use std::collections::BTreeMap;
+use std::fs::File as OpenFile;
+use std::rt::Files;
 
 /// The path at which it is served.
 const PATH: &[u8] = b"/health";
 
 /// So many milliseconds lie at least between two texts.
 const REST: u64 = 1_000;
-
-// The lines in front of a figure: what it tells, and of what kind it is.
-fn put_head(
-    text: &mut String,
-    alloc: Global,
-    name: &str,
-    kind: &str,
-    help: &str,
-) -> Result<(), AllocError> {
-    let head = format!(in alloc;
-        "# HELP chess_lobby_{name} {help}\n# TYPE chess_lobby_{name} {kind}\n"
-    )?;
-    text.push_str(head.as_str())
-}
-
-// A figure that is one number.
-fn put_number(
-    text: &mut String,
-    alloc: Global,
-    name: &str,
-    kind: &str,
-    help: &str,
-    number: u64,
-) -> Result<(), AllocError> {
-    put_head(text, alloc, name, kind, help)?;
-    let line = format!(in alloc; "chess_lobby_{name} {number}\n")?;
-    text.push_str(line.as_str())
-}
-
-// A number of a figure that has several, by what they are told apart.
-fn put_labelled(
-    text: &mut String,
-    alloc: Global,
-    name: &str,
-    label: &str,
-    value: &str,
-    number: u64,
-) -> Result<(), AllocError> {
-    let line = format!(in alloc; "chess_lobby_{name}{{{label}=\"{value}\"}} {number}\n")?;
-    text.push_str(line.as_str())
-}
-
-// Milliseconds as seconds.
-fn seconds(alloc: Global, milliseconds: u64) -> Result<String, AllocError> {
-    let whole = milliseconds / 1_000;
-    let rest = milliseconds % 1_000;
-    format!(in alloc; "{whole}.{rest:03}")
-}
 
 // Whether the server is there, and who is.
 fn put_connections(text: &mut String, alloc: Global, lobby: &Lobby) -> Result<(), AllocError> {
@@ -186,11 +141,10 @@ fn put_times(text: &mut String, alloc: Global, counts: &Counts) -> Result<(), Al
     text.push_str(lines.as_str())
 }
 
-// All of it, at a moment.
-fn health_text(alloc: Global, lobby: &Lobby, at: u64) -> Result<String, AllocError> {
-    let mut text = String::new(alloc);
+// What the lobby counts, at a moment.
+fn put_counts(text: &mut String, alloc: Global, lobby: &Lobby, at: u64) -> Result<(), AllocError> {
     put_head(
-        &mut text,
+        text,
         alloc,
         "up_seconds",
         "gauge",
@@ -199,25 +153,29 @@ fn health_text(alloc: Global, lobby: &Lobby, at: u64) -> Result<String, AllocErr
     let up = seconds(alloc, at)?;
     let line = format!(in alloc; "chess_lobby_up_seconds {up}\n")?;
     text.push_str(line.as_str())?;
-    put_connections(&mut text, alloc, lobby)?;
+    put_connections(text, alloc, lobby)?;
     let games = lobby.watched_games()?;
-    put_watchers(&mut text, alloc, games.as_slice())?;
-    put_answers(&mut text, alloc, lobby.counts())?;
-    put_times(&mut text, alloc, lobby.counts())?;
-    Ok(text)
+    put_watchers(text, alloc, games.as_slice())?;
+    put_answers(text, alloc, lobby.counts())?;
+    put_times(text, alloc, lobby.counts())
 }
 
 /// The text that is served, and from when on another is made.
 #[derive(Drop)]
-pub struct Health {
+pub struct Health<'a, R> {
     alloc: Global,
+    journals: Journals<'a, R>,
     next_at: u64,
 }
 
-impl Health {
-    /// None was made.
-    pub fn new(alloc: Global) -> Health {
-        Health { alloc, next_at: 0 }
+impl<'a, R: Files<File = OpenFile> + AllocGlobal + Eprint> Health<'a, R> {
+    /// None was made. Of these journals it is to tell besides.
+    pub fn new(rt: &'a R, journals: &[&'a str]) -> Result<Self, AllocError> {
+        Ok(Health {
+            alloc: rt.alloc(),
+            journals: Journals::new(rt, journals)?,
+            next_at: 0,
+        })
     }
 
     /// The text is made anew, where the one that is served is older than a second.
@@ -226,7 +184,9 @@ impl Health {
             return Ok(());
         }
         self.next_at = at.saturating_add(REST);
-        let text = health_text(self.alloc, lobby, at)?;
+        let mut text = String::new(self.alloc);
+        put_counts(&mut text, self.alloc, lobby, at)?;
+        self.journals.put(&mut text)?;
         lobby.put_file(File {
             path: PATH.to_vec(self.alloc)?,
             kind: Kind::Figures,

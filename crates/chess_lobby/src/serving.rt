@@ -71,7 +71,7 @@ where
         turned_away: 0,
         next_at: 0,
     };
-    let mut health = Health::new(rt.alloc());
+    let mut health = Health::new(rt, serving.journals.as_slice())?;
     let mut live = match serving.live {
         Some(file) => Some(Live::new(file)),
         None => None,

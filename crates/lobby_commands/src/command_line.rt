@@ -17,7 +17,8 @@ address, each with the port, and what --host names, with the port and without on
 With --log it puts each act that the server took into a file, with its answer, and how the
 game stands behind it, before anybody is told; the file is made where there is none.
 Besides the page there are /board/G for a screen that shows game G, /boards for one that
-shows all, and /health with figures as Prometheus reads them. /live.pgn is the file of
+shows all, and /health with figures as Prometheus reads them, with --journal also of the
+journal's commits and its last moment: the file is read alone. /live.pgn is the file of
 --live, read anew when it has changed.
 
 It goes on until it is ended: kill it, by any signal. Nothing is lost by that.
@@ -95,6 +96,8 @@ pub struct Serving<'a> {
     pub log: Option<&'a str>,
     /// The file of games that is served as `/live.pgn`.
     pub live: Option<&'a str>,
+    /// The journals of which figures are told, in the order of the servers.
+    pub journals: Vec<&'a str>,
 }
 
 /// Who is put into a players' file, and the address of the page for the link.
@@ -144,6 +147,16 @@ fn host_option<'a>(alloc: Global) -> Arg<'a> {
     .action(ArgAction::Append)
 }
 
+fn journal_option<'a>(alloc: Global) -> Arg<'a> {
+    option(
+        alloc,
+        "journal",
+        "FILE",
+        "The server's journal, of which /health tells; once for each server behind a switch",
+    )
+    .action(ArgAction::Append)
+}
+
 fn with_files<'a>(alloc: Global, command: Command<'a>) -> Result<Command<'a>, AllocError> {
     command
         .arg(option(
@@ -164,7 +177,8 @@ fn with_files<'a>(alloc: Global, command: Command<'a>) -> Result<Command<'a>, Al
             "log",
             "FILE",
             "The file of a log of all acts, none without it",
-        ))
+        ))?
+        .arg(journal_option(alloc))
 }
 
 fn evidence_command<'a>(alloc: Global) -> Result<Command<'a>, AllocError> {
@@ -244,6 +258,7 @@ fn serving_of<'a>(
         page: values.get_str("page").unwrap_or("page"),
         hosts: Vec::from_slice(alloc, values.get_strs("host").unwrap_or(&[]))?,
         live: values.get_str("live"),
+        journals: Vec::from_slice(alloc, values.get_strs("journal").unwrap_or(&[]))?,
         log: values.get_str("log"),
     }))
 }
