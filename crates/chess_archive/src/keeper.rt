@@ -9,9 +9,10 @@ use crate::asking::{Knowledge, pgn_of};
 use crate::command_line::Keeping;
 use crate::compared::has_game;
 use crate::figures::watched_games;
-use crate::halves::{goes_on, opening_of};
+use crate::halves::push_ended;
 use crate::kept::{Kept, kept_in};
 use crate::tags::with_tag;
+use adjourned::{first_half, is_opened_for};
 use anyhow::{Context, Result, anyhow, bail};
 use archive_file::Archive;
 use lobby_archive::Night;
@@ -175,35 +176,20 @@ fn row_of<'a>(rows: &[Row<'a>], game: u32) -> Result<Row<'a>> {
     bail!("the server's list has no game {game}")
 }
 
-// The greatest number of games, below that of another, that go on in it: it has this PGN, and was opened by these words.
-fn half_among(
-    alloc: Global,
-    games: &[Kept],
-    below: u32,
-    pgn: &str,
-    opening: &str,
-) -> Result<Option<u32>> {
-    let mut half = None;
-    for kept in games {
-        if kept.game < below && goes_on(alloc, kept.pgn.as_str(), pgn, opening)? {
-            half = half.max(Some(kept.game));
-        }
-    }
-    Ok(half)
-}
-
 impl<R: AllocGlobal> Keeper<'_, R> {
     // The game that goes on in a game with this PGN, where the log tells how an arbiter opened it.
     fn half_of(&self, game: u32, pgn: &str) -> Result<Option<u32>> {
         let alloc = self.rt.alloc();
+        let records = self.known.records;
         let white = row_of(self.rows, game)?.white;
-        let Some(opening) = opening_of(alloc, self.known.records, game, white)? else {
+        if !is_opened_for(records, game, white) {
             return Ok(None);
-        };
+        }
         let before = kept_in(alloc, parts(alloc, self.lines.as_str(), '\n')?.as_slice())?;
-        let half = half_among(alloc, before.as_slice(), game, pgn, opening)?;
-        let since = half_among(alloc, self.kept.as_slice(), game, pgn, opening)?;
-        Ok(half.max(since))
+        let mut ended = Vec::new(alloc);
+        push_ended(&mut ended, alloc, before.as_slice(), pgn)?;
+        push_ended(&mut ended, alloc, self.kept.as_slice(), pgn)?;
+        Ok(first_half(alloc, records, game, white, ended.as_slice())?)
     }
 
     // A PGN with the game that it continues.

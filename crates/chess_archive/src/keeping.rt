@@ -5,6 +5,7 @@ use crate::keeper::{Counts, Done, Keeper, NOTHING};
 use crate::log_reader::LogReader;
 use crate::rows::{games_over, rows_of};
 use crate::telling::Telling;
+use adjourned::in_order;
 use anyhow::{Context, Result};
 use archive_file::Archive;
 use archive_lines::{end_last_line, lines_of};
@@ -73,6 +74,8 @@ where
         let (archive, lines) = archive_of(self.rt, self.keeping.archive)?;
         self.has_looked = true;
         self.read_log(&archive, rows.as_slice())?;
+        // (a first half before its second one, which is linked with it)
+        let over = in_order(alloc, self.log.records(), over.as_slice())?;
         let mut keeper = Keeper {
             rt: self.rt,
             keeping: self.keeping,

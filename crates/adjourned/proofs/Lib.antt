@@ -1,0 +1,2 @@
+mod Later
+mod Placed
