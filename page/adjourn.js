@@ -9,6 +9,7 @@ import { AGREED, NO_GAME, OTHER, SIDES, arbiterWords, clockText, colourWord, res
 const PREFIX = 'adjourned-';
 const DAY = 86400;                   // seconds: the longest first period that the server takes
 const AGREEMENT = '5.2.3';
+const FOLLOWS = 250;                 // milliseconds: the clocks of a question
 const local = () => localStorage;
 
 export class Adjournments {
@@ -20,11 +21,13 @@ export class Adjournments {
     this.said = new Map();             // what is said of a note, by its key
     this.items = new Map();
     byId('adjourn-dialog').addEventListener('close', (event) => {
-      const note = this.asked;
+      const note = this.asked && this.asked.note;
       this.asked = null;
+      clearInterval(this.following);
       if (event.target.returnValue === 'yes' && note) this.adjourn(note);
     });
-    byId('adjourn-copy').addEventListener('click', () => this.copyNote(this.asked, byId('adjourn-copied')));
+    byId('adjourn-copy').addEventListener('click', () => this.copyNote(
+      { ...this.now(), at: Date.now() }, byId('adjourn-copied')));
     addEventListener('storage', (event) => (event.key || PREFIX).startsWith(PREFIX) && this.render());
   }
 
@@ -71,16 +74,43 @@ export class Adjournments {
     const note = this.read(shown, fen, pgn);
     if (!note) return false;
     if (document.querySelector('dialog[open]')) return true;
-    this.asked = note;
-    const why = whyNot(note);
+    const show = readShow(shown[0]);
+    this.asked = { note, side: show.side, article: show.article, at: performance.now() };
     setText(byId('adjourn-title'), `Adjourn game ${number}?`);
     byId('adjourn-note').replaceChildren(...this.rows(note));
-    setText(byId('adjourn-cannot'), why);
     setText(byId('adjourn-copied'), keeps() ? '' : 'This browser keeps nothing: copy the note, or write it down.');
-    byId('adjourn-yes').disabled = Boolean(why);
+    this.renderAsked();
+    clearInterval(this.following);
+    this.following = setInterval(() => this.renderAsked(), FOLLOWS);
     dialog.returnValue = '';
     dialog.showModal();
     return true;
+  }
+
+  /** The number of the game that is asked about, or 0. */
+  about() {
+    return this.asked ? this.asked.note.game : 0;
+  }
+
+  /** How the game stands that is asked about was told at the moment `at`. */
+  follow(number, { ply, left, fen, side, article }, at) {
+    if (this.about() !== number) return;
+    Object.assign(this.asked, { note: { ...this.asked.note, ply, left, fen }, side, article, at });
+    this.renderAsked();
+  }
+
+  /** The note of the game that is asked about, with the clocks of this moment. */
+  now() {
+    const { note, side, article, at } = this.asked, passed = article ? 0 : performance.now() - at;
+    return { ...note, left: { ...note.left, [side]: Math.max(0, Math.round(note.left[side] - passed)) } };
+  }
+
+  /** The question follows the game; what has not changed stays, so that it can be marked. */
+  renderAsked() {
+    const note = this.now(), why = whyNot(note, this.asked.article);
+    this.rows(note).forEach((part, place) => setText(byId('adjourn-note').children[place], part.textContent));
+    setText(byId('adjourn-cannot'), why);
+    byId('adjourn-yes').disabled = Boolean(why);
   }
 
   /** The note of three answers, null where they do not tell of a game that is there. */
@@ -306,7 +336,8 @@ function keeps() {
 }
 
 /** Why a game cannot be closed as a draw now, and what to do; empty where it can. */
-function whyNot({ ply, left, fen }) {
+function whyNot({ ply, left, fen }, article) {
+  if (article) return 'The game has ended meanwhile.';
   if (ply < AGREED) {
     return 'A draw can be agreed on once both sides have made a move, so this game cannot be closed yet. Have both make their '
       + 'first move; or enter a resignation, which ends it too, and pair the two anew.';

@@ -3,16 +3,23 @@
 import { Adjournments, timesToGoOn, wordsToGoOn } from './adjourn.js';
 import { Picture } from './board.js';
 import { Clock } from './clock.js';
-import { isNoGame, placementOf, readLine, readRefusal, readStanding, readWho, squaresOf } from './lines.js';
+import { isNoGame, placementOf, readLine, readRefusal, readShow, readStanding, readWho, squaresOf } from './lines.js';
 import { Links } from './links.js';
-import { arrange, byId, make, setText } from './make.js';
+import { arrange, byId, make, save, setText } from './make.js';
 import { Pairing } from './pairing.js';
 import { Question } from './question.js';
 import { Waits } from './waits.js';
-import { AGREED, OTHER, SIDES, actWords, arbiterWords, colourWord, refusalWords, resultWords } from './words.js';
+import { AGREED, NO_GAME, OTHER, SIDES, actWords, arbiterWords, colourWord, refusalWords, resultWords } from './words.js';
 
-const MOST = 12;                     // games on a page: each is watched
+const MOST = 12;                     // games on a page: each that runs is watched
 const ASKS_WHO = 10000;
+const ASKS_TABLE = 4000;             // nobody tells of games that were opened or taken off past the lobby
+const RUNS = 0, WAITS = 1, OVER = 2; // the kinds of games, as they stand behind each other
+const ASKS_AGAIN = 4000;             // for a game that was not told
+const STAYS = 8000;                  // so long a game that has ended keeps its place,
+const STAYS_BEFORE_OTHERS = 2000;    // or so long where a running game has none on the page for it,
+const UNTOUCHED = 3000;              // and longer until no hand was at the boards for so long,
+const STAYS_AT_MOST = 60000;         // but no longer than this
 
 export class ArbiterView {
   /** rows(): the table's rows by number. */
@@ -23,6 +30,10 @@ export class ArbiterView {
     this.hash = '#/arbiter';
     this.list = byId('arbiter-games');
     this.cards = new Map();
+    this.places = new Map();           // number -> {kind, turn, endedAt}: what orders the games
+    this.turn = 0;
+    this.shown = [];                   // the numbers of the cards, as they stand
+    this.touchedAt = -Infinity;
     this.first = 0;
     this.here = null;                  // the names of who is connected, once that was told
     this.arePaused = null;             // whether new games are stopped, once that was told
@@ -32,10 +43,10 @@ export class ArbiterView {
     this.adjourned = new Adjournments(this, (note) => this.pairing.fill({ ...note, times: timesToGoOn(note) },
       wordsToGoOn(note)));
     this.links = new Links(this);
-    byId('arbiter-find').addEventListener('input', () => {
-      this.first = 0;
-      this.fill();
-    });
+    byId('arbiter-find').addEventListener('input', () => this.turnTo(0));
+    for (const kind of ['pointermove', 'pointerdown', 'keydown']) {
+      this.list.addEventListener(kind, () => { this.touchedAt = performance.now(); }, { passive: true });
+    }
     byId('arbiter-back').addEventListener('click', () => this.page(-1));
     byId('arbiter-on').addEventListener('click', () => this.page(1));
     byId('pause-entries').addEventListener('click', () => this.entries('pause'));
@@ -48,10 +59,9 @@ export class ArbiterView {
   open() {
     this.root.hidden = false;
     clearInterval(this.asking);
-    this.asking = setInterval(() => {
-      this.askWho();
-      this.fill();
-    }, ASKS_WHO);
+    clearInterval(this.askingTable);
+    this.asking = setInterval(() => this.askWho(), ASKS_WHO);
+    this.askingTable = setInterval(() => this.askTable(), ASKS_TABLE);
     this.askWho();
     this.render();
     this.waits.open();
@@ -61,8 +71,11 @@ export class ArbiterView {
   close() {
     this.root.hidden = true;
     clearInterval(this.asking);
+    clearInterval(this.askingTable);
     for (const part of [this.question, this.waits, this.adjourned, this.links]) part.close();
     for (const number of [...this.cards.keys()]) this.remove(number);
+    this.places.clear();
+    this.shown = [];
     this.note('');
   }
 
@@ -109,11 +122,39 @@ export class ArbiterView {
     return [...this.rows().values()].filter((row) => row.white && row.black && row.result === '*');
   }
 
-  /** Of these, those of a player that is looked for. */
+  /** All games of the table in their order, or those of a player that is looked for: running ones, then those that wait,
+   * then those that are over, the newest first. One that runs stands behind those that ran before it. */
   found() {
+    const rows = [...this.rows().values()].sort((a, b) => a.number - b.number);
+    for (const row of rows) this.place(row);
+    for (const number of this.places.keys()) {
+      if (!this.rows().has(number)) this.places.delete(number);
+    }
     const text = byId('arbiter-find').value.trim().toLowerCase();
-    const has = (name) => `${name} ${this.app.nameWords(name)}`.toLowerCase().includes(text);
-    return this.running().filter((row) => !text || has(row.white) || has(row.black));
+    const has = (name) => name && `${name} ${this.app.nameWords(name)}`.toLowerCase().includes(text);
+    return rows.filter((row) => !text || has(row.white) || has(row.black)).sort((a, b) => {
+      const one = this.places.get(a.number), other = this.places.get(b.number);
+      return one.kind - other.kind || (one.kind === OVER ? other.turn - one.turn : one.turn - other.turn);
+    });
+  }
+
+  /** A game that ends on the desk is over at once, but stands for a while where it stood. */
+  place({ number, white, black, result }) {
+    const kind = result !== '*' ? OVER : white && black ? RUNS : WAITS, place = this.places.get(number);
+    if (place && place.kind === kind) return;
+    if (place && kind === OVER && this.cards.has(number)) {
+      place.endedAt = place.endedAt || performance.now();
+      if (!this.mayMove(place.endedAt)) return;
+    }
+    this.turn += 1;
+    this.places.set(number, { kind, turn: this.turn, endedAt: 0 });
+  }
+
+  mayMove(endedAt) {
+    const now = performance.now(), stood = now - endedAt;
+    if (document.querySelector('dialog[open]')) return false;
+    return stood > STAYS_AT_MOST
+      || now - this.touchedAt > UNTOUCHED && stood > (this.lacksPlace ? STAYS_BEFORE_OTHERS : STAYS);
   }
 
   /** Whether the desk is told of a game. */
@@ -125,16 +166,18 @@ export class ArbiterView {
     return !this.here || this.here.has(name);
   }
 
+  /** Turns to the games behind these, or before them. */
   page(step) {
-    const pages = Math.ceil(this.found().length / MOST);
-    if (pages > 1) this.turnTo(MOST * ((this.first / MOST + step + pages) % pages));
+    const count = this.found().length, last = Math.floor((count - 1) / MOST) * MOST;
+    if (count <= MOST) return;
+    if (step > 0) this.turnTo(this.first + MOST < count ? this.first + MOST : 0);
+    else this.turnTo(this.first > 0 ? Math.max(0, this.first - MOST) : last);
   }
 
   turnTo(first) {
     this.first = first;
-    for (const [number, card] of [...this.cards]) {
-      if (card.isOver) this.remove(number);
-    }
+    for (const place of this.places.values()) if (place.endedAt) place.endedAt = -Infinity;
+    this.shown = [];
     this.fill();
   }
 
@@ -150,23 +193,52 @@ export class ArbiterView {
     card.title.focus({ preventScroll: true });
   }
 
-  /** The games of this page, and those that ended on it. */
+  /** The games of this page. On another page than the first those that stand there stay, also where games before them come
+   * or go. A game that an arbiter is asked about stays where it is. */
   fill() {
     if (this.root.hidden || !this.app.isArbiter()) return;
-    const running = this.found();
-    if (this.first >= running.length) this.first = 0;
-    const shown = running.slice(this.first, this.first + MOST).map((row) => row.number), wanted = new Set(shown);
-    for (const [number, card] of [...this.cards]) {
-      if (!wanted.has(number) && !card.isOver) this.remove(number);
+    const found = this.found(), stands = new Set(this.shown), held = this.question.about || this.adjourned.about();
+    if (this.first > 0) {
+      const place = found.findIndex((row) => stands.has(row.number));
+      if (place >= 0) this.first = place;
+      if (this.first >= found.length) this.first = Math.max(0, Math.floor((found.length - 1) / MOST) * MOST);
+    }
+    const shown = found.slice(this.first, this.first + MOST).map((row) => row.number);
+    const last = this.first + shown.length, wanted = new Set(shown);
+    this.lacksPlace = found.slice(last).some((row) => row.result === '*' && row.white && row.black);
+    if (held && this.cards.has(held) && !wanted.has(held)) {
+      shown.splice(Math.min(shown.length, Math.max(0, this.shown.indexOf(held))), 0, held);
+      wanted.add(held);
+    }
+    for (const number of [...this.cards.keys()]) {
+      if (!wanted.has(number)) this.remove(number);
     }
     for (const number of shown) {
-      if (!this.cards.has(number)) this.add(number);
+      const card = this.cards.get(number);
+      if (!card) this.add(number);
+      else if (!card.standing && card.askedAt < performance.now() - ASKS_AGAIN) this.ask(number);
     }
-    arrange(this.list, [...this.cards.keys()].sort((a, b) => a - b).map((number) => this.cards.get(number).root));
+    this.shown = shown;
+    this.stand(shown.map((number) => this.cards.get(number).root));
+    const count = this.running().length;
     byId('arbiter-none').hidden = this.cards.size > 0;
-    byId('arbiter-pages').hidden = running.length <= MOST;
-    setText(byId('arbiter-place'), `${this.first + 1} to ${this.first + shown.length} of ${running.length}`);
+    byId('arbiter-pages').hidden = found.length <= MOST;
+    setText(byId('arbiter-place'), `${this.first + 1} to ${last} of ${found.length}, ${count} of all running`);
     this.waits.render();
+  }
+
+  /** Who has the keys of a card keeps them where it moves. */
+  stand(roots) {
+    const had = document.activeElement;
+    arrange(this.list, roots);
+    if (had !== document.activeElement && this.list.contains(had)) had.focus({ preventScroll: true });
+  }
+
+  /** Nobody tells of what is opened or taken off past the lobby. */
+  async askTable() {
+    if (this.root.hidden || document.hidden || !this.app.isArbiter()) return;
+    await this.app.askTable();
+    this.fill();
   }
 
   // ---- a game
@@ -189,6 +261,9 @@ export class ArbiterView {
       make('span', { class: 'unseen' }, `, game ${number}`));
       return card.acts[kind];
     };
+    card.more = make('details', { class: 'desk-more', hidden: true },
+      make('summary', { 'data-key': `more-${number}` }, 'More', make('span', { class: 'unseen' }, `, game ${number}`)),
+      act('drop', 'Take off'));
     card.title = make('a', { href: `#/game/${number}`, 'data-key': `game-${number}` }, `Game ${number}`);
     card.state = make('p', { class: 'desk-state' });
     card.last = make('p', { class: 'desk-last small' });
@@ -197,7 +272,7 @@ export class ArbiterView {
       make('h2', {}, card.title), player('b'), card.state, card.last, player('w'),
       make('div', { class: 'desk-acts', role: 'group', 'aria-label': `Decide game ${number}` },
         act('w', 'White resigns'), act('b', 'Black resigns'), act('draw', 'Draw'), act('flag', 'Flag'),
-        act('adjourn', 'Adjourn'), act('drop', 'Take off')), card.note);
+        act('adjourn', 'Adjourn'), act('pgn', 'Save PGN'), card.more), card.note);
     this.cards.set(number, card);
     this.renderActs(card);
     this.ask(number);
@@ -214,6 +289,12 @@ export class ArbiterView {
 
   /** Asks how a game stands, and for its last move. */
   async ask(number) {
+    const row = this.rows().get(number);
+    this.cards.get(number).askedAt = performance.now();
+    if (row && row.result !== '*') {
+      this.look(number);
+      return;
+    }
     const answer = await this.app.watch(number), standing = answer[0].startsWith('ok ') && readStanding(answer.slice(1));
     if (!this.cards.has(number)) return;
     if (!standing) {
@@ -221,16 +302,41 @@ export class ArbiterView {
       return;
     }
     this.draw(number, standing);
-    const told = await this.app.wire.say(`line ${number}`, true), card = this.cards.get(number);
-    const line = told[0].startsWith('ok ') ? readLine(told.slice(1)) : [], last = line[line.length - 1];
+    const line = await this.lineOf(number), card = this.cards.get(number), last = line[line.length - 1];
     if (!last || !card || !card.standing || card.standing.fen !== last.fen) return;
-    card.move = last;
-    if (!card.act && last.san) card.act = last.san;
+    this.ended(card, last);
     this.draw(number, card.standing, card.at);
   }
 
+  async lineOf(number) {
+    const told = await this.app.wire.say(`line ${number}`, true);
+    return told[0].startsWith('ok ') ? readLine(told.slice(1)) : [];
+  }
+
+  /** The last move. */
+  ended(card, last) {
+    card.move = last;
+    if (!card.act && last.san) card.act = last.san;
+  }
+
+  /** How a game stands that is over, which is not watched: it may leave the table. */
+  async look(number) {
+    const [shown, line] = await Promise.all([this.app.wire.say(`show ${number}`), this.lineOf(number)]);
+    const card = this.cards.get(number), show = readShow(shown[0]), last = line[line.length - 1];
+    if (!card) return;
+    if (isNoGame(shown[0])) this.gone(number);
+    if (!show || !last) return;
+    this.ended(card, last);
+    this.draw(number, { ...show, fen: last.fen, check: /[+#]$/.test(last.san), moves: [] });
+  }
+
+  /** A game is on the table no more, maybe while an arbiter is asked about it. */
   gone(number) {
     const had = this.cards.get(number).root.contains(document.activeElement);
+    if (this.question.about === number || this.adjourned.about() === number) {
+      (this.question.about === number ? this.question : this.adjourned).close();
+      this.note(`Game ${number} is not on the table any more. Nothing was entered.`, 'refused');
+    }
     this.remove(number);
     this.fill();
     if (had) byId('arbiter-title').focus();
@@ -243,16 +349,18 @@ export class ArbiterView {
     else if (card) {
       const moved = /^ok (?:move \d+|claim \d+ wrong) \d+ (\S+)/.exec(answer);
       if (moved) card.move = squaresOf(act.sent.split(' ').pop());
-      card.act = actWords(act, answer, (name) => this.app.nameWords(name));
+      card.act = actWords(act, answer, (name) => this.app.nameWords(name), standing);
       this.draw(number, standing);
     }
     this.fill();
   }
 
   draw(number, standing, at = performance.now()) {
-    const card = this.cards.get(number), runs = !standing.article;
-    Object.assign(card, { standing, at, isOver: !runs });
+    const card = this.cards.get(number), { white, black, article } = standing, runs = Boolean(white && black && !article);
+    if (article && !card.isOver) this.app.leaveLater();
+    Object.assign(card, { standing, at, runs, isOver: Boolean(article) });
     this.waits.told(number, runs ? standing : null, at);
+    this.adjourned.follow(number, standing, at);
     card.board.show({ fen: standing.fen, last: card.move, check: standing.check });
     card.board.root.setAttribute('aria-label', `Game ${number}, ${placementOf(standing.fen).size} men on the board`);
     for (const side of SIDES) {
@@ -263,7 +371,7 @@ export class ArbiterView {
     }
     setText(card.state, this.stateWords(card));
     setText(card.last, card.act ? `Last: ${card.act}` : '');
-    card.root.classList.toggle('done', !runs);
+    card.root.classList.toggle('done', card.isOver);
     this.renderActs(card);
     this.renderAway(card);
   }
@@ -272,23 +380,25 @@ export class ArbiterView {
     return this.app.nameWords(side === 'w' ? card.standing.white : card.standing.black);
   }
 
-  stateWords({ standing: { side, offer, result, article }, clocks }) {
+  stateWords({ standing: { white, black, side, offer, result, article }, clocks }) {
     if (article) {
       const words = resultWords(result, article);
       return `${words.score} ${words.result} ${words.reason}`;
     }
+    if (!white || !black) return `Waiting for ${colourWord(white ? 'b' : 'w')}`;
     const offers = [...offer].map((one) => `${colourWord(one)} offers a draw`);
     const fallen = clocks[side].now() <= 0 ? `${colourWord(side)}’s flag has fallen` : `${colourWord(side)} to move`;
     return [fallen, ...offers].join(' · ');
   }
 
   renderActs(card) {
-    const { standing, acts, busy } = card, runs = Boolean(standing && !standing.article);
+    const { standing, acts, busy, runs } = card;
     const had = document.activeElement;
     for (const [kind, button] of Object.entries(acts)) {
-      button.hidden = Boolean(standing) && (kind === 'drop') === runs;
+      button.hidden = kind === 'pgn' ? !card.isOver : kind !== 'drop' && Boolean(standing) && !runs;
       button.disabled = !standing || busy || !this.app.reachable() || kind === 'draw' && standing.ply < AGREED;
     }
+    card.more.hidden = !standing || runs;
     acts.draw.title = standing && standing.ply < AGREED ? 'A draw can be agreed on once both sides have made a move.' : '';
     if (card.root.contains(had) && !had.getClientRects().length) card.title.focus();
   }
@@ -305,14 +415,14 @@ export class ArbiterView {
     this.renderEntries();
     for (const card of this.cards.values()) this.renderAway(card);
     this.pairing.renderHints();
-    this.links.render();
+    this.links.areHere(names);
   }
 
   renderAway(card) {
     if (!card.standing) return;
     for (const side of SIDES) {
       const name = side === 'w' ? card.standing.white : card.standing.black;
-      card.away[side].hidden = this.isHere(name) || Boolean(card.standing.article);
+      card.away[side].hidden = !name || this.isHere(name) || card.isOver;
     }
   }
 
@@ -340,20 +450,32 @@ export class ArbiterView {
         words: `It is called for ${name[OTHER[side]]}, against ${name[side]}, who is to move. The server’s clock decides.`,
         lines: [`as ${seat[OTHER[side]]} flag ${number}`] };
     }
-    return { title: `Take game ${number} of ${name.w} and ${name.b} off the table?`,
-      words: 'Its moves and its result are gone then. Save its PGN before, where it is to be kept.',
-      lines: [`drop ${number}`] };
+    const title = `Take game ${number} of ${[name.w, name.b].filter(Boolean).join(' and ')} off the table?`;
+    const words = standing.article ? 'Its moves and its result are gone from here then. Whether an archive has kept them this '
+      + 'page is not told: one that keeps the games of this table takes each off by itself. Else save its PGN before.'
+      : 'It waits for a second player. No move has been made.';
+    return { title, words, yes: 'Take it off', lines: [`drop ${number}`] };
   }
 
   async askAbout(card, kind) {
     const { number } = card, button = card.acts[kind];
+    if (kind === 'pgn') {
+      this.savePgn(number);
+      return;
+    }
     if (kind === 'adjourn') {
       const isTold = await this.adjourned.ask(number);
       this.tellCard(number, isTold ? '' : 'The lobby did not tell how the game stands. Try again.');
       return;
     }
     const asked = this.asked(card, kind);
-    this.question.ask(asked, () => this.enter({ number, lines: asked.lines, button }));
+    this.question.ask({ ...asked, about: number }, () => this.enter({ number, lines: asked.lines, button }));
+  }
+
+  async savePgn(number) {
+    const answer = await this.app.wire.say(`pgn ${number}`), isTold = answer[0].startsWith('ok pgn ');
+    if (isTold) save(`game-${number}.pgn`, 'application/x-chess-pgn', answer.slice(1).join('\n') + '\n');
+    this.tellCard(number, isTold ? '' : 'The lobby did not tell the PGN. Try again.');
   }
 
   /** Sends what was agreed to, line by line as long as each is taken; what is refused is told in words. */
@@ -367,7 +489,8 @@ export class ArbiterView {
     for (const line of lines) {
       const answer = await this.app.wire.say(line), refusal = readRefusal(answer[0]);
       if (!answer[0].startsWith('ok ')) {
-        if (refusal) tell(arbiterWords(refusal));
+        if (refusal && refusal.number === NO_GAME) this.note(`Game ${number} is not on the table any more.`, 'refused');
+        else if (refusal) tell(arbiterWords(refusal));
         else if (answer[0].startsWith('fallen')) tell('The flag had fallen: the game is over by that.', 'news');
         else if (answer[0] === 'unsent') tell('There is no connection. Nothing was sent.');
         else tell('The connection broke before the answer came. Look how the game stands before you enter it again.');

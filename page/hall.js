@@ -3,10 +3,11 @@
 import { Picture } from './board.js';
 import { Clock } from './clock.js';
 import { isNoGame, placementOf, readLine, readStanding, squaresOf } from './lines.js';
-import { byId, make, read, setText, write } from './make.js';
+import { arrange, byId, make, read, setText, write } from './make.js';
 import { colourWord, resultWords } from './words.js';
 
-const STAYS = 45000;                  // how long a game that is over stays in its place
+const STAYS = 45000;                  // how long a game that is over is told of, in a place that no running game wants
+const MOST_OVER = 3;                  // so many games that have just ended and have no place are named
 const TURNS = 20000;
 const ASKS_AGAIN = 4000;              // for a game that was not told
 
@@ -18,15 +19,16 @@ export class HallView {
     this.hash = '#/hall';
     this.list = byId('hall-boards');
     this.cards = new Map();
+    this.order = [];                   // the numbers of the cards, as they stand beside each other
+    this.ended = new Map();            // number -> {words, at}, of games that have just ended
     this.first = 0;
     byId('hall-back').addEventListener('click', () => this.page(-1));
     byId('hall-on').addEventListener('click', () => this.page(1));
     byId('hall-many').checked = read(() => localStorage, 'hall') === 'many';
     byId('hall-many').addEventListener('change', (event) => {
       write(() => localStorage, 'hall', event.target.checked ? 'many' : null);
-      this.clear();
       this.first = 0;
-      this.fill();
+      this.show();
     });
     byId('hall-screen').addEventListener('click', () => wholeScreen());
   }
@@ -46,6 +48,7 @@ export class HallView {
     clearInterval(this.timer);
     clearInterval(this.turning);
     this.clear();
+    this.ended.clear();
   }
 
   clear() {
@@ -64,35 +67,64 @@ export class HallView {
   }
 
   running() {
-    return [...this.rows().values()].filter((row) => row.white && row.black && row.result === '*');
+    return [...this.rows().values()].filter((row) => row.white && row.black && row.result === '*')
+      .sort((a, b) => a.number - b.number);
   }
 
+  /** Turns to the games behind these, or before them. */
   page(step) {
-    const running = this.running().length;
-    const most = this.most(), pages = Math.ceil(running / most);
-    if (pages < 2) return;
-    this.first = most * ((this.first / most + step + pages) % pages);
-    this.clear();
-    this.fill();
+    const most = this.most(), count = this.running().length, last = Math.floor((count - 1) / most) * most;
+    if (count <= most) return;
+    if (step > 0) this.first = this.first + most < count ? this.first + most : 0;
+    else this.first = this.first > 0 ? Math.max(0, this.first - most) : last;
+    this.show();
   }
 
+  /** The running games that stand here stay, also where games before them have begun or ended. */
   fill() {
     if (this.root.hidden) return;
+    const running = this.running(), place = running.findIndex((row) => this.cards.has(row.number));
+    if (place >= 0) this.first = place;
+    if (this.first >= running.length || running.length <= this.most()) this.first = 0;
+    this.show();
+  }
+
+  /** The running games of this page. Where they leave a place, one stays there that has ended a short while ago. */
+  show() {
     const now = performance.now(), running = this.running(), most = this.most();
-    if (this.first >= running.length) this.first = 0;
-    for (const [number, card] of this.cards) {
-      if (!card.standing && card.askedAt < now - ASKS_AGAIN) this.ask(number);
-      if (card.overAt && now - card.overAt > STAYS && running.length >= this.cards.size) this.remove(number);
+    const wanted = running.slice(this.first, this.first + most).map((row) => row.number);
+    const runs = new Set(running.map((row) => row.number));
+    const over = [...this.cards].filter(([number]) => !runs.has(number));
+    for (const [number, card] of this.cards) card.overAt = runs.has(number) ? 0 : card.overAt || now;
+    const stay = over.filter(([, card]) => now - card.overAt <= STAYS).sort(([, a], [, b]) => b.overAt - a.overAt)
+      .slice(0, most - wanted.length).map(([number]) => number);
+    const kept = new Set([...wanted, ...stay]), come = wanted.filter((number) => !this.cards.has(number));
+    const order = this.order.map((number) => (kept.has(number) ? number : come.shift())).filter(Boolean);
+    order.push(...come);
+    for (const [number, card] of [...this.cards]) {
+      if (!kept.has(number)) this.remove(number);
+      else if (!card.standing && card.askedAt < now - ASKS_AGAIN) this.ask(number);
     }
-    for (const row of running.slice(this.first, this.first + most)) {
-      if (this.cards.size < most && !this.cards.has(row.number)) this.add(row.number);
+    for (const number of order) {
+      if (!this.cards.has(number)) this.add(number);
     }
+    this.order = order;
+    arrange(this.list, order.map((number) => this.cards.get(number).root));
     byId('hall-none').hidden = this.cards.size > 0;
     byId('hall-pages').hidden = running.length <= most;
-    const last = Math.min(this.first + most, running.length);
-    setText(byId('hall-place'), `${this.first + 1} to ${last} of ${running.length}`);
+    setText(byId('hall-place'), `${this.first + 1} to ${this.first + wanted.length} of ${running.length}`);
+    setText(byId('hall-over'), this.overWords(now));
     this.list.classList.toggle('many', most > 4);
     this.list.dataset.count = String(this.cards.size);
+  }
+
+  /** The games that have just ended and stand here no more, in words. */
+  overWords(now) {
+    for (const [number, { at }] of this.ended) {
+      if (now - at > STAYS) this.ended.delete(number);
+    }
+    const words = [...this.ended].filter(([number]) => !this.cards.has(number)).map(([, one]) => one.words);
+    return words.slice(-MOST_OVER).join(' · ');
   }
 
   /** Where a board leads. */
@@ -121,6 +153,7 @@ export class HallView {
     Object.values(card.clocks).forEach((clock) => clock.stop());
     card.root.remove();
     this.cards.delete(number);
+    this.order = this.order.filter((other) => other !== number);
     this.app.wire.takeBack(`line ${number}`);
     this.app.leaveLater();
   }
@@ -151,6 +184,10 @@ export class HallView {
 
   notice(number, sent, answer, standing) {
     if (this.root.hidden) return;
+    if (standing && standing.article && !this.ended.has(number)) {
+      const names = [standing.white, standing.black].map((name) => this.app.nameWords(name)).join(' – ');
+      this.ended.set(number, { words: `${names} ${resultWords(standing.result, '').score}`, at: performance.now() });
+    }
     if (this.cards.has(number)) {
       if (standing) this.draw(number, standing, sent, answer);
       else this.remove(number);
@@ -163,7 +200,8 @@ export class HallView {
     if (!card) return;
     Object.assign(card, { standing, at });
     const runs = !standing.article, moved = /^ok (?:move \d+|claim \d+ wrong) \d+ (\S+)/.exec(answer);
-    if (standing.article && !card.overAt) card.overAt = performance.now();
+    const row = this.rows().get(number);
+    if (row && !runs) row.result = standing.result;
     if (moved) Object.assign(card, { move: squaresOf(sent.split(' ').pop()), san: moved[1] });
     if (moved && card.line) card.line.push({ san: moved[1] });
     card.board.show({ fen: standing.fen, last: card.move, check: standing.check });

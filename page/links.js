@@ -12,6 +12,7 @@ export class Links {
     this.desk = desk;
     this.app = desk.app;
     this.items = new Map();
+    this.closed = new Set();           // whose link this page has closed: the lobby does not tell whose is
     byId('links-find').addEventListener('input', () => this.render());
     byId('link-copy').addEventListener('click', async () => {
       const done = await copy(byId('link-made').value);
@@ -52,6 +53,8 @@ export class Links {
       return;
     }
     if (name === this.app.me()) this.app.takeNewToken(found[2]);
+    this.closed.delete(name);
+    this.render();
     setText(byId('link-words'), `The personal link of ${full}, shown this once. Who opens it plays as ${full}.`);
     setText(byId('link-copied'), '');
     byId('link-made').value = `${location.href.split('#')[0]}#${found[2]}`;
@@ -69,8 +72,11 @@ export class Links {
   async closeLink(name, full) {
     this.note('');
     const answer = await this.app.wire.say(`close ${name}`);
-    if (answer[0].startsWith('ok close ')) this.note(`The link of ${full} is closed.`, 'news');
-    else this.refused(answer[0], 'Close it once more: that does no harm.');
+    if (answer[0].startsWith('ok close ')) {
+      this.note(`The link of ${full} is closed.`, 'news');
+      this.closed.add(name);
+      this.render();
+    } else this.refused(answer[0], 'Close it once more: that does no harm.');
   }
 
   refused(line, again) {
@@ -86,6 +92,12 @@ export class Links {
   }
 
   // ---- showing
+
+  /** Who is connected has a link. */
+  areHere(names) {
+    for (const name of names) this.closed.delete(name);
+    this.render();
+  }
 
   render() {
     if (!byId('players-and-links').open) return;
@@ -104,6 +116,7 @@ export class Links {
     if (!this.items.has(key)) this.items.set(key, this.item(name, role, full));
     const item = this.items.get(key), may = this.app.wire.state.open;
     item.querySelector('.away').hidden = this.desk.isHere(name);
+    item.querySelector('.closed').hidden = !this.closed.has(name);
     for (const button of item.querySelectorAll('button')) button.disabled = !may;
     return item;
   }
@@ -114,7 +127,8 @@ export class Links {
     return make('li', { class: 'link-row' }, make('span', { class: 'link-name' }, make('span', { class: 'name' }, full),
       full !== name && make('span', { class: 'small' }, name),
       role === 'arbiter' && make('span', { class: 'small' }, 'arbiter'),
-      make('span', { class: 'away' }, 'not connected')),
+      make('span', { class: 'away' }, 'not connected'),
+      make('span', { class: 'closed', hidden: true }, 'link closed from here')),
     button('new', 'New link', () => this.askNew(name, full)),
     name !== this.app.me() && button('close', 'Close the link', () => this.askClose(name, full)));
   }

@@ -230,8 +230,15 @@ class Page {
   /** Who is in sight, and plays no game here, asks for the table anew. */
   async askAnew() {
     if (this.view === this.game) this.game.askAnew();
-    if (document.hidden || !this.player || !this.isAtTable || !this.reachable() || this.isPlaying()) return;
+    if (!document.hidden && this.player && !this.isPlaying()) await this.askTable();
+  }
+
+  /** The table anew, unless its answer is still to come. */
+  async askTable() {
+    if (this.asksTable || !this.isAtTable || !this.reachable()) return;
+    this.asksTable = true;
     const answer = await this.wire.say('lobby', true);
+    this.asksTable = false;
     if (answer[0] === 'ok lobby') this.tableTold(answer);
   }
 

@@ -101,6 +101,7 @@ class Screen {
   constructor() {
     this.players = new Map();
     this.rows = new Map();
+    this.watched = new Set();          // games that the lobby was asked to tell of
     const found = /^\/board\/(\d{1,10})$/.exec(location.pathname);
     this.view = found ? new OneBoard(this, Number(found[1])) : new Wall(this, () => this.rows);
     const address = new URL('/ws', location.href);
@@ -124,14 +125,17 @@ class Screen {
   }
 
   watch(number) {
+    this.watched.add(number);
     return this.wire.say(`watch ${number}`);
   }
 
+  /** What is shown no more is left: a game that is watched stays on the table, and 16 at most are. */
   leaveLater() {
-    for (const number of this.left || []) {
-      if (!this.view.cards.has(number)) this.wire.say(`leave ${number}`, true);
+    for (const number of this.watched) {
+      if (this.view.cards.has(number)) continue;
+      this.watched.delete(number);
+      this.wire.say(`leave ${number}`);
     }
-    this.left = this.view.needs();
   }
 
   // ---- the connection
@@ -154,6 +158,7 @@ class Screen {
     const answer = await this.wire.say('lobby', true);
     if (answer[0] !== 'ok lobby' || !(answer[1] || '').startsWith('ok list')) return;
     this.rows = new Map(readRows(answer.slice(2)).map((row) => [row.number, row]));
+    this.view.fill();
   }
 
   notice(lines) {

@@ -98,11 +98,16 @@ export function enteredWords(word) {
   return ENTERED[word] || 'an act';
 }
 
-/** An act that was accepted, in a few words: `Nf3 by Ann Lee`. */
-export function actWords({ by, sent, arbiter }, answer, nameWords) {
+/** An act that was accepted, in a few words: `Nf3 by Ann Lee`. Where the flag was found fallen, whose it is stands first. */
+export function actWords({ by, sent, arbiter }, answer, nameWords, standing) {
   const word = sent.split(' ')[0], moved = /^ok (?:move \d+|claim \d+ wrong) \d+ (\S+)/.exec(answer);
-  const what = answer.startsWith('fallen') ? 'the flag was found fallen' : moved ? moved[1]
-    : { join: 'joining', claim: 'a claim of a draw' }[word] || enteredWords(word);
+  const what = moved ? moved[1] : { join: 'joining', claim: 'a claim of a draw' }[word] || enteredWords(word);
+  if (answer.startsWith('fallen')) {
+    const flag = `${colourWord(standing.side)}’s flag had fallen`, who = nameWords(arbiter || by);
+    const whose = arbiter ? ` for ${nameWords(by)}` : '';
+    return word === 'flag' ? `${flag}: called by ${who}${whose}` : `${flag} before ${what}${
+      arbiter ? `, which ${who} entered${whose}` : ` by ${who}`}`;
+  }
   return `${what} by ${nameWords(by)}${arbiter ? `, entered by ${nameWords(arbiter)}` : ''}`;
 }
 
