@@ -78,19 +78,25 @@ pub struct Round<'a> {
     pub games: &'a str,
 }
 
-/// The round whose games are opened, and what the arbiter said of boards.
+/// What the arbiter said of boards and servers.
 #[derive(Drop)]
-pub struct Starting<'a> {
-    pub round: Round<'a>,
-    pub server: SocketAddr,
-    /// The players' file, in which all players are to be.
-    pub players: Option<&'a str>,
+pub struct Said {
     /// Boards, and the games that are theirs.
     pub takes: Vec<(u32, u32)>,
     /// Boards, and games up to which none is theirs.
     pub afters: Vec<(u32, u32)>,
     /// Servers that are not waited for.
     pub without: Vec<u32>,
+}
+
+/// The round whose games are opened.
+#[derive(Drop)]
+pub struct Starting<'a> {
+    pub round: Round<'a>,
+    pub server: SocketAddr,
+    /// The players' file, in which all players are to be.
+    pub players: Option<&'a str>,
+    pub said: Said,
     /// Whether games of less than a minute are meant.
     pub is_short: bool,
 }
@@ -120,147 +126,161 @@ pub struct Reporting<'a> {
     pub event: Event<'a>,
 }
 
+// (Each argument is made where it is added: so a call that fails has the command alone to drop.)
+fn file_option<'a>(alloc: Global, name: &'static str, help: &'static str) -> Arg<'a> {
+    option(alloc, name, "FILE", help)
+}
+
+fn server_option<'a>(alloc: Global) -> Arg<'a> {
+    option(alloc, "server", "A:P", "Where the game server listens")
+}
+
 fn with_round<'a>(alloc: Global, command: Command<'a>) -> Result<Command<'a>, AllocError> {
-    let pairings = option(
-        alloc,
-        "pairings",
-        "FILE",
-        "The round's pairings, a CSV file",
-    );
-    let games = option(alloc, "round-file", "FILE", "Which game is which board's");
     command
-        .arg(pairings.required(true))?
-        .arg(games.required(true))
+        .arg(file_option(alloc, "pairings", "The round's pairings, a CSV file").required(true))?
+        .arg(file_option(alloc, "round-file", "Which game is which board's").required(true))
 }
 
 fn with_source<'a>(alloc: Global, command: Command<'a>) -> Result<Command<'a>, AllocError> {
-    let archive = option(
-        alloc,
-        "archive",
-        "FILE",
-        "The archive of games that are over",
-    );
-    let server = option(alloc, "server", "A:P", "Where the game server listens");
-    command.arg(archive)?.arg(server)
+    command
+        .arg(file_option(alloc, "archive", "The archive of games that are over"))?
+        .arg(server_option(alloc))
 }
 
-fn start_command<'a>(alloc: Global) -> Result<Command<'a>, AllocError> {
-    let server = option(alloc, "server", "A:P", "Where the game server listens");
-    let players = option(
-        alloc,
-        "players",
-        "FILE",
-        "The players' file: nothing is opened where a player is not in it",
-    );
-    let take = option(
-        alloc,
+// What the arbiter says, each with its value and its help.
+const SAID: [(&str, &str, &str); 3] = [
+    (
         "take",
         "BOARD=GAME",
         "This game is the board's; it may be given several times",
-    );
-    let after = option(
-        alloc,
+    ),
+    (
         "after",
         "BOARD=GAME",
         "No game up to this one of its server is the board's; it may be given several times",
-    );
-    let without = option(
-        alloc,
+    ),
+    (
         "without",
         "SERVER",
         "This server of a switch is not waited for; it may be given several times",
-    );
-    with_round(
-        alloc,
-        Command::new(alloc, "start")
-            .about("Opens the games of a round")
-            .after_help(HELP_OF_START),
-    )?
-    .arg(server.required(true))?
-    .arg(players)?
-    .arg(take.action(ArgAction::Append))?
-    .arg(after.action(ArgAction::Append))?
-    .arg(without.action(ArgAction::Append))?
-    .arg(flag(
+    ),
+];
+
+fn with_said<'a>(alloc: Global, command: Command<'a>) -> Result<Command<'a>, AllocError> {
+    let mut command = command;
+    for (name, value, help) in SAID.iter() {
+        command = command.arg(option(alloc, *name, *value, *help).action(ArgAction::Append))?;
+    }
+    Ok(command)
+}
+
+fn short_flag<'a>(alloc: Global) -> Arg<'a> {
+    flag(
         alloc,
         "short",
         "Initial times of less than 60 seconds are meant",
-    ))
+    )
+}
+
+fn start_command<'a>(alloc: Global) -> Result<Command<'a>, AllocError> {
+    let command = Command::new(alloc, "start")
+        .about("Opens the games of a round")
+        .after_help(HELP_OF_START);
+    let command = with_round(alloc, command)?
+        .arg(server_option(alloc).required(true))?
+        .arg(file_option(
+            alloc,
+            "players",
+            "The players' file: nothing is opened where a player is not in it",
+        ))?;
+    with_said(alloc, command)?.arg(short_flag(alloc))
 }
 
 fn results_command<'a>(alloc: Global) -> Result<Command<'a>, AllocError> {
     let command = Command::new(alloc, "results")
         .about("Writes the results of a round as CSV")
         .after_help(HELP_OF_RESULTS);
-    let players = option(
+    let command = with_round(alloc, command)?.arg(file_option(
         alloc,
         "players",
-        "FILE",
         "The players' file, with the full names that the archive has",
-    );
-    with_source(alloc, with_round(alloc, command)?.arg(players)?)
+    ))?;
+    with_source(alloc, command)
 }
 
-fn text<'a>(alloc: Global, name: &'static str, help: &'static str) -> Arg<'a> {
-    option(alloc, name, "TEXT", help)
+// The texts of a report, each with its help.
+const TEXTS: [(&str, &str); 10] = [
+    ("name", "The tournament's name"),
+    ("city", "The city"),
+    ("federation", "The federation, as GER"),
+    ("begins", "The first day, YYYY/MM/DD"),
+    ("ends", "The last day, YYYY/MM/DD"),
+    ("kind", "As Individual: Swiss-System"),
+    ("arbiter", "The chief arbiter"),
+    ("deputy", "The deputy"),
+    ("times", "The times of a game"),
+    ("all-rounds", "How many rounds there are to be"),
+];
+
+fn with_texts<'a>(alloc: Global, command: Command<'a>) -> Result<Command<'a>, AllocError> {
+    let mut command = command;
+    for (name, help) in TEXTS.iter() {
+        command = command.arg(option(alloc, *name, "TEXT", *help))?;
+    }
+    Ok(command)
 }
 
-fn trf_command<'a>(alloc: Global) -> Result<Command<'a>, AllocError> {
-    let players = option(alloc, "players", "FILE", "The players' file");
-    let rounds = option(
+fn rounds_option<'a>(alloc: Global) -> Arg<'a> {
+    option(
         alloc,
         "rounds",
         "CSV,GAMES",
         "The two files of a round; it is given once for each round, in their order",
-    );
+    )
+    .required(true)
+    .action(ArgAction::Append)
+}
+
+fn trf_command<'a>(alloc: Global) -> Result<Command<'a>, AllocError> {
     let command = Command::new(alloc, "trf")
         .about("Writes the report of a tournament, TRF-16")
         .after_help(HELP_OF_TRF)
-        .arg(players.required(true))?
-        .arg(rounds.required(true).action(ArgAction::Append))?
-        .arg(text(alloc, "name", "The tournament's name"))?
-        .arg(text(alloc, "city", "The city"))?
-        .arg(text(alloc, "federation", "The federation, as GER"))?
-        .arg(text(alloc, "begins", "The first day, YYYY/MM/DD"))?
-        .arg(text(alloc, "ends", "The last day, YYYY/MM/DD"))?
-        .arg(text(alloc, "kind", "As Individual: Swiss-System"))?
-        .arg(text(alloc, "arbiter", "The chief arbiter"))?
-        .arg(text(alloc, "deputy", "The deputy"))?
-        .arg(text(alloc, "times", "The times of a game"))?
-        .arg(text(alloc, "all-rounds", "How many rounds there are to be"))?;
-    with_source(alloc, command)
+        .arg(file_option(alloc, "players", "The players' file").required(true))?
+        .arg(rounds_option(alloc))?;
+    with_source(alloc, with_texts(alloc, command)?)
 }
 
 /// The program's command line.
 pub fn command<'a>(alloc: Global) -> Result<Command<'a>, AllocError> {
-    let start = start_command(alloc)?;
-    let results = results_command(alloc)?;
-    let trf = trf_command(alloc)?;
-    Command::new(alloc, "chess-pairings")
+    let command = Command::new(alloc, "chess-pairings")
         .about("The rounds of a chess league.")
         .version(VERSION)
-        .subcommand_required(true)
-        .subcommand(start)?
-        .subcommand(results)?
-        .subcommand(trf)
+        .subcommand_required(true);
+    let command = command.subcommand(start_command(alloc)?)?;
+    let command = command.subcommand(results_command(alloc)?)?;
+    command.subcommand(trf_command(alloc)?)
 }
 
 /// Reads the words, the program's own name first. An `Err` is a usage fault, or a request for help.
 pub fn read_words<'a>(alloc: Global, words: &'a [String]) -> Result<Word<'a>, Error> {
     let mut command = command(alloc)?;
     let matches = command.try_get_matches_from_mut(words)?;
-    let word = match matches.subcommand() {
-        Some(("start", values)) => starting_of(alloc, values)?.map(Word::Start),
-        Some(("results", values)) => asking_of(values).map(Word::Results),
-        Some(("trf", values)) => reporting_of(alloc, values)?.map(Word::Report),
-        _ => None,
-    };
-    match word {
+    match word_of(alloc, &matches)? {
         Some(word) => Ok(word),
         None => Err(command.error(
             ErrorKind::InvalidValue,
             "an address, a board, a game, a server or a round's files are none, or neither --archive nor --server is given",
         )?),
+    }
+}
+
+// What words ask for; none where one of them is none that the program knows.
+fn word_of<'a>(alloc: Global, matches: &ArgMatches<'a>) -> Result<Option<Word<'a>>, AllocError> {
+    match matches.subcommand() {
+        Some(("start", values)) => Ok(starting_of(alloc, values)?.map(Word::Start)),
+        Some(("results", values)) => Ok(asking_of(values).map(Word::Results)),
+        Some(("trf", values)) => Ok(reporting_of(alloc, values)?.map(Word::Report)),
+        _ => Ok(None),
     }
 }
 
@@ -306,26 +326,39 @@ fn take_of(text: &str) -> Option<(u32, u32)> {
     Some((number_of(board)?, number_of(game)?))
 }
 
-fn takes_of(alloc: Global, texts: &[&str]) -> Result<Option<Vec<(u32, u32)>>, AllocError> {
-    let mut takes = Vec::new(alloc);
-    for text in texts {
-        match take_of(text) {
-            Some(take) => takes.push(take)?,
-            None => return Ok(None),
-        }
-    }
-    Ok(Some(takes))
+// What was given under a name, as often as it was.
+fn texts_of<'a, 'b>(values: &'b ArgMatches<'a>, name: &str) -> &'b [&'a str] {
+    values.get_strs(name).unwrap_or(&[])
 }
 
-fn servers_of(alloc: Global, texts: &[&str]) -> Result<Option<Vec<u32>>, AllocError> {
-    let mut servers = Vec::new(alloc);
+// Puts boards with their games; false where a text tells none.
+fn put_takes(takes: &mut Vec<(u32, u32)>, texts: &[&str]) -> Result<bool, AllocError> {
     for text in texts {
-        match number_of(text) {
-            Some(server) => servers.push(server)?,
-            None => return Ok(None),
-        }
+        let Some(take) = take_of(text) else {
+            return Ok(false);
+        };
+        takes.push(take)?;
     }
-    Ok(Some(servers))
+    Ok(true)
+}
+
+// Puts servers; false where a text tells none.
+fn put_servers(servers: &mut Vec<u32>, texts: &[&str]) -> Result<bool, AllocError> {
+    for text in texts {
+        let Some(server) = number_of(text) else {
+            return Ok(false);
+        };
+        servers.push(server)?;
+    }
+    Ok(true)
+}
+
+// Puts what the arbiter said; false where a board, a game or a server is none.
+fn put_said(said: &mut Said, values: &ArgMatches<'_>) -> Result<bool, AllocError> {
+    let are_takes = put_takes(&mut said.takes, texts_of(values, "take"))?;
+    let are_afters = put_takes(&mut said.afters, texts_of(values, "after"))?;
+    let are_servers = put_servers(&mut said.without, texts_of(values, "without"))?;
+    Ok(are_takes && are_afters && are_servers)
 }
 
 // The server's address; none where it is none.
@@ -341,22 +374,19 @@ fn starting_of<'a>(
     let (Some(round), Some(server)) = (round_of(values), address_of(values)) else {
         return Ok(None);
     };
-    let Some(takes) = takes_of(alloc, values.get_strs("take").unwrap_or(&[]))? else {
-        return Ok(None);
+    let mut said = Said {
+        takes: Vec::new(alloc),
+        afters: Vec::new(alloc),
+        without: Vec::new(alloc),
     };
-    let Some(afters) = takes_of(alloc, values.get_strs("after").unwrap_or(&[]))? else {
+    if !put_said(&mut said, values)? {
         return Ok(None);
-    };
-    let Some(without) = servers_of(alloc, values.get_strs("without").unwrap_or(&[]))? else {
-        return Ok(None);
-    };
+    }
     Ok(Some(Starting {
         round,
         server,
         players: values.get_str("players"),
-        takes,
-        afters,
-        without,
+        said,
         is_short: values.get_flag("short"),
     }))
 }
@@ -367,15 +397,15 @@ fn files_of(text: &str) -> Option<Round<'_>> {
     Some(Round { pairings, games })
 }
 
-fn rounds_of<'a>(alloc: Global, texts: &[&'a str]) -> Result<Option<Vec<Round<'a>>>, AllocError> {
-    let mut rounds = Vec::new(alloc);
+// Puts the files of rounds; false where a text does not name them.
+fn put_rounds<'a>(rounds: &mut Vec<Round<'a>>, texts: &[&'a str]) -> Result<bool, AllocError> {
     for text in texts {
-        match files_of(text) {
-            Some(round) => rounds.push(round)?,
-            None => return Ok(None),
-        }
+        let Some(round) = files_of(text) else {
+            return Ok(false);
+        };
+        rounds.push(round)?;
     }
-    Ok(Some(rounds))
+    Ok(true)
 }
 
 fn text_of<'a>(values: &ArgMatches<'a>, name: &str) -> &'a str {
@@ -407,15 +437,17 @@ fn reporting_of<'a>(
     alloc: Global,
     values: &ArgMatches<'a>,
 ) -> Result<Option<Reporting<'a>>, AllocError> {
-    let (Some(players), Some(source)) = (values.get_str("players"), source_of(values)) else {
+    let (Some(players), Some(source), Some(event)) = (
+        values.get_str("players"),
+        source_of(values),
+        event_of(values),
+    ) else {
         return Ok(None);
     };
-    let Some(event) = event_of(values) else {
+    let mut rounds = Vec::new(alloc);
+    if !put_rounds(&mut rounds, texts_of(values, "rounds"))? {
         return Ok(None);
-    };
-    let Some(rounds) = rounds_of(alloc, values.get_strs("rounds").unwrap_or(&[]))? else {
-        return Ok(None);
-    };
+    }
     Ok(Some(Reporting {
         players,
         rounds,
