@@ -1,6 +1,6 @@
 //! The words of the command line, with the texts of their help.
 use clap::error::ErrorKind;
-use clap::{Arg, ArgAction, ArgMatches, Command, Error};
+use clap::{ArgAction, ArgMatches, Command, Error};
 use command_words::{VERSION, flag, option};
 use std::alloc::{AllocError, Global};
 use std::net::SocketAddr;
@@ -126,128 +126,247 @@ pub struct Reporting<'a> {
     pub event: Event<'a>,
 }
 
-// (Each argument is made where it is added: so a call that fails has the command alone to drop.)
-fn file_option<'a>(alloc: Global, name: &'static str, help: &'static str) -> Arg<'a> {
-    option(alloc, name, "FILE", help)
+// An option `--NAME VALUE` of a word.
+#[derive(Clone, Copy)]
+struct OptionText {
+    name: &'static str,
+    value: &'static str,
+    help: &'static str,
+    is_required: bool,
+    // What comes of several.
+    action: ArgAction,
 }
 
-fn server_option<'a>(alloc: Global) -> Arg<'a> {
-    option(alloc, "server", "A:P", "Where the game server listens")
-}
-
-fn with_round<'a>(alloc: Global, command: Command<'a>) -> Result<Command<'a>, AllocError> {
-    command
-        .arg(file_option(alloc, "pairings", "The round's pairings, a CSV file").required(true))?
-        .arg(file_option(alloc, "round-file", "Which game is which board's").required(true))
-}
-
-fn with_source<'a>(alloc: Global, command: Command<'a>) -> Result<Command<'a>, AllocError> {
-    command
-        .arg(file_option(alloc, "archive", "The archive of games that are over"))?
-        .arg(server_option(alloc))
-}
-
-// What the arbiter says, each with its value and its help.
-const SAID: [(&str, &str, &str); 3] = [
-    (
-        "take",
-        "BOARD=GAME",
-        "This game is the board's; it may be given several times",
-    ),
-    (
-        "after",
-        "BOARD=GAME",
-        "No game up to this one of its server is the board's; it may be given several times",
-    ),
-    (
-        "without",
-        "SERVER",
-        "This server of a switch is not waited for; it may be given several times",
-    ),
+const START: [OptionText; 7] = [
+    OptionText {
+        name: "pairings",
+        value: "FILE",
+        help: "The round's pairings, a CSV file",
+        is_required: true,
+        action: ArgAction::Set,
+    },
+    OptionText {
+        name: "round-file",
+        value: "FILE",
+        help: "Which game is which board's",
+        is_required: true,
+        action: ArgAction::Set,
+    },
+    OptionText {
+        name: "server",
+        value: "A:P",
+        help: "Where the game server listens",
+        is_required: true,
+        action: ArgAction::Set,
+    },
+    OptionText {
+        name: "players",
+        value: "FILE",
+        help: "The players' file: nothing is opened where a player is not in it",
+        is_required: false,
+        action: ArgAction::Set,
+    },
+    OptionText {
+        name: "take",
+        value: "BOARD=GAME",
+        help: "This game is the board's; it may be given several times",
+        is_required: false,
+        action: ArgAction::Append,
+    },
+    OptionText {
+        name: "after",
+        value: "BOARD=GAME",
+        help: "No game up to this one of its server is the board's; it may be given several times",
+        is_required: false,
+        action: ArgAction::Append,
+    },
+    OptionText {
+        name: "without",
+        value: "SERVER",
+        help: "This server of a switch is not waited for; it may be given several times",
+        is_required: false,
+        action: ArgAction::Append,
+    },
 ];
 
-fn with_said<'a>(alloc: Global, command: Command<'a>) -> Result<Command<'a>, AllocError> {
+const RESULTS: [OptionText; 5] = [
+    OptionText {
+        name: "pairings",
+        value: "FILE",
+        help: "The round's pairings, a CSV file",
+        is_required: true,
+        action: ArgAction::Set,
+    },
+    OptionText {
+        name: "round-file",
+        value: "FILE",
+        help: "Which game is which board's",
+        is_required: true,
+        action: ArgAction::Set,
+    },
+    OptionText {
+        name: "players",
+        value: "FILE",
+        help: "The players' file, with the full names that the archive has",
+        is_required: false,
+        action: ArgAction::Set,
+    },
+    OptionText {
+        name: "archive",
+        value: "FILE",
+        help: "The archive of games that are over",
+        is_required: false,
+        action: ArgAction::Set,
+    },
+    OptionText {
+        name: "server",
+        value: "A:P",
+        help: "Where the game server listens",
+        is_required: false,
+        action: ArgAction::Set,
+    },
+];
+
+const TRF: [OptionText; 14] = [
+    OptionText {
+        name: "players",
+        value: "FILE",
+        help: "The players' file",
+        is_required: true,
+        action: ArgAction::Set,
+    },
+    OptionText {
+        name: "rounds",
+        value: "CSV,GAMES",
+        help: "The two files of a round; it is given once for each round, in their order",
+        is_required: true,
+        action: ArgAction::Append,
+    },
+    OptionText {
+        name: "name",
+        value: "TEXT",
+        help: "The tournament's name",
+        is_required: false,
+        action: ArgAction::Set,
+    },
+    OptionText {
+        name: "city",
+        value: "TEXT",
+        help: "The city",
+        is_required: false,
+        action: ArgAction::Set,
+    },
+    OptionText {
+        name: "federation",
+        value: "TEXT",
+        help: "The federation, as GER",
+        is_required: false,
+        action: ArgAction::Set,
+    },
+    OptionText {
+        name: "begins",
+        value: "TEXT",
+        help: "The first day, YYYY/MM/DD",
+        is_required: false,
+        action: ArgAction::Set,
+    },
+    OptionText {
+        name: "ends",
+        value: "TEXT",
+        help: "The last day, YYYY/MM/DD",
+        is_required: false,
+        action: ArgAction::Set,
+    },
+    OptionText {
+        name: "kind",
+        value: "TEXT",
+        help: "As Individual: Swiss-System",
+        is_required: false,
+        action: ArgAction::Set,
+    },
+    OptionText {
+        name: "arbiter",
+        value: "TEXT",
+        help: "The chief arbiter",
+        is_required: false,
+        action: ArgAction::Set,
+    },
+    OptionText {
+        name: "deputy",
+        value: "TEXT",
+        help: "The deputy",
+        is_required: false,
+        action: ArgAction::Set,
+    },
+    OptionText {
+        name: "times",
+        value: "TEXT",
+        help: "The times of a game",
+        is_required: false,
+        action: ArgAction::Set,
+    },
+    OptionText {
+        name: "all-rounds",
+        value: "TEXT",
+        help: "How many rounds there are to be",
+        is_required: false,
+        action: ArgAction::Set,
+    },
+    OptionText {
+        name: "archive",
+        value: "FILE",
+        help: "The archive of games that are over",
+        is_required: false,
+        action: ArgAction::Set,
+    },
+    OptionText {
+        name: "server",
+        value: "A:P",
+        help: "Where the game server listens",
+        is_required: false,
+        action: ArgAction::Set,
+    },
+];
+
+// (A loop over a table is proved once, and each call in a chain over what all calls before it say.)
+fn with_options<'a>(
+    alloc: Global,
+    command: Command<'a>,
+    options: &[OptionText],
+) -> Result<Command<'a>, AllocError> {
     let mut command = command;
-    for (name, value, help) in SAID.iter() {
-        command = command.arg(option(alloc, *name, *value, *help).action(ArgAction::Append))?;
+    for text in options {
+        let made = option(alloc, text.name, text.value, text.help)
+            .required(text.is_required)
+            .action(text.action);
+        command = command.arg(made)?;
     }
     Ok(command)
-}
-
-fn short_flag<'a>(alloc: Global) -> Arg<'a> {
-    flag(
-        alloc,
-        "short",
-        "Initial times of less than 60 seconds are meant",
-    )
 }
 
 fn start_command<'a>(alloc: Global) -> Result<Command<'a>, AllocError> {
     let command = Command::new(alloc, "start")
         .about("Opens the games of a round")
         .after_help(HELP_OF_START);
-    let command = with_round(alloc, command)?
-        .arg(server_option(alloc).required(true))?
-        .arg(file_option(
-            alloc,
-            "players",
-            "The players' file: nothing is opened where a player is not in it",
-        ))?;
-    with_said(alloc, command)?.arg(short_flag(alloc))
+    with_options(alloc, command, &START)?.arg(flag(
+        alloc,
+        "short",
+        "Initial times of less than 60 seconds are meant",
+    ))
 }
 
 fn results_command<'a>(alloc: Global) -> Result<Command<'a>, AllocError> {
     let command = Command::new(alloc, "results")
         .about("Writes the results of a round as CSV")
         .after_help(HELP_OF_RESULTS);
-    let command = with_round(alloc, command)?.arg(file_option(
-        alloc,
-        "players",
-        "The players' file, with the full names that the archive has",
-    ))?;
-    with_source(alloc, command)
-}
-
-// The texts of a report, each with its help.
-const TEXTS: [(&str, &str); 10] = [
-    ("name", "The tournament's name"),
-    ("city", "The city"),
-    ("federation", "The federation, as GER"),
-    ("begins", "The first day, YYYY/MM/DD"),
-    ("ends", "The last day, YYYY/MM/DD"),
-    ("kind", "As Individual: Swiss-System"),
-    ("arbiter", "The chief arbiter"),
-    ("deputy", "The deputy"),
-    ("times", "The times of a game"),
-    ("all-rounds", "How many rounds there are to be"),
-];
-
-fn with_texts<'a>(alloc: Global, command: Command<'a>) -> Result<Command<'a>, AllocError> {
-    let mut command = command;
-    for (name, help) in TEXTS.iter() {
-        command = command.arg(option(alloc, *name, "TEXT", *help))?;
-    }
-    Ok(command)
-}
-
-fn rounds_option<'a>(alloc: Global) -> Arg<'a> {
-    option(
-        alloc,
-        "rounds",
-        "CSV,GAMES",
-        "The two files of a round; it is given once for each round, in their order",
-    )
-    .required(true)
-    .action(ArgAction::Append)
+    with_options(alloc, command, &RESULTS)
 }
 
 fn trf_command<'a>(alloc: Global) -> Result<Command<'a>, AllocError> {
     let command = Command::new(alloc, "trf")
         .about("Writes the report of a tournament, TRF-16")
-        .after_help(HELP_OF_TRF)
-        .arg(file_option(alloc, "players", "The players' file").required(true))?
-        .arg(rounds_option(alloc))?;
-    with_source(alloc, with_texts(alloc, command)?)
+        .after_help(HELP_OF_TRF);
+    with_options(alloc, command, &TRF)
 }
 
 /// The program's command line.

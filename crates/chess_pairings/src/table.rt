@@ -90,8 +90,8 @@ fn told_in<'a>(fields: &[&'a str]) -> Option<Told<'a>> {
             black: seat_of(black),
         },
         plies: plies.parse::<u32>().ok()?,
-        result,
-        article,
+        result: *result,
+        article: *article,
     })
 }
 
