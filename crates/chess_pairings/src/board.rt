@@ -7,7 +7,7 @@ use pairing_texts::{
     Game, Note, Pairing, Row, Seats, Stage, Step, Times, candidates, newest, step_of, times_text,
 };
 use server_link::Link;
-use std::alloc::Global;
+use std::alloc::{AllocError, Global};
 
 /// What became of a board.
 #[derive(Clone, Copy)]
@@ -28,12 +28,59 @@ pub struct Board {
     pub taken: Option<u32>,
 }
 
-// What is to be done about a board, and what that was seen by: the games of the table, and the servers that were not heard.
+// What is to be done about a board, and what that was seen by.
 #[derive(Drop)]
 struct Seen {
     step: Step,
-    rows: Vec<Row>,
-    away: Vec<u32>,
+    sight: Sight,
+}
+
+// The game that an answer to `open` tells.
+fn opened_in(white: &str, first: &str) -> Result<u32> {
+    let Some(game) = first.strip_prefix("ok open ") else {
+        anyhow::bail!("the server opens no game for {white}: {first}");
+    };
+    let Ok(game) = game.parse::<u32>() else {
+        anyhow::bail!("the server does not tell the game: {first}");
+    };
+    Ok(game)
+}
+
+// The line that opens a game of these times.
+fn opening_of(alloc: Global, times: Times) -> Result<String, AllocError> {
+    let (initial, increment) = (times.initial, times.increment);
+    match times.period {
+        None => format!(in alloc; "open white {initial} {increment}"),
+        Some(period) => {
+            let (moves, seconds) = (period.moves, period.seconds);
+            format!(in alloc; "open white {moves}/{initial}:{seconds} {increment}")
+        }
+    }
+}
+
+// Of these games those that have these times.
+fn with_times(alloc: Global, link: &mut Link, games: &[u32], times: &str) -> Result<Vec<u32>> {
+    let mut with = Vec::new(alloc);
+    for game in games {
+        if has_times(alloc, link, *game, times)? {
+            with.push(*game)?;
+        }
+    }
+    Ok(with)
+}
+
+fn push_behind_space(text: &mut String, alloc: Global, number: u32) -> Result<(), AllocError> {
+    let number = format!(in alloc; " {number}")?;
+    text.push_str(number.as_str())
+}
+
+// The numbers, each behind a space.
+fn numbers_text(alloc: Global, numbers: &[u32]) -> Result<String, AllocError> {
+    let mut text = String::new(alloc);
+    for number in numbers {
+        push_behind_space(&mut text, alloc, *number)?;
+    }
+    Ok(text)
 }
 
 impl Board {
@@ -47,32 +94,18 @@ impl Board {
         }
     }
 
-    // Opens its game, under White's name. The answer, as that a game was opened, may be lost: what was noted before tells
-    // which games may be it.
-    fn open(&self, link: &mut Link, file: &mut RoundFile) -> Result<u32> {
-        let Times {
-            initial,
-            increment,
-            period,
-        } = self.game.times;
+    // Has its game opened, under White's name.
+    fn ask_open(&self, link: &mut Link) -> Result<u32> {
         let white = self.pairing.white;
-        let white = white.as_str();
-        let line = match period {
-            None => format!(in self.alloc; "open white {initial} {increment}")?,
-            Some(period) => {
-                let (moves, seconds) = (period.moves, period.seconds);
-                format!(in self.alloc; "open white {moves}/{initial}:{seconds} {increment}")?
-            }
-        };
-        link.take_name(white)?;
+        let line = opening_of(self.alloc, self.game.times)?;
+        link.take_name(white.as_str())?;
         let answer = link.ask(line.as_str(), "ok open all ")?;
-        let first = answer.first.as_str();
-        let Some(game) = first.strip_prefix("ok open ") else {
-            anyhow::bail!("the server opens no game for {white}: {first}");
-        };
-        let Ok(game) = game.parse::<u32>() else {
-            anyhow::bail!("the server does not tell the game: {first}");
-        };
+        opened_in(white.as_str(), answer.first.as_str())
+    }
+
+    // Opens its game. The answer, as that a game was opened, may be lost: what was noted before tells which games may be it.
+    fn open(&self, link: &mut Link, file: &mut RoundFile) -> Result<u32> {
+        let game = self.ask_open(link)?;
         file.put(self.note(Stage::Opened(game)))?;
         Ok(game)
     }
@@ -80,10 +113,9 @@ impl Board {
     // Joins its game, under Black's name. Whether it was joined is looked up.
     fn join(&self, link: &mut Link, game: u32) -> Result<()> {
         let black = self.game.black;
-        let black = black.as_str();
-        let join = format!(in self.alloc; "join {game}")?;
-        link.take_name(black)?;
-        link.is_done(join.as_str())?;
+        link.take_name(black.as_str())?;
+        let line = format!(in self.alloc; "join {game}")?;
+        link.is_done(line.as_str())?;
         Ok(())
     }
 
@@ -92,13 +124,7 @@ impl Board {
         let white = self.pairing.white;
         let times = times_text(self.alloc, self.game.times)?;
         let found = candidates(self.alloc, noted, &white, rows)?;
-        let mut games = Vec::new(self.alloc);
-        for game in found.as_slice() {
-            if has_times(self.alloc, link, *game, times.as_str())? {
-                games.push(*game)?;
-            }
-        }
-        Ok(games)
+        with_times(self.alloc, link, found.as_slice(), times.as_str())
     }
 
     // Who sits in its game; none where that is not on the table. In one that White has just opened Black's seat is empty.
@@ -109,7 +135,32 @@ impl Board {
                 black: None,
             }));
         }
-        Ok(show_game(self.alloc, link, game)?.map(|shown| shown.seats))
+        match show_game(self.alloc, link, game)? {
+            Some(shown) => Ok(Some(shown.seats)),
+            None => Ok(None),
+        }
+    }
+
+    // What is to be done about it where its game was not opened, by what was seen of the table and these games.
+    fn step_by(&self, stage: Option<&Stage>, away: &[u32], games: &[u32]) -> Step {
+        let (white, black) = (self.pairing.white, self.game.black);
+        step_of(&white, &black, stage, away, games, None)
+    }
+
+    // The same, where the games are still to be looked for.
+    fn step_seen(
+        &self,
+        link: &mut Link,
+        stage: Option<&Stage>,
+        noted: &[u32],
+        sight: &Sight,
+    ) -> Result<Step> {
+        let away = sight.away.as_slice();
+        if stage.is_none() || !away.is_empty() {
+            return Ok(self.step_by(stage, away, &[]));
+        }
+        let games = self.games(link, noted, sight.rows.as_slice())?;
+        Ok(self.step_by(stage, away, games.as_slice()))
     }
 
     // What is to be done about it where its game was not opened, by a look at the table without these servers.
@@ -120,21 +171,9 @@ impl Board {
         noted: &[u32],
         without: &[u32],
     ) -> Result<Seen> {
-        let Sight { rows, away } = look(self.alloc, link, noted, without, stage.is_some())?;
-        let games = match stage {
-            Some(_) if away.is_empty() => self.games(link, noted, rows.as_slice())?,
-            _ => Vec::new(self.alloc),
-        };
-        let (white, black) = (self.pairing.white, self.game.black);
-        let step = step_of(
-            &white,
-            &black,
-            stage,
-            away.as_slice(),
-            games.as_slice(),
-            None,
-        );
-        Ok(Seen { step, rows, away })
+        let sight = look(self.alloc, link, noted, without, stage.is_some())?;
+        let step = self.step_seen(link, stage, noted, &sight)?;
+        Ok(Seen { step, sight })
     }
 
     // What is to be done about it where this game was noted, by who sits in it.
@@ -167,8 +206,7 @@ impl Board {
         };
         Ok(Seen {
             step,
-            rows: Vec::new(self.alloc),
-            away: Vec::new(self.alloc),
+            sight: Sight::none(self.alloc),
         })
     }
 
@@ -181,12 +219,37 @@ impl Board {
     // That servers were not heard, one of which may have its game.
     fn not_heard(&self, away: &[u32]) -> Result<Error> {
         let white = self.pairing.white;
-        let mut servers = String::new(self.alloc);
-        for server in away {
-            servers.push_str(format!(in self.alloc; " {server}")?.as_str())?;
-        }
         let white = white.as_str();
+        let servers = numbers_text(self.alloc, away)?;
         Ok(anyhow!("these servers are away and may have games of {white}:{servers}"))
+    }
+
+    // Does what was seen to be done, and tells what became of it, where that is settled. `opened` is its game where White has
+    // just opened it.
+    fn act(
+        &self,
+        link: &mut Link,
+        file: &mut RoundFile,
+        seen: &Seen,
+        opened: &mut Option<u32>,
+    ) -> Result<Option<Became>> {
+        match seen.step {
+            Step::Begin => {
+                self.begin(file, seen.sight.rows.as_slice())?;
+                *opened = Some(self.open(link, file)?);
+            }
+            Step::Open => *opened = Some(self.open(link, file)?),
+            Step::Take(game) => file.put(self.note(Stage::Opened(game)))?,
+            Step::Join(game) => {
+                *opened = None;
+                self.join(link, game)?;
+            }
+            Step::Note(game) => file.put(self.note(Stage::Joined(game)))?,
+            Step::Has(game) => return Ok(Some(Became::Has(game))),
+            Step::LookAgain => return Err(self.not_heard(seen.sight.away.as_slice())?),
+            Step::Ask => return Ok(Some(Became::Asks)),
+        }
+        Ok(None)
     }
 
     /// Goes on with its game until Black has joined it, or until it is the arbiter's to say which it is; these servers are not
@@ -195,35 +258,21 @@ impl Board {
         let mut opened = None;
         for _ in 0..8 {
             let seen = self.seen(link, file, without, opened)?;
-            match seen.step {
-                Step::Begin => {
-                    self.begin(file, seen.rows.as_slice())?;
-                    opened = Some(self.open(link, file)?);
-                }
-                Step::Open => opened = Some(self.open(link, file)?),
-                Step::Take(game) => file.put(self.note(Stage::Opened(game)))?,
-                Step::Join(game) => {
-                    opened = None;
-                    self.join(link, game)?;
-                }
-                Step::Note(game) => file.put(self.note(Stage::Joined(game)))?,
-                Step::Has(game) => return Ok(Became::Has(game)),
-                Step::LookAgain => return Err(self.not_heard(seen.away.as_slice())?),
-                Step::Ask => return Ok(Became::Asks),
+            if let Some(became) = self.act(link, file, &seen, &mut opened)? {
+                return Ok(became);
             }
         }
         Ok(Became::Asks)
     }
 
     /// What is to be asked of the arbiter about it.
-    pub fn question(&self, file: &RoundFile) -> Result<String> {
+    pub fn question(&self, file: &RoundFile) -> Result<String, AllocError> {
         let board = self.pairing.board;
-        let text = match file.game_of(board) {
+        match file.game_of(board) {
             Some(game) => format!(in self.alloc;
                 "board {board}: game {game} has other players, or left the table before Black was seen in it"
-            )?,
-            None => format!(in self.alloc; "board {board}: several games may be its")?,
-        };
-        Ok(text)
+            ),
+            None => format!(in self.alloc; "board {board}: several games may be its"),
+        }
     }
 }

@@ -1,6 +1,6 @@
 //! The words of the command line, with the texts of their help.
 use clap::error::ErrorKind;
-use clap::{Arg, ArgAction, ArgMatches, Command, Error};
+use clap::{ArgAction, ArgMatches, Command, Error};
 use command_words::{VERSION, flag, option};
 use std::alloc::{AllocError, Global};
 use std::net::SocketAddr;
@@ -78,19 +78,25 @@ pub struct Round<'a> {
     pub games: &'a str,
 }
 
-/// The round whose games are opened, and what the arbiter said of boards.
+/// What the arbiter said of boards and servers.
 #[derive(Drop)]
-pub struct Starting<'a> {
-    pub round: Round<'a>,
-    pub server: SocketAddr,
-    /// The players' file, in which all players are to be.
-    pub players: Option<&'a str>,
+pub struct Said {
     /// Boards, and the games that are theirs.
     pub takes: Vec<(u32, u32)>,
     /// Boards, and games up to which none is theirs.
     pub afters: Vec<(u32, u32)>,
     /// Servers that are not waited for.
     pub without: Vec<u32>,
+}
+
+/// The round whose games are opened.
+#[derive(Drop)]
+pub struct Starting<'a> {
+    pub round: Round<'a>,
+    pub server: SocketAddr,
+    /// The players' file, in which all players are to be.
+    pub players: Option<&'a str>,
+    pub said: Said,
     /// Whether games of less than a minute are meant.
     pub is_short: bool,
 }
@@ -120,68 +126,229 @@ pub struct Reporting<'a> {
     pub event: Event<'a>,
 }
 
-fn with_round<'a>(alloc: Global, command: Command<'a>) -> Result<Command<'a>, AllocError> {
-    let pairings = option(
-        alloc,
-        "pairings",
-        "FILE",
-        "The round's pairings, a CSV file",
-    );
-    let games = option(alloc, "round-file", "FILE", "Which game is which board's");
-    command
-        .arg(pairings.required(true))?
-        .arg(games.required(true))
+// An option `--NAME VALUE` of a word.
+#[derive(Clone, Copy)]
+struct OptionText {
+    name: &'static str,
+    value: &'static str,
+    help: &'static str,
+    is_required: bool,
+    // What comes of several.
+    action: ArgAction,
 }
 
-fn with_source<'a>(alloc: Global, command: Command<'a>) -> Result<Command<'a>, AllocError> {
-    let archive = option(
-        alloc,
-        "archive",
-        "FILE",
-        "The archive of games that are over",
-    );
-    let server = option(alloc, "server", "A:P", "Where the game server listens");
-    command.arg(archive)?.arg(server)
+const START: [OptionText; 7] = [
+    OptionText {
+        name: "pairings",
+        value: "FILE",
+        help: "The round's pairings, a CSV file",
+        is_required: true,
+        action: ArgAction::Set,
+    },
+    OptionText {
+        name: "round-file",
+        value: "FILE",
+        help: "Which game is which board's",
+        is_required: true,
+        action: ArgAction::Set,
+    },
+    OptionText {
+        name: "server",
+        value: "A:P",
+        help: "Where the game server listens",
+        is_required: true,
+        action: ArgAction::Set,
+    },
+    OptionText {
+        name: "players",
+        value: "FILE",
+        help: "The players' file: nothing is opened where a player is not in it",
+        is_required: false,
+        action: ArgAction::Set,
+    },
+    OptionText {
+        name: "take",
+        value: "BOARD=GAME",
+        help: "This game is the board's; it may be given several times",
+        is_required: false,
+        action: ArgAction::Append,
+    },
+    OptionText {
+        name: "after",
+        value: "BOARD=GAME",
+        help: "No game up to this one of its server is the board's; it may be given several times",
+        is_required: false,
+        action: ArgAction::Append,
+    },
+    OptionText {
+        name: "without",
+        value: "SERVER",
+        help: "This server of a switch is not waited for; it may be given several times",
+        is_required: false,
+        action: ArgAction::Append,
+    },
+];
+
+const RESULTS: [OptionText; 5] = [
+    OptionText {
+        name: "pairings",
+        value: "FILE",
+        help: "The round's pairings, a CSV file",
+        is_required: true,
+        action: ArgAction::Set,
+    },
+    OptionText {
+        name: "round-file",
+        value: "FILE",
+        help: "Which game is which board's",
+        is_required: true,
+        action: ArgAction::Set,
+    },
+    OptionText {
+        name: "players",
+        value: "FILE",
+        help: "The players' file, with the full names that the archive has",
+        is_required: false,
+        action: ArgAction::Set,
+    },
+    OptionText {
+        name: "archive",
+        value: "FILE",
+        help: "The archive of games that are over",
+        is_required: false,
+        action: ArgAction::Set,
+    },
+    OptionText {
+        name: "server",
+        value: "A:P",
+        help: "Where the game server listens",
+        is_required: false,
+        action: ArgAction::Set,
+    },
+];
+
+const TRF: [OptionText; 14] = [
+    OptionText {
+        name: "players",
+        value: "FILE",
+        help: "The players' file",
+        is_required: true,
+        action: ArgAction::Set,
+    },
+    OptionText {
+        name: "rounds",
+        value: "CSV,GAMES",
+        help: "The two files of a round; it is given once for each round, in their order",
+        is_required: true,
+        action: ArgAction::Append,
+    },
+    OptionText {
+        name: "name",
+        value: "TEXT",
+        help: "The tournament's name",
+        is_required: false,
+        action: ArgAction::Set,
+    },
+    OptionText {
+        name: "city",
+        value: "TEXT",
+        help: "The city",
+        is_required: false,
+        action: ArgAction::Set,
+    },
+    OptionText {
+        name: "federation",
+        value: "TEXT",
+        help: "The federation, as GER",
+        is_required: false,
+        action: ArgAction::Set,
+    },
+    OptionText {
+        name: "begins",
+        value: "TEXT",
+        help: "The first day, YYYY/MM/DD",
+        is_required: false,
+        action: ArgAction::Set,
+    },
+    OptionText {
+        name: "ends",
+        value: "TEXT",
+        help: "The last day, YYYY/MM/DD",
+        is_required: false,
+        action: ArgAction::Set,
+    },
+    OptionText {
+        name: "kind",
+        value: "TEXT",
+        help: "As Individual: Swiss-System",
+        is_required: false,
+        action: ArgAction::Set,
+    },
+    OptionText {
+        name: "arbiter",
+        value: "TEXT",
+        help: "The chief arbiter",
+        is_required: false,
+        action: ArgAction::Set,
+    },
+    OptionText {
+        name: "deputy",
+        value: "TEXT",
+        help: "The deputy",
+        is_required: false,
+        action: ArgAction::Set,
+    },
+    OptionText {
+        name: "times",
+        value: "TEXT",
+        help: "The times of a game",
+        is_required: false,
+        action: ArgAction::Set,
+    },
+    OptionText {
+        name: "all-rounds",
+        value: "TEXT",
+        help: "How many rounds there are to be",
+        is_required: false,
+        action: ArgAction::Set,
+    },
+    OptionText {
+        name: "archive",
+        value: "FILE",
+        help: "The archive of games that are over",
+        is_required: false,
+        action: ArgAction::Set,
+    },
+    OptionText {
+        name: "server",
+        value: "A:P",
+        help: "Where the game server listens",
+        is_required: false,
+        action: ArgAction::Set,
+    },
+];
+
+// (A loop over a table is proved once, and each call in a chain over what all calls before it say.)
+fn with_options<'a>(
+    alloc: Global,
+    command: Command<'a>,
+    options: &[OptionText],
+) -> Result<Command<'a>, AllocError> {
+    let mut command = command;
+    for text in options {
+        let made = option(alloc, text.name, text.value, text.help)
+            .required(text.is_required)
+            .action(text.action);
+        command = command.arg(made)?;
+    }
+    Ok(command)
 }
 
 fn start_command<'a>(alloc: Global) -> Result<Command<'a>, AllocError> {
-    let server = option(alloc, "server", "A:P", "Where the game server listens");
-    let players = option(
-        alloc,
-        "players",
-        "FILE",
-        "The players' file: nothing is opened where a player is not in it",
-    );
-    let take = option(
-        alloc,
-        "take",
-        "BOARD=GAME",
-        "This game is the board's; it may be given several times",
-    );
-    let after = option(
-        alloc,
-        "after",
-        "BOARD=GAME",
-        "No game up to this one of its server is the board's; it may be given several times",
-    );
-    let without = option(
-        alloc,
-        "without",
-        "SERVER",
-        "This server of a switch is not waited for; it may be given several times",
-    );
-    with_round(
-        alloc,
-        Command::new(alloc, "start")
-            .about("Opens the games of a round")
-            .after_help(HELP_OF_START),
-    )?
-    .arg(server.required(true))?
-    .arg(players)?
-    .arg(take.action(ArgAction::Append))?
-    .arg(after.action(ArgAction::Append))?
-    .arg(without.action(ArgAction::Append))?
-    .arg(flag(
+    let command = Command::new(alloc, "start")
+        .about("Opens the games of a round")
+        .after_help(HELP_OF_START);
+    with_options(alloc, command, &START)?.arg(flag(
         alloc,
         "short",
         "Initial times of less than 60 seconds are meant",
@@ -192,75 +359,47 @@ fn results_command<'a>(alloc: Global) -> Result<Command<'a>, AllocError> {
     let command = Command::new(alloc, "results")
         .about("Writes the results of a round as CSV")
         .after_help(HELP_OF_RESULTS);
-    let players = option(
-        alloc,
-        "players",
-        "FILE",
-        "The players' file, with the full names that the archive has",
-    );
-    with_source(alloc, with_round(alloc, command)?.arg(players)?)
-}
-
-fn text<'a>(alloc: Global, name: &'static str, help: &'static str) -> Arg<'a> {
-    option(alloc, name, "TEXT", help)
+    with_options(alloc, command, &RESULTS)
 }
 
 fn trf_command<'a>(alloc: Global) -> Result<Command<'a>, AllocError> {
-    let players = option(alloc, "players", "FILE", "The players' file");
-    let rounds = option(
-        alloc,
-        "rounds",
-        "CSV,GAMES",
-        "The two files of a round; it is given once for each round, in their order",
-    );
     let command = Command::new(alloc, "trf")
         .about("Writes the report of a tournament, TRF-16")
-        .after_help(HELP_OF_TRF)
-        .arg(players.required(true))?
-        .arg(rounds.required(true).action(ArgAction::Append))?
-        .arg(text(alloc, "name", "The tournament's name"))?
-        .arg(text(alloc, "city", "The city"))?
-        .arg(text(alloc, "federation", "The federation, as GER"))?
-        .arg(text(alloc, "begins", "The first day, YYYY/MM/DD"))?
-        .arg(text(alloc, "ends", "The last day, YYYY/MM/DD"))?
-        .arg(text(alloc, "kind", "As Individual: Swiss-System"))?
-        .arg(text(alloc, "arbiter", "The chief arbiter"))?
-        .arg(text(alloc, "deputy", "The deputy"))?
-        .arg(text(alloc, "times", "The times of a game"))?
-        .arg(text(alloc, "all-rounds", "How many rounds there are to be"))?;
-    with_source(alloc, command)
+        .after_help(HELP_OF_TRF);
+    with_options(alloc, command, &TRF)
 }
 
 /// The program's command line.
 pub fn command<'a>(alloc: Global) -> Result<Command<'a>, AllocError> {
-    let start = start_command(alloc)?;
-    let results = results_command(alloc)?;
-    let trf = trf_command(alloc)?;
-    Command::new(alloc, "chess-pairings")
+    let command = Command::new(alloc, "chess-pairings")
         .about("The rounds of a chess league.")
         .version(VERSION)
-        .subcommand_required(true)
-        .subcommand(start)?
-        .subcommand(results)?
-        .subcommand(trf)
+        .subcommand_required(true);
+    let command = command.subcommand(start_command(alloc)?)?;
+    let command = command.subcommand(results_command(alloc)?)?;
+    command.subcommand(trf_command(alloc)?)
 }
 
 /// Reads the words, the program's own name first. An `Err` is a usage fault, or a request for help.
 pub fn read_words<'a>(alloc: Global, words: &'a [String]) -> Result<Word<'a>, Error> {
     let mut command = command(alloc)?;
     let matches = command.try_get_matches_from_mut(words)?;
-    let word = match matches.subcommand() {
-        Some(("start", values)) => starting_of(alloc, values)?.map(Word::Start),
-        Some(("results", values)) => asking_of(values).map(Word::Results),
-        Some(("trf", values)) => reporting_of(alloc, values)?.map(Word::Report),
-        _ => None,
-    };
-    match word {
+    match word_of(alloc, &matches)? {
         Some(word) => Ok(word),
         None => Err(command.error(
             ErrorKind::InvalidValue,
             "an address, a board, a game, a server or a round's files are none, or neither --archive nor --server is given",
         )?),
+    }
+}
+
+// What words ask for; none where one of them is none that the program knows.
+fn word_of<'a>(alloc: Global, matches: &ArgMatches<'a>) -> Result<Option<Word<'a>>, AllocError> {
+    match matches.subcommand() {
+        Some(("start", values)) => Ok(starting_of(alloc, values)?.map(Word::Start)),
+        Some(("results", values)) => Ok(asking_of(values).map(Word::Results)),
+        Some(("trf", values)) => Ok(reporting_of(alloc, values)?.map(Word::Report)),
+        _ => Ok(None),
     }
 }
 
@@ -306,26 +445,39 @@ fn take_of(text: &str) -> Option<(u32, u32)> {
     Some((number_of(board)?, number_of(game)?))
 }
 
-fn takes_of(alloc: Global, texts: &[&str]) -> Result<Option<Vec<(u32, u32)>>, AllocError> {
-    let mut takes = Vec::new(alloc);
-    for text in texts {
-        match take_of(text) {
-            Some(take) => takes.push(take)?,
-            None => return Ok(None),
-        }
-    }
-    Ok(Some(takes))
+// What was given under a name, as often as it was.
+fn texts_of<'a, 'b>(values: &'b ArgMatches<'a>, name: &str) -> &'b [&'a str] {
+    values.get_strs(name).unwrap_or(&[])
 }
 
-fn servers_of(alloc: Global, texts: &[&str]) -> Result<Option<Vec<u32>>, AllocError> {
-    let mut servers = Vec::new(alloc);
+// Puts boards with their games; false where a text tells none.
+fn put_takes(takes: &mut Vec<(u32, u32)>, texts: &[&str]) -> Result<bool, AllocError> {
     for text in texts {
-        match number_of(text) {
-            Some(server) => servers.push(server)?,
-            None => return Ok(None),
-        }
+        let Some(take) = take_of(text) else {
+            return Ok(false);
+        };
+        takes.push(take)?;
     }
-    Ok(Some(servers))
+    Ok(true)
+}
+
+// Puts servers; false where a text tells none.
+fn put_servers(servers: &mut Vec<u32>, texts: &[&str]) -> Result<bool, AllocError> {
+    for text in texts {
+        let Some(server) = number_of(text) else {
+            return Ok(false);
+        };
+        servers.push(server)?;
+    }
+    Ok(true)
+}
+
+// Puts what the arbiter said; false where a board, a game or a server is none.
+fn put_said(said: &mut Said, values: &ArgMatches<'_>) -> Result<bool, AllocError> {
+    let are_takes = put_takes(&mut said.takes, texts_of(values, "take"))?;
+    let are_afters = put_takes(&mut said.afters, texts_of(values, "after"))?;
+    let are_servers = put_servers(&mut said.without, texts_of(values, "without"))?;
+    Ok(are_takes && are_afters && are_servers)
 }
 
 // The server's address; none where it is none.
@@ -341,22 +493,19 @@ fn starting_of<'a>(
     let (Some(round), Some(server)) = (round_of(values), address_of(values)) else {
         return Ok(None);
     };
-    let Some(takes) = takes_of(alloc, values.get_strs("take").unwrap_or(&[]))? else {
-        return Ok(None);
+    let mut said = Said {
+        takes: Vec::new(alloc),
+        afters: Vec::new(alloc),
+        without: Vec::new(alloc),
     };
-    let Some(afters) = takes_of(alloc, values.get_strs("after").unwrap_or(&[]))? else {
+    if !put_said(&mut said, values)? {
         return Ok(None);
-    };
-    let Some(without) = servers_of(alloc, values.get_strs("without").unwrap_or(&[]))? else {
-        return Ok(None);
-    };
+    }
     Ok(Some(Starting {
         round,
         server,
         players: values.get_str("players"),
-        takes,
-        afters,
-        without,
+        said,
         is_short: values.get_flag("short"),
     }))
 }
@@ -367,15 +516,15 @@ fn files_of(text: &str) -> Option<Round<'_>> {
     Some(Round { pairings, games })
 }
 
-fn rounds_of<'a>(alloc: Global, texts: &[&'a str]) -> Result<Option<Vec<Round<'a>>>, AllocError> {
-    let mut rounds = Vec::new(alloc);
+// Puts the files of rounds; false where a text does not name them.
+fn put_rounds<'a>(rounds: &mut Vec<Round<'a>>, texts: &[&'a str]) -> Result<bool, AllocError> {
     for text in texts {
-        match files_of(text) {
-            Some(round) => rounds.push(round)?,
-            None => return Ok(None),
-        }
+        let Some(round) = files_of(text) else {
+            return Ok(false);
+        };
+        rounds.push(round)?;
     }
-    Ok(Some(rounds))
+    Ok(true)
 }
 
 fn text_of<'a>(values: &ArgMatches<'a>, name: &str) -> &'a str {
@@ -407,15 +556,17 @@ fn reporting_of<'a>(
     alloc: Global,
     values: &ArgMatches<'a>,
 ) -> Result<Option<Reporting<'a>>, AllocError> {
-    let (Some(players), Some(source)) = (values.get_str("players"), source_of(values)) else {
+    let (Some(players), Some(source), Some(event)) = (
+        values.get_str("players"),
+        source_of(values),
+        event_of(values),
+    ) else {
         return Ok(None);
     };
-    let Some(event) = event_of(values) else {
+    let mut rounds = Vec::new(alloc);
+    if !put_rounds(&mut rounds, texts_of(values, "rounds"))? {
         return Ok(None);
-    };
-    let Some(rounds) = rounds_of(alloc, values.get_strs("rounds").unwrap_or(&[]))? else {
-        return Ok(None);
-    };
+    }
     Ok(Some(Reporting {
         players,
         rounds,

@@ -1,7 +1,9 @@
 //! The files that are only read.
+use crate::command_line::Round;
 use anyhow::{Context, Result};
 use night_files::whole_length;
 use pairing_texts::{Note, Pairing, note_of, read};
+use std::alloc::Global;
 use std::fs;
 use std::rt::Files;
 use text_parts::parts;
@@ -38,42 +40,91 @@ fn hides_note(behind: &[u8]) -> bool {
     false
 }
 
-/// The notes of a round's file, in their order. It fails where a line is no note's, and where more stands behind the lines than a
-/// torn one.
-pub fn notes_of<R: Files + AllocGlobal>(rt: &R, file: &str) -> Result<Vec<Note>> {
-    let mut bytes = fs::read(rt, file).context(format_args!("reading {file}"))?;
-    let kept = whole_length(bytes.as_slice());
-    let behind = bytes.get(kept..).unwrap_or(&[]);
+// Whether what stands behind the lines may be cut off. It fails where that is more than a torn line.
+fn check_behind(file: &str, behind: &[u8]) -> Result<()> {
     if hides_note(behind) {
         anyhow::bail!("{file} has a note behind what is no whole line: see what the disk has lost");
     }
     if !is_torn_line(behind) {
         anyhow::bail!("{file} is no round's file: what stands behind its lines is no note");
     }
+    Ok(())
+}
+
+// The lines of a round's file.
+fn lines_of<R: Files + AllocGlobal>(rt: &R, file: &str) -> Result<String> {
+    let mut bytes = fs::read(rt, file).context(format_args!("reading {file}"))?;
+    let kept = whole_length(bytes.as_slice());
+    check_behind(file, bytes.get(kept..).unwrap_or(&[]))?;
     bytes.truncate(kept);
-    let text = String::from_utf8(bytes).context(format_args!("{file}"))?;
-    let mut notes = Vec::new(rt.alloc());
-    for line in parts(rt.alloc(), text.as_str(), '\n')?.as_slice() {
-        match note_of(rt.alloc(), line)? {
-            Some(note) => notes.push(note)?,
-            None => anyhow::bail!(
-                "{file} is no round's file: it has a line that is no note: {line:?}"
-            ),
-        }
+    String::from_utf8(bytes).context(format_args!("{file}"))
+}
+
+// The note of a line.
+fn note_in(alloc: Global, file: &str, line: &str) -> Result<Note> {
+    match note_of(alloc, line)? {
+        Some(note) => Ok(note),
+        None => anyhow::bail!("{file} is no round's file: it has a line that is no note: {line:?}"),
     }
+}
+
+fn put_notes(notes: &mut Vec<Note>, alloc: Global, file: &str, lines: &[&str]) -> Result<()> {
+    for line in lines {
+        notes.push(note_in(alloc, file, line)?)?;
+    }
+    Ok(())
+}
+
+// The notes of lines.
+fn notes_in(alloc: Global, file: &str, text: &str) -> Result<Vec<Note>> {
+    let lines = parts(alloc, text, '\n')?;
+    let mut notes = Vec::new(alloc);
+    put_notes(&mut notes, alloc, file, lines.as_slice())?;
     Ok(notes)
+}
+
+/// The notes of a round's file, in their order. It fails where a line is no note's, and where more stands behind the lines than a
+/// torn one.
+pub fn notes_of<R: Files + AllocGlobal>(rt: &R, file: &str) -> Result<Vec<Note>> {
+    let text = lines_of(rt, file)?;
+    notes_in(rt.alloc(), file, text.as_str())
+}
+
+/// A round: who is paired, and what was noted.
+#[derive(Drop)]
+pub struct Paired {
+    pub pairings: Vec<Pairing>,
+    pub notes: Vec<Note>,
+}
+
+/// What the files of a round have. It fails where the notes are of other pairings.
+pub fn paired_of<R: Files + AllocGlobal>(rt: &R, round: Round<'_>) -> Result<Paired> {
+    let paired = Paired {
+        pairings: pairings_of(rt, round.pairings)?,
+        notes: notes_of(rt, round.games)?,
+    };
+    check_notes(
+        round.games,
+        paired.notes.as_slice(),
+        paired.pairings.as_slice(),
+    )?;
+    Ok(paired)
+}
+
+// Whether a note is of a board of these pairings, with its players. It fails where it is not.
+fn check_note(file: &str, note: &Note, pairings: &[Pairing]) -> Result<()> {
+    if pairings.iter().any(|pairing| is_of(note, pairing)) {
+        return Ok(());
+    }
+    let board = note.board;
+    let (white, black) = (note.white.as_str(), note.black.as_str());
+    anyhow::bail!("{file} is of other pairings: it has {white} against {black} at board {board}")
 }
 
 /// Whether each note is of a board of these pairings, with its players. It fails at the first that is not.
 pub fn check_notes(file: &str, notes: &[Note], pairings: &[Pairing]) -> Result<()> {
     for note in notes {
-        if !pairings.iter().any(|pairing| is_of(note, pairing)) {
-            let board = note.board;
-            let (white, black) = (note.white.as_str(), note.black.as_str());
-            anyhow::bail!(
-                "{file} is of other pairings: it has {white} against {black} at board {board}"
-            );
-        }
+        check_note(file, note, pairings)?;
     }
     Ok(())
 }

@@ -18,6 +18,16 @@ pub struct Sight {
     pub away: Vec<u32>,
 }
 
+impl Sight {
+    /// Nothing was looked at.
+    pub fn none(alloc: Global) -> Sight {
+        Sight {
+            rows: Vec::new(alloc),
+            away: Vec::new(alloc),
+        }
+    }
+}
+
 // What comes of a line to a server.
 #[derive(Clone, Copy, PartialEq, Eq)]
 enum Reply {
@@ -60,18 +70,24 @@ fn ask(alloc: Global, link: &mut Link, server: u32) -> Result<Reply> {
     hear_reply(link)
 }
 
-// The servers that the table has: of a switch from 1 on to the last, and of a server by itself 0.
-fn servers_of(alloc: Global, link: &mut Link) -> Result<Vec<u32>> {
-    let mut servers = Vec::new(alloc);
-    if ask(alloc, link, 0)? == Reply::Here {
-        servers.push(0)?;
-        return Ok(servers);
-    }
+// Puts the servers of a switch, from 1 on to the last.
+fn put_servers(servers: &mut Vec<u32>, alloc: Global, link: &mut Link) -> Result<()> {
     for server in 1..=SERVERS_MOST {
         if ask(alloc, link, server)? == Reply::Nowhere {
             break;
         }
         servers.push(server)?;
+    }
+    Ok(())
+}
+
+// The servers that the table has: of a switch from 1 on to the last, and of a server by itself 0.
+fn servers_of(alloc: Global, link: &mut Link) -> Result<Vec<u32>> {
+    let mut servers = Vec::new(alloc);
+    if ask(alloc, link, 0)? == Reply::Here {
+        servers.push(0)?;
+    } else {
+        put_servers(&mut servers, alloc, link)?;
     }
     Ok(servers)
 }
@@ -86,15 +102,28 @@ fn rounds_of(servers: usize, settles: bool) -> usize {
     }
 }
 
+// Puts the question to each server behind a line.
+fn put_questions(lines: &mut String, alloc: Global, servers: &[u32]) -> Result<()> {
+    for server in servers {
+        let question = question(alloc, *server)?;
+        lines.push('\n')?;
+        lines.push_str(question.as_str())?;
+    }
+    Ok(())
+}
+
 // The list, and whether each server is there. They are said in one piece, which a switch takes at once: so a server that answers
 // has told its games.
 fn say_questions(alloc: Global, link: &mut Link, servers: &[u32]) -> Result<()> {
     let mut lines = String::from_str(alloc, "list")?;
-    for server in servers {
-        lines.push('\n')?;
-        lines.push_str(question(alloc, *server)?.as_str())?;
-    }
+    put_questions(&mut lines, alloc, servers)?;
     link.say(lines.as_str())
+}
+
+// The games of the list that was asked for.
+fn hear_rows(alloc: Global, link: &mut Link) -> Result<Vec<Row>> {
+    let list = link.hear_list()?;
+    rows_in(alloc, list.as_str())
 }
 
 // The servers that answer.
@@ -104,6 +133,34 @@ fn hear_replies(alloc: Global, link: &mut Link, servers: &[u32]) -> Result<Vec<u
         if hear_reply(link)? == Reply::Here {
             heard.push(*server)?;
         }
+    }
+    Ok(heard)
+}
+
+// What was heard of the table: its games, and the servers that have answered each time.
+#[derive(Drop)]
+struct Heard {
+    rows: Vec<Row>,
+    servers: Vec<u32>,
+}
+
+impl Heard {
+    // Asks the table once more.
+    fn ask(&mut self, alloc: Global, link: &mut Link) -> Result<()> {
+        say_questions(alloc, link, self.servers.as_slice())?;
+        self.rows = hear_rows(alloc, link)?;
+        self.servers = hear_replies(alloc, link, self.servers.as_slice())?;
+        Ok(())
+    }
+}
+
+fn heard_of(alloc: Global, link: &mut Link, servers: &[u32], settles: bool) -> Result<Heard> {
+    let mut heard = Heard {
+        servers: Vec::from_slice(alloc, servers)?,
+        rows: Vec::new(alloc),
+    };
+    for _ in 0..rounds_of(servers.len(), settles) {
+        heard.ask(alloc, link)?;
     }
     Ok(heard)
 }
@@ -118,14 +175,11 @@ pub fn look(
     settles: bool,
 ) -> Result<Sight> {
     let servers = servers_of(alloc, link)?;
-    let mut heard = Vec::from_slice(alloc, servers.as_slice())?;
-    let mut rows = Vec::new(alloc);
-    for _ in 0..rounds_of(servers.len(), settles) {
-        say_questions(alloc, link, heard.as_slice())?;
-        rows = rows_in(alloc, link.hear_list()?.as_str())?;
-        heard = hear_replies(alloc, link, heard.as_slice())?;
-    }
-    heard.extend_from_slice(without)?;
-    let away = unheard(alloc, servers.as_slice(), noted, heard.as_slice())?;
-    Ok(Sight { rows, away })
+    let mut heard = heard_of(alloc, link, servers.as_slice(), settles)?;
+    heard.servers.extend_from_slice(without)?;
+    let away = unheard(alloc, servers.as_slice(), noted, heard.servers.as_slice())?;
+    Ok(Sight {
+        rows: heard.rows,
+        away,
+    })
 }

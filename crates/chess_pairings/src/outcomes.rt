@@ -1,6 +1,6 @@
 //! What came of games: in the archive, and on the table.
 use crate::command_line::Source;
-use crate::table::{Shown, show_game};
+use crate::table::{Shown, connect, show_game};
 use anyhow::{Context, Result};
 use archive_file::{game_of, pgn_of};
 use archive_lines::lines_of;
@@ -9,8 +9,8 @@ use pairing_texts::Pairing;
 use players_file::full_name;
 use rec_codec::Name;
 use server_link::Link;
-use std::alloc::Global;
-use std::net::{Net, TcpStream};
+use std::alloc::{AllocError, Global};
+use std::net::{Net, SocketAddr, TcpStream};
 use std::rt::Files;
 use text_parts::parts;
 
@@ -22,19 +22,12 @@ pub struct Ended {
     pub plies: u32,
 }
 
-/// A game of the archive: who played, and what came of it.
+// What was found of a board's game: what came of it, or why that is not known; else nothing.
 #[derive(Drop)]
-struct Archived {
-    white: String,
-    black: String,
-    ended: Ended,
-}
-
-/// What was found of a game: what came of it, and else why that is not known.
-#[derive(Drop)]
-struct Found {
-    ended: Option<Ended>,
-    why: Option<String>,
+enum Found {
+    Ended(Ended),
+    Unknown(String),
+    Nothing,
 }
 
 /// The line of a game in the archive.
@@ -79,61 +72,132 @@ fn is_value_of(value: &str, text: &str) -> bool {
     at == value.len()
 }
 
-// How many moves stand in a line that is no tag's: a move begins with a letter.
-fn moves_in(alloc: Global, line: &str) -> Result<u32> {
-    let mut moves: u32 = 0;
-    if line.starts_with("[") {
-        return Ok(0);
+// Whether a word of a PGN is a move: it begins with a letter.
+fn is_move(word: &str) -> bool {
+    match word.as_bytes() {
+        [first, ..] => first.is_ascii_alphabetic(),
+        [] => false,
     }
-    for token in parts(alloc, line, ' ')?.as_slice() {
-        let is_move = match token.as_bytes().first() {
-            Some(first) => first.is_ascii_alphabetic(),
-            None => false,
-        };
-        if is_move {
+}
+
+// How many of these words are moves.
+fn moves_among(words: &[&str]) -> u32 {
+    let mut moves: u32 = 0;
+    for word in words {
+        if is_move(word) {
             moves = moves.saturating_add(1);
         }
     }
-    Ok(moves)
+    moves
 }
 
-// What a PGN tells; `*` where it does not tell the result.
-fn archived_in(alloc: Global, pgn: &str) -> Result<Archived> {
-    let (mut white, mut black) = ("", "");
-    let (mut result, mut article) = ("*", "");
-    let mut plies: u32 = 0;
-    for line in parts(alloc, pgn, '\n')?.as_slice() {
-        white = tag_value(line, "[White \"").unwrap_or(white);
-        black = tag_value(line, "[Black \"").unwrap_or(black);
-        result = tag_value(line, "[Result \"").unwrap_or(result);
-        article = tag_value(line, "[Article \"").unwrap_or(article);
-        plies = plies.saturating_add(moves_in(alloc, line)?);
+// How many moves stand in a line that is no tag's.
+fn moves_in(alloc: Global, line: &str) -> Result<u32, AllocError> {
+    if line.starts_with("[") {
+        return Ok(0);
     }
-    Ok(Archived {
-        white: String::from_str(alloc, white)?,
-        black: String::from_str(alloc, black)?,
-        ended: Ended {
-            result: String::from_str(alloc, result)?,
-            article: String::from_str(alloc, article)?,
-            plies,
-        },
-    })
+    let words = parts(alloc, line, ' ')?;
+    Ok(moves_among(words.as_slice()))
 }
 
-// The lines of an archive, each with its game.
-fn lines_in<R: Files + AllocGlobal>(rt: &R, file: Option<&str>) -> Result<Vec<Line>> {
-    let mut lines = Vec::new(rt.alloc());
-    let Some(file) = file else {
-        return Ok(lines);
-    };
-    let text = lines_of(rt, file)?;
-    for line in parts(rt.alloc(), text.as_str(), '\n')?.as_slice() {
-        if let Some(game) = game_of(rt.alloc(), line)? {
-            let text = String::from_str(rt.alloc(), line)?;
-            lines.push(Line { game, text })?;
+// What a PGN tells: who played, and what came of it.
+#[derive(Clone, Copy)]
+struct Told<'a> {
+    white: &'a str,
+    black: &'a str,
+    result: &'a str,
+    article: &'a str,
+    plies: u32,
+}
+
+impl<'a> Told<'a> {
+    // The same with what a line tells, in which so many moves stand.
+    fn with_line(self, line: &'a str, moves: u32) -> Told<'a> {
+        Told {
+            white: tag_value(line, "[White \"").unwrap_or(self.white),
+            black: tag_value(line, "[Black \"").unwrap_or(self.black),
+            result: tag_value(line, "[Result \"").unwrap_or(self.result),
+            article: tag_value(line, "[Article \"").unwrap_or(self.article),
+            plies: self.plies.saturating_add(moves),
         }
     }
+
+    fn ended(self, alloc: Global) -> Result<Ended, AllocError> {
+        Ok(Ended {
+            result: String::from_str(alloc, self.result)?,
+            article: String::from_str(alloc, self.article)?,
+            plies: self.plies,
+        })
+    }
+}
+
+// What the lines of a PGN tell; `*` where they do not tell the result.
+fn told_by<'a>(alloc: Global, lines: &[&'a str]) -> Result<Told<'a>, AllocError> {
+    let mut told = Told {
+        white: "",
+        black: "",
+        result: "*",
+        article: "",
+        plies: 0,
+    };
+    for line in lines {
+        told = told.with_line(line, moves_in(alloc, line)?);
+    }
+    Ok(told)
+}
+
+// What a PGN tells.
+fn told_in(alloc: Global, pgn: &str) -> Result<Told<'_>, AllocError> {
+    let lines = parts(alloc, pgn, '\n')?;
+    told_by(alloc, lines.as_slice())
+}
+
+// The line of a game; none where it tells none.
+fn line_in(alloc: Global, line: &str) -> Result<Option<Line>, AllocError> {
+    match game_of(alloc, line)? {
+        Some(game) => Ok(Some(Line {
+            game,
+            text: String::from_str(alloc, line)?,
+        })),
+        None => Ok(None),
+    }
+}
+
+fn put_lines(lines: &mut Vec<Line>, alloc: Global, texts: &[&str]) -> Result<(), AllocError> {
+    for text in texts {
+        if let Some(line) = line_in(alloc, text)? {
+            lines.push(line)?;
+        }
+    }
+    Ok(())
+}
+
+// The lines of an archive's text, each with its game.
+fn lines_in(alloc: Global, text: &str) -> Result<Vec<Line>, AllocError> {
+    let texts = parts(alloc, text, '\n')?;
+    let mut lines = Vec::new(alloc);
+    put_lines(&mut lines, alloc, texts.as_slice())?;
     Ok(lines)
+}
+
+// The lines of an archive, where one is named.
+fn archive_of<R: Files + AllocGlobal>(rt: &R, file: Option<&str>) -> Result<Vec<Line>> {
+    let Some(file) = file else {
+        return Ok(Vec::new(rt.alloc()));
+    };
+    let text = lines_of(rt, file)?;
+    Ok(lines_in(rt.alloc(), text.as_str())?)
+}
+
+// The connection to the server, where one is named.
+fn link_of<R: Net<Stream = TcpStream> + AllocGlobal>(
+    rt: &R,
+    server: Option<SocketAddr>,
+) -> Result<Option<Link>> {
+    match server {
+        None => Ok(None),
+        Some(server) => Ok(Some(connect(rt, server)?)),
+    }
 }
 
 // Who sits in a seat, as it is told to the arbiter.
@@ -144,12 +208,45 @@ fn seat_text(seat: &Option<Name>) -> &str {
     }
 }
 
-// Whether a game was found that is not over.
-fn goes_on(ended: &Option<Ended>) -> bool {
-    match ended {
-        Some(ended) => ended.result.as_str() == "*",
-        None => false,
+// Why nothing came of a game where others sit in it.
+fn others_text(
+    alloc: Global,
+    game: u32,
+    place: &str,
+    white: &str,
+    black: &str,
+) -> Result<String, AllocError> {
+    format!(in alloc; "game {game} {place} is of {white} against {black}")
+}
+
+// The article, empty where there is none.
+fn article_of(alloc: Global, article: String) -> String {
+    if article.as_str() == "-" {
+        String::new(alloc)
+    } else {
+        article
     }
+}
+
+// What was found of a game of the table.
+fn found_by(
+    alloc: Global,
+    white: &Name,
+    black: &Name,
+    game: u32,
+    shown: Shown,
+) -> Result<Found, AllocError> {
+    let seats = shown.seats;
+    if seats.white != Some(*white) || seats.black != Some(*black) {
+        let (first, second) = (seat_text(&seats.white), seat_text(&seats.black));
+        let why = others_text(alloc, game, "on the table", first, second)?;
+        return Ok(Found::Unknown(why));
+    }
+    Ok(Found::Ended(Ended {
+        result: shown.result,
+        article: article_of(alloc, shown.article),
+        plies: shown.plies,
+    }))
 }
 
 impl<'a> Outcomes<'a> {
@@ -159,17 +256,10 @@ impl<'a> Outcomes<'a> {
     where
         R: Files + Net<Stream = TcpStream> + AllocGlobal,
     {
-        let lines = lines_in(rt, source.archive)?;
-        let link = match source.server {
-            None => None,
-            Some(server) => {
-                Some(Link::open(rt, server).context(format_args!("the server at {server}"))?)
-            }
-        };
         Ok(Outcomes {
             alloc: rt.alloc(),
-            lines,
-            link,
+            lines: archive_of(rt, source.archive)?,
+            link: link_of(rt, source.server)?,
             players,
             words: Vec::new(rt.alloc()),
         })
@@ -181,106 +271,121 @@ impl<'a> Outcomes<'a> {
         is_value_of(value, name) || is_value_of(value, full_name(self.players, name))
     }
 
-    // What the archive has under a game's number.
-    fn line_of(&self, game: u32) -> Result<Option<Archived>> {
+    // The PGN that the archive has under a game's number.
+    fn pgn(&self, game: u32) -> Result<Option<String>> {
         for line in self.lines.as_slice() {
             if line.game == game {
-                let pgn = String::from_utf8(pgn_of(self.alloc, line.text.as_str())?).context(
-                    format_args!("game {game}"),
-                )?;
-                return Ok(Some(archived_in(self.alloc, pgn.as_str())?));
+                let pgn = pgn_of(self.alloc, line.text.as_str())?;
+                return Ok(Some(String::from_utf8(pgn).context(format_args!("game {game}"))?));
             }
         }
         Ok(None)
     }
 
+    // What a game's PGN tells of a board's game.
+    fn found_in(
+        &self,
+        white: &Name,
+        black: &Name,
+        game: u32,
+        pgn: &str,
+    ) -> Result<Found, AllocError> {
+        let told = told_in(self.alloc, pgn)?;
+        if self.is_named(told.white, white) && self.is_named(told.black, black) {
+            return Ok(Found::Ended(told.ended(self.alloc)?));
+        }
+        let why = others_text(self.alloc, game, "of the archive", told.white, told.black)?;
+        Ok(Found::Unknown(why))
+    }
+
     // What the archive tells of a board's game.
     fn archived(&self, white: &Name, black: &Name, game: u32) -> Result<Found> {
-        let (ended, why) = match self.line_of(game)? {
-            None => (None, None),
-            Some(one) => {
-                let (first, second) = (one.white.as_str(), one.black.as_str());
-                if self.is_named(first, white) && self.is_named(second, black) {
-                    (Some(one.ended), None)
-                } else {
-                    let why = format!(in self.alloc;
-                        "game {game} of the archive is of {first} against {second}"
-                    )?;
-                    (None, Some(why))
-                }
-            }
-        };
-        Ok(Found { ended, why })
+        match self.pgn(game)? {
+            None => Ok(Found::Nothing),
+            Some(pgn) => Ok(self.found_in(white, black, game, pgn.as_str())?),
+        }
+    }
+
+    // How a game of the table stands.
+    fn shown(&mut self, game: u32) -> Result<Option<Shown>> {
+        match &mut self.link {
+            Some(link) => show_game(self.alloc, link, game),
+            None => Ok(None),
+        }
     }
 
     // What the server tells of a board's game.
     fn on_table(&mut self, white: &Name, black: &Name, game: u32) -> Result<Found> {
-        let alloc = self.alloc;
-        let shown = match &mut self.link {
-            Some(link) => show_game(alloc, link, game)?,
-            None => None,
-        };
-        let Some(shown) = shown else {
-            return Ok(Found {
-                ended: None,
-                why: None,
-            });
-        };
-        let Shown {
-            seats,
-            plies,
-            result,
-            article,
-        } = shown;
-        if seats.white != Some(*white) || seats.black != Some(*black) {
-            let (first, second) = (seat_text(&seats.white), seat_text(&seats.black));
-            let why = format!(in alloc; "game {game} on the table is of {first} against {second}")?;
-            return Ok(Found {
-                ended: None,
-                why: Some(why),
-            });
+        match self.shown(game)? {
+            None => Ok(Found::Nothing),
+            Some(shown) => Ok(found_by(self.alloc, white, black, game, shown)?),
         }
-        let article = if article.as_str() == "-" {
-            String::new(alloc)
-        } else {
-            article
-        };
-        let ended = Ended {
-            result,
-            article,
-            plies,
-        };
-        Ok(Found {
-            ended: Some(ended),
-            why: None,
-        })
+    }
+
+    // What is told of a board's game that is not on the table: what the archive told, if it told anything.
+    fn without_table(&self, game: u32, archived: Found) -> Result<Found, AllocError> {
+        match archived {
+            Found::Nothing => Ok(Found::Unknown(format!(in self.alloc;
+                "game {game} was not found"
+            )?)),
+            archived => Ok(archived),
+        }
+    }
+
+    // What the table tells of a board's game, and else what the archive told.
+    fn found_behind(
+        &mut self,
+        white: &Name,
+        black: &Name,
+        game: u32,
+        archived: Found,
+    ) -> Result<Found> {
+        match self.on_table(white, black, game)? {
+            Found::Nothing => Ok(self.without_table(game, archived)?),
+            shown => Ok(shown),
+        }
     }
 
     // What archive and server tell of a board's game.
     fn found(&mut self, white: &Name, black: &Name, game: u32) -> Result<Found> {
-        let archived = self.archived(white, black, game)?;
-        if archived.ended.is_some() {
-            return Ok(archived);
+        match self.archived(white, black, game)? {
+            Found::Ended(ended) => Ok(Found::Ended(ended)),
+            archived => self.found_behind(white, black, game, archived),
         }
-        let shown = self.on_table(white, black, game)?;
-        if shown.ended.is_some() || shown.why.is_some() {
-            return Ok(shown);
-        }
-        if archived.why.is_some() {
-            return Ok(archived);
-        }
-        let why = format!(in self.alloc; "game {game} was not found")?;
-        Ok(Found {
-            ended: None,
-            why: Some(why),
-        })
     }
 
-    // Has it told later why nothing came of a board's game.
-    fn put_word(&mut self, file: &str, board: u32, why: &str) -> Result<()> {
+    // Has it told later what is to be told of a board.
+    fn put_word(&mut self, file: &str, board: u32, why: &str) -> Result<(), AllocError> {
         let word = format!(in self.alloc; "{file}, board {board}: {why}")?;
         self.words.push(word)?;
         Ok(())
+    }
+
+    // Has it told later why nothing came of a board's game, or that it goes on.
+    fn put_why(&mut self, file: &str, board: u32, found: &Found) -> Result<(), AllocError> {
+        match found {
+            Found::Unknown(why) => self.put_word(file, board, why.as_str()),
+            Found::Ended(ended) if ended.result.as_str() == "*" => {
+                self.put_word(file, board, "its game goes on")
+            }
+            _ => Ok(()),
+        }
+    }
+
+    // What came of a game of a board.
+    fn ended(
+        &mut self,
+        file: &str,
+        pairing: &Pairing,
+        black: &Name,
+        game: u32,
+    ) -> Result<Option<Ended>> {
+        let found = self.found(&pairing.white, black, game)?;
+        self.put_why(file, pairing.board, &found)?;
+        match found {
+            Found::Ended(ended) => Ok(Some(ended)),
+            _ => Ok(None),
+        }
     }
 
     /// What came of the game of a board, in the round of this file; none where that is not known. Of a game that goes on or
@@ -291,22 +396,16 @@ impl<'a> Outcomes<'a> {
         pairing: &Pairing,
         game: Option<u32>,
     ) -> Result<Option<Ended>> {
-        let board = pairing.board;
         let Some(paired) = pairing.game else {
             return Ok(None);
         };
-        let Some(game) = game else {
-            self.put_word(file, board, "no game was opened for it")?;
-            return Ok(None);
-        };
-        let found = self.found(&pairing.white, &paired.black, game)?;
-        if let Some(why) = &found.why {
-            self.put_word(file, board, why.as_str())?;
+        match game {
+            Some(game) => self.ended(file, pairing, &paired.black, game),
+            None => {
+                self.put_word(file, pairing.board, "no game was opened for it")?;
+                Ok(None)
+            }
         }
-        if goes_on(&found.ended) {
-            self.put_word(file, board, "its game goes on")?;
-        }
-        Ok(found.ended)
     }
 
     /// Tells the words of the boards.

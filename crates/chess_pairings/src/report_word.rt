@@ -1,6 +1,6 @@
 //! The word that writes the report of a tournament.
 use crate::command_line::{Reporting, Round};
-use crate::files::{check_notes, notes_of, pairings_of};
+use crate::files::{Paired, paired_of};
 use crate::outcomes::{Ended, Outcomes};
 use crate::results_word::game_of;
 use anyhow::{Context, Result};
@@ -8,6 +8,7 @@ use lobby_desk::Player;
 use pairing_texts::Pairing;
 use players_file::players_of;
 use rec_codec::Name;
+use std::alloc::{AllocError, Global};
 use std::io::{self, Write};
 use std::net::{Net, TcpStream};
 use std::rt::Files;
@@ -69,6 +70,27 @@ fn meeting_of(players: &[&Player], pairing: &Pairing, ended: &Option<Ended>) -> 
     })
 }
 
+// The same, where a fault names the board.
+fn meeting(players: &[&Player], pairing: &Pairing, ended: &Option<Ended>) -> Result<Meeting> {
+    let board = pairing.board;
+    meeting_of(players, pairing, ended).context(format_args!("board {board}"))
+}
+
+fn put_meetings(
+    meetings: &mut Vec<Meeting>,
+    file: &str,
+    paired: &Paired,
+    players: &[&Player],
+    outcomes: &mut Outcomes<'_>,
+) -> Result<()> {
+    for pairing in paired.pairings.as_slice() {
+        let game = game_of(paired.notes.as_slice(), pairing.board);
+        let ended = outcomes.of(file, pairing, game)?;
+        meetings.push(meeting(players, pairing, &ended)?)?;
+    }
+    Ok(())
+}
+
 // The meetings of a round.
 fn meetings_of<R: Files + AllocGlobal>(
     rt: &R,
@@ -76,18 +98,64 @@ fn meetings_of<R: Files + AllocGlobal>(
     players: &[&Player],
     outcomes: &mut Outcomes<'_>,
 ) -> Result<Vec<Meeting>> {
-    let pairings = pairings_of(rt, round.pairings)?;
-    let notes = notes_of(rt, round.games)?;
-    check_notes(round.games, notes.as_slice(), pairings.as_slice())?;
+    let paired = paired_of(rt, round)?;
     let mut meetings = Vec::new(rt.alloc());
-    for pairing in pairings.as_slice() {
-        let game = game_of(notes.as_slice(), pairing.board);
-        let ended = outcomes.of(round.pairings, pairing, game)?;
-        let board = pairing.board;
-        let meeting = meeting_of(players, pairing, &ended).context(format_args!("board {board}"))?;
-        meetings.push(meeting)?;
-    }
+    put_meetings(&mut meetings, round.pairings, &paired, players, outcomes)?;
     Ok(meetings)
+}
+
+// The players who are no arbiters.
+fn playing<'a>(alloc: Global, all: &'a [Player]) -> Result<Vec<&'a Player>, AllocError> {
+    all.iter()
+        .filter(|player| !player.is_arbiter)
+        .collect(alloc)
+}
+
+fn names_of<'a>(alloc: Global, players: &[&'a Player]) -> Result<Vec<&'a str>, AllocError> {
+    players
+        .iter()
+        .map(|player| player.full_name.as_str())
+        .collect(alloc)
+}
+
+// The meetings of each round.
+fn rounds_of<R: Files + AllocGlobal>(
+    rt: &R,
+    rounds: &[Round<'_>],
+    players: &[&Player],
+    outcomes: &mut Outcomes<'_>,
+) -> Result<Vec<Vec<Meeting>>> {
+    let mut met = Vec::new(rt.alloc());
+    for round in rounds {
+        let file = round.pairings;
+        let meetings = meetings_of(rt, *round, players, outcomes);
+        met.push(meetings.context(format_args!("{file}"))?)?;
+    }
+    Ok(met)
+}
+
+// The text of a report; it is told what is to be told of boards.
+fn report_of<R>(rt: &R, reporting: &Reporting<'_>, all: &[Player]) -> Result<Vec<u8>>
+where
+    R: Files + Net<Stream = TcpStream> + AllocGlobal + Eprint,
+{
+    let players = playing(rt.alloc(), all)?;
+    let mut outcomes = Outcomes::open(rt, reporting.source, all)?;
+    let rounds = rounds_of(
+        rt,
+        reporting.rounds.as_slice(),
+        players.as_slice(),
+        &mut outcomes,
+    )?;
+    let names = names_of(rt.alloc(), players.as_slice())?;
+    let text = report(
+        rt.alloc(),
+        &reporting.event,
+        names.as_slice(),
+        rounds.as_slice(),
+    )?;
+    outcomes.tell(rt)?;
+    Ok(text)
 }
 
 /// Writes the report of a tournament.
@@ -96,28 +164,7 @@ where
     R: Files + Net<Stream = TcpStream> + AllocGlobal + Print + Eprint,
 {
     let all = players_of(rt, reporting.players)?;
-    let mut players = Vec::new(rt.alloc());
-    let mut names = Vec::new(rt.alloc());
-    for player in all.as_slice() {
-        if !player.is_arbiter {
-            players.push(player)?;
-            names.push(player.full_name.as_str())?;
-        }
-    }
-    let mut outcomes = Outcomes::open(rt, reporting.source, all.as_slice())?;
-    let mut rounds = Vec::new(rt.alloc());
-    for round in reporting.rounds.as_slice() {
-        let files = round.pairings;
-        let meetings = meetings_of(rt, *round, players.as_slice(), &mut outcomes);
-        rounds.push(meetings.context(format_args!("{files}"))?)?;
-    }
-    let text = report(
-        rt.alloc(),
-        &reporting.event,
-        names.as_slice(),
-        rounds.as_slice(),
-    )?;
-    outcomes.tell(rt)?;
+    let text = report_of(rt, reporting, all.as_slice())?;
     io::writer(rt).write_all(text.as_slice())?;
     Ok(())
 }

@@ -1,11 +1,12 @@
 //! The word that writes the results of a round.
 use crate::command_line::Asking;
-use crate::files::{check_notes, notes_of, pairings_of};
-use crate::outcomes::Outcomes;
+use crate::files::{Paired, paired_of};
+use crate::outcomes::{Ended, Outcomes};
 use anyhow::Result;
+use lobby_desk::Player;
 use pairing_texts::{Note, Outcome, Pairing, game_in, last_of, results};
 use players_file::players_of;
-use std::alloc::Global;
+use std::alloc::{AllocError, Global};
 use std::io::{self, Write};
 use std::net::{Net, TcpStream};
 use std::rt::Files;
@@ -18,40 +19,87 @@ pub fn game_of(notes: &[Note], board: u32) -> Option<u32> {
     }
 }
 
-// The texts of a round's results, board by board.
-fn text_of(
+// What came of each board's game.
+fn endings(
     alloc: Global,
     file: &str,
-    pairings: &[Pairing],
-    notes: &[Note],
+    paired: &Paired,
     outcomes: &mut Outcomes<'_>,
-) -> Result<Vec<u8>> {
-    let mut ended = Vec::new(alloc);
-    for pairing in pairings {
-        let game = game_of(notes, pairing.board);
-        ended.push(outcomes.of(file, pairing, game)?)?;
+) -> Result<Vec<Option<Ended>>> {
+    let mut endings = Vec::new(alloc);
+    for pairing in paired.pairings.as_slice() {
+        let game = game_of(paired.notes.as_slice(), pairing.board);
+        endings.push(outcomes.of(file, pairing, game)?)?;
     }
-    let mut rows = Vec::new(alloc);
-    for (pairing, ended) in pairings.iter().zip(ended.as_slice()) {
-        let black = match &pairing.game {
+    Ok(endings)
+}
+
+// The result and the article of a board, by what came of its game.
+fn result_of<'a>(pairing: &Pairing, ended: &'a Option<Ended>) -> (&'a str, &'a str) {
+    match ended {
+        Some(ended) => (ended.result.as_str(), ended.article.as_str()),
+        None if pairing.game.is_none() => ("bye", ""),
+        None => ("*", ""),
+    }
+}
+
+// A row of the results.
+fn outcome_of<'a>(notes: &[Note], pairing: &'a Pairing, ended: &'a Option<Ended>) -> Outcome<'a> {
+    let (result, article) = result_of(pairing, ended);
+    Outcome {
+        board: pairing.board,
+        white: pairing.white.as_str(),
+        black: match &pairing.game {
             Some(game) => game.black.as_str(),
             None => "",
-        };
-        let (result, article) = match ended {
-            Some(ended) => (ended.result.as_str(), ended.article.as_str()),
-            None if pairing.game.is_none() => ("bye", ""),
-            None => ("*", ""),
-        };
-        rows.push(Outcome {
-            board: pairing.board,
-            white: pairing.white.as_str(),
-            black,
-            result,
-            article,
-            game: game_of(notes, pairing.board),
-        })?;
+        },
+        result,
+        article,
+        game: game_of(notes, pairing.board),
     }
-    Ok(results(alloc, rows.as_slice())?)
+}
+
+fn put_outcomes<'a>(
+    rows: &mut Vec<Outcome<'a>>,
+    paired: &'a Paired,
+    endings: &'a [Option<Ended>],
+) -> Result<(), AllocError> {
+    for (pairing, ended) in paired.pairings.iter().zip(endings) {
+        rows.push(outcome_of(paired.notes.as_slice(), pairing, ended))?;
+    }
+    Ok(())
+}
+
+// The text of a round's results.
+fn text_of(
+    alloc: Global,
+    paired: &Paired,
+    endings: &[Option<Ended>],
+) -> Result<Vec<u8>, AllocError> {
+    let mut rows = Vec::new(alloc);
+    put_outcomes(&mut rows, paired, endings)?;
+    results(alloc, rows.as_slice())
+}
+
+// The players of a file, where one is named.
+fn players_in<R: Files + AllocGlobal>(rt: &R, file: Option<&str>) -> Result<Vec<Player>> {
+    match file {
+        Some(file) => players_of(rt, file),
+        None => Ok(Vec::new(rt.alloc())),
+    }
+}
+
+// The text of a round's results; it is told what is to be told of boards.
+fn results_of<R>(rt: &R, asking: &Asking<'_>, players: &[Player]) -> Result<Vec<u8>>
+where
+    R: Files + Net<Stream = TcpStream> + AllocGlobal + Eprint,
+{
+    let paired = paired_of(rt, asking.round)?;
+    let mut outcomes = Outcomes::open(rt, asking.source, players)?;
+    let endings = endings(rt.alloc(), asking.round.pairings, &paired, &mut outcomes)?;
+    let text = text_of(rt.alloc(), &paired, endings.as_slice())?;
+    outcomes.tell(rt)?;
+    Ok(text)
 }
 
 /// Writes the results of a round as CSV.
@@ -59,22 +107,8 @@ pub fn write_results<R>(rt: &R, asking: &Asking<'_>) -> Result<()>
 where
     R: Files + Net<Stream = TcpStream> + AllocGlobal + Print + Eprint,
 {
-    let players = match asking.players {
-        Some(file) => players_of(rt, file)?,
-        None => Vec::new(rt.alloc()),
-    };
-    let pairings = pairings_of(rt, asking.round.pairings)?;
-    let notes = notes_of(rt, asking.round.games)?;
-    check_notes(asking.round.games, notes.as_slice(), pairings.as_slice())?;
-    let mut outcomes = Outcomes::open(rt, asking.source, players.as_slice())?;
-    let text = text_of(
-        rt.alloc(),
-        asking.round.pairings,
-        pairings.as_slice(),
-        notes.as_slice(),
-        &mut outcomes,
-    )?;
-    outcomes.tell(rt)?;
+    let players = players_in(rt, asking.players)?;
+    let text = results_of(rt, asking, players.as_slice())?;
     io::writer(rt).write_all(text.as_slice())?;
     Ok(())
 }

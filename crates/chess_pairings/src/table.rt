@@ -1,29 +1,49 @@
 //! What the server tells of its table.
-use anyhow::Result;
+use anyhow::{Context, Result};
 use pairing_texts::{Row, Seats};
 use rec_codec::Name;
-use server_link::{Link, refused, row_of};
-use std::alloc::Global;
+use server_link::{Answer, Link, refused, row_of};
+use std::alloc::{AllocError, Global};
+use std::net::{Net, SocketAddr, TcpStream};
 use text_parts::parts;
+
+/// A connection to the server.
+pub fn connect<R: Net<Stream = TcpStream> + AllocGlobal>(
+    rt: &R,
+    server: SocketAddr,
+) -> Result<Link> {
+    Link::open(rt, server).context(format_args!("the server at {server}"))
+}
 
 // Who sits in a seat that is told as a name or `-`.
 fn seat_of(text: &str) -> Option<Name> {
     Name::try_new(text)
 }
 
+// The game of a line of the list.
+fn row_in(line: &str) -> Result<Row> {
+    match row_of(line) {
+        Some(row) => Ok(Row {
+            game: row.game,
+            white: seat_of(row.white),
+            black: seat_of(row.black),
+        }),
+        None => anyhow::bail!("the server's list has a row of another form: {line:?}"),
+    }
+}
+
+fn put_rows(rows: &mut Vec<Row>, lines: &[&str]) -> Result<()> {
+    for line in lines {
+        rows.push(row_in(line)?)?;
+    }
+    Ok(())
+}
+
 /// The games of the server's list.
 pub fn rows_in(alloc: Global, list: &str) -> Result<Vec<Row>> {
+    let lines = parts(alloc, list, '\n')?;
     let mut rows = Vec::new(alloc);
-    for line in parts(alloc, list, '\n')?.as_slice() {
-        match row_of(line) {
-            Some(row) => rows.push(Row {
-                game: row.game,
-                white: seat_of(row.white),
-                black: seat_of(row.black),
-            })?,
-            None => anyhow::bail!("the server's list has a row of another form: {line:?}"),
-        }
-    }
+    put_rows(&mut rows, lines.as_slice())?;
     Ok(rows)
 }
 
@@ -36,9 +56,17 @@ pub struct Shown {
     pub article: String,
 }
 
-// What the answer to `show` tells; none where it has another form.
-fn shown_of(alloc: Global, first: &str) -> Result<Option<Shown>> {
-    let fields = parts(alloc, first, ' ')?;
+// The same, as it is told.
+#[derive(Clone, Copy)]
+struct Told<'a> {
+    seats: Seats,
+    plies: u32,
+    result: &'a str,
+    article: &'a str,
+}
+
+// What the fields of an answer to `show` tell; none where they have another form.
+fn told_in<'a>(fields: &[&'a str]) -> Option<Told<'a>> {
     let [
         "ok",
         "show",
@@ -52,35 +80,83 @@ fn shown_of(alloc: Global, first: &str) -> Result<Option<Shown>> {
         _,
         result,
         article,
-    ] = fields.as_slice()
+    ] = fields
     else {
-        return Ok(None);
+        return None;
     };
-    let Ok(plies) = plies.parse::<u32>() else {
-        return Ok(None);
-    };
-    Ok(Some(Shown {
+    Some(Told {
         seats: Seats {
             white: seat_of(white),
             black: seat_of(black),
         },
-        plies,
-        result: String::from_str(alloc, result)?,
-        article: String::from_str(alloc, article)?,
-    }))
+        plies: plies.parse::<u32>().ok()?,
+        result: *result,
+        article: *article,
+    })
+}
+
+fn shown_of(alloc: Global, told: Told<'_>) -> Result<Shown, AllocError> {
+    Ok(Shown {
+        seats: told.seats,
+        plies: told.plies,
+        result: String::from_str(alloc, told.result)?,
+        article: String::from_str(alloc, told.article)?,
+    })
+}
+
+// How a game stands by the answer to a line that asks for it; none where it is not on the table.
+fn shown_in(alloc: Global, line: &str, first: &str) -> Result<Option<Shown>> {
+    if first.starts_with("no 3 ") {
+        return Ok(None);
+    }
+    let fields = parts(alloc, first, ' ')?;
+    match told_in(fields.as_slice()) {
+        Some(told) => Ok(Some(shown_of(alloc, told)?)),
+        None => Err(refused(line, first)),
+    }
 }
 
 /// How a game stands; none where it is not on the table.
 pub fn show_game(alloc: Global, link: &mut Link, game: u32) -> Result<Option<Shown>> {
     let line = format!(in alloc; "show {game}")?;
     let answer = link.ask(line.as_str(), "ok show all ")?;
+    shown_in(alloc, line.as_str(), answer.first.as_str())
+}
+
+// Whether a line of a PGN is the tag of these times.
+fn is_tag_of(line: &str, times: &str) -> bool {
+    match line.strip_prefix("[TimeControl \"") {
+        Some(behind) => behind.strip_suffix("\"]") == Some(times),
+        None => false,
+    }
+}
+
+// Whether a PGN has the tag of these times, and none of a position.
+fn tells_times(alloc: Global, pgn: &str, times: &str) -> Result<bool, AllocError> {
+    let lines = parts(alloc, pgn, '\n')?;
+    let has_tag = lines.as_slice().iter().any(|line| is_tag_of(line, times));
+    let has_position = lines
+        .as_slice()
+        .iter()
+        .any(|line| line.starts_with("[FEN "));
+    Ok(has_tag && !has_position)
+}
+
+// The same of the answer to a line that asks for the PGN, which begins with `front` where there is one.
+fn has_times_in(
+    alloc: Global,
+    line: &str,
+    front: &str,
+    answer: &Answer,
+    times: &str,
+) -> Result<bool> {
     let first = answer.first.as_str();
     if first.starts_with("no 3 ") {
-        return Ok(None);
-    }
-    match shown_of(alloc, first)? {
-        Some(shown) => Ok(Some(shown)),
-        None => Err(refused(line.as_str(), first)),
+        Ok(false)
+    } else if first.starts_with(front) {
+        Ok(tells_times(alloc, answer.behind.as_str(), times)?)
+    } else {
+        Err(refused(line, first))
     }
 }
 
@@ -90,20 +166,5 @@ pub fn has_times(alloc: Global, link: &mut Link, game: u32, times: &str) -> Resu
     let line = format!(in alloc; "pgn {game}")?;
     let front = format!(in alloc; "ok pgn {game} ")?;
     let answer = link.ask(line.as_str(), front.as_str())?;
-    let first = answer.first.as_str();
-    if first.starts_with("no 3 ") {
-        return Ok(false);
-    }
-    if !first.starts_with(front.as_str()) {
-        return Err(refused(line.as_str(), first));
-    }
-    let wanted = format!(in alloc; "[TimeControl \"{times}\"]")?;
-    let mut has = false;
-    for line in parts(alloc, answer.behind.as_str(), '\n')?.as_slice() {
-        if line.starts_with("[FEN ") {
-            return Ok(false);
-        }
-        has = has || *line == wanted.as_str();
-    }
-    Ok(has)
+    has_times_in(alloc, line.as_str(), front.as_str(), &answer, times)
 }

@@ -6,7 +6,7 @@ use mio::net::TcpStream;
 use mio::{Registry, Token};
 use server_switch::Exchange;
 use session_lines::Lines;
-use std::alloc::Global;
+use std::alloc::{AllocError, Global};
 use std::net::{Net, SocketAddr};
 
 /// So many sockets a client has at most: its own, and one for each server.
@@ -45,6 +45,22 @@ pub struct Client {
     dropped: u32,
 }
 
+// The connections to the servers.
+fn links_of(
+    alloc: Global,
+    key: usize,
+    servers: &[Option<SocketAddr>],
+) -> Result<Vec<Link>, AllocError> {
+    let mut links = Vec::new(alloc);
+    for place in 0..servers.len() {
+        if let Some(Some(address)) = servers.get(place) {
+            let token = Token(key.saturating_mul(SOCKETS).saturating_add(place + 1));
+            links.push(Link::new(alloc, *address, place, token))?;
+        }
+    }
+    Ok(links)
+}
+
 impl Client {
     /// A client that comes.
     pub fn new(
@@ -53,19 +69,14 @@ impl Client {
         stream: TcpStream,
         servers: &[Option<SocketAddr>],
     ) -> Result<Client> {
-        let mut links = Vec::new(alloc);
-        for place in 0..servers.len() {
-            if let Some(Some(address)) = servers.get(place) {
-                let token = Token(key.saturating_mul(SOCKETS).saturating_add(place + 1));
-                links.push(Link::new(alloc, *address, place, token))?;
-            }
-        }
+        let links = links_of(alloc, key, servers)?;
+        let exchange = Exchange::new(alloc, servers.len())?;
         Ok(Client {
             alloc,
             key,
             wire: Wire::new(stream),
             lines: Lines::new(alloc),
-            exchange: Exchange::new(alloc, servers.len())?,
+            exchange,
             links,
             has_begun: false,
             begin_by: None,
@@ -131,26 +142,16 @@ impl Client {
     }
 
     // Drops a piece of what comes behind a line that is too long.
-    fn drop_piece(&mut self, piece: &mut [u8; PIECE_ROOM]) -> Result<bool> {
-        let any = self.wire.next_piece(self.alloc, piece)?.is_some();
+    fn drop_piece(&mut self, piece: &mut [u8; PIECE_ROOM]) -> bool {
+        let any = self.wire.next_piece(piece) > 0;
         if any {
             self.dropped = self.dropped.saturating_add(1);
         }
-        Ok(any)
+        any
     }
 
-    // Reads a piece of its lines.
-    fn read(&mut self, piece: &mut [u8; PIECE_ROOM]) -> Result<bool> {
-        if self.lines.is_too_long() {
-            return self.drop_piece(piece);
-        }
-        if self.lines.waiting() > LINES_MOST || self.is_full() {
-            return Ok(false);
-        }
-        let Some(bytes) = self.wire.next_piece(self.alloc, piece)? else {
-            return Ok(false);
-        };
-        let bytes = bytes.as_slice();
+    // Takes a piece of its lines.
+    fn feed(&mut self, bytes: &[u8]) {
         // (none is longer)
         let is_fed = if bytes.len() <= PIECE_ROOM {
             self.lines.feed(bytes).is_ok()
@@ -158,7 +159,22 @@ impl Client {
             false
         };
         self.wire.is_lost |= !is_fed;
-        Ok(true)
+    }
+
+    // Reads a piece of its lines.
+    fn read(&mut self, piece: &mut [u8; PIECE_ROOM]) -> bool {
+        if self.lines.is_too_long() {
+            return self.drop_piece(piece);
+        }
+        if self.lines.waiting() > LINES_MOST || self.is_full() {
+            return false;
+        }
+        let count = self.wire.next_piece(piece);
+        if count == 0 {
+            return false;
+        }
+        self.feed(piece.get(..count).unwrap_or(&[]));
+        true
     }
 
     // Says its next line, if that may be said.
@@ -248,7 +264,7 @@ impl Client {
         piece: &mut [u8; PIECE_ROOM],
         at: u64,
     ) -> Result<bool> {
-        let has_read = self.read(piece)?;
+        let has_read = self.read(piece);
         self.begin(at);
         let has_said = self.say_lines()?;
         let has_worked = self.turn_links(net, registry, piece, at)?;

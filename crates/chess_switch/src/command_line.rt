@@ -1,7 +1,7 @@
 //! The words of the command line, with the text of their help.
 use clap::builder::ValueParser;
 use clap::error::ErrorKind;
-use clap::{ArgAction, ArgMatches, Command, Error};
+use clap::{Arg, ArgAction, ArgMatches, Command, Error};
 use command_words::{VERSION, option};
 use server_switch::SERVERS_MOST;
 use std::alloc::{AllocError, Global};
@@ -34,54 +34,75 @@ pub struct Serving {
     pub address: SocketAddr,
 }
 
-/// The switch's command line.
-pub fn command<'a>(alloc: Global) -> Result<Command<'a>, AllocError> {
-    let server = option(
+// (Each argument is made where it is added: so a call that fails has the command alone to drop.)
+fn server_option<'a>(alloc: Global) -> Arg<'a> {
+    option(
         alloc,
         "server",
         "[S=]A:P",
         "Where a game server listens; it may be given several times",
     )
     .action(ArgAction::Append)
-    .required(true);
-    let port = option(
+    .required(true)
+}
+
+fn port_option<'a>(alloc: Global) -> Arg<'a> {
+    option(
         alloc,
         "port",
         "P",
         "The port, 0 to 65535; 0 leaves the choice to the system",
     )
     .value_parser(ValueParser::Unsigned(0, 65_535))
-    .required(true);
-    let address = option(
+    .required(true)
+}
+
+fn address_option<'a>(alloc: Global) -> Arg<'a> {
+    option(
         alloc,
         "address",
         "A",
         "The address of this machine, 127.0.0.1 without it",
-    );
+    )
+}
+
+/// The switch's command line.
+pub fn command<'a>(alloc: Global) -> Result<Command<'a>, AllocError> {
     Command::new(alloc, "chess-switch")
         .about("Makes one game server of several.")
         .version(VERSION)
         .after_help(HELP)
-        .arg(server)?
-        .arg(port)?
-        .arg(address)
+        .arg(server_option(alloc))?
+        .arg(port_option(alloc))?
+        .arg(address_option(alloc))
 }
 
 /// Reads the words, the program's own name first. An `Err` is a usage fault, or a request for help.
 pub fn read_words(alloc: Global, words: &[String]) -> Result<Serving, Error> {
     let mut command = command(alloc)?;
     let matches = command.try_get_matches_from_mut(words)?;
-    let servers = servers_of(alloc, matches.get_strs("server").unwrap_or(&[]))?;
-    match (servers, address_of(&matches), matches.get_one("port")) {
-        (Some(servers), Some(address), Some(port)) => Ok(Serving {
-            servers,
-            address: SocketAddr::new(address, port),
-        }),
-        _ => Err(command.error(
+    match serving_of(alloc, &matches)? {
+        Some(serving) => Ok(serving),
+        None => Err(command.error(
             ErrorKind::InvalidValue,
             "an address is none, or a server's number is none or there twice",
         )?),
     }
+}
+
+// What the words ask for; none where an address or a server is none.
+fn serving_of(alloc: Global, matches: &ArgMatches<'_>) -> Result<Option<Serving>, AllocError> {
+    let (Some(address), Some(port)) = (address_of(matches), matches.get_one("port")) else {
+        return Ok(None);
+    };
+    let mut servers = Vec::new(alloc);
+    if !put_servers(&mut servers, matches.get_strs("server").unwrap_or(&[]))? {
+        return Ok(None);
+    }
+    Ok(Some(Serving {
+        servers,
+        address: SocketAddr::new(address, port),
+    }))
 }
 
 // The number and the address of a server, which is the next one where no number is said.
@@ -114,27 +135,23 @@ fn put_server(
     }
 }
 
-// The addresses by the servers' numbers; none where a text says no server, or a number is there twice.
-fn servers_of(
-    alloc: Global,
-    texts: &[&str],
-) -> Result<Option<Vec<Option<SocketAddr>>>, AllocError> {
-    let mut servers = Vec::new(alloc);
+// Puts the addresses by the servers' numbers; false where a text says no server, or a number is there twice.
+fn put_servers(servers: &mut Vec<Option<SocketAddr>>, texts: &[&str]) -> Result<bool, AllocError> {
     let mut next = 1;
     for text in texts {
         let Some((number, address)) = server_of(text, next) else {
-            return Ok(None);
+            return Ok(false);
         };
         if number == 0 || number > SERVERS_MOST {
-            return Ok(None);
+            return Ok(false);
         }
         next = number + 1;
         let place = number as usize - 1;
-        if !put_server(&mut servers, place, address)? {
-            return Ok(None);
+        if !put_server(servers, place, address)? {
+            return Ok(false);
         }
     }
-    Ok(Some(servers))
+    Ok(true)
 }
 
 fn address_of(matches: &ArgMatches<'_>) -> Option<IpAddr> {

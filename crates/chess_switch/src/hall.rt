@@ -19,31 +19,38 @@ const EVENTS: usize = 256;
 
 /// The clients.
 #[derive(Drop)]
-pub struct Hall {
+pub struct Hall<'a> {
     alloc: Global,
     listener: TcpListener,
     has_more: bool,
-    servers: Vec<Option<SocketAddr>>,
+    servers: &'a [Option<SocketAddr>],
     clients: Vec<Client>,
     next_key: usize,
     poll: Poll,
     events: Events,
 }
 
-impl Hall {
+// The socket where clients come, which is watched.
+fn entrance(net: &impl Net, poll: &Poll, address: SocketAddr) -> Result<TcpListener> {
+    let mut listener = TcpListener::bind(net, address).context(format_args!(
+        "listening on {address}"
+    ))?;
+    poll.registry()
+        .register(&mut listener, Token(ENTRANCE), Interest::READABLE)?;
+    Ok(listener)
+}
+
+impl<'a> Hall<'a> {
     /// Listens for clients.
     pub fn open(
         net: &impl Net,
         alloc: Global,
         address: SocketAddr,
-        servers: Vec<Option<SocketAddr>>,
-    ) -> Result<Hall> {
-        let mut listener = TcpListener::bind(net, address).context(format_args!(
-            "listening on {address}"
-        ))?;
+        servers: &'a [Option<SocketAddr>],
+    ) -> Result<Hall<'a>> {
+        let events = Events::with_capacity(alloc, EVENTS)?;
         let poll = Poll::new(net)?;
-        poll.registry()
-            .register(&mut listener, Token(ENTRANCE), Interest::READABLE)?;
+        let listener = entrance(net, &poll, address)?;
         Ok(Hall {
             alloc,
             listener,
@@ -52,7 +59,7 @@ impl Hall {
             clients: Vec::new(alloc),
             next_key: 1,
             poll,
-            events: Events::with_capacity(alloc, EVENTS)?,
+            events,
         })
     }
 
@@ -71,50 +78,61 @@ impl Hall {
         self.clients.iter().any(|client| client.lacks_server(place))
     }
 
-    // A client comes; one more than there may be is closed.
-    fn admit(&mut self, mut stream: TcpStream) -> Result<()> {
-        if self.clients.len() >= CLIENTS_MOST {
-            return Ok(());
-        }
+    // The next client's key.
+    fn take_key(&mut self) -> Result<usize> {
         let key = self.next_key;
-        self.next_key = self
-            .next_key
-            .checked_add(1)
-            .context("too many clients came")?;
+        self.next_key = key.checked_add(1).context("too many clients came")?;
+        Ok(key)
+    }
+
+    // Has a client's socket watched; false where that fails.
+    fn watch(&self, key: usize, stream: &mut TcpStream) -> bool {
         let token = Token(key.saturating_mul(SOCKETS));
         let interest = Interest::READABLE | Interest::WRITABLE;
         let is_watched = self
             .poll
             .registry()
-            .register(&mut stream, token, interest)
+            .register(stream, token, interest)
             .is_ok();
-        if is_watched && stream.set_nodelay(true).is_ok() {
-            let client = Client::new(self.alloc, key, stream, self.servers.as_slice())?;
+        is_watched && stream.set_nodelay(true).is_ok()
+    }
+
+    // A client comes; one that cannot be watched is closed.
+    fn admit(&mut self, mut stream: TcpStream) -> Result<()> {
+        let key = self.take_key()?;
+        if self.watch(key, &mut stream) {
+            let client = Client::new(self.alloc, key, stream, self.servers)?;
             self.clients.push(client)?;
         }
         Ok(())
     }
 
-    // Accepts at most one client. It tells whether one came.
+    // Whether one may have come where none could be accepted for this reason.
+    fn looks_again(&mut self, kind: ErrorKind) -> bool {
+        match kind {
+            ErrorKind::WouldBlock => {
+                self.has_more = false;
+                false
+            }
+            ErrorKind::ConnectionAborted | ErrorKind::ConnectionReset | ErrorKind::Interrupted =>
+                true,
+            _ => false,
+        }
+    }
+
+    // Accepts at most one client. It tells whether one came; one more than there may be is closed.
     fn welcome(&mut self) -> Result<bool> {
         if !self.has_more {
             return Ok(false);
         }
         match self.listener.accept() {
             Ok((stream, _)) => {
-                self.admit(stream)?;
+                if self.clients.len() < CLIENTS_MOST {
+                    self.admit(stream)?;
+                }
                 Ok(true)
             }
-            Err(error) => match error.kind() {
-                ErrorKind::WouldBlock => {
-                    self.has_more = false;
-                    Ok(false)
-                }
-                ErrorKind::ConnectionAborted
-                | ErrorKind::ConnectionReset
-                | ErrorKind::Interrupted => { Ok(true) }
-                _ => Ok(false),
-            },
+            Err(error) => Ok(self.looks_again(error.kind())),
         }
     }
 

@@ -5,7 +5,7 @@ use mio::net::TcpStream;
 use mio::{Interest, Registry, Token};
 use server_switch::Exchange;
 use session_lines::first_feed;
-use std::alloc::Global;
+use std::alloc::{AllocError, Global};
 use std::io::ErrorKind;
 use std::net::{Net, SocketAddr};
 use std::{mem, str};
@@ -128,6 +128,42 @@ impl Link {
         }
     }
 
+    // Begins a connection.
+    fn call(&mut self, net: &impl Net, registry: &Registry, at: u64) {
+        self.call_at = at.saturating_add(RETRY);
+        self.until = at.saturating_add(PATIENCE);
+        if let Some(call) = called(net, registry, self.address, self.token) {
+            self.stage = Stage::Called(call);
+        }
+    }
+
+    // Asks over a connection that is made.
+    fn ask(&mut self, alloc: Global, at: u64) -> Result<()> {
+        let probe = Vec::from_slice(alloc, PROBE)?;
+        self.held.clear();
+        self.until = at.saturating_add(PATIENCE);
+        self.stage = match mem::replace(&mut self.stage, Stage::Away) {
+            Stage::Called(call) => Stage::Asked(Wire::new(call), probe),
+            stage => stage,
+        };
+        Ok(())
+    }
+
+    // Goes on with a connection that was begun, by whether it is made.
+    fn go_on(&mut self, alloc: Global, made: Option<bool>, at: u64) -> Result<bool> {
+        match made {
+            Some(true) => {
+                self.ask(alloc, at)?;
+                Ok(true)
+            }
+            None if at < self.until => Ok(false),
+            _ => {
+                self.stage = Stage::Away;
+                Ok(true)
+            }
+        }
+    }
+
     // Goes on with a connection that is not made yet.
     fn reach(
         &mut self,
@@ -136,71 +172,84 @@ impl Link {
         registry: &Registry,
         at: u64,
     ) -> Result<bool> {
-        match mem::replace(&mut self.stage, Stage::Away) {
+        match &self.stage {
             Stage::Away if at >= self.call_at => {
-                self.call_at = at.saturating_add(RETRY);
-                self.until = at.saturating_add(PATIENCE);
-                if let Some(call) = called(net, registry, self.address, self.token) {
-                    self.stage = Stage::Called(call);
-                }
+                self.call(net, registry, at);
                 Ok(true)
             }
-            Stage::Called(call) => match is_made(&call) {
-                Some(true) => {
-                    self.held.clear();
-                    self.until = at.saturating_add(PATIENCE);
-                    self.stage = Stage::Asked(Wire::new(call), Vec::from_slice(alloc, PROBE)?);
-                    Ok(true)
-                }
-                None if at < self.until => {
-                    self.stage = Stage::Called(call);
-                    Ok(false)
-                }
-                _ => Ok(true),
-            },
-            stage => {
-                self.stage = stage;
-                Ok(false)
+            Stage::Called(call) => {
+                let made = is_made(call);
+                self.go_on(alloc, made, at)
             }
+            _ => Ok(false),
+        }
+    }
+
+    // The server is not there: it is tried again.
+    fn leave(&mut self, at: u64) {
+        self.stage = Stage::Away;
+        self.call_at = at.saturating_add(RETRY);
+    }
+
+    // The server is there.
+    fn settle(&mut self) {
+        self.held.clear();
+        self.stage = match mem::replace(&mut self.stage, Stage::Away) {
+            Stage::Asked(wire, _) => Stage::Here(wire),
+            stage => stage,
+        };
+    }
+
+    // Writes what is left of the first line. It tells whether there was anything to do.
+    fn write_probe(&mut self) -> bool {
+        match &mut self.stage {
+            Stage::Asked(wire, probe) => wire.write_out(probe),
+            _ => false,
+        }
+    }
+
+    // Reads what comes of the server. It tells whether anything did.
+    fn read(&mut self, piece: &mut [u8; PIECE_ROOM]) -> Result<bool, AllocError> {
+        match &mut self.stage {
+            Stage::Asked(wire, _) | Stage::Here(wire) => wire.read_behind(piece, &mut self.held),
+            _ => Ok(false),
+        }
+    }
+
+    // Whether the connection has failed or ended.
+    fn is_lost(&self) -> bool {
+        match &self.stage {
+            Stage::Asked(wire, _) | Stage::Here(wire) => wire.is_lost || wire.has_ended,
+            _ => false,
         }
     }
 
     // Waits for the first answer.
     fn greet(
         &mut self,
-        alloc: Global,
         exchange: &mut Exchange,
         piece: &mut [u8; PIECE_ROOM],
         at: u64,
     ) -> Result<bool> {
-        let (mut wire, mut probe) = match mem::replace(&mut self.stage, Stage::Away) {
-            Stage::Asked(wire, probe) => (wire, probe),
-            stage => {
-                self.stage = stage;
-                return Ok(false);
-            }
-        };
-        let has_written = wire.write_out(&mut probe);
-        let came = wire.next_piece(alloc, piece)?;
-        if let Some(bytes) = &came {
-            self.held.extend_from_slice(bytes.as_slice())?;
+        if !matches!(self.stage, Stage::Asked(_, _)) {
+            return Ok(false);
         }
-        if wire.is_lost || wire.has_ended || at >= self.until || self.held.len() > PIECE_ROOM {
-            self.call_at = at.saturating_add(RETRY);
+        let has_written = self.write_probe();
+        let has_read = self.read(piece)?;
+        if self.is_lost() || at >= self.until || self.held.len() > PIECE_ROOM {
+            self.leave(at);
             return Ok(true);
         }
         if first_feed(self.held.as_slice()).is_some() && exchange.is_away(self.place) {
-            self.held.clear();
-            self.stage = Stage::Here(wire);
             exchange.here(self.place);
+            self.settle();
             return Ok(true);
         }
-        self.stage = Stage::Asked(wire, probe);
-        Ok(has_written || came.is_some())
+        Ok(has_written || has_read)
     }
 
     // The next whole line, which is taken off.
-    fn take_line(&mut self, alloc: Global) -> Result<Option<Vec<u8>>> {
+    fn take_line(&mut self, alloc: Global) -> Result<Option<Vec<u8>>, AllocError> {
         let Some(at) = first_feed(self.held.as_slice()) else {
             return Ok(None);
         };
@@ -209,31 +258,51 @@ impl Link {
         Ok(Some(line))
     }
 
+    // Tells a line; false where it is no text, or nothing asks for it.
+    fn hear_line(&self, exchange: &mut Exchange, line: &[u8]) -> Result<bool, AllocError> {
+        let Ok(line) = str::from_utf8(line) else {
+            return Ok(false);
+        };
+        if !exchange.waits_for(self.place) {
+            return Ok(false);
+        }
+        exchange.heard(self.place, line)?;
+        Ok(true)
+    }
+
     // Tells each whole line of a piece; false where one is no text, or nothing asks for it.
-    fn hear_lines(&mut self, alloc: Global, exchange: &mut Exchange) -> Result<bool> {
+    fn hear_lines(&mut self, alloc: Global, exchange: &mut Exchange) -> Result<bool, AllocError> {
         for _ in 0..PIECE_ROOM {
             let Some(line) = self.take_line(alloc)? else {
                 break;
             };
-            let Ok(line) = str::from_utf8(line.as_slice()) else {
-                return Ok(false);
-            };
-            if !exchange.waits_for(self.place) {
+            if !self.hear_line(exchange, line.as_slice())? {
                 return Ok(false);
             }
-            exchange.heard(self.place, line)?;
         }
         Ok(self.held.len() <= LINE_MOST)
     }
 
     // The server is gone.
-    fn lose(&mut self, exchange: &mut Exchange, at: u64) -> Result<()> {
-        self.stage = Stage::Away;
+    fn lose(&mut self, exchange: &mut Exchange, at: u64) -> Result<(), AllocError> {
+        self.leave(at);
         self.was_due = false;
         self.held.clear();
-        self.call_at = at.saturating_add(RETRY);
-        exchange.gone(self.place)?;
-        Ok(())
+        exchange.gone(self.place)
+    }
+
+    // Writes what is to go to the server. It tells whether there was anything to do.
+    fn write(&mut self, exchange: &mut Exchange) -> bool {
+        let Stage::Here(wire) = &mut self.stage else {
+            return false;
+        };
+        match wire.write(exchange.wire(self.place)) {
+            Some(count) => {
+                exchange.sent(self.place, count);
+                true
+            }
+            None => false,
+        }
     }
 
     // Hears a server that is there, unless the client has too much to take, and tells it what it is to be told.
@@ -245,35 +314,22 @@ impl Link {
         may_read: bool,
         at: u64,
     ) -> Result<bool> {
-        let mut has_worked = false;
-        let mut is_sound = true;
-        let Stage::Here(wire) = &mut self.stage else {
+        if !self.is_here() {
             return Ok(false);
-        };
-        if let Some(count) = wire.write(exchange.wire(self.place)) {
-            exchange.sent(self.place, count);
-            has_worked = true;
         }
-        let came = if may_read {
-            wire.next_piece(alloc, piece)?
-        } else {
-            None
-        };
-        let is_lost = wire.is_lost || wire.has_ended;
-        if let Some(bytes) = &came {
-            self.held.extend_from_slice(bytes.as_slice())?;
-            is_sound = self.hear_lines(alloc, exchange)?;
-            has_worked = true;
-        }
-        if came.is_some() || !may_read || !self.was_due {
+        let has_written = self.write(exchange);
+        let has_read = may_read && self.read(piece)?;
+        let is_lost = self.is_lost();
+        let is_sound = !has_read || self.hear_lines(alloc, exchange)?;
+        if has_read || !may_read || !self.was_due {
             self.until = at.saturating_add(PATIENCE);
         }
         self.was_due = exchange.waits_for(self.place);
         if is_lost || !is_sound || self.was_due && at >= self.until {
             self.lose(exchange, at)?;
-            has_worked = true;
+            return Ok(true);
         }
-        Ok(has_worked)
+        Ok(has_written || has_read)
     }
 
     /// One turn. It tells whether there was anything to do.
@@ -288,7 +344,7 @@ impl Link {
         at: u64,
     ) -> Result<bool> {
         let has_reached = self.reach(alloc, net, registry, at)?;
-        let has_greeted = self.greet(alloc, exchange, piece, at)?;
+        let has_greeted = self.greet(exchange, piece, at)?;
         let has_served = self.serve(alloc, exchange, piece, may_read, at)?;
         Ok(has_reached | has_greeted | has_served)
     }

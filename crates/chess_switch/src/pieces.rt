@@ -2,7 +2,7 @@
 ghost use Rattle.std.specs.Prelude.{◌≤◌, length, IfSome};
 
 use mio::net::TcpStream;
-use std::alloc::{AllocError, Global};
+use std::alloc::AllocError;
 use std::io::{ErrorKind, Read, Write};
 
 /// The most bytes that one read takes.
@@ -64,20 +64,24 @@ impl Wire {
         0
     }
 
-    /// The next bytes, where there are any.
-    pub fn next_piece(
+    /// How many bytes come next, which stand at the front of the piece; 0 where there are none.
+    pub fn next_piece(&mut self, piece: &mut [u8; PIECE_ROOM]) -> usize {
+        if self.is_readable() {
+            self.read(piece)
+        } else {
+            0
+        }
+    }
+
+    /// Puts the next bytes behind others. It tells whether there were any.
+    pub fn read_behind(
         &mut self,
-        alloc: Global,
         piece: &mut [u8; PIECE_ROOM],
-    ) -> Result<Option<Vec<u8>>, AllocError> {
-        if !self.is_readable() {
-            return Ok(None);
-        }
-        let count = self.read(piece);
-        match piece.get(..count) {
-            Some(bytes) if !bytes.is_empty() => Ok(Some(Vec::from_slice(alloc, bytes)?)),
-            _ => Ok(None),
-        }
+        bytes: &mut Vec<u8>,
+    ) -> Result<bool, AllocError> {
+        let count = self.next_piece(piece);
+        bytes.extend_from_slice(piece.get(..count).unwrap_or(&[]))?;
+        Ok(count > 0)
     }
 
     /// Writes what the peer takes of some bytes, and tells how many those are; none where there was nothing to do.

@@ -3,15 +3,24 @@ use crate::command_line::Serving;
 use crate::hall::Hall;
 use anyhow::Result;
 use monotonic_clock::Moments;
-use std::alloc::Global;
 use std::net::{IpAddr, Net, SocketAddr};
 use std::rt::Clock;
+
+// Tells an operator that a server is there, or that it is not.
+fn tell_server<R: Eprint>(rt: &R, place: usize, server: &SocketAddr, is_here: bool) {
+    let number = place.saturating_add(1);
+    let _ = if is_here {
+        eprintln!(rt; "server {number} at {server} is there")
+    } else {
+        eprintln!(rt; "server {number} at {server} is not there: it is waited for")
+    };
+}
 
 // Tells an operator of each server that came or went, as far as clients have tried it; of none it is known at first.
 fn tell_servers<R: Eprint>(
     rt: &R,
     servers: &[Option<SocketAddr>],
-    hall: &Hall,
+    hall: &Hall<'_>,
     told: &mut [Option<bool>],
 ) {
     for place in 0..told.len() {
@@ -22,12 +31,7 @@ fn tell_servers<R: Eprint>(
         }
         told[place] = Some(is_here);
         if let Some(Some(server)) = servers.get(place) {
-            let number = place.saturating_add(1);
-            let _ = if is_here {
-                eprintln!(rt; "server {number} at {server} is there")
-            } else {
-                eprintln!(rt; "server {number} at {server} is not there: it is waited for")
-            };
+            tell_server(rt, place, server, is_here);
         }
     }
 }
@@ -39,29 +43,44 @@ fn is_loopback(address: SocketAddr) -> bool {
     }
 }
 
+// Prints the port, and warns where other machines reach it.
+fn tell_port<R: Print + Eprint>(rt: &R, hall: &Hall<'_>, address: SocketAddr) -> Result<()> {
+    let port = hall.port()?;
+    println!(rt; "port {port}")?;
+    if !is_loopback(address) {
+        eprintln!(rt; "other machines reach it: whoever says a name there is believed")?;
+    }
+    Ok(())
+}
+
+// Takes turns, and tells an operator of servers.
+fn take_turns<R>(
+    rt: &R,
+    hall: &mut Hall<'_>,
+    servers: &[Option<SocketAddr>],
+    told: &mut [Option<bool>],
+) -> Result<()>
+where
+    R: Clock + Eprint + Net,
+{
+    let mut moments = Moments::new(rt)?;
+    for _ in 0..u64::MAX {
+        let at = moments.next();
+        let has_worked = hall.turn(rt, at)?;
+        tell_servers(rt, servers, hall, told);
+        hall.rest(has_worked, at)?;
+    }
+    Ok(())
+}
+
 /// Serves clients, and first prints the port.
 pub fn serve<R>(rt: &R, serving: &Serving) -> Result<()>
 where
     R: AllocGlobal + Clock + Print + Eprint + Net,
 {
-    let alloc: Global = rt.alloc();
-    let servers = serving.servers.clone()?;
-    let mut told = Vec::new(alloc);
-    for _ in 0..servers.len() {
-        told.push(None)?;
-    }
-    let mut hall = Hall::open(rt, alloc, serving.address, servers)?;
-    let port = hall.port()?;
-    println!(rt; "port {port}")?;
-    if !is_loopback(serving.address) {
-        eprintln!(rt; "other machines reach it: whoever says a name there is believed")?;
-    }
-    let mut moments = Moments::new(rt)?;
-    for _ in 0..u64::MAX {
-        let at = moments.next();
-        let has_worked = hall.turn(rt, at)?;
-        tell_servers(rt, serving.servers.as_slice(), &hall, told.as_mut_slice());
-        hall.rest(has_worked, at)?;
-    }
-    Ok(())
+    let servers = serving.servers.as_slice();
+    let mut told = Vec::from_elem(rt.alloc(), None, servers.len())?;
+    let mut hall = Hall::open(rt, rt.alloc(), serving.address, servers)?;
+    tell_port(rt, &hall, serving.address)?;
+    take_turns(rt, &mut hall, servers, told.as_mut_slice())
 }
