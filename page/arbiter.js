@@ -221,10 +221,10 @@ export class ArbiterView {
     }
     this.shown = shown;
     this.stand(shown.map((number) => this.cards.get(number).root));
-    const count = this.running().length;
+    const count = found.filter((row) => kindOf(row) === RUNS).length;
     byId('arbiter-none').hidden = this.cards.size > 0;
     byId('arbiter-pages').hidden = found.length <= MOST;
-    setText(byId('arbiter-place'), `${this.first + 1} to ${last} of ${found.length}, ${count} of all running`);
+    setText(byId('arbiter-place'), `${this.first + 1} to ${last} of ${found.length}, ${count} of them running`);
     this.waits.render();
   }
 
