@@ -10,6 +10,7 @@ const PREFIX = 'adjourned-';
 const DAY = 86400;                   // seconds: the longest first period that the server takes
 const AGREEMENT = '5.2.3';
 const FOLLOWS = 250;                 // milliseconds: the clocks of a question
+const COPIED = 'The note is copied.';
 const local = () => localStorage;
 
 export class Adjournments {
@@ -26,8 +27,8 @@ export class Adjournments {
       clearInterval(this.following);
       if (event.target.returnValue === 'yes' && note) this.adjourn(note);
     });
-    byId('adjourn-copy').addEventListener('click', () => this.copyNote(
-      { ...this.now(), at: Date.now() }, byId('adjourn-copied')));
+    byId('adjourn-copy').addEventListener('click', () => this.copyNote({ ...this.now(), at: Date.now() },
+      byId('adjourn-copied')));
     addEventListener('storage', (event) => (event.key || PREFIX).startsWith(PREFIX) && this.render());
   }
 
@@ -95,6 +96,8 @@ export class Adjournments {
   /** How the game stands that is asked about was told at the moment `at`. */
   follow(number, { ply, left, fen, side, article }, at) {
     if (this.about() !== number) return;
+    const copied = byId('adjourn-copied'), isOlder = fen !== this.asked.note.fen && copied.textContent === COPIED;
+    if (isOlder) setText(copied, 'A move was made since the note was copied.');
     Object.assign(this.asked, { note: { ...this.asked.note, ply, left, fen }, side, article, at });
     this.renderAsked();
   }
@@ -141,7 +144,7 @@ export class Adjournments {
   }
 
   async copyNote(note, place) {
-    if (note) setText(place, await copy(this.textOf(note)) ? 'The note is copied.' : 'It could not be copied: write it down.');
+    if (note) setText(place, await copy(this.textOf(note)) ? COPIED : 'It could not be copied: write it down.');
   }
 
   // ---- closing

@@ -119,7 +119,7 @@ export class ArbiterView {
   // ---- which games
 
   running() {
-    return [...this.rows().values()].filter((row) => row.white && row.black && row.result === '*');
+    return [...this.rows().values()].filter((row) => kindOf(row) === RUNS);
   }
 
   /** All games of the table in their order, or those of a player that is looked for: running ones, then those that wait,
@@ -138,9 +138,9 @@ export class ArbiterView {
     });
   }
 
-  /** A game that ends on the desk is over at once, but stands for a while where it stood. */
-  place({ number, white, black, result }) {
-    const kind = result !== '*' ? OVER : white && black ? RUNS : WAITS, place = this.places.get(number);
+  /** A game that ends on the desk stands for a while where it stood. */
+  place(row) {
+    const { number } = row, kind = kindOf(row), place = this.places.get(number);
     if (place && place.kind === kind) return;
     if (place && kind === OVER && this.cards.has(number)) {
       place.endedAt = place.endedAt || performance.now();
@@ -205,7 +205,7 @@ export class ArbiterView {
     }
     const shown = found.slice(this.first, this.first + MOST).map((row) => row.number);
     const last = this.first + shown.length, wanted = new Set(shown);
-    this.lacksPlace = found.slice(last).some((row) => row.result === '*' && row.white && row.black);
+    this.lacksPlace = found.slice(last).some((row) => kindOf(row) === RUNS);
     if (held && this.cards.has(held) && !wanted.has(held)) {
       shown.splice(Math.min(shown.length, Math.max(0, this.shown.indexOf(held))), 0, held);
       wanted.add(held);
@@ -214,16 +214,17 @@ export class ArbiterView {
       if (!wanted.has(number)) this.remove(number);
     }
     for (const number of shown) {
-      const card = this.cards.get(number);
+      const card = this.cards.get(number), row = this.rows().get(number);
+      const isTold = card && card.standing && (!row || kindOf(row) === kindOf(card.standing));
       if (!card) this.add(number);
-      else if (!card.standing && card.askedAt < performance.now() - ASKS_AGAIN) this.ask(number);
+      else if (!isTold && card.askedAt < performance.now() - ASKS_AGAIN) this.ask(number);
     }
     this.shown = shown;
     this.stand(shown.map((number) => this.cards.get(number).root));
-    const count = this.running().length;
+    const count = found.filter((row) => kindOf(row) === RUNS).length;
     byId('arbiter-none').hidden = this.cards.size > 0;
     byId('arbiter-pages').hidden = found.length <= MOST;
-    setText(byId('arbiter-place'), `${this.first + 1} to ${last} of ${found.length}, ${count} of all running`);
+    setText(byId('arbiter-place'), `${this.first + 1} to ${last} of ${found.length}, ${count} of them running`);
     this.waits.render();
   }
 
@@ -304,7 +305,7 @@ export class ArbiterView {
     this.draw(number, standing);
     const line = await this.lineOf(number), card = this.cards.get(number), last = line[line.length - 1];
     if (!last || !card || !card.standing || card.standing.fen !== last.fen) return;
-    this.ended(card, last);
+    this.lastMove(card, last);
     this.draw(number, card.standing, card.at);
   }
 
@@ -313,8 +314,7 @@ export class ArbiterView {
     return told[0].startsWith('ok ') ? readLine(told.slice(1)) : [];
   }
 
-  /** The last move. */
-  ended(card, last) {
+  lastMove(card, last) {
     card.move = last;
     if (!card.act && last.san) card.act = last.san;
   }
@@ -326,7 +326,7 @@ export class ArbiterView {
     if (!card) return;
     if (isNoGame(shown[0])) this.gone(number);
     if (!show || !last) return;
-    this.ended(card, last);
+    this.lastMove(card, last);
     this.draw(number, { ...show, fen: last.fen, check: /[+#]$/.test(last.san), moves: [] });
   }
 
@@ -356,9 +356,9 @@ export class ArbiterView {
   }
 
   draw(number, standing, at = performance.now()) {
-    const card = this.cards.get(number), { white, black, article } = standing, runs = Boolean(white && black && !article);
-    if (article && !card.isOver) this.app.leaveLater();
-    Object.assign(card, { standing, at, runs, isOver: Boolean(article) });
+    const card = this.cards.get(number), kind = kindOf(standing), runs = kind === RUNS;
+    if (kind === OVER && !card.isOver) this.app.leaveLater();
+    Object.assign(card, { standing, at, runs, isOver: kind === OVER });
     this.waits.told(number, runs ? standing : null, at);
     this.adjourned.follow(number, standing, at);
     card.board.show({ fen: standing.fen, last: card.move, check: standing.check });
@@ -539,4 +539,9 @@ export class ArbiterView {
     note.className = text ? `note ${kind}` : 'note';
     setText(note, text);
   }
+}
+
+/** Of a row of the table, or of how a game stands. */
+function kindOf({ white, black, result }) {
+  return result !== '*' ? OVER : white && black ? RUNS : WAITS;
 }
