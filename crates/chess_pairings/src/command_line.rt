@@ -445,11 +445,6 @@ fn take_of(text: &str) -> Option<(u32, u32)> {
     Some((number_of(board)?, number_of(game)?))
 }
 
-// What was given under a name, as often as it was.
-fn texts_of<'a, 'b>(values: &'b ArgMatches<'a>, name: &str) -> &'b [&'a str] {
-    values.get_strs(name).unwrap_or(&[])
-}
-
 // Puts boards with their games; false where a text tells none.
 fn put_takes(takes: &mut Vec<(u32, u32)>, texts: &[&str]) -> Result<bool, AllocError> {
     for text in texts {
@@ -474,9 +469,9 @@ fn put_servers(servers: &mut Vec<u32>, texts: &[&str]) -> Result<bool, AllocErro
 
 // Puts what the arbiter said; false where a board, a game or a server is none.
 fn put_said(said: &mut Said, values: &ArgMatches<'_>) -> Result<bool, AllocError> {
-    let are_takes = put_takes(&mut said.takes, texts_of(values, "take"))?;
-    let are_afters = put_takes(&mut said.afters, texts_of(values, "after"))?;
-    let are_servers = put_servers(&mut said.without, texts_of(values, "without"))?;
+    let are_takes = put_takes(&mut said.takes, values.get_strs("take").unwrap_or(&[]))?;
+    let are_afters = put_takes(&mut said.afters, values.get_strs("after").unwrap_or(&[]))?;
+    let are_servers = put_servers(&mut said.without, values.get_strs("without").unwrap_or(&[]))?;
     Ok(are_takes && are_afters && are_servers)
 }
 
@@ -564,7 +559,7 @@ fn reporting_of<'a>(
         return Ok(None);
     };
     let mut rounds = Vec::new(alloc);
-    if !put_rounds(&mut rounds, texts_of(values, "rounds"))? {
+    if !put_rounds(&mut rounds, values.get_strs("rounds").unwrap_or(&[]))? {
         return Ok(None);
     }
     Ok(Some(Reporting {

@@ -30,6 +30,15 @@ enum Found {
     Nothing,
 }
 
+impl Found {
+    fn ended(self) -> Option<Ended> {
+        match self {
+            Found::Ended(ended) => Some(ended),
+            _ => None,
+        }
+    }
+}
+
 /// The line of a game in the archive.
 #[derive(Drop)]
 struct Line {
@@ -372,22 +381,6 @@ impl<'a> Outcomes<'a> {
         }
     }
 
-    // What came of a game of a board.
-    fn ended(
-        &mut self,
-        file: &str,
-        pairing: &Pairing,
-        black: &Name,
-        game: u32,
-    ) -> Result<Option<Ended>> {
-        let found = self.found(&pairing.white, black, game)?;
-        self.put_why(file, pairing.board, &found)?;
-        match found {
-            Found::Ended(ended) => Ok(Some(ended)),
-            _ => Ok(None),
-        }
-    }
-
     /// What came of the game of a board, in the round of this file; none where that is not known. Of a game that goes on or
     /// is not known there is a word to be told.
     pub fn of(
@@ -399,13 +392,12 @@ impl<'a> Outcomes<'a> {
         let Some(paired) = pairing.game else {
             return Ok(None);
         };
-        match game {
-            Some(game) => self.ended(file, pairing, &paired.black, game),
-            None => {
-                self.put_word(file, pairing.board, "no game was opened for it")?;
-                Ok(None)
-            }
-        }
+        let found = match game {
+            Some(game) => self.found(&pairing.white, &paired.black, game)?,
+            None => { Found::Unknown(String::from_str(self.alloc, "no game was opened for it")?) }
+        };
+        self.put_why(file, pairing.board, &found)?;
+        Ok(found.ended())
     }
 
     /// Tells the words of the boards.
