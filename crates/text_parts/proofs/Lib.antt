@@ -1,1 +1,2 @@
 pub mod FirstPart
+pub mod Cuts
