@@ -3,9 +3,11 @@ use Rattle.std.proofs.Common.{ℕ, ◌≡◌, ◌<◌, ◌^◌, Bool, true, fals
 use Rattle.std.specs.Prelude.{if◌then◌else◌}
 use Rattle.std.specs.Str.{bytes_eq}
 use Rattle.std.proofs.lemmas.Bool.{false≢true}
+use Rattle.std.proofs.lemmas.Option.{none-some, cond_some}
 use Rattle.std.proofs.lemmas.Slice.Eq.{bytes_eq-Decides}
+use Rattle.text_parts.proofs.Cuts.{before_at, after_at}
+use Rattle.decimal_text.proofs.Digits.{lacks_below}
 use Rattle.json_text.specs.Strings.{escaped, unescaped_from}
-use Rattle.json_text.proofs.Cuts.{before_at, after_at, decimal_lacks}
 use Rattle.json_text.proofs.Texts.{back}
 use Rattle.lobby_words.specs.Words.{number_in}
 use Rattle.lobby_words.proofs.Numbers.{number_spelled}
@@ -17,12 +19,12 @@ tail_of pgn = 34 ∷ 112 ∷ 103 ∷ 110 ∷ 34 ∷ 58 ∷ 34 ∷ (escaped pgn +
 
 number_read : (game : ℕ) (pgn : List ℕ) → game < 2 ^ 32 → number_at (line_of game pgn) ≡ Some game
 number_read game pgn small =
-    ap number_in (before_at 44 (decimal game) (tail_of pgn) (decimal_lacks game (omega arith))) ∙ number_spelled game small
+    ap number_in (before_at 44 (decimal game) (tail_of pgn) (lacks_below 44 game (omega arith) (omega arith))) ∙ number_spelled game small
 
 pub pgn_read : (game : ℕ) (pgn : List ℕ) → game < 2 ^ 32 → pgn_in (line_of game pgn) ≡ pgn
 pgn_read game pgn small =
     ap (λ text. unescaped_from false (drop 7 text))
-    (after_at 44 (front ++ (58 ∷ decimal game)) (tail_of pgn) (decimal_lacks game (omega arith)))
+    (after_at 44 (front ++ (58 ∷ decimal game)) (tail_of pgn) (lacks_below 44 game (omega arith) (omega arith)))
     ∙ back pgn (125 ∷ [])
 
 and_both : (a b : Bool) → a ≡ true → b ≡ true → (a && b) ≡ true
@@ -48,29 +50,12 @@ game_read game pgn small h =
     ap (if_spelled (line_of game pgn)) (number_read game pgn small)
     ∙ ap (λ (b : Bool). if b then Some game else None) (is_made game pgn small h)
 
--- a game that is found is one
-abbrev or_this : Option ℕ → ℕ → ℕ
-or_this None d = d
-or_this (Some n) d = n
-
-abbrev is_there : Option ℕ → Bool
-is_there None = false
-is_there (Some n) = true
-
-some_same : (m n : ℕ) → Some m ≡ Some n → m ≡ n
-some_same m n h = ap (λ o. or_this o n) h
-
-none_some : (n : ℕ) → None ≡ Some n → ⊥
-none_some n h = false≢true (ap is_there h)
-
-found_by : (line : List ℕ) (m n : ℕ) (t : Bool) → is_line_of line m ≡ t → (if t then Some m else None) ≡ Some n →
-    is_line_of line n ≡ true
-found_by line m n true is h = ap (is_line_of line) (sym (some_same m n h)) ∙ is
-found_by line m n false is h = absurd (none_some n h)
-
+-- a game that is found is spelled so
 found : (line : List ℕ) (o : Option ℕ) (game : ℕ) → if_spelled line o ≡ Some game → is_line_of line game ≡ true
-found line None game h = absurd (none_some game h)
-found line (Some m) game h = found_by line m game (is_line_of line m) refl h
+found line None game h = absurd (none-some game h)
+found line (Some m) game h =
+    let is = cond_some (is_line_of line m) m game h in
+    ap (is_line_of line) (sym is.1) ∙ is.0
 
 pub only : (game : ℕ) (line : List ℕ) → game_in line ≡ Some game → line ≡ line_of game (pgn_in line)
 only game line h =

@@ -1,21 +1,11 @@
 -- What may stand behind the lines of an archive's file.
 use Rattle.std.specs.Prelude.{ℕ, ◌==◌, ◌&&◌, ◌||◌, ◌-◌, Bool, true, false, not, nat_le, List, [], ◌∷◌, codes, length, drop, take}
 use Rattle.std.specs.List.{list_any, starts_with}
-use Rattle.night_files.specs.Lines.{text_of, records_in}
-
--- what stands behind the whole lines of a file that stand before its first zero
-abbrev pub behind_lines : List ℕ → List ℕ
-behind_lines bytes = drop (length (text_of (records_in bytes))) bytes
+use Rattle.night_files.specs.Torn.{begins}
 
 -- how each line begins
 abbrev pub beginning : List ℕ
 beginning = codes "{\"game\":"
-
--- Bytes begin so, as far as they go; each may be zero in its place.
-abbrev pub begins : List ℕ → List ℕ → Bool
-begins [] bytes = true
-begins (w ∷ wanted) [] = true
-begins (w ∷ wanted) (b ∷ bytes) = (b == w || b == 0) && begins wanted bytes
 
 -- a line feed stands nowhere but at the end
 abbrev pub is_one_line : List ℕ → Bool

@@ -2,20 +2,16 @@
 //! is refused before.
 use anyhow::{Context, Result};
 use archive_file::{game_of, games_of, look_behind};
-use night_files::{AppendedFile, NamedFile, whole_length};
+use night_files::{AppendedFile, NamedFile, cut_lines, whole_length};
 use std::alloc::Global;
 use std::fs;
 use std::rt::Files;
 use text_parts::parts;
 
-// What stands behind the lines of an archive's bytes.
-fn behind_lines(bytes: &[u8]) -> &[u8] {
-    bytes.get(whole_length(bytes)..).unwrap_or(&[])
-}
-
 // Whether what stands behind the lines is a game's line that lacks only its line feed.
 fn lacks_feed(alloc: Global, bytes: &[u8]) -> Result<bool> {
-    match str::from_utf8(behind_lines(bytes)) {
+    let (_, behind) = cut_lines(bytes);
+    match str::from_utf8(behind) {
         Ok(line) => Ok(game_of(alloc, line)?.is_some()),
         Err(_) => Ok(false),
     }
@@ -23,12 +19,12 @@ fn lacks_feed(alloc: Global, bytes: &[u8]) -> Result<bool> {
 
 // Leaves the whole lines of an archive's bytes, each with its line feed. It fails where more stands behind them than a torn line.
 fn leave_lines(alloc: Global, bytes: &mut Vec<u8>) -> Result<()> {
-    let kept = whole_length(bytes.as_slice());
     if lacks_feed(alloc, bytes.as_slice())? {
         bytes.push(b'\n')?;
     } else {
-        look_behind(behind_lines(bytes.as_slice()))?;
-        bytes.truncate(kept);
+        let (_, behind) = cut_lines(bytes.as_slice());
+        look_behind(behind)?;
+        bytes.truncate(whole_length(bytes.as_slice()));
     }
     Ok(())
 }

@@ -1,3 +1,1 @@
 pub mod Texts
-pub mod Cuts
-pub mod Spelled

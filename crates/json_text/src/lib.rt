@@ -1,12 +1,10 @@
-//! The text of JSON in a line of a file: strings, numbers, and what stands around a sign.
+//! The text of JSON in a line of a file: strings, and what stands around a sign.
 #![tactic(auto)]
 
 mod escaping;
 mod law;
-mod numbers;
 mod places;
 
 pub use escaping::{behind_string, push_escaped, unescaped};
 pub use law::law_of_strings;
-pub use numbers::number_named;
 pub use places::{before, behind};

@@ -99,35 +99,3 @@ line_more before line es after are takes =
           subst (λ (xs : List Entry). AreLinesOf (before ++ line ∷ []) xs) (sym put.put)
           (one_more before line es put.entry are put.spoken put.told put.named put.shown)
     ]
-
--- the lines up to one more
-pub lines_more : (items : List (Bor (List ℕ))) (i : ℕ) (d : Bor (List ℕ)) → i < length items →
-    take (i + 1) (map (λ (line : Bor (List ℕ)). line.now) items)
-    ≡ take i (map (λ (line : Bor (List ℕ)). line.now) items) ++ (get_or items i d).now ∷ []
-lines_more items i d below =
-    let now = λ (line : Bor (List ℕ)). line.now in
-    let inside : i < length (map (λ (line : Bor (List ℕ)). line.now) items) = rw (length-map items now) below in
-    take_more (map now items) i d.now inside
-    ∙ ap (λ (line : List ℕ). take i (map now items) ++ line ∷ []) (get_or-map now items i d d.now below)
-
--- the lines in front of one, that line, and those behind it
-pub lines_around : (items : List (Bor (List ℕ))) (i : ℕ) (d : Bor (List ℕ)) → i < length items →
-    map (λ (line : Bor (List ℕ)). line.now) items ≡ take i (map (λ (line : Bor (List ℕ)). line.now) items)
-    ++ ((get_or items i d).now ∷ drop (i + 1) (map (λ (line : Bor (List ℕ)). line.now) items))
-lines_around items i d below =
-    let now = λ (line : Bor (List ℕ)). line.now in
-    let lines = map now items in
-    let inside : i < length (map (λ (line : Bor (List ℕ)). line.now) items) = rw (length-map items now) below in
-    sym (take-append-drop i lines)
-    ∙ (ap (λ (ls : List (List ℕ)). take i lines ++ ls) (drop_more lines i d.now inside)
-    ∙ ap (λ (line : List ℕ). take i lines ++ (line ∷ drop (i + 1) lines)) (get_or-map now items i d d.now below))
-
--- the lines from one on
-pub lines_from : (items : List (Bor (List ℕ))) (i : ℕ) (d : Bor (List ℕ)) → i < length items →
-    drop i (map (λ (line : Bor (List ℕ)). line.now) items)
-    ≡ (get_or items i d).now ∷ drop (i + 1) (map (λ (line : Bor (List ℕ)). line.now) items)
-lines_from items i d below =
-    let now = λ (line : Bor (List ℕ)). line.now in
-    let lines = map now items in
-    let inside : i < length (map (λ (line : Bor (List ℕ)). line.now) items) = rw (length-map items now) below in
-    drop_more lines i d.now inside ∙ ap (λ (line : List ℕ). line ∷ drop (i + 1) lines) (get_or-map now items i d d.now below)

@@ -9,16 +9,6 @@ use Rattle.std.proofs.lemmas.List.{take_more, drop_more, take-append-drop, get_o
 use Rattle.std.proofs.lemmas.List.Elements.{filter-append}
 use Rattle.lobby_positions.specs.Pgn.{words_of_line, words_of, is_word, is_fen_tag, fen_in, value_of}
 
--- the items up to one more
-pub items_more : (items : List (Bor (List ℕ))) (i : ℕ) (d : Bor (List ℕ)) → i < length items →
-    take (i + 1) (map (λ (line : Bor (List ℕ)). line.now) items)
-    ≡ take i (map (λ (line : Bor (List ℕ)). line.now) items) ++ (get_or items i d).now ∷ []
-items_more items i d below =
-    let now = λ (line : Bor (List ℕ)). line.now in
-    let inside : i < length (map (λ (line : Bor (List ℕ)). line.now) items) = rw (length-map items now) below in
-    take_more (map now items) i d.now inside
-    ∙ ap (λ (line : List ℕ). take i (map now items) ++ line ∷ []) (get_or-map now items i d d.now below)
-
 cond_none : (b : Bool) (l : List ℕ) (o : Option (List ℕ)) → cond b (Some l) o ≡ None → (b ≡ false) × (o ≡ None)
 cond_none true l o h = absurd (false≢true (sym (ap is_some h)))
 cond_none false l o h = (refl, h)
@@ -37,17 +27,6 @@ found_at p [] line after none here = rw here refl
 found_at p (l ∷ ls) line after none here =
     let both = cond_none (p l) l (find p ls) none in
     rw both.0 (found_at p ls line after both.1 here)
-
-pub items_around : (items : List (Bor (List ℕ))) (i : ℕ) (d : Bor (List ℕ)) → i < length items →
-    map (λ (line : Bor (List ℕ)). line.now) items ≡ take i (map (λ (line : Bor (List ℕ)). line.now) items)
-    ++ ((get_or items i d).now ∷ drop (i + 1) (map (λ (line : Bor (List ℕ)). line.now) items))
-items_around items i d below =
-    let now = λ (line : Bor (List ℕ)). line.now in
-    let lines = map now items in
-    let inside : i < length (map (λ (line : Bor (List ℕ)). line.now) items) = rw (length-map items now) below in
-    sym (take-append-drop i lines)
-    ∙ (ap (λ (ls : List (List ℕ)). take i lines ++ ls) (drop_more lines i d.now inside)
-    ∙ ap (λ (line : List ℕ). take i lines ++ (line ∷ drop (i + 1) lines)) (get_or-map now items i d d.now below))
 
 pub filter_more : (words : List (List ℕ)) (word : List ℕ) → filter is_word (words ++ word ∷ []) ≡ filter is_word words ++ filter is_word (word ∷ [])
 filter_more words word = filter-append is_word words (word ∷ [])

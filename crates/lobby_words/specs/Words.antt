@@ -1,8 +1,8 @@
 -- What the first word of a message says.
-use Rattle.std.specs.Prelude.{ℕ, ◌^◌, Bool, true, false, ◌&&◌, ◌||◌, ◌==◌, not, nat_le, nat_lt, List, length, codes, decimal, Option, None, Some, if◌then◌else◌}
+use Rattle.std.specs.Prelude.{ℕ, ◌^◌, Bool, true, false, ◌&&◌, ◌||◌, ◌==◌, not, nat_le, List, length, codes, Option, None, Some, if◌then◌else◌}
 use Rattle.std.specs.List.{before_first, after_first, list_all}
 use Rattle.std.specs.Str.{bytes_eq}
-use Rattle.std.specs.Str.Parse.{digits_value}
+use Rattle.decimal_text.specs.Numbers.{number_below}
 use Rattle.lobby_words.specs.declared.words.Sort.{Sort}
 use Rattle.lobby_words.specs.declared.words.Sort.TheVariants as sorts
 
@@ -129,10 +129,7 @@ is_leave_lobby_sort _ = false
 
 -- the number below 2 ^ 32 that a text spells without a leading zero, and nothing else
 unfoldable pub number_in : List ℕ → Option ℕ
-number_in text =
-    if nat_lt (digits_value 10 text) (2 ^ 32) && bytes_eq (decimal (digits_value 10 text)) text
-    then Some (digits_value 10 text)
-    else None
+number_in text = number_below (2 ^ 32) text
 
 abbrev pub or_0 : Option ℕ → ℕ
 or_0 None = 0

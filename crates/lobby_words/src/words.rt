@@ -1,9 +1,7 @@
 //! What the first word of a message says.
-ghost use Rattle.std.specs.Prelude.{ℕ, ◌≡◌, ◌<◌, ◌^◌, Some, IfSome, decimal};
+ghost use Rattle.std.specs.Prelude.{◌≡◌, ◌<◌, ◌^◌, SomeIff};
 ghost use Rattle.std.specs.List.{list_all};
 ghost use Rattle.lobby_words.specs.Words as words;
-
-use itoa::Buffer;
 
 /// What a message asks for.
 #[derive(Clone, Copy, PartialEq, Eq)]
@@ -223,23 +221,17 @@ pub fn sort_of(text: &str) -> Sort
 pub fn number_named(text: &str) -> Option<u32>
     ensures { result ≡ words.number_in text.now }
 {
-    number_read(text)
+    match decimal_text::number_named(text) {
+        Some(number) => below_32_bits(number),
+        None => None,
+    }
 }
 
-// The number that is read and must be what is written for it.
-fn number_read(text: &str) -> Option<u32>
-    ensures some { IfSome result (λ n. (n < 2 ^ 32) × (text.now ≡ decimal n)) }
-    ensures every { (n : ℕ) → n < 2 ^ 32 → text.now ≡ decimal n → result ≡ Some n }
+// A number, where 32 bits have it.
+fn below_32_bits(number: u64) -> Option<u32>
+    ensures { SomeIff result (number < 2 ^ 32) number }
 {
-    let Ok(number) = text.parse::<u32>() else {
-        return None;
-    };
-    let mut buffer = Buffer::new();
-    if buffer.format(number) == text {
-        Some(number)
-    } else {
-        None
-    }
+    u32::try_from(number).ok()
 }
 
 /// The same, and 0 where a text spells no number.

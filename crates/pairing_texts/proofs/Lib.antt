@@ -1,5 +1,5 @@
 pub mod RowByRow
-pub mod Cuts
+pub mod Spelled
 pub mod TimesBack
 pub mod NumbersBack
 pub mod NotesBack

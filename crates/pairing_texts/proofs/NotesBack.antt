@@ -5,6 +5,7 @@ use Rattle.std.specs.List.{list_all}
 use Rattle.std.proofs.lemmas.Bool.{false≢true}
 use Rattle.std.proofs.lemmas.Bool.Decides.{Decides-eqb}
 use Rattle.std.proofs.lemmas.Slice.Eq.{bytes_eq-Decides}
+use Rattle.text_parts.proofs.Cuts.{Lacks, lacks_more, lacks_both, before_at, after_at}
 use Rattle.rec_codec.specs.Name.{is_name_byte}
 use Rattle.lobby_words.specs.Words.{number_or_0}
 use Rattle.lobby_words.specs.Waiting.{is_name}
@@ -12,7 +13,7 @@ use Rattle.pairing_texts.specs.Times.{front_of}
 use Rattle.pairing_texts.specs.Rows.{name_in}
 use Rattle.pairing_texts.specs.Notes.{Told, Reached, Opening, Opened, Joined, IsNote, IsReached, stage_word, value_text, numbers_text, quoted, member_text, note_text, value_of, unquoted, member_in, behind_one, behind_two, behind_three, board_in, white_in, black_in, last_value, stage_in, reached_in, likely_of, likely_note, where_spelled, note_in}
 use Rattle.pairing_texts.proofs.NumbersBack.{numbers_back, lacks_brace}
-use Rattle.pairing_texts.proofs.Cuts.{Lacks, lacks_more, lacks_both, lacks_below, lacks_above, front_at, rest_at, number_back}
+use Rattle.pairing_texts.proofs.Spelled.{lacks_below, lacks_above, number_back}
 
 -- a byte that stands in no name stands in none of these names
 not_one : (c d : ℕ) (t : Bool) → (d == c) ≡ t → is_name_byte c ≡ false → is_name_byte d ≡ true → (d == c) ≡ false
@@ -52,9 +53,9 @@ named name is = ap (λ (b : Bool). if b then Some name else None) is
 quoted_back : (front name : List ℕ) → Lacks 58 front → is_name name ≡ true → name_in (unquoted (value_of (front ++ (58 ∷ quoted name)))) ≡ Some name
 quoted_back front name low is =
     let bytes = bytes_of name is in
-    ap (λ (t : List ℕ). name_in (unquoted t)) (rest_at 58 front (quoted name) low)
-    ∙ (ap (λ (t : List ℕ). name_in (front_of 34 t)) (rest_at 34 [] (name ++ (34 ∷ [])) refl)
-    ∙ (ap name_in (front_at 34 name [] (name_lacks 34 name refl bytes)) ∙ named name is))
+    ap (λ (t : List ℕ). name_in (unquoted t)) (after_at 58 front (quoted name) low)
+    ∙ (ap (λ (t : List ℕ). name_in (front_of 34 t)) (after_at 34 [] (name ++ (34 ∷ [])) refl)
+    ∙ (ap name_in (before_at 34 name [] (name_lacks 34 name refl bytes)) ∙ named name is))
 
 lacks_comma : (front name : List ℕ) → Lacks 44 front → is_name name ≡ true → Lacks 44 (front ++ (58 ∷ quoted name))
 lacks_comma front name low is =
@@ -83,35 +84,35 @@ lacks_board board small =
     lacks_both 44 board_front (58 ∷ decimal board) refl (lacks_more 44 58 (decimal board) (λ e. omega (arith, e)) (lacks_below 44 board (omega arith) small))
 
 behind_board : (board : ℕ) (rest : List ℕ) → board < 2 ^ 32 → behind_one ((board_front ++ (58 ∷ decimal board)) ++ (44 ∷ rest)) ≡ rest
-behind_board board rest small = rest_at 44 (board_front ++ (58 ∷ decimal board)) rest (lacks_board board small)
+behind_board board rest small = after_at 44 (board_front ++ (58 ∷ decimal board)) rest (lacks_board board small)
 
 board_back : (board : ℕ) (rest : List ℕ) → board < 2 ^ 32 → board_in ((board_front ++ (58 ∷ decimal board)) ++ (44 ∷ rest)) ≡ board
 board_back board rest small =
-    ap (λ (t : List ℕ). number_or_0 (value_of t)) (front_at 44 (board_front ++ (58 ∷ decimal board)) rest (lacks_board board small))
-    ∙ (ap number_or_0 (rest_at 58 board_front (decimal board) refl) ∙ number_back board small)
+    ap (λ (t : List ℕ). number_or_0 (value_of t)) (before_at 44 (board_front ++ (58 ∷ decimal board)) rest (lacks_board board small))
+    ∙ (ap number_or_0 (after_at 58 board_front (decimal board) refl) ∙ number_back board small)
 
 behind_white : (white rest : List ℕ) → is_name white ≡ true → behind_one (member_text (codes "white") (quoted white) ++ (44 ∷ rest)) ≡ rest
-behind_white white rest is = rest_at 44 (member_text (codes "white") (quoted white)) rest (lacks_comma (quoted (codes "white")) white refl is)
+behind_white white rest is = after_at 44 (member_text (codes "white") (quoted white)) rest (lacks_comma (quoted (codes "white")) white refl is)
 
 behind_black : (black rest : List ℕ) → is_name black ≡ true → behind_one (member_text (codes "black") (quoted black) ++ (44 ∷ rest)) ≡ rest
-behind_black black rest is = rest_at 44 (member_text (codes "black") (quoted black)) rest (lacks_comma (quoted (codes "black")) black refl is)
+behind_black black rest is = after_at 44 (member_text (codes "black") (quoted black)) rest (lacks_comma (quoted (codes "black")) black refl is)
 
 white_back : (white rest : List ℕ) → is_name white ≡ true →
     name_in (unquoted (value_of (member_in (member_text (codes "white") (quoted white) ++ (44 ∷ rest))))) ≡ Some white
 white_back white rest is =
     ap (λ (t : List ℕ). name_in (unquoted (value_of t)))
-    (front_at 44 (member_text (codes "white") (quoted white)) rest (lacks_comma (quoted (codes "white")) white refl is))
+    (before_at 44 (member_text (codes "white") (quoted white)) rest (lacks_comma (quoted (codes "white")) white refl is))
     ∙ quoted_back (quoted (codes "white")) white refl is
 
 black_back : (black rest : List ℕ) → is_name black ≡ true →
     name_in (unquoted (value_of (member_in (member_text (codes "black") (quoted black) ++ (44 ∷ rest))))) ≡ Some black
 black_back black rest is =
     ap (λ (t : List ℕ). name_in (unquoted (value_of t)))
-    (front_at 44 (member_text (codes "black") (quoted black)) rest (lacks_comma (quoted (codes "black")) black refl is))
+    (before_at 44 (member_text (codes "black") (quoted black)) rest (lacks_comma (quoted (codes "black")) black refl is))
     ∙ quoted_back (quoted (codes "black")) black refl is
 
 word_by : (word rest : List ℕ) → Lacks 34 word → unquoted (34 ∷ (word ++ (34 ∷ rest))) ≡ word
-word_by word rest low = ap (front_of 34) (rest_at 34 [] (word ++ (34 ∷ rest)) refl) ∙ front_at 34 word rest low
+word_by word rest low = ap (front_of 34) (after_at 34 [] (word ++ (34 ∷ rest)) refl) ∙ before_at 34 word rest low
 
 word_back : (stage : Reached) → unquoted (end_of stage) ≡ stage_word stage
 word_back (Opening games) = word_by (codes "opening") (58 ∷ (numbers_text games ++ (125 ∷ []))) refl
@@ -120,7 +121,7 @@ word_back (Joined game) = word_by (codes "joined") (58 ∷ (decimal game ++ (125
 
 end_by : (front value : List ℕ) → Lacks 125 value → Lacks 58 front → front_of 125 (value_of (front ++ (58 ∷ (value ++ (125 ∷ []))))) ≡ value
 end_by front value high low =
-    ap (front_of 125) (rest_at 58 front (value ++ (125 ∷ [])) low) ∙ front_at 125 value [] high
+    ap (front_of 125) (after_at 58 front (value ++ (125 ∷ [])) low) ∙ before_at 125 value [] high
 
 value_back : (stage : Reached) → IsReached stage → front_of 125 (value_of (end_of stage)) ≡ value_text stage
 value_back (Opening games) is = end_by (quoted (codes "opening")) (numbers_text games) (lacks_brace games is) refl

@@ -2,11 +2,12 @@
 use Rattle.std.proofs.Common.{ℕ, ◌≡◌, ◌<◌, ◌^◌, ◌==◌, Bool, false, List, [], ◌∷◌, ◌++◌, length, decimal, map, refl, sym, ap, ◌∙◌, arith, append_assoc, append-nil, if◌then◌else◌}
 use Rattle.std.specs.List.{list_any, onto_first}
 use Rattle.std.proofs.lemmas.Fmt.{decimal_nonempty}
+use Rattle.text_parts.proofs.Cuts.{Lacks, or_first, or_second, lacks_more, lacks_both, before_at, after_at}
 use Rattle.text_parts.specs.Parts.{parts_of}
 use Rattle.lobby_words.specs.Words.{number_or_0}
 use Rattle.pairing_texts.specs.Times.{front_of}
 use Rattle.pairing_texts.specs.Notes.{AreNumbers, behind_commas, numbers_text, numbers_in, array_in, is_array}
-use Rattle.pairing_texts.proofs.Cuts.{Lacks, or_first, or_second, lacks_more, lacks_both, lacks_below, lacks_above, front_at, rest_at, number_back}
+use Rattle.pairing_texts.proofs.Spelled.{lacks_below, lacks_above, number_back}
 
 -- a text that is alone, and one before the first comma
 alone : (b : ℕ) (bs : List ℕ) → Lacks 44 (b ∷ bs) → parts_of 44 (b ∷ bs) ≡ (b ∷ bs) ∷ []
@@ -57,10 +58,10 @@ several : (n : ℕ) (ns : List ℕ) → n < 2 ^ 32 → AreNumbers ns →
     array_in (91 ∷ (decimal n ++ (behind_commas ns ++ (93 ∷ [])))) ≡ n ∷ ns
 several n ns small are =
     let inner = decimal n ++ behind_commas ns in
-    ap (λ (t : List ℕ). map number_or_0 (parts_of 44 (front_of 93 t))) (rest_at 91 [] (decimal n ++ (behind_commas ns ++ (93 ∷ []))) refl)
+    ap (λ (t : List ℕ). map number_or_0 (parts_of 44 (front_of 93 t))) (after_at 91 [] (decimal n ++ (behind_commas ns ++ (93 ∷ []))) refl)
     ∙ (ap (λ (t : List ℕ). map number_or_0 (parts_of 44 (front_of 93 t))) (sym (append_assoc (decimal n) (behind_commas ns) (93 ∷ [])))
     ∙ (ap (λ (t : List ℕ). map number_or_0 (parts_of 44 t))
-    (front_at 93 inner [] (lacks_both 93 (decimal n) (behind_commas ns) (lacks_above 93 n (omega arith) small) (lacks_commas 93 ns (omega arith) are)))
+    (before_at 93 inner [] (lacks_both 93 (decimal n) (behind_commas ns) (lacks_above 93 n (omega arith) small) (lacks_commas 93 ns (omega arith) are)))
     ∙ (ap (map number_or_0) (parts_back n ns small are) ∙ each_back (n ∷ ns) (small, are))))
 
 pub numbers_back : (ns : List ℕ) → AreNumbers ns → numbers_in (numbers_text ns) ≡ ns

@@ -4,30 +4,32 @@ use Rattle.std.specs.Prelude.{if◌then◌else◌}
 use Rattle.std.specs.Str.{bytes_eq}
 use Rattle.std.proofs.lemmas.Bool.Decides.{nat_tests}
 use Rattle.std.proofs.lemmas.Slice.Eq.{bytes_eq-Decides}
+use Rattle.text_parts.proofs.Cuts.{Lacks, lacks_more, lacks_both, before_at, after_at, before_whole, after_none}
+use Rattle.decimal_text.specs.Numbers.{number_below}
 use Rattle.lobby_words.specs.Words.{number_in, or_0, number_or_0}
 use Rattle.pairing_texts.specs.declared.times.Times.{Times}
 use Rattle.pairing_texts.specs.declared.times.Period.{Period}
 use Rattle.pairing_texts.specs.Times.{front_of, rest_of, span_text, times_text, times_in, likely_times, plain_times, long_times, are_taken, is_empty}
-use Rattle.pairing_texts.proofs.Cuts.{Lacks, lacks_more, lacks_both, lacks_below, lacks_above, front_at, rest_at, front_whole, rest_none, number_back}
+use Rattle.pairing_texts.proofs.Spelled.{lacks_below, lacks_above, number_back}
 
 no_number : (b : Bool) → or_0 (if b then Some 0 else None) ≡ 0
 no_number true = refl
 no_number false = refl
 
 number_none : number_or_0 [] ≡ 0
-unfolding number_in
+unfolding number_in number_below
 number_none = no_number (bytes_eq (decimal 0) [])
 
 -- seconds and the increment, behind and before the `+`
 front_span : (i k : ℕ) → i < 2 ^ 32 → front_of 43 (span_text i k) ≡ decimal i
-front_span i zero small = ap (front_of 43) (append-nil (decimal i)) ∙ front_whole 43 (decimal i) (lacks_below 43 i (omega arith) small)
-front_span i (suc k) small = front_at 43 (decimal i) (decimal (suc k)) (lacks_below 43 i (omega arith) small)
+front_span i zero small = ap (front_of 43) (append-nil (decimal i)) ∙ before_whole 43 (decimal i) (lacks_below 43 i (omega arith) small)
+front_span i (suc k) small = before_at 43 (decimal i) (decimal (suc k)) (lacks_below 43 i (omega arith) small)
 
 rest_span : (i k : ℕ) → i < 2 ^ 32 → k < 2 ^ 32 → number_or_0 (rest_of 43 (span_text i k)) ≡ k
 rest_span i zero small few =
-    ap number_or_0 (ap (rest_of 43) (append-nil (decimal i)) ∙ rest_none 43 (decimal i) (lacks_below 43 i (omega arith) small)) ∙ number_none
+    ap number_or_0 (ap (rest_of 43) (append-nil (decimal i)) ∙ after_none 43 (decimal i) (lacks_below 43 i (omega arith) small)) ∙ number_none
 rest_span i (suc k) small few =
-    ap number_or_0 (rest_at 43 (decimal i) (decimal (suc k)) (lacks_below 43 i (omega arith) small)) ∙ number_back (suc k) few
+    ap number_or_0 (after_at 43 (decimal i) (decimal (suc k)) (lacks_below 43 i (omega arith) small)) ∙ number_back (suc k) few
 
 -- neither `/` nor `:` stands there
 lacks_slash : (i k : ℕ) → i < 2 ^ 32 → k < 2 ^ 32 → Lacks 47 (span_text i k)
@@ -73,7 +75,7 @@ likely_plain i k small few =
     let text = span_text i k in
     ap likely_times (plain_text i k)
     ∙ (ap (λ (rest : List ℕ). if is_empty rest then plain_times text else long_times (front_of 47 text) (front_of 58 rest) (rest_of 58 rest))
-    (rest_none 47 text (lacks_slash i k small few))
+    (after_none 47 text (lacks_slash i k small few))
     ∙ times_by (number_or_0 (front_of 43 text)) i (number_or_0 (rest_of 43 text)) k (ap number_or_0 (front_span i k small) ∙ number_back i small)
     (rest_span i k small few))
 
@@ -88,14 +90,14 @@ likely_long i k m s small few moves last =
     let colon = lacks_colon i k small few in
     ap likely_times (long_text i k m s)
     ∙ (ap (λ (rest : List ℕ). if is_empty rest then plain_times text else long_times (front_of 47 text) (front_of 58 rest) (rest_of 58 rest))
-    (rest_at 47 (decimal m) behind low)
+    (after_at 47 (decimal m) behind low)
     ∙ (ap (λ (b : Bool). if b then plain_times text else long_times (front_of 47 text) (front_of 58 behind) (rest_of 58 behind)) (is_filled first second)
     ∙ long_by (number_or_0 (front_of 43 (front_of 58 behind))) i (number_or_0 (rest_of 43 (front_of 58 behind))) k (number_or_0 (front_of 47 text)) m
     (number_or_0 (front_of 43 (rest_of 58 behind))) s
-    (ap (λ (t : List ℕ). number_or_0 (front_of 43 t)) (front_at 58 first second colon) ∙ (ap number_or_0 (front_span i k small) ∙ number_back i small))
-    (ap (λ (t : List ℕ). number_or_0 (rest_of 43 t)) (front_at 58 first second colon) ∙ rest_span i k small few)
-    (ap number_or_0 (front_at 47 (decimal m) behind low) ∙ number_back m moves)
-    (ap (λ (t : List ℕ). number_or_0 (front_of 43 t)) (rest_at 58 first second colon) ∙ (ap number_or_0 (front_span s k last) ∙ number_back s last))))
+    (ap (λ (t : List ℕ). number_or_0 (front_of 43 t)) (before_at 58 first second colon) ∙ (ap number_or_0 (front_span i k small) ∙ number_back i small))
+    (ap (λ (t : List ℕ). number_or_0 (rest_of 43 t)) (before_at 58 first second colon) ∙ rest_span i k small few)
+    (ap number_or_0 (before_at 47 (decimal m) behind low) ∙ number_back m moves)
+    (ap (λ (t : List ℕ). number_or_0 (front_of 43 t)) (after_at 58 first second colon) ∙ (ap number_or_0 (front_span s k last) ∙ number_back s last))))
 
 likely_by : (t : Times) (p : Option Period) → t.period ≡ p → are_taken t ≡ true → likely_times (times_text t) ≡ t
 likely_by t None e h =

@@ -3,7 +3,7 @@ use Rattle.std.specs.Borrow.{Bor}
 use Rattle.std.specs.String.{string_bytes}
 use Rattle.lobby_desk.specs.Lines.{bytes_of}
 use Rattle.lobby_players.specs.Adding.{in_place, is_of}
-use Rattle.lobby_players.proofs.Entries.{lines_from}
+use Rattle.text_parts.proofs.Items.{items_from}
 use Rattle.lobby_players.proofs.Written.{first_true, first_false, put_step, keep_step}
 use Rattle.lobby_players.proofs.adding.with_line.Goals as goal
 use Rattle.lobby_players.proofs.adding.with_line.Goals.{then-is_first+in_ok-push_line, else-is_first+in_ok-push_line-2}
@@ -25,8 +25,8 @@ loop-old-preserved c =
       | then-is_first+in_ok-push_line w ↦
           let first = first_true put (p old) w.if-is_first.ensures in
           put_step p line old (drop i (map now items)) (drop (i + 1) (map now items)) put c.if-is_first.is_put text (string_bytes c.if-is_first.new) all
-          (lines_from items i d below) first.0 first.1 (cc) (ap string_bytes w.new-is ∙ w.in_ok-push_line.ensures) c.loop-old.invariant
+          (items_from items i d below) first.0 first.1 (cc) (ap string_bytes w.new-is ∙ w.in_ok-push_line.ensures) c.loop-old.invariant
       | else-is_first+in_ok-push_line-2 w ↦
           keep_step p line old (drop i (map now items)) (drop (i + 1) (map now items)) put c.if-is_first.is_put text (string_bytes c.if-is_first.new) all
-          (lines_from items i d below) (first_false put (p old) w.if-is_first.ensures) (cc) (ap string_bytes w.new-is ∙ w.in_ok-push_line-2.ensures) c.loop-old.invariant
+          (items_from items i d below) (first_false put (p old) w.if-is_first.ensures) (cc) (ap string_bytes w.new-is ∙ w.in_ok-push_line-2.ensures) c.loop-old.invariant
     ]

@@ -2,7 +2,8 @@ use Rattle.std.proofs.Common.{ℕ, suc, ◌≡◌, ◌<◌, ◌≤◌, ◌+◌, 
 use Rattle.std.specs.Borrow.{Bor}
 use Rattle.std.proofs.lemmas.List.{length-take-le, length-map}
 use Rattle.lobby_players.specs.File.{AreLinesOf, entries_of}
-use Rattle.lobby_players.proofs.Entries.{line_more, lines_more, lines_around}
+use Rattle.text_parts.proofs.Items.{items_more, items_around}
+use Rattle.lobby_players.proofs.Entries.{line_more}
 use Rattle.lobby_players.proofs.reading.read_text.Goals as goal
 
 counted : (items : List (Bor (List ℕ))) (i : ℕ) → i < length items →
@@ -21,7 +22,7 @@ loop-i-preserved c =
     let below : c.loop-i.i < length c.as_slice-line-items.result.now = omega (arith, c.loop-i-test.true) in
     let d : Bor (List ℕ) = record { ref_ptr = (0, 0); now = [] } in
     let after = entries_of c.take.new.players.items in
-    subst (λ (ls : List (List ℕ)). AreLinesOf ls after) (sym (lines_more items i d below))
+    subst (λ (ls : List (List ℕ)). AreLinesOf ls after) (sym (items_more items i d below))
     (line_more (take i (map now items)) (get_or items i d).now (entries_of c.loop-i.players.items) after c.loop-i.invariant
     (rw c.in_default.is at c.in_ok-fault.ensures))
 
@@ -36,7 +37,7 @@ returns-in-Some-clause-fault c =
       before = take i (map now items);
       line = (get_or items i d).now;
       after = drop (i + 1) (map now items);
-      lines = sym c.in_ok-lines.ensures ∙ (ap (map now) (sym c.as_slice-line-items.ensures.value) ∙ lines_around items i d below);
+      lines = sym c.in_ok-lines.ensures ∙ (ap (map now) (sym c.as_slice-line-items.ensures.value) ∙ items_around items i d below);
       number = counted items i below;
       entries = entries_of c.loop-i.players.items;
       told = c.loop-i.invariant;

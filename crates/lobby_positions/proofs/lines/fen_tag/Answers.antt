@@ -3,7 +3,8 @@ use Rattle.std.specs.Prelude.{find}
 use Rattle.std.specs.Borrow.{Bor}
 use Rattle.std.specs.Option.{option_map}
 use Rattle.lobby_positions.specs.Pgn.{is_fen_tag, value_of}
-use Rattle.lobby_positions.proofs.Found.{items_more, items_around, none_more, found_at}
+use Rattle.text_parts.proofs.Items.{items_more, items_around}
+use Rattle.lobby_positions.proofs.Found.{none_more, found_at}
 use Rattle.lobby_positions.proofs.lines.fen_tag.Goals as goal
 
 pub returns-then-is_fen_tag : goal.returns-then-is_fen_tag

@@ -2,7 +2,8 @@ use Rattle.std.proofs.Common.{ℕ, ◌+◌, List, [], ◌∷◌, ◌++◌, get_o
 use Rattle.std.specs.Borrow.{Bor}
 use Rattle.std.specs.List.{filter}
 use Rattle.lobby_positions.specs.Pgn.{is_word}
-use Rattle.lobby_positions.proofs.Found.{items_more, filter_more}
+use Rattle.text_parts.proofs.Items.{items_more}
+use Rattle.lobby_positions.proofs.Found.{filter_more}
 use Rattle.lobby_positions.proofs.lines.push_words.Goals as goal
 
 pub loop-token-preserved : goal.loop-token-preserved

@@ -1,7 +1,8 @@
 use Rattle.std.proofs.Common.{ℕ, ◌+◌, List, [], ◌∷◌, ◌++◌, get_or, map, take, sym, ap, ◌∙◌}
 use Rattle.std.specs.Borrow.{Bor}
 use Rattle.lobby_positions.specs.Pgn.{words_of, words_of_line}
-use Rattle.lobby_positions.proofs.Found.{items_more, flat_more}
+use Rattle.text_parts.proofs.Items.{items_more}
+use Rattle.lobby_positions.proofs.Found.{flat_more}
 use Rattle.lobby_positions.proofs.lines.words_of.Goals as goal
 
 pub loop-line-preserved : goal.loop-line-preserved

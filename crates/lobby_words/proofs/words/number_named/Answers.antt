@@ -1,5 +1,10 @@
-use Rattle.lobby_words.proofs.Numbers.{number_read}
+use Rattle.std.proofs.Common.{sym, ◌∙◌}
+use Rattle.lobby_words.proofs.Numbers.{none_small, some_small}
 use Rattle.lobby_words.proofs.words.number_named.Goals as goal
 
-pub returns : goal.returns
-returns c = number_read c.args.text.now c.number_read.result c.number_read.ensures.some c.number_read.ensures.every
+pub returns-in-Some : goal.returns-in-Some
+returns-in-Some c =
+    some_small c.args.text.now c.in-Some.number c.below_32_bits.result (sym c.in-Some.is ∙ c.number_named.ensures) c.below_32_bits.ensures
+
+pub returns-in-None : goal.returns-in-None
+returns-in-None c = none_small c.args.text.now (sym c.in-None.is ∙ c.number_named.ensures)

@@ -1,16 +1,11 @@
--- A text that was put together is cut where it was joined.
-use Rattle.std.proofs.Common.{ℕ, zero, suc, ◌≡◌, ◌≢◌, ◌<◌, ◌+◌, ◌^◌, ◌==◌, ◌||◌, Bool, true, false, List, [], ◌∷◌, ◌++◌, length, take, drop, get_or, decimal, refl, sym, ap, ◌∙◌, arith, if◌then◌else◌}
-use Rattle.std.specs.List.{list_any, position_or_len}
+-- A text that was joined at a sign is cut there.
+use Rattle.std.proofs.Common.{ℕ, zero, suc, ◌≡◌, ◌≢◌, ◌<◌, ◌+◌, ◌==◌, ◌||◌, Bool, true, false, List, [], ◌∷◌, ◌++◌, length, take, drop, get_or, refl, sym, ap, ◌∙◌, arith, if◌then◌else◌}
+use Rattle.std.specs.List.{list_any, before_first, after_first, position_or_len}
 use Rattle.std.proofs.lemmas.Bool.{false≢true}
 use Rattle.std.proofs.lemmas.Bool.Decides.{Decides-eqb}
 use Rattle.std.proofs.lemmas.List.{take_at, drop_all}
 use Rattle.std.proofs.lemmas.List.Recursion.{is_position_or_len}
-use Rattle.std.proofs.lemmas.Fmt.{digits_decimal}
-use Rattle.std.proofs.lemmas.Str.Parse.{digit_at}
 use Rattle.std.proofs.Math.Seq.{take-length}
-use Rattle.lobby_words.specs.Words.{or_0, number_or_0}
-use Rattle.lobby_words.proofs.Numbers.{own, number_spelled}
-use Rattle.pairing_texts.specs.Times.{front_of, rest_of}
 
 -- a byte does not stand in a text
 abbrev pub Lacks : ℕ → List ℕ → Type 0
@@ -35,7 +30,7 @@ not_same_by a b false e h = e
 pub lacks_more : (c d : ℕ) (text : List ℕ) → d ≢ c → Lacks c text → Lacks c (d ∷ text)
 lacks_more c d text other h = both_false (d == c) (list_any (λ b. b == c) text) (not_same_by d c (d == c) refl other) h
 
-lacks_each : (c : ℕ) (text : List ℕ) → ((i : ℕ) → i < length text → get_or text i 0 ≢ c) → Lacks c text
+pub lacks_each : (c : ℕ) (text : List ℕ) → ((i : ℕ) → i < length text → get_or text i 0 ≢ c) → Lacks c text
 lacks_each c [] h = refl
 lacks_each c (d ∷ text) h = lacks_more c d text (h zero (omega arith)) (lacks_each c text (λ i below. h (suc i) (omega arith)))
 
@@ -44,15 +39,6 @@ lacks_both c [] other h k = k
 lacks_both c (d ∷ one) other h k =
     both_false (d == c) (list_any (λ b. b == c) (one ++ other)) (or_first (d == c) (list_any (λ b. b == c) one) h)
     (lacks_both c one other (or_second (d == c) (list_any (λ b. b == c) one) h) k)
-
--- a number has digits alone
-pub lacks_below : (c n : ℕ) → c < 48 → n < 2 ^ 32 → Lacks c (decimal n)
-lacks_below c n low small = lacks_each c (decimal n) (λ i below e.
-    let digit = digit_at (decimal n) i (digits_decimal own n (omega arith)) below in omega (arith, digit))
-
-pub lacks_above : (c n : ℕ) → 57 < c → n < 2 ^ 32 → Lacks c (decimal n)
-lacks_above c n high small = lacks_each c (decimal n) (λ i below e.
-    let digit = digit_at (decimal n) i (digits_decimal own n (omega arith)) below in omega (arith, digit))
 
 -- where a byte stands first
 abbrev spot : ℕ → List ℕ → ℕ
@@ -91,22 +77,19 @@ drop_past c (d ∷ text) rest =
     ap (λ n. drop n (d ∷ (text ++ (c ∷ rest)))) on ∙ drop_past c text rest
 
 -- the first sign of a text
-pub front_at : (c : ℕ) (text rest : List ℕ) → Lacks c text → front_of c (text ++ (c ∷ rest)) ≡ text
-front_at c text rest h =
+pub before_at : (c : ℕ) (text rest : List ℕ) → Lacks c text → before_first (λ b. b == c) (text ++ (c ∷ rest)) ≡ text
+before_at c text rest h =
     ap (λ n. take n (text ++ (c ∷ rest))) (sym (place c (text ++ (c ∷ rest))) ∙ spot_at c text rest h)
     ∙ take_at text (c ∷ rest) (length text) refl
 
-pub rest_at : (c : ℕ) (text rest : List ℕ) → Lacks c text → rest_of c (text ++ (c ∷ rest)) ≡ rest
-rest_at c text rest h =
+pub after_at : (c : ℕ) (text rest : List ℕ) → Lacks c text → after_first (λ b. b == c) (text ++ (c ∷ rest)) ≡ rest
+after_at c text rest h =
     ap (λ n. drop (n + 1) (text ++ (c ∷ rest))) (sym (place c (text ++ (c ∷ rest))) ∙ spot_at c text rest h) ∙ drop_past c text rest
 
 -- a text without the sign
-pub front_whole : (c : ℕ) (text : List ℕ) → Lacks c text → front_of c text ≡ text
-front_whole c text h = ap (λ n. take n text) (sym (place c text) ∙ spot_none c text h) ∙ take-length text
+pub before_whole : (c : ℕ) (text : List ℕ) → Lacks c text → before_first (λ b. b == c) text ≡ text
+before_whole c text h = ap (λ n. take n text) (sym (place c text) ∙ spot_none c text h) ∙ take-length text
 
-pub rest_none : (c : ℕ) (text : List ℕ) → Lacks c text → rest_of c text ≡ []
-rest_none c text h =
+pub after_none : (c : ℕ) (text : List ℕ) → Lacks c text → after_first (λ b. b == c) text ≡ []
+after_none c text h =
     ap (λ n. drop (n + 1) text) (sym (place c text) ∙ spot_none c text h) ∙ drop_all (length text + 1) text (omega arith)
-
-pub number_back : (n : ℕ) → n < 2 ^ 32 → number_or_0 (decimal n) ≡ n
-number_back n small = ap or_0 (number_spelled n small)

@@ -1,6 +1,6 @@
-//! Numbers.
+//! The number that a text spells.
 ghost use Rattle.std.specs.Prelude.{ℕ, ◌≡◌, ◌<◌, ◌^◌, Some, IfSome, decimal};
-ghost use Rattle.json_text.specs.Numbers.{number_in};
+ghost use Rattle.decimal_text.specs.Numbers.{number_in};
 
 use itoa::Buffer;
 

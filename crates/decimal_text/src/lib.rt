@@ -1,0 +1,6 @@
+//! Numbers in decimal digits, each in its one spelling.
+#![tactic(auto)]
+
+mod numbers;
+
+pub use numbers::number_named;
