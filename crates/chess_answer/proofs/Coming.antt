@@ -21,7 +21,7 @@ use Rattle.chess_entry.specs.declared.verdicts.Verdict.{Verdict}
 use Rattle.chess_entry.specs.declared.verdicts.Verdict.TheVariants.{Refuse, Enter, Read}
 use Rattle.chess_entry.specs.State.{GameState, TableState, ply_of, seat_of, is_joined, is_over, find_game}
 use Rattle.chess_entry.specs.Told.{Told, IsMoveTold, bytes_of}
-use Rattle.chess_entry.specs.Verdict.{Check, refuse, first_of, are_times, is_start, is_finished, is_full, is_long, is_read, has_offer, in_game, by_side, while_running, in_turn, for_move, for_stated, opened_from, moved, join_verdict, move_verdict, offer_verdict, accept_verdict, decline_verdict, resign_verdict, claim_verdict, flag_verdict, drop_verdict, in_seat, side_of, player_verdict, name_or_none, effective, verdict, IsTold}
+use Rattle.chess_entry.specs.Verdict.{Check, refuse, first_of, are_times, is_start, is_finished, is_full, is_long, is_read, has_offer, in_game, by_side, while_running, in_turn, for_move, for_stated, opened_from, move_entered, join_verdict, move_verdict, offer_verdict, accept_verdict, decline_verdict, resign_verdict, claim_verdict, flag_verdict, drop_verdict, in_seat, side_of, player_verdict, name_or_none, effective, verdict, IsTold}
 use Rattle.chess_entry.specs.Table.{IsTable, IsOnTable}
 use Rattle.chess_entry.proofs.Entering.{find_game-number}
 use Rattle.chess_game.specs.Turn.{IsPlayable}
@@ -118,7 +118,7 @@ playable table game text m is names short =
 
 moved-comes : (table : TableState) (number at : ℕ) (game : GameState) (text : List ℕ) (move : Option Move)
     → IsTable table → find_game number table.games ≡ Some game → IsMoveTold (Some game) (Some text) move
-    → is_long table game ≡ false → Enters (Comes table) (moved game at move)
+    → is_long table game ≡ false → Enters (Comes table) (move_entered game at move)
 moved-comes table number at game text None is found names short = tt
 moved-comes table number at game text (Some m) is found names short =
     comes table number at game (event.Move (record { mv = m; ply = ply_of game })) found
@@ -130,7 +130,7 @@ move-comes : (table : TableState) (number at ply : ℕ) (text : List ℕ) (move 
     → Enters (Comes table) (move_verdict table at ply move game side)
 move-comes table number at ply text move game side is found told =
     let P : Option GameState → Type 0 = λ o. IsMoveTold o (Some text) move in
-    running table number at game (in_turn game side ply ++ for_move table game move) (moved game at move) found
+    running table number at game (in_turn game side ply ++ for_move table game move) (move_entered game at move) found
     (tt, (tt, (tt, (tt, tt))))
     (λ none. moved-comes table number at game text move is found (subst P found told) none.1.1.0)
 

@@ -165,15 +165,15 @@ impl Board {
         self.holds_kind(from, Kind::Pawn) && from.file() != to.file() && is_target(self.target, to)
     }
 
-    // Whether the move castles to the wing.
-    fn castles_to(&self, mv: &Move, wing: Wing) -> bool
+    /// Whether a move takes the king of the side to move from its home to where castling to the wing ends.
+    pub fn castles_to(&self, mv: &Move, wing: Wing) -> bool
         ensures { result ≡ after.castles_to self.now mv.now wing }
     {
         let from = mv.from;
         let to = mv.to;
         self.holds_kind(from, Kind::King)
-            && is_same(from, king_home(self.side))
-            && is_same(to, castled_king(self.side, wing))
+            && is_same_square(from, king_home(self.side))
+            && is_same_square(to, castled_king(self.side, wing))
     }
 
     // What stands on the square reached after the move.
@@ -343,20 +343,21 @@ impl Board {
     }
 }
 
-// Whether two squares are one.
-fn is_same(a: Square, b: Square) -> bool
-    ensures { result ≡ is_square a b }
+/// Whether two squares are one.
+pub fn is_same_square(a: Square, b: Square) -> bool
+    ensures value { result ≡ is_square a b }
+    ensures same { IsTrue result ↔ (a ≡ b) }
 {
     a.number() == b.number()
 }
 
-// Whether a square is the target.
-fn is_target(target: Option<Square>, square: Square) -> bool
+/// Whether a square is the target.
+pub fn is_target(target: Option<Square>, square: Square) -> bool
     ensures { result ≡ after.is_target target square }
 {
     match target {
         None => false,
-        Some(crossed) => is_same(crossed, square),
+        Some(crossed) => is_same_square(crossed, square),
     }
 }
 
@@ -366,5 +367,5 @@ fn touches(mv: &Move, square: Square) -> bool
 {
     let from = mv.from;
     let to = mv.to;
-    is_same(from, square) || is_same(to, square)
+    is_same_square(from, square) || is_same_square(to, square)
 }

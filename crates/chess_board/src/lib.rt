@@ -10,7 +10,7 @@ mod moves;
 mod parts;
 
 pub use attack::{is_attacked, is_in_check};
-pub use board::Board;
+pub use board::{Board, is_same_square, is_target};
 pub use castling::{
     CastlingRights, Wing, castled_king, castled_rook, home_rank, king_home, rook_home,
 };

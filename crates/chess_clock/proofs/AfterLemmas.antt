@@ -4,7 +4,7 @@ use Rattle.std.proofs.lemmas.List.Sums.{sum_by-append}
 use Rattle.std.proofs.lemmas.Bool.Decides.{nat_tests}
 use Rattle.chess_bits.specs.declared.men.Colour.{Colour}
 use Rattle.chess_bits.specs.declared.men.Colour.TheVariants.{White, Black}
-use Rattle.chess_clock.specs.declared.events.Event.{Event}
+use Rattle.chess_clock.specs.declared.events.ClockEvent.{ClockEvent}
 use Rattle.chess_clock.specs.TimeControl.{TimeControl}
 use Rattle.chess_clock.specs.Events.{completed_moves, wrong_claims, time_used, turn_length_of}
 use Rattle.chess_clock.specs.SideTimes.{SideTime, second_within, given_further}
@@ -12,15 +12,15 @@ use Rattle.chess_clock.specs.ClockState.{ClockState, after, on_move_after}
 use Rattle.chess_clock.specs.Replay.{IsWithinTime}
 
 -- counts and sums of joined lists
-pub completed_moves-append : (side : Colour) (es fs : List Event)
+pub completed_moves-append : (side : Colour) (es fs : List ClockEvent)
     → completed_moves side (es ++ fs) ≡ completed_moves side es + completed_moves side fs
 completed_moves-append side es fs = sum_by-append _ es fs
 
-pub wrong_claims-append : (side : Colour) (es fs : List Event)
+pub wrong_claims-append : (side : Colour) (es fs : List ClockEvent)
     → wrong_claims side (es ++ fs) ≡ wrong_claims side es + wrong_claims side fs
 wrong_claims-append side es fs = sum_by-append _ es fs
 
-pub time_used-append : (side : Colour) (es fs : List Event)
+pub time_used-append : (side : Colour) (es fs : List ClockEvent)
     → time_used side (es ++ fs) ≡ time_used side es + time_used side fs
 time_used-append side es fs = sum_by-append (turn_length_of side) es fs
 
@@ -66,13 +66,13 @@ side_counted-more control time n m c d u v within =
 abbrev Counts : Type 0
 Counts = ℕ × ℕ × ℕ
 
-counts : Colour → List Event → Counts
+counts : Colour → List ClockEvent → Counts
 counts side es = (completed_moves side es, wrong_claims side es, time_used side es)
 
 both : Counts → Counts → Counts
 both a b = (a.0 + b.0, a.1 + b.1, a.2 + b.2)
 
-counts-append : (side : Colour) (es fs : List Event) → counts side (es ++ fs) ≡ both (counts side es) (counts side fs)
+counts-append : (side : Colour) (es fs : List ClockEvent) → counts side (es ++ fs) ≡ both (counts side es) (counts side fs)
 unfolding counts both
 counts-append side es fs =
     let n = completed_moves-append side es fs in
@@ -91,7 +91,7 @@ counted clock w b = record {
   is_stopped = clock.is_stopped;
 }
 
-after_counted : (clock : ClockState) (es : List Event)
+after_counted : (clock : ClockState) (es : List ClockEvent)
     → after clock es ≡ counted clock (counts White es) (counts Black es)
 unfolding counted counts
 after_counted clock es = refl
@@ -111,7 +111,7 @@ counted-more clock w b x y white_within black_within =
     cc
 
 -- The clock after these events and then more of them is the clock after all of them.
-pub after-append : (clock : ClockState) (es fs : List Event)
+pub after-append : (clock : ClockState) (es fs : List ClockEvent)
     → IsWithinTime clock es → after (after clock es) fs ≡ after clock (es ++ fs)
 unfolding counts
 after-append clock es fs within =

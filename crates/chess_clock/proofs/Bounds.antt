@@ -5,7 +5,7 @@ use Rattle.std.proofs.lemmas.Bool.Decides.{nat_tests}
 use Rattle.chess_bits.specs.declared.men.Colour.{Colour}
 use Rattle.chess_bits.specs.declared.men.Colour.TheVariants.{White, Black}
 use Rattle.chess_bits.specs.Man.{other}
-use Rattle.chess_clock.specs.declared.events.Event.{Event}
+use Rattle.chess_clock.specs.declared.events.ClockEvent.{ClockEvent}
 use Rattle.chess_clock.specs.TimeControl.{TimeControl, IsTimeControl, IsPeriod, time_control, second_period, moves_to_go}
 use Rattle.chess_clock.specs.Events.{completed_moves, wrong_claims, time_used}
 use Rattle.chess_clock.specs.Held.{given_for}
@@ -71,7 +71,7 @@ at_most_after control time n m c d used at_most to_go =
     omega (arith, further, more)
 
 -- after these events
-pub IsAccounted-after : (side : Colour) (clock : ClockState) (events : List Event) (moves claims : ℕ)
+pub IsAccounted-after : (side : Colour) (clock : ClockState) (events : List ClockEvent) (moves claims : ℕ)
     → IsAccounted side clock moves claims
     → IsAccounted side (after clock events)
     (moves + completed_moves side events) (claims + wrong_claims (other side) events)

@@ -7,13 +7,13 @@ use Rattle.std.proofs.lemmas.List.{append-nil}
 use Rattle.chess_bits.specs.declared.men.Colour.{Colour}
 use Rattle.chess_bits.specs.declared.men.Colour.TheVariants.{White, Black}
 use Rattle.chess_bits.specs.Man.{is_colour}
-use Rattle.chess_clock.specs.declared.events.Event.{Event}
-use Rattle.chess_clock.specs.declared.events.Event.TheVariants.{Turn, WrongClaim}
+use Rattle.chess_clock.specs.declared.events.ClockEvent.{ClockEvent}
+use Rattle.chess_clock.specs.declared.events.ClockEvent.TheVariants.{Turn, WrongClaim}
 use Rattle.chess_clock.specs.ClockState.{ClockState, after, time_of, TimesFit}
 use Rattle.chess_clock.specs.Replay.{EndsInTime, TurnsEndInTime, TimesAlwaysFit}
 
 -- whether an event is no turn, or one of the side on move that ends before its flag falls
-abbrev pub may_come : ClockState → Event → Bool
+abbrev pub may_come : ClockState → ClockEvent → Bool
 may_come clock (Turn side length) = is_colour side clock.side && nat_lt length (time_of side clock).held
 may_come clock (WrongClaim side) = true
 
@@ -21,12 +21,12 @@ abbrev pub times_fit : ClockState → Bool
 times_fit clock = nat_lt clock.white.held 4294967296 && nat_lt clock.black.held 4294967296
 
 -- the same of each of the events that are left, after those before
-abbrev pub all_may_come : ClockState → List Event → List Event → Bool
+abbrev pub all_may_come : ClockState → List ClockEvent → List ClockEvent → Bool
 all_may_come start before [] = true
 all_may_come start before (event ∷ rest) =
     may_come (after start before) event && all_may_come start (before ++ event ∷ []) rest
 
-abbrev pub all_fit : ClockState → List Event → List Event → Bool
+abbrev pub all_fit : ClockState → List ClockEvent → List ClockEvent → Bool
 all_fit start before [] = times_fit (after start before)
 all_fit start before (event ∷ rest) = times_fit (after start before) && all_fit start (before ++ event ∷ []) rest
 
@@ -55,19 +55,19 @@ TimesFit-from_test clock h =
     record { white_fits = grind (arith, nat_tests); black_fits = grind (arith, nat_tests) }
 
 -- the tail and the head of equal lists
-same_head : {x y : Event} {xs ys : List Event} → x ∷ xs ≡ y ∷ ys → x ≡ y
+same_head : {x y : ClockEvent} {xs ys : List ClockEvent} → x ∷ xs ≡ y ∷ ys → x ≡ y
 same_head h = cc
 
-same_tail : {x y : Event} {xs ys : List Event} → x ∷ xs ≡ y ∷ ys → xs ≡ ys
+same_tail : {x y : ClockEvent} {xs ys : List ClockEvent} → x ∷ xs ≡ y ∷ ys → xs ≡ ys
 same_tail h = cc
 
 -- an event that is pushed onto those before stands at the head of those after
-moved_on : (before : List Event) (event x : Event) (more : List Event)
+moved_on : (before : List ClockEvent) (event x : ClockEvent) (more : List ClockEvent)
     → event ≡ x → (before ++ event ∷ []) ++ more ≡ before ++ x ∷ more
 moved_on before event x more same = append_assoc before (event ∷ []) more ∙ ap (λ y. before ++ y ∷ more) same
 
-turns_at : (start : ClockState) (before rest : List Event) → all_may_come start before rest ≡ true
-    → (more : List Event) (side : Colour) (length : ℕ) (end : List Event) → rest ≡ more ++ Turn side length ∷ end
+turns_at : (start : ClockState) (before rest : List ClockEvent) → all_may_come start before rest ≡ true
+    → (more : List ClockEvent) (side : Colour) (length : ℕ) (end : List ClockEvent) → rest ≡ more ++ Turn side length ∷ end
     → EndsInTime (after start (before ++ more)) side length
 turns_at start before [] h [] side length end e = absurd cc
 turns_at start before [] h (x ∷ more) side length end e = absurd cc
@@ -81,8 +81,8 @@ turns_at start before (event ∷ rest) h (x ∷ more) side length end e =
     subst (λ es. EndsInTime (after start es) side length) (moved_on before event x more (same_head e))
     (turns_at start (before ++ event ∷ []) rest parts.1 more side length end (same_tail e))
 
-fits_at : (start : ClockState) (before rest : List Event) → all_fit start before rest ≡ true
-    → (more end : List Event) → rest ≡ more ++ end → TimesFit (after start (before ++ more))
+fits_at : (start : ClockState) (before rest : List ClockEvent) → all_fit start before rest ≡ true
+    → (more end : List ClockEvent) → rest ≡ more ++ end → TimesFit (after start (before ++ more))
 fits_at start before [] h [] end e =
     subst (λ es. TimesFit (after start es)) (sym (append-nil before)) (TimesFit-from_test (after start before) h)
 fits_at start before [] h (x ∷ more) end e = absurd cc
@@ -95,10 +95,10 @@ fits_at start before (event ∷ rest) h (x ∷ more) end e =
     subst (λ es. TimesFit (after start es)) (moved_on before event x more (same_head e))
     (fits_at start (before ++ event ∷ []) rest parts.1 more end (same_tail e))
 
-pub TurnsEndInTime-from_test : (start : ClockState) (events : List Event)
+pub TurnsEndInTime-from_test : (start : ClockState) (events : List ClockEvent)
     → all_may_come start [] events ≡ true → TurnsEndInTime start events
 TurnsEndInTime-from_test start events h before side length rest e = turns_at start [] events h before side length rest e
 
-pub TimesAlwaysFit-from_test : (start : ClockState) (events : List Event)
+pub TimesAlwaysFit-from_test : (start : ClockState) (events : List ClockEvent)
     → all_fit start [] events ≡ true → TimesAlwaysFit start events
 TimesAlwaysFit-from_test start events h before rest e = fits_at start [] events h before rest e

@@ -1,8 +1,8 @@
 -- Worked games, computed: the sums over their events, and what a clock shows.
 use Rattle.std.proofs.Common.{◌≡◌, List, [], ◌∷◌, Some, None, refl, arith}
 use Rattle.chess_bits.specs.declared.men.Colour.TheVariants.{White, Black}
-use Rattle.chess_clock.specs.declared.events.Event.{Event}
-use Rattle.chess_clock.specs.declared.events.Event.TheVariants.{Turn, WrongClaim}
+use Rattle.chess_clock.specs.declared.events.ClockEvent.{ClockEvent}
+use Rattle.chess_clock.specs.declared.events.ClockEvent.TheVariants.{Turn, WrongClaim}
 use Rattle.chess_clock.specs.TimeControl.{time_control}
 use Rattle.chess_clock.specs.Held.{held}
 use Rattle.chess_clock.specs.ClockState.{started, after, left, stopped_at, clock_of, HasFallen}
@@ -26,7 +26,7 @@ nothing_left : left White (started (time_control 1 0 None) White 0) 5000 ≡ 0
 nothing_left = refl
 
 -- eight moves at once, then White claims wrongly, moves after 4 s, and Black claims wrongly
-eight_moves : List Event
+eight_moves : List ClockEvent
 eight_moves =
     Turn White 0 ∷ Turn Black 0 ∷ Turn White 0 ∷ Turn Black 0
     ∷ Turn White 0 ∷ Turn Black 0 ∷ Turn White 0 ∷ Turn Black 0

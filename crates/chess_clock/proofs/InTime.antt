@@ -5,8 +5,8 @@ use Rattle.std.proofs.lemmas.List.{append-nil}
 use Rattle.chess_bits.specs.declared.men.Colour.{Colour}
 use Rattle.chess_bits.specs.declared.men.Colour.TheVariants.{White, Black}
 use Rattle.chess_bits.specs.Man.{other}
-use Rattle.chess_clock.specs.declared.events.Event.{Event}
-use Rattle.chess_clock.specs.declared.events.Event.TheVariants.{Turn, WrongClaim}
+use Rattle.chess_clock.specs.declared.events.ClockEvent.{ClockEvent}
+use Rattle.chess_clock.specs.declared.events.ClockEvent.TheVariants.{Turn, WrongClaim}
 use Rattle.chess_clock.specs.Events.{completed_moves, wrong_claims}
 use Rattle.chess_clock.specs.SideTimes.{given_further}
 use Rattle.chess_clock.specs.ClockState.{ClockState, after, time_of, given_within}
@@ -14,12 +14,12 @@ use Rattle.chess_clock.specs.Replay.{EndsInTime, IsWithinTime, TurnsEndInTime}
 use Rattle.chess_clock.proofs.AfterLemmas.{completed_moves-append, wrong_claims-append, time_used-append, given_further-more}
 
 -- what an event may do: a turn is of the side on move, and ends before its flag falls
-abbrev pub MayCome : ClockState → Event → Type 0
+abbrev pub MayCome : ClockState → ClockEvent → Type 0
 MayCome clock (Turn side length) = EndsInTime clock side length
 MayCome clock (WrongClaim side) = ⊤
 
 -- what a side is given grows with each event
-given_within-more : (side : Colour) (clock : ClockState) (es fs : List Event)
+given_within-more : (side : Colour) (clock : ClockState) (es fs : List ClockEvent)
     → given_within side clock es ≤ given_within side clock (es ++ fs)
 given_within-more side clock es fs =
     let to_go = (time_of side clock).to_go in
@@ -38,7 +38,7 @@ given_within-more side clock es fs =
     omega (arith, given)
 
 -- one event more
-pub IsWithinTime-push : (clock : ClockState) (es : List Event) (event : Event)
+pub IsWithinTime-push : (clock : ClockState) (es : List ClockEvent) (event : ClockEvent)
     → IsWithinTime clock es → MayCome (after clock es) event → IsWithinTime clock (es ++ event ∷ [])
 IsWithinTime-push clock es (Turn White length) within may_come =
     let u = time_used-append White es (Turn White length ∷ []) in
@@ -64,12 +64,12 @@ pub IsWithinTime-none : (clock : ClockState) → IsWithinTime clock []
 IsWithinTime-none clock = record { white_within = omega arith; black_within = omega arith }
 
 -- the event that comes after others of such a list
-pub may_come_at : (clock : ClockState) (before : List Event) (event : Event) (rest : List Event)
+pub may_come_at : (clock : ClockState) (before : List ClockEvent) (event : ClockEvent) (rest : List ClockEvent)
     → TurnsEndInTime clock (before ++ event ∷ rest) → MayCome (after clock before) event
 may_come_at clock before (Turn side length) rest in_time = in_time before side length rest refl
 may_come_at clock before (WrongClaim side) rest in_time = tt
 
-within_along : (clock : ClockState) (before rest : List Event)
+within_along : (clock : ClockState) (before rest : List ClockEvent)
     → TurnsEndInTime clock (before ++ rest) → IsWithinTime clock before → IsWithinTime clock (before ++ rest)
 within_along clock before [] in_time within = subst (IsWithinTime clock) (sym (append-nil before)) within
 within_along clock before (event ∷ rest) in_time within =
@@ -80,6 +80,6 @@ within_along clock before (event ∷ rest) in_time within =
     subst (IsWithinTime clock) same (within_along clock pushed rest later step)
 
 -- all events of such a list
-pub IsWithinTime-from_turns : (clock : ClockState) (events : List Event)
+pub IsWithinTime-from_turns : (clock : ClockState) (events : List ClockEvent)
     → TurnsEndInTime clock events → IsWithinTime clock events
 IsWithinTime-from_turns clock events in_time = within_along clock [] events in_time (IsWithinTime-none clock)

@@ -5,8 +5,8 @@ use Rattle.std.proofs.Math.Seq.{split_at}
 use Rattle.chess_bits.specs.declared.men.Colour.{Colour}
 use Rattle.chess_bits.specs.declared.men.Colour.TheVariants.{White, Black}
 use Rattle.chess_bits.specs.Man.{other}
-use Rattle.chess_clock.specs.declared.events.Event.{Event}
-use Rattle.chess_clock.specs.declared.events.Event.TheVariants.{Turn}
+use Rattle.chess_clock.specs.declared.events.ClockEvent.{ClockEvent}
+use Rattle.chess_clock.specs.declared.events.ClockEvent.TheVariants.{Turn}
 use Rattle.chess_clock.specs.ClockState.{ClockState, after, time_of, turn_ended, TimesFit}
 use Rattle.chess_clock.specs.Replay.{EndsInTime, IsWithinTime, TurnsEndInTime, TimesAlwaysFit}
 use Rattle.chess_clock.proofs.AfterLemmas.{after-append}
@@ -18,16 +18,16 @@ other-other White = refl
 other-other Black = refl
 
 -- A clock has gone through the events before this place, and neither side has used more than it had.
-pub record HasReplayed (start clock : ClockState) (events : List Event) (i : ℕ) : Type 0 where
+pub record HasReplayed (start clock : ClockState) (events : List ClockEvent) (i : ℕ) : Type 0 where
   pub clock_is : clock ≡ after start (take i events)
   pub within : IsWithinTime start (take i events)
 
 -- the event at a place of a list
-pub record IsAt (events : List Event) (i : ℕ) (event : Event) : Type 0 where
+pub record IsAt (events : List ClockEvent) (i : ℕ) (event : ClockEvent) : Type 0 where
   pub below : i < length events
   pub here : get_or events i (Turn White 0) ≡ event
 
-module _ {events : List Event} {i : ℕ} {event : Event} (at : IsAt events i event) where
+module _ {events : List ClockEvent} {i : ℕ} {event : ClockEvent} (at : IsAt events i event) where
   take_this : take (i + 1) events ≡ take i events ++ event ∷ []
   take_this = take_more events i (Turn White 0) at.below ∙ ap (λ e. take i events ++ e ∷ []) at.here
 
@@ -41,20 +41,20 @@ module _ {events : List Event} {i : ℕ} {event : Event} (at : IsAt events i eve
       ∙ sym (append_assoc (take i events) (event ∷ []) (drop (suc i) events))
       ∙ ap (λ es. es ++ drop (suc i) events) (sym take_this)
 
-module _ {start clock : ClockState} {events : List Event} {i : ℕ} (so_far : HasReplayed start clock events i) where
+module _ {start clock : ClockState} {events : List ClockEvent} {i : ℕ} (so_far : HasReplayed start clock events i) where
   -- what the event does is what the sums say
-  pub after_this : {event : Event} → IsAt events i event → after clock (event ∷ []) ≡ after start (take (i + 1) events)
+  pub after_this : {event : ClockEvent} → IsAt events i event → after clock (event ∷ []) ≡ after start (take (i + 1) events)
   after_this {event} at =
       ap (λ c. after c (event ∷ [])) so_far.clock_is
       ∙ after-append start (take i events) (event ∷ []) so_far.within
       ∙ ap (after start) (sym (take_this at))
 
-  pub fits_after_this : {event : Event} → IsAt events i event
+  pub fits_after_this : {event : ClockEvent} → IsAt events i event
       → TimesAlwaysFit start events → TimesFit (after clock (event ∷ []))
   fits_after_this at fits =
       subst TimesFit (sym (after_this at)) (fits (take (i + 1) events) (drop (suc i) events) (split_after at))
 
-  pub within_this : {event : Event} → IsAt events i event
+  pub within_this : {event : ClockEvent} → IsAt events i event
       → TurnsEndInTime start events → IsWithinTime start (take (i + 1) events)
   within_this {event} at in_time =
       let split = subst (TurnsEndInTime start) (split_this at) in_time in
@@ -62,7 +62,7 @@ module _ {start clock : ClockState} {events : List Event} {i : ℕ} (so_far : Ha
       subst (IsWithinTime start) (sym (take_this at))
       (IsWithinTime-push start (take i events) event so_far.within may_come)
 
-  pub replayed_this : {event : Event} {new : ClockState} → IsAt events i event → TurnsEndInTime start events
+  pub replayed_this : {event : ClockEvent} {new : ClockState} → IsAt events i event → TurnsEndInTime start events
       → new ≡ after clock (event ∷ []) → HasReplayed start new events (i + 1)
   replayed_this at in_time new_is =
       record { clock_is = new_is ∙ after_this at; within = within_this at in_time }

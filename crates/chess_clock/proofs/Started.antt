@@ -4,7 +4,7 @@ use Rattle.std.specs.Option.{ForSome}
 use Rattle.std.proofs.lemmas.Bool.Decides.{nat_tests}
 use Rattle.chess_bits.specs.declared.men.Colour.{Colour}
 use Rattle.chess_bits.specs.declared.men.Colour.TheVariants.{White, Black}
-use Rattle.chess_clock.specs.declared.events.Event.{Event}
+use Rattle.chess_clock.specs.declared.events.ClockEvent.{ClockEvent}
 use Rattle.chess_clock.specs.TimeControl.{TimeControl, IsTimeControl, IsPeriod, moves_to_go, second_period, time_control}
 use Rattle.chess_clock.specs.Events.{completed_moves, wrong_claims, time_used}
 use Rattle.chess_clock.specs.Held.{given_for}
@@ -33,7 +33,7 @@ given_further-from_start control n c ranges =
     omega arith
 
 -- A clock that started with the game shows, after these events, the sums over them.
-pub after_started : (control : TimeControl) (side : Colour) (at : ℕ) (events : List Event) → IsTimeControl control
+pub after_started : (control : TimeControl) (side : Colour) (at : ℕ) (events : List ClockEvent) → IsTimeControl control
     → after (started control side at) events ≡ clock_of control side at events
 after_started control side at events ranges =
     let n = completed_moves White events in
@@ -47,7 +47,7 @@ after_started control side at events ranges =
     cc
 
 -- One event more, or several: what the clock of a game shows goes on as the sums do.
-pub clock_of-append : (control : TimeControl) (side : Colour) (at : ℕ) (es fs : List Event) → IsTimeControl control
+pub clock_of-append : (control : TimeControl) (side : Colour) (at : ℕ) (es fs : List ClockEvent) → IsTimeControl control
     → IsWithinTime (started control side at) es
     → after (clock_of control side at es) fs ≡ clock_of control side at (es ++ fs)
 clock_of-append control side at es fs ranges within =

@@ -3,8 +3,8 @@ use Rattle.std.specs.Prelude.{ℕ, ◌≡◌, ◌+◌, ◌-◌, ◌*◌, ◌%◌
 use Rattle.chess_bits.specs.declared.men.Colour.{Colour}
 use Rattle.chess_bits.specs.declared.men.Colour.TheVariants.{White, Black}
 use Rattle.chess_bits.specs.Man.{other, is_colour}
-use Rattle.chess_clock.specs.declared.events.Event.{Event}
-use Rattle.chess_clock.specs.declared.events.Event.TheVariants.{Turn}
+use Rattle.chess_clock.specs.declared.events.ClockEvent.{ClockEvent}
+use Rattle.chess_clock.specs.declared.events.ClockEvent.TheVariants.{Turn}
 use Rattle.chess_clock.specs.TimeControl.{TimeControl, moves_to_go}
 use Rattle.chess_clock.specs.Events.{completed_moves, wrong_claims, time_used}
 use Rattle.chess_clock.specs.Held.{held}
@@ -50,13 +50,13 @@ left side clock at =
     if runs side clock then time.held - running_turn clock at else time.held
 
 -- what a side is given while these events happen
-abbrev pub given_within : Colour → ClockState → List Event → ℕ
+abbrev pub given_within : Colour → ClockState → List ClockEvent → ℕ
 given_within side clock events =
     given_further clock.control (time_of side clock).to_go
     (completed_moves side events) (wrong_claims (other side) events)
 
 -- a side's time after these events: the sums go on from what it was
-abbrev pub time_after : Colour → ClockState → List Event → SideTime
+abbrev pub time_after : Colour → ClockState → List ClockEvent → SideTime
 time_after side clock events = record {
   held = (time_of side clock).held + given_within side clock events - time_used side events;
   to_go = (time_of side clock).to_go - completed_moves side events;
@@ -67,7 +67,7 @@ abbrev pub on_move_after : Colour → ℕ → Colour
 on_move_after side turns = if turns % 2 == 0 then side else other side
 
 -- the clock after these events
-abbrev pub after : ClockState → List Event → ClockState
+abbrev pub after : ClockState → List ClockEvent → ClockState
 after clock events = record {
   control = clock.control;
   side = on_move_after clock.side (completed_moves White events + completed_moves Black events);
@@ -78,7 +78,7 @@ after clock events = record {
 }
 
 -- the turn that ends at this moment with a completed move, as the only event
-abbrev pub turn_ended : ClockState → ℕ → List Event
+abbrev pub turn_ended : ClockState → ℕ → List ClockEvent
 turn_ended clock at = Turn clock.side (running_turn clock at) ∷ []
 
 -- the clock that is stopped at this moment: each side holds what it had left
@@ -107,7 +107,7 @@ abbrev pub IsNotBefore : ClockState → ℕ → Type 0
 IsNotBefore clock at = clock.is_stopped ≡ false → clock.since ≤ at
 
 -- the clock of a game with these times, of which the side began at this moment, after these events
-abbrev pub clock_of : TimeControl → Colour → ℕ → List Event → ClockState
+abbrev pub clock_of : TimeControl → Colour → ℕ → List ClockEvent → ClockState
 clock_of control side at events = record {
   control = control;
   side = on_move_after side (completed_moves White events + completed_moves Black events);

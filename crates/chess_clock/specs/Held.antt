@@ -3,7 +3,7 @@
 use Rattle.std.specs.Prelude.{ℕ, ◌+◌, ◌-◌, ◌*◌, List}
 use Rattle.chess_bits.specs.declared.men.Colour.{Colour}
 use Rattle.chess_bits.specs.Man.{other}
-use Rattle.chess_clock.specs.declared.events.Event.{Event}
+use Rattle.chess_clock.specs.declared.events.ClockEvent.{ClockEvent}
 use Rattle.chess_clock.specs.TimeControl.{TimeControl, second_period}
 use Rattle.chess_clock.specs.Events.{completed_moves, wrong_claims, time_used}
 
@@ -18,9 +18,9 @@ given_for control moves claims =
     + second_period control.period moves
 
 -- what a side has been given in a game
-abbrev pub given : Colour → TimeControl → List Event → ℕ
+abbrev pub given : Colour → TimeControl → List ClockEvent → ℕ
 given side control events = given_for control (completed_moves side events) (wrong_claims (other side) events)
 
 -- The time that a side holds: what it has been given, less the lengths of its finished turns.
-abbrev pub held : Colour → TimeControl → List Event → ℕ
+abbrev pub held : Colour → TimeControl → List ClockEvent → ℕ
 held side control events = given side control events - time_used side events

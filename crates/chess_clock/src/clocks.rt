@@ -3,7 +3,7 @@ ghost use Rattle.chess_bits.specs.Man.{other};
 ghost use Rattle.chess_clock.specs.TimeControl.{time_control, IsTimeControl, moves_to_go};
 ghost use Rattle.chess_clock.specs.ClockState.{started, time_of, left, HasFallen, after, turn_ended, stopped_at, with_time, IsNotBefore, TimesFit};
 
-use crate::events::Event;
+use crate::events::ClockEvent;
 use crate::side_times::SideTime;
 use crate::time_control::TimeControl;
 use chess_bits::Colour;
@@ -132,8 +132,8 @@ impl Clock {
     /// Adds 120,000 ms to the colour's time, for a wrong claim of its opponent (FIDE article 9.5.3).
     pub fn penalty(&mut self, colour: Colour)
         requires running { self.old.is_stopped ≡ false }
-        requires fits { TimesFit (after self.old (Event.WrongClaim (other colour) ∷ [])) }
-        ensures { self.new ≡ after self.old (Event.WrongClaim (other colour) ∷ []) }
+        requires fits { TimesFit (after self.old (ClockEvent.WrongClaim (other colour) ∷ [])) }
+        ensures { self.new ≡ after self.old (ClockEvent.WrongClaim (other colour) ∷ []) }
     {
         self.set_time(colour, self.time(colour).with_penalty());
     }
@@ -189,7 +189,7 @@ impl Clock {
     /// Takes the clock through turns and wrong claims: its times are then the sums over all of them, going on from what
     /// they were, and no side has used more than it had. Each turn is one of the side on move and ends before its flag
     /// falls, and no time held comes to pass 4,294,967,295 ms.
-    pub fn replay(&mut self, events: &[Event])
+    pub fn replay(&mut self, events: &[ClockEvent])
         requires running { self.old.is_stopped ≡ false }
         requires in_time { TurnsEndInTime self.old events.now }
         requires fits { TimesAlwaysFit self.old events.now }
@@ -199,8 +199,8 @@ impl Clock {
     {
         for event in events {
             match *event {
-                Event::Turn(_, length) => self.finish_turn(self.since() + length),
-                Event::WrongClaim(claimant) => self.penalty(claimant.other()),
+                ClockEvent::Turn(_, length) => self.finish_turn(self.since() + length),
+                ClockEvent::WrongClaim(claimant) => self.penalty(claimant.other()),
             }
         }
     }
@@ -213,7 +213,7 @@ impl Clock {
         side: Colour,
         at: u64,
         period: Option<(u32, u32)>,
-        events: &[Event],
+        events: &[ClockEvent],
     ) -> Clock
         requires times { IsTimeControl (time_control initial increment period) }
         requires in_time { TurnsEndInTime (started (time_control initial increment period) side at) events.now }

@@ -7,5 +7,5 @@ mod side_times;
 mod time_control;
 
 pub use clocks::Clock;
-pub use events::Event;
+pub use events::ClockEvent;
 pub use time_control::is_time_control;

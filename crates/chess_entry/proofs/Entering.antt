@@ -21,7 +21,7 @@ use Rattle.chess_entry.specs.declared.verdicts.Verdict.TheVariants.{Refuse, Ente
 use Rattle.chess_entry.specs.declared.refusals.Refusal.TheVariants.{OfferStands, NoOffer, TooEarly, AlreadyClaimed, FlagUp}
 use Rattle.chess_entry.specs.State.{GameState, TableState, position_of, ply_of, seat_of, is_joined, is_over, find_game}
 use Rattle.chess_entry.specs.Told.{Told}
-use Rattle.chess_entry.specs.Verdict.{Check, refuse, first_of, is_period, are_times, is_start, is_finished, is_full, is_long, is_on_move, has_offer, has_fallen, in_game, by_side, while_running, in_turn, for_move, for_stated, opened_from, moved, open_verdict, join_verdict, move_verdict, offer_verdict, accept_verdict, decline_verdict, resign_verdict, claim_verdict, flag_verdict, drop_verdict, in_seat, side_of, player_verdict, name_or_none, is_read, effective, verdict}
+use Rattle.chess_entry.specs.Verdict.{Check, refuse, first_of, is_period, are_times, is_start, is_finished, is_full, is_long, is_on_move, has_offer, has_fallen, in_game, by_side, while_running, in_turn, for_move, for_stated, opened_from, move_entered, open_verdict, join_verdict, move_verdict, offer_verdict, accept_verdict, decline_verdict, resign_verdict, claim_verdict, flag_verdict, drop_verdict, in_seat, side_of, player_verdict, name_or_none, is_read, effective, verdict}
 use Rattle.chess_entry.proofs.Allowed.{IsPlaying, IsInTime, IsAllowed}
 
 -- An entry opens a game with the next number.
@@ -135,10 +135,10 @@ is_colour-same White Black h = absurd (cc)
 is_colour-same Black White h = absurd (cc)
 is_colour-same Black Black h = refl
 
-moved-follows : (game : GameState) (at : ℕ) (move : Option Move) (e : Entry) → IsInTime game at →
-    moved game at move ≡ Enter e → Follows game at (moved game at move) e
-moved-follows game at None e up h = absurd (cc)
-moved-follows game at (Some m) e up h =
+move_entered-follows : (game : GameState) (at : ℕ) (move : Option Move) (e : Entry) → IsInTime game at →
+    move_entered game at move ≡ Enter e → Follows game at (move_entered game at move) e
+move_entered-follows game at None e up h = absurd (cc)
+move_entered-follows game at (Some m) e up h =
     (event.Move (record { mv = m; ply = ply_of game }), (up, refl), entered _ e h)
 
 -- the checks of a move passed
@@ -177,10 +177,10 @@ move-enters : (table : TableState) (ply : ℕ) (move : Option Move) →
     EntersIn table (λ at. move_verdict table at ply move)
 move-enters table ply move number at game side e found h =
     runs table number game at _ e found
-    (while_running-entered game at (in_turn game side ply ++ for_move table game move) (moved game at move) e h)
-    (λ up rest. moved-follows game at move e up
-    (for_move-passed table game move (moved game at move) e
-    (in_turn-passed game side ply (for_move table game move) (moved game at move) e rest).1))
+    (while_running-entered game at (in_turn game side ply ++ for_move table game move) (move_entered game at move) e h)
+    (λ up rest. move_entered-follows game at move e up
+    (for_move-passed table game move (move_entered game at move) e
+    (in_turn-passed game side ply (for_move table game move) (move_entered game at move) e rest).1))
 
 offer-enters : (table : TableState) → EntersIn table offer_verdict
 offer-enters table number at game side e found h =

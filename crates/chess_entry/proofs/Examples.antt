@@ -36,36 +36,36 @@ e7e5 = record { from = record { file = 5; rank = 7 }; to = record { file = 5; ra
 joined : Option (ℕ × ℕ) → ℕ → List Entry
 joined period at = entry 1 0 (event.Open (opening period)) ∷ entry 1 at (event.Join (66 ∷ [])) ∷ []
 
-moved : ℕ → ℕ → Move → Entry
-moved at ply m = entry 1 at (event.Move (record { mv = m; ply = ply }))
+played : ℕ → ℕ → Move → Entry
+played at ply m = entry 1 at (event.Move (record { mv = m; ply = ply }))
 
 -- ---- times
 
 -- Joined at 1,000, the flag falls at 61,000. A move at 60,999 leaves 1 ms and the increment.
 white_after_move :
-    held White (control_of (opening None)) (clock_events initial (joined None 1000 ++ moved 60999 0 e2e4 ∷ [])) ≡ 2001
-unfolding opening joined moved e2e4
+    held White (control_of (opening None)) (clock_events initial (joined None 1000 ++ played 60999 0 e2e4 ∷ [])) ≡ 2001
+unfolding opening joined played e2e4
 white_after_move = refl
 
 black_waits :
-    held Black (control_of (opening None)) (clock_events initial (joined None 1000 ++ moved 60999 0 e2e4 ∷ [])) ≡ 60000
-unfolding opening joined moved e2e4
+    held Black (control_of (opening None)) (clock_events initial (joined None 1000 ++ played 60999 0 e2e4 ∷ [])) ≡ 60000
+unfolding opening joined played e2e4
 black_waits = refl
 
-turn_of_black : turn_start initial (joined None 1000 ++ moved 60999 0 e2e4 ∷ []) ≡ 60999
-unfolding opening joined moved e2e4
+turn_of_black : turn_start initial (joined None 1000 ++ played 60999 0 e2e4 ∷ []) ≡ 60999
+unfolding opening joined played e2e4
 turn_of_black = refl
 
 -- One move in 60 s, then 30 s more, and 2 s a move.
 two_moves : List Entry
-two_moves = joined (Some (1, 30)) 0 ++ moved 10000 0 e2e4 ∷ moved 69999 1 e7e5 ∷ []
+two_moves = joined (Some (1, 30)) 0 ++ played 10000 0 e2e4 ∷ played 69999 1 e7e5 ∷ []
 
 white_in_second : held White (control_of (opening (Some (1, 30)))) (clock_events initial two_moves) ≡ 82000
-unfolding opening joined moved two_moves e2e4 e7e5
+unfolding opening joined played two_moves e2e4 e7e5
 white_in_second = refl
 
 black_in_second : held Black (control_of (opening (Some (1, 30)))) (clock_events initial two_moves) ≡ 32001
-unfolding opening joined moved two_moves e2e4 e7e5
+unfolding opening joined played two_moves e2e4 e7e5
 black_in_second = refl
 
 -- ---- a game without a move: White offers, claims wrongly, and Black resigns

@@ -6,7 +6,7 @@ use Rattle.chess_bits.specs.declared.men.Colour.{Colour}
 use Rattle.chess_bits.specs.declared.men.Colour.TheVariants.{White, Black}
 use Rattle.chess_bits.specs.Man.{is_colour, other}
 use Rattle.chess_board.specs.declared.moves.Move.{Move}
-use Rattle.chess_clock.specs.declared.events.Event.TheVariants as clock
+use Rattle.chess_clock.specs.declared.events.ClockEvent.TheVariants as clock
 use Rattle.chess_clock.specs.ClockState.{on_move_after}
 use Rattle.rec_codec.specs.declared.record.Event.{Event}
 use Rattle.rec_codec.specs.declared.record.Event.TheVariants as event

@@ -6,7 +6,7 @@ use Rattle.chess_bits.specs.declared.men.Colour.TheVariants.{White, Black}
 use Rattle.chess_board.specs.declared.moves.Move.{Move}
 use Rattle.chess_board.specs.Position.{Position}
 use Rattle.chess_end.specs.declared.ending.Ending.{Ending}
-use Rattle.chess_clock.specs.declared.events.Event.{Event as ClockEvent}
+use Rattle.chess_clock.specs.declared.events.ClockEvent.{ClockEvent}
 use Rattle.chess_clock.specs.Held.{held}
 use Rattle.rec_codec.specs.declared.record.Entry.{Entry}
 use Rattle.rec_codec.specs.declared.record.Opening.{Opening}

@@ -8,8 +8,8 @@ use Rattle.chess_bits.specs.Man.{other}
 use Rattle.chess_board.specs.declared.moves.Move.{Move}
 use Rattle.chess_board.specs.Position.{Position}
 use Rattle.chess_board.specs.Next.{next}
-use Rattle.chess_clock.specs.declared.events.Event.{Event as ClockEvent}
-use Rattle.chess_clock.specs.declared.events.Event.TheVariants as clock
+use Rattle.chess_clock.specs.declared.events.ClockEvent.{ClockEvent}
+use Rattle.chess_clock.specs.declared.events.ClockEvent.TheVariants as clock
 use Rattle.chess_clock.specs.TimeControl.{TimeControl, second_period}
 use Rattle.chess_clock.specs.Events.{completed_moves, wrong_claims, time_used}
 use Rattle.chess_clock.specs.Held.{given_for, given, held}

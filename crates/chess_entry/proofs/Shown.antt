@@ -7,8 +7,8 @@ use Rattle.chess_bits.specs.Man.{is_colour, other}
 use Rattle.chess_board.specs.declared.moves.Move.{Move}
 use Rattle.chess_board.specs.Position.{Position}
 use Rattle.chess_end.specs.declared.ending.Ending.{Ending}
-use Rattle.chess_clock.specs.declared.events.Event.{Event as ClockEvent}
-use Rattle.chess_clock.specs.declared.events.Event.TheVariants as clock
+use Rattle.chess_clock.specs.declared.events.ClockEvent.{ClockEvent}
+use Rattle.chess_clock.specs.declared.events.ClockEvent.TheVariants as clock
 use Rattle.chess_clock.specs.TimeControl.{TimeControl}
 use Rattle.chess_clock.specs.Held.{held}
 use Rattle.chess_clock.specs.ClockState.{on_move_after}

@@ -5,8 +5,8 @@ use Rattle.chess_bits.specs.declared.men.Colour.{Colour}
 use Rattle.chess_bits.specs.Man.{is_colour}
 use Rattle.chess_board.specs.declared.moves.Move.{Move}
 use Rattle.chess_board.specs.Position.{Position}
-use Rattle.chess_clock.specs.declared.events.Event.{Event as ClockEvent}
-use Rattle.chess_clock.specs.declared.events.Event.TheVariants as clock
+use Rattle.chess_clock.specs.declared.events.ClockEvent.{ClockEvent}
+use Rattle.chess_clock.specs.declared.events.ClockEvent.TheVariants as clock
 use Rattle.chess_clock.specs.TimeControl.{TimeControl}
 use Rattle.chess_clock.specs.ClockState.{on_move_after}
 use Rattle.chess_clock.specs.Held.{held}

@@ -132,9 +132,9 @@ abbrev pub opened_from : TableState → ℕ → (Position → Opening) → Optio
 opened_from table at opening None = Refuse BadFen
 opened_from table at opening (Some start) = opened table at (opening start)
 
-abbrev pub moved : GameState → ℕ → Option Move → Verdict
-moved game at None = Refuse BadMove
-moved game at (Some m) = Enter (entry game.number at (event.Move (record { mv = m; ply = ply_of game })))
+abbrev pub move_entered : GameState → ℕ → Option Move → Verdict
+move_entered game at None = Refuse BadMove
+move_entered game at (Some m) = Enter (entry game.number at (event.Move (record { mv = m; ply = ply_of game })))
 
 -- ---- each act: its checks in their order, and what it is where none applies
 
@@ -154,7 +154,7 @@ join_verdict at name game = first_of
 abbrev pub move_verdict : TableState → ℕ → ℕ → Option Move → GameState → Colour → Verdict
 move_verdict table at ply move game side = first_of
     (while_running game at ++ (in_turn game side ply ++ for_move table game move))
-    (moved game at move)
+    (move_entered game at move)
 
 abbrev pub offer_verdict : ℕ → GameState → Colour → Verdict
 offer_verdict at game side = first_of

@@ -1,3 +1,6 @@
+ghost use Rattle.std.specs.Prelude.{IfSome};
+ghost use Rattle.rec_codec.specs.Name.{IsName};
+
 use arrayvec::ArrayString;
 use chess_bits::Colour;
 use rec_codec::Name;
@@ -81,4 +84,13 @@ pub struct Command {
     pub at: u64,
     pub who: Option<Name>,
     pub act: Act,
+}
+
+/// Whoever asks has a name of the right form. A proof knows it behind this call; nothing else comes of it.
+pub fn know_name(who: &Option<Name>)
+    ensures { IfSome who.now IsName }
+{
+    if let Some(name) = who {
+        let _name = name.as_str();
+    }
 }

@@ -13,10 +13,10 @@ use chess_board::{Board, CastlingRights, Men};
 use itoa::Buffer;
 
 /// Room for a FEN, which has at most 93 bytes: 64 men, 7 strokes, 17 bytes of other fields and 5 spaces.
-pub type Text = ArrayString<96>;
+pub type FenText = ArrayString<96>;
 
 /// Appends an ASCII character.
-pub fn push(text: &mut Text, character: char)
+pub fn push(text: &mut FenText, character: char)
     requires ascii { character < 128 }
     requires room { array_string_len text.old < 96 }
     ensures bytes { text.new.bytes ≡ text.old.bytes ++ character ∷ [] }
@@ -26,7 +26,7 @@ pub fn push(text: &mut Text, character: char)
 }
 
 // Appends the digit of a run of empty squares, if there is one.
-fn push_run(text: &mut Text, empty: u8)
+fn push_run(text: &mut FenText, empty: u8)
     requires run { empty ≤ 8 }
     requires room { array_string_len text.old < 96 }
     ensures bytes { text.new.bytes ≡ text.old.bytes ++ run_text empty }
@@ -40,7 +40,7 @@ fn push_run(text: &mut Text, empty: u8)
 }
 
 /// Appends the text of a rank, from the letters on its squares. The men stand in the contract alone.
-pub fn push_rank(text: &mut Text, _men: &Men, letters: &[u8; 64], rank: u8)
+pub fn push_rank(text: &mut FenText, _men: &Men, letters: &[u8; 64], rank: u8)
     requires letters { AreLetters letters.now _men.now }
     requires from { 1 ≤ rank }
     requires to { rank ≤ 8 }
@@ -64,7 +64,7 @@ pub fn push_rank(text: &mut Text, _men: &Men, letters: &[u8; 64], rank: u8)
 }
 
 /// The text of the ranks from 8 down to 1.
-pub fn placement(men: &Men) -> Text
+pub fn placement(men: &Men) -> FenText
     ensures bytes { result.bytes ≡ placement_text men.now }
     ensures len { array_string_len result ≤ 71 }
 {
@@ -79,7 +79,7 @@ pub fn placement(men: &Men) -> Text
 }
 
 // Appends `w` or `b`.
-fn push_side(text: &mut Text, side: Colour)
+fn push_side(text: &mut FenText, side: Colour)
     requires room { array_string_len text.old < 96 }
     ensures bytes { text.new.bytes ≡ text.old.bytes ++ side_letter side ∷ [] }
     ensures len { array_string_len text.new ≡ array_string_len text.old + 1 }
@@ -91,7 +91,7 @@ fn push_side(text: &mut Text, side: Colour)
 }
 
 // Appends a right's letter, if there is the right.
-fn push_right(text: &mut Text, right: bool, letter: char)
+fn push_right(text: &mut FenText, right: bool, letter: char)
     requires ascii { letter < 128 }
     requires room { array_string_len text.old < 96 }
     ensures bytes { text.new.bytes ≡ text.old.bytes ++ letter_if right letter }
@@ -103,7 +103,7 @@ fn push_right(text: &mut Text, right: bool, letter: char)
 }
 
 /// Appends the letters of the rights that are left, or `-`.
-pub fn push_rights(text: &mut Text, rights: CastlingRights)
+pub fn push_rights(text: &mut FenText, rights: CastlingRights)
     requires room { array_string_len text.old + 4 ≤ 96 }
     ensures bytes { text.new.bytes ≡ text.old.bytes ++ rights_text (rights_of rights) }
     ensures len { array_string_len text.new ≤ array_string_len text.old + 4 }
@@ -119,7 +119,7 @@ pub fn push_rights(text: &mut Text, rights: CastlingRights)
 }
 
 // Appends the target's name, or `-`.
-fn push_target(text: &mut Text, target: Option<Square>)
+fn push_target(text: &mut FenText, target: Option<Square>)
     requires room { array_string_len text.old + 2 ≤ 96 }
     ensures bytes { text.new.bytes ≡ text.old.bytes ++ target_text target }
     ensures len { array_string_len text.new ≤ array_string_len text.old + 2 }
@@ -134,7 +134,7 @@ fn push_target(text: &mut Text, target: Option<Square>)
 }
 
 // Appends a space and a number.
-fn push_number(text: &mut Text, number: u16)
+fn push_number(text: &mut FenText, number: u16)
     requires room { array_string_len text.old + 6 ≤ 96 }
     ensures bytes { text.new.bytes ≡ text.old.bytes ++ 32 ∷ decimal number }
     ensures len { array_string_len text.new ≤ array_string_len text.old + 6 }
@@ -145,7 +145,7 @@ fn push_number(text: &mut Text, number: u16)
 }
 
 /// Appends the other five fields to a placement.
-pub fn push_fields(text: &mut Text, board: &Board)
+pub fn push_fields(text: &mut FenText, board: &Board)
     requires placement { text.old.bytes ≡ placement_text board.now.placement }
     requires room { array_string_len text.old ≤ 71 }
     ensures { text.new.bytes ≡ fen_of board.now }

@@ -8,7 +8,7 @@ mod reading;
 mod shown;
 mod squares;
 
-pub use fen::{Text, fen_write, push};
+pub use fen::{FenText, fen_write, push};
 pub use fields::FenError;
 pub use reading::fen_read;
 pub use shown::ShownBoard;

@@ -6,7 +6,7 @@ ghost use Rattle.chess_bits.specs.Table.{has};
 ghost use Rattle.chess_notation.specs.Fen.{rank_of, placement_text, fen_of, IsFenOf, AreLetters};
 ghost use Rattle.chess_fen.specs.Shown.{IsFilled, filled_up, shown_part, IsRankText, AreRankTexts, HasChanges, TellsRanks};
 
-use crate::fen::{Text, push, push_fields, push_rank};
+use crate::fen::{FenText, push, push_fields, push_rank};
 use crate::letters::{letter_at, letters_of};
 use chess_bits::{Bits, Colour, Kind};
 use chess_board::{Board, Men};
@@ -15,7 +15,7 @@ use std::marker::Model;
 // The text of a rank, filled up to eight bytes. So many are copied at once, and then cut.
 #[derive(Drop)]
 struct RankText {
-    filled: Text,
+    filled: FenText,
     end: usize,
 }
 
@@ -39,7 +39,7 @@ pub struct ShownBoard {
     board: Board,
     letters: [u8; 64],
     ranks: RankTexts,
-    shown: Text,
+    shown: FenText,
 }
 
 impl Model for ShownBoard {
@@ -62,7 +62,7 @@ impl ShownBoard {
     {
         let letters = letters_of(board.men());
         let ranks = rank_texts(board.men(), &letters);
-        let mut shown = Text::new();
+        let mut shown = FenText::new();
         write_fen(&mut shown, &board, &ranks);
         ShownBoard {
             board,
@@ -108,7 +108,7 @@ impl ShownBoard {
 }
 
 // Fills the text of a rank up, and tells where it ended.
-fn fill(text: &mut Text) -> usize
+fn fill(text: &mut FenText) -> usize
     requires { array_string_len text.old ≤ 8 }
     ensures end { result ≡ array_string_len text.old }
     ensures filled { text.new.bytes ≡ filled_up text.old.bytes }
@@ -126,7 +126,7 @@ fn rank_text(men: &Men, letters: &[u8; 64], rank: u8) -> RankText
     requires to { rank ≤ 8 }
     ensures { IsRankText result men.now rank }
 {
-    let mut filled = Text::new();
+    let mut filled = FenText::new();
     push_rank(&mut filled, men, letters, rank);
     let end = fill(&mut filled);
     RankText { filled, end }
@@ -238,7 +238,7 @@ fn renew_all(texts: &mut RankTexts, old: &Men, men: &Men, letters: &[u8; 64], to
 }
 
 // Appends the text of a rank.
-fn push_filled(text: &mut Text, rank: &RankText)
+fn push_filled(text: &mut FenText, rank: &RankText)
     requires filled { IsFilled rank.now }
     requires room { array_string_len text.old + 8 ≤ 96 }
     ensures bytes { text.new.bytes ≡ text.old.bytes ++ shown_part rank.now }
@@ -251,7 +251,7 @@ fn push_filled(text: &mut Text, rank: &RankText)
 }
 
 // Appends the text of a rank, and what parts it from the next.
-fn push_one(text: &mut Text, rank: &RankText)
+fn push_one(text: &mut FenText, rank: &RankText)
     requires filled { IsFilled rank.now }
     requires room { array_string_len text.old + 9 ≤ 96 }
     ensures bytes { text.new.bytes ≡ (text.old.bytes ++ shown_part rank.now) ++ 47 ∷ [] }
@@ -262,7 +262,7 @@ fn push_one(text: &mut Text, rank: &RankText)
 }
 
 // Writes the texts of the ranks, where nothing was.
-fn push_ranks(text: &mut Text, _men: &Men, texts: &RankTexts)
+fn push_ranks(text: &mut FenText, _men: &Men, texts: &RankTexts)
     requires nothing { text.old.bytes ≡ [] }
     requires texts { AreRankTexts texts.now _men.now }
     ensures bytes { text.new.bytes ≡ placement_text _men.now }
@@ -279,7 +279,7 @@ fn push_ranks(text: &mut Text, _men: &Men, texts: &RankTexts)
 }
 
 // Writes the FEN in place of what was.
-fn write_fen(text: &mut Text, board: &Board, ranks: &RankTexts)
+fn write_fen(text: &mut FenText, board: &Board, ranks: &RankTexts)
     requires { AreRankTexts ranks.now board.now.placement }
     ensures { text.new.bytes ≡ fen_of board.now }
 {

@@ -11,7 +11,7 @@ use Rattle.chess_bits.specs.declared.men.Colour.TheVariants.{White, Black}
 use Rattle.chess_bits.specs.Man.{is_colour}
 use Rattle.chess_board.specs.declared.moves.Move.{Move}
 use Rattle.chess_board.specs.Position.{Position}
-use Rattle.chess_clock.specs.declared.events.Event.TheVariants.{WrongClaim}
+use Rattle.chess_clock.specs.declared.events.ClockEvent.TheVariants.{WrongClaim}
 use Rattle.chess_clock.specs.TimeControl.{moves_to_go}
 use Rattle.chess_clock.specs.ClockState.{ClockState, time_of, left, started, after, turn_ended as turn_event, HasFallen, TimesFit}
 use Rattle.chess_end.specs.declared.ending.Ending.{Ending}

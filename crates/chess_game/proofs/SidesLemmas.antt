@@ -7,8 +7,8 @@ use Rattle.chess_bits.specs.declared.men.Colour.TheVariants.{White, Black}
 use Rattle.chess_bits.specs.Man.{other, is_colour}
 use Rattle.chess_board.specs.declared.moves.Move.{Move}
 use Rattle.chess_board.specs.Position.{Position}
-use Rattle.chess_clock.specs.declared.events.Event.{Event}
-use Rattle.chess_clock.specs.declared.events.Event.TheVariants.{Turn, WrongClaim}
+use Rattle.chess_clock.specs.declared.events.ClockEvent.{ClockEvent}
+use Rattle.chess_clock.specs.declared.events.ClockEvent.TheVariants.{Turn, WrongClaim}
 use Rattle.chess_clock.specs.TimeControl.{TimeControl, moves_to_go}
 use Rattle.chess_clock.specs.Events.{time_used}
 use Rattle.chess_clock.specs.SideTimes.{second_within, given_further}
@@ -96,7 +96,7 @@ other_to_go Black clock l = omega arith
 abbrev clock_in_turn : GameState → Colour → ClockState
 clock_in_turn game mover = record (clock_for game) { side = mover }
 
-abbrev turn_at : GameState → ℕ → Colour → List Event
+abbrev turn_at : GameState → ℕ → Colour → List ClockEvent
 turn_at game at mover = Turn mover (at - game.moment) ∷ []
 
 mover_held_turned : (game : GameState) (at : ℕ) (side : Colour) → on_move_after game.start.side (ply_of game) ≡ side

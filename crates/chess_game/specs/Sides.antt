@@ -3,7 +3,7 @@ use Rattle.std.specs.Prelude.{ℕ, List, Bool, true, false, [], ◌∷◌, Optio
 use Rattle.chess_bits.specs.declared.men.Colour.{Colour}
 use Rattle.chess_bits.specs.declared.men.Colour.TheVariants.{White, Black}
 use Rattle.chess_bits.specs.Man.{other}
-use Rattle.chess_clock.specs.declared.events.Event.TheVariants.{WrongClaim}
+use Rattle.chess_clock.specs.declared.events.ClockEvent.TheVariants.{WrongClaim}
 use Rattle.chess_clock.specs.ClockState.{after, turn_ended, stopped_at}
 use Rattle.chess_end.specs.declared.ending.Ending.{Ending}
 use Rattle.chess_entry.specs.Follow.{seated}

@@ -1,6 +1,6 @@
 ghost use Rattle.std.specs.Prelude.{◌≡◌, ◌≤◌, [], ◌∷◌, false};
 ghost use Rattle.chess_bits.specs.Man.{other};
-ghost use Rattle.chess_clock.specs.declared.events.Event.TheVariants.{WrongClaim};
+ghost use Rattle.chess_clock.specs.declared.events.ClockEvent.TheVariants.{WrongClaim};
 ghost use Rattle.chess_clock.specs.ClockState.{after, turn_ended, HasFallen, TimesFit};
 ghost use Rattle.chess_game.specs.Sides.{offering, turn_over, stopped, stopped_if, with_wrong_claim, with_player, seat_kept};
 

@@ -14,8 +14,8 @@ use Rattle.chess_bits.specs.declared.men.Colour.TheVariants.{White, Black}
 use Rattle.arrayvec.specs.ArrayString.{ArrayString}
 use Rattle.chess_entry.specs.declared.commands.Act.{Act}
 use Rattle.chess_entry.specs.declared.commands.Act.TheVariants as acts
-use Rattle.chess_line.specs.declared.lines.Line.{Line}
-use Rattle.chess_line.specs.declared.lines.Line.TheVariants as lines
+use Rattle.chess_line.specs.declared.lines.Request.{Request}
+use Rattle.chess_line.specs.declared.lines.Request.TheVariants as lines
 use Rattle.chess_line.specs.Fields.{IsNumber, IsField, IsRest, colour_word, claim_word, times_text, AreTimes, optional}
 use Rattle.chess_line.specs.Line.{act_fields, line_fields, IsSayable, IsSayableLine, HasForm}
 
@@ -115,9 +115,9 @@ act_ascii (acts.Show game) h = (plain (codes "show") refl, (number_ascii game h,
 act_ascii (acts.Fen game) h = (plain (codes "fen") refl, (number_ascii game h, tt))
 act_ascii (acts.Pgn game) h = (plain (codes "pgn") refl, (number_ascii game h, tt))
 
-fields_ascii : (line : Line) → IsSayableLine line → AreAscii (line_fields line)
+fields_ascii : (line : Request) → IsSayableLine line → AreAscii (line_fields line)
 fields_ascii (lines.Called name) h = (plain (codes "name") refl, (name_ascii_by name h.bytes, tt))
 fields_ascii (lines.Act act) h = act_ascii act h
 
-pub line_ascii : (text : List ℕ) (line : Line) → HasForm text line → IsAscii text
+pub line_ascii : (text : List ℕ) (line : Request) → HasForm text line → IsAscii text
 line_ascii text line h = rw (h.spelled) (joined_ascii (line_fields line) (fields_ascii line h.sayable))

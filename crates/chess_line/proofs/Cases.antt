@@ -10,8 +10,8 @@ use Rattle.arrayvec.specs.ArrayString.{ArrayString}
 use Rattle.chess_entry.specs.Told.{bytes_of}
 use Rattle.chess_entry.specs.declared.commands.Act.{Act}
 use Rattle.chess_entry.specs.declared.commands.Act.TheVariants as acts
-use Rattle.chess_line.specs.declared.lines.Line.{Line}
-use Rattle.chess_line.specs.declared.lines.Line.TheVariants as lines
+use Rattle.chess_line.specs.declared.lines.Request.{Request}
+use Rattle.chess_line.specs.declared.lines.Request.TheVariants as lines
 use Rattle.chess_line.specs.Fields.{IsNumber, IsField, IsRest, colour_word, claim_word, times_text, AreTimes, optional}
 use Rattle.chess_line.specs.Cut.{Unspaced, joined}
 use Rattle.chess_line.specs.Line.{act_fields, IsSayable, IsLineAfter, HasForm}
@@ -179,7 +179,7 @@ game_after word rest (acts.Pgn g) h o m k is =
     of_game word rest (codes "pgn") g (acts.Pgn g) h (unspaced (codes "pgn") refl) is.sayable is.sayable refl is.spelled
 
 -- A line without a space is `list`.
-pub is_list : (word : List ℕ) (line : Line) → Unspaced word → HasForm word line → word ≡ codes "list"
+pub is_list : (word : List ℕ) (line : Request) → Unspaced word → HasForm word line → word ≡ codes "list"
 is_list word (lines.Called name) h is = absurd (no_parts 32 word (codes "name") name h is.spelled)
 is_list word (lines.Act acts.List) h is = is.spelled
 is_list word (lines.Act (acts.NewGame colour initial increment fen period)) h is = absurd (no_parts 32 word (codes "open") _ h is.spelled)
@@ -197,12 +197,12 @@ is_list word (lines.Act (acts.Fen g)) h is = absurd (no_parts 32 word (codes "fe
 is_list word (lines.Act (acts.Pgn g)) h is = absurd (no_parts 32 word (codes "pgn") _ h is.spelled)
 
 -- a line after a word that is not `name`
-pub record ActAfter (word rest : List ℕ) (line : Line) : Type 0 where
+pub record ActAfter (word rest : List ℕ) (line : Request) : Type 0 where
   pub act : Act
   pub is : line ≡ lines.Act act
   pub after : IsLineAfter word rest (lines.Act act)
 
-pub act_after : (text word rest : List ℕ) (line : Line) → Unspaced word → word ≢ codes "name" → text ≡ word ++ (32 ∷ rest) →
+pub act_after : (text word rest : List ℕ) (line : Request) → Unspaced word → word ≢ codes "name" → text ≡ word ++ (32 ∷ rest) →
     HasForm text line → ActAfter word rest line
 act_after text word rest (lines.Called name) h n e is =
     absurd (n (same_parts 32 word (codes "name") rest name h (unspaced (codes "name") refl) (sym e ∙ is.spelled)).front)

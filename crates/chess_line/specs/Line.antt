@@ -4,8 +4,8 @@ use Rattle.std.specs.List.{join_with_byte}
 use Rattle.rec_codec.specs.Name.{IsName}
 use Rattle.chess_entry.specs.declared.commands.Act.{Act}
 use Rattle.chess_entry.specs.declared.commands.Act.TheVariants as acts
-use Rattle.chess_line.specs.declared.lines.Line.{Line}
-use Rattle.chess_line.specs.declared.lines.Line.TheVariants as lines
+use Rattle.chess_line.specs.declared.lines.Request.{Request}
+use Rattle.chess_line.specs.declared.lines.Request.TheVariants as lines
 use Rattle.chess_line.specs.Text.{shown}
 use Rattle.chess_line.specs.Fields.{IsNumber, IsField, IsRest, colour_word, claim_word, times_text, AreTimes, optional}
 
@@ -28,7 +28,7 @@ act_fields (acts.Fen game) = codes "fen" ∷ decimal game ∷ []
 act_fields (acts.Pgn game) = codes "pgn" ∷ decimal game ∷ []
 act_fields acts.List = codes "list" ∷ []
 
-abbrev pub line_fields : Line → List (List ℕ)
+abbrev pub line_fields : Request → List (List ℕ)
 line_fields (lines.Called name) = codes "name" ∷ name ∷ []
 line_fields (lines.Act act) = act_fields act
 
@@ -51,18 +51,18 @@ IsSayable (acts.Fen game) = IsNumber game
 IsSayable (acts.Pgn game) = IsNumber game
 IsSayable acts.List = Unit {0}
 
-abbrev pub IsSayableLine : Line → Type 0
+abbrev pub IsSayableLine : Request → Type 0
 IsSayableLine (lines.Called name) = IsName name
 IsSayableLine (lines.Act act) = IsSayable act
 
 -- The text is the line's fields with one space between each two.
-pub record HasForm (text : List ℕ) (line : Line) : Type 0 where
+pub record HasForm (text : List ℕ) (line : Request) : Type 0 where
   pub spelled : text ≡ join_with_byte 32 (line_fields line)
   pub sayable : IsSayableLine line
 
 -- The text, without the line feed and the carriage return at its end, is this line of the protocol, which has at most 255
 -- bytes.
-pub record IsLineOf (text : List ℕ) (line : Line) : Type 0 where
+pub record IsLineOf (text : List ℕ) (line : Request) : Type 0 where
   pub short : length text ≤ 255
   pub form : HasForm text line
 
@@ -74,7 +74,7 @@ shown_act (acts.Play game ply text) = acts.Play game ply (shown text)
 shown_act (acts.Claim game ply fifty text) = acts.Claim game ply fifty (option_map shown text)
 shown_act act = act
 
-abbrev pub shown_line : Line → Line
+abbrev pub shown_line : Request → Request
 shown_line (lines.Called name) = lines.Called name
 shown_line (lines.Act act) = lines.Act (shown_act act)
 
@@ -82,10 +82,10 @@ shown_line (lines.Act act) = lines.Act (shown_act act)
 abbrev pub SameAct : Act → Act → Type 0
 SameAct a b = shown_act a ≡ shown_act b
 
-abbrev pub SameLine : Line → Line → Type 0
+abbrev pub SameLine : Request → Request → Type 0
 SameLine a b = shown_line a ≡ shown_line b
 
 -- The word, one space and the rest are a line.
-pub record IsLineAfter (word rest : List ℕ) (line : Line) : Type 0 where
+pub record IsLineAfter (word rest : List ℕ) (line : Request) : Type 0 where
   pub spelled : word ++ (32 ∷ rest) ≡ join_with_byte 32 (line_fields line)
   pub sayable : IsSayableLine line

@@ -1,7 +1,7 @@
 //! What follows the word of a line, read into acts.
 ghost use Rattle.std.specs.Prelude.{◌≡◌, ℕ, [], ◌∷◌, Some, IfSome, IsSomeAnd, codes, decimal};
 ghost use Rattle.chess_entry.specs.declared.commands.Act.{Act};
-ghost use Rattle.chess_line.specs.declared.lines.Line.TheVariants as lines;
+ghost use Rattle.chess_line.specs.declared.lines.Request.TheVariants as lines;
 ghost use Rattle.chess_line.specs.Fields.{IsNumber};
 ghost use Rattle.chess_line.specs.Cut.{Unspaced};
 ghost use Rattle.chess_line.specs.Line.{IsLineAfter, IsSayable, SameAct, act_fields};

@@ -4,10 +4,11 @@ ghost use Rattle.chess_board.specs.Position as position;
 ghost use Rattle.chess_board.specs.Next as after;
 ghost use Rattle.chess_board.specs.Legal.{Castles, EachOf, between};
 
-use crate::squares::{is_empty, is_same};
+use crate::squares::is_empty;
 use chess_bits::Square;
 use chess_board::{
-    Board, Move, Wing, castled_king, castled_rook, home_rank, is_attacked, king_home,
+    Board, Move, Wing, castled_king, castled_rook, home_rank, is_attacked, is_same_square,
+    king_home,
 };
 
 // Whether the side to move may still castle to the wing (FIDE article 3.8.2.1).
@@ -27,8 +28,8 @@ fn goes_to_castle(board: &Board, mv: &Move, wing: Wing) -> bool
     let from = mv.from;
     let to = mv.to;
     let side = board.side();
-    is_same(from, king_home(side))
-        && is_same(to, castled_king(side, wing))
+    is_same_square(from, king_home(side))
+        && is_same_square(to, castled_king(side, wing))
         && mv.promotion.is_none()
 }
 

@@ -12,13 +12,6 @@ ghost use Rattle.chess_moves.specs.Listing.{promoted as promoted_move};
 use chess_bits::{Bits, Colour, Kind, Square};
 use chess_board::{Board, Move};
 
-// Whether two squares are one.
-pub fn is_same(a: Square, b: Square) -> bool
-    ensures { IsTrue result ↔ (a ≡ b) }
-{
-    a.number() == b.number()
-}
-
 // Whether a man is a pawn.
 pub fn is_pawn(kind: Kind) -> bool
     ensures { IsTrue result ↔ (kind ≡ kinds.Pawn) }

@@ -9,8 +9,8 @@ use Rattle.chess_board.specs.Position.{Position, man_at, IsInCheck}
 use Rattle.chess_board.specs.Next.{next, is_en_passant, castles_to}
 use Rattle.chess_board.specs.Legal.{IsLegal}
 use Rattle.chess_moves.specs.Moves.{HasLegal}
-use Rattle.chess_notation.specs.declared.telling.Line.{Line}
-use Rattle.chess_notation.specs.declared.telling.Line.TheVariants as line
+use Rattle.chess_notation.specs.declared.telling.Among.{Among}
+use Rattle.chess_notation.specs.declared.telling.Among.TheVariants as among
 use Rattle.chess_notation.specs.declared.telling.Origin.{Origin}
 use Rattle.chess_notation.specs.declared.telling.Origin.TheVariants as origin
 use Rattle.chess_notation.specs.declared.telling.Threat.{Threat}
@@ -26,22 +26,22 @@ pub record IsRival (p : Position) (m rival : Move) : Type 0 where
   pub same_target : rival.to ≡ m.to
   pub elsewhere : rival.from ≢ m.from
 
-abbrev pub IsOn : Line → Square → Square → Type 0
-IsOn line.Board a b = Unit {0}
-IsOn line.File a b = b.file ≡ a.file
-IsOn line.Rank a b = b.rank ≡ a.rank
+abbrev pub IsOn : Among → Square → Square → Type 0
+IsOn among.Board a b = Unit {0}
+IsOn among.File a b = b.file ≡ a.file
+IsOn among.Rank a b = b.rank ≡ a.rank
 
 -- there is such a man: anywhere, on the file of the square left, or on its rank
-abbrev pub HasRival : Position → Move → Line → Type 0
+abbrev pub HasRival : Position → Move → Among → Type 0
 HasRival p m along = (rival : Move) × IsRival p m rival × IsOn along m.from rival.from
 
 -- What tells a piece's move from those of its rivals: nothing where there is none; else the file, if no rival stands on
 -- it; else the rank, if no rival stands on it; else both.
 abbrev pub Tells : Position → Move → Origin → Type 0
-Tells p m origin.Nothing = ¬ HasRival p m line.Board
-Tells p m origin.File = HasRival p m line.Board × ¬ HasRival p m line.File
-Tells p m origin.Rank = HasRival p m line.File × ¬ HasRival p m line.Rank
-Tells p m origin.Square = HasRival p m line.File × HasRival p m line.Rank
+Tells p m origin.Nothing = ¬ HasRival p m among.Board
+Tells p m origin.File = HasRival p m among.Board × ¬ HasRival p m among.File
+Tells p m origin.Rank = HasRival p m among.File × ¬ HasRival p m among.Rank
+Tells p m origin.Square = HasRival p m among.File × HasRival p m among.Rank
 
 abbrev pub origin_text : Origin → Square → List ℕ
 origin_text origin.Nothing from = []

@@ -6,4 +6,4 @@ mod coordinates;
 mod telling;
 
 pub use coordinates::{coordinate, square_named};
-pub use telling::{Line, Origin, Threat};
+pub use telling::{Among, Origin, Threat};

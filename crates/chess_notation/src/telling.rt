@@ -1,6 +1,6 @@
 /// Where a man that may go to the same square is looked for: on the board, or on the file or the rank of another man.
 #[derive(Clone, Copy, Debug, PartialEq, Eq)]
-pub enum Line {
+pub enum Among {
     Board,
     File,
     Rank,

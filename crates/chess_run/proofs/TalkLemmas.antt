@@ -13,8 +13,8 @@ use Rattle.session_lines.proofs.Wholes.{kept-feed, kept-rest}
 use Rattle.rec_codec.specs.declared.record.Entry.{Entry}
 use Rattle.chess_entry.specs.State.{TableState}
 use Rattle.chess_entry.specs.declared.commands.Command.{Command}
-use Rattle.chess_line.specs.declared.lines.Line.{Line}
-use Rattle.chess_line.specs.declared.lines.Line.TheVariants.{Called, Act}
+use Rattle.chess_line.specs.declared.lines.Request.{Request}
+use Rattle.chess_line.specs.declared.lines.Request.TheVariants.{Called, Act}
 use Rattle.chess_answer.specs.declared.reads.Reply.{Reply}
 use Rattle.chess_sessions.specs.declared.sessions.Session.{Session}
 use Rattle.chess_sessions.specs.declared.sessions.Sessions.{Sessions}
@@ -202,13 +202,13 @@ head-same : (x y : Said) (xs ys : List Said) → x ∷ xs ≡ y ∷ ys → x ≡
 head-same x y xs ys e = cc
 
 -- the answer to the one line of a batch
-line-answered : (t : Taken) (at : ℕ) (name : Option (List ℕ)) (read : Option Line) (before after : TableState)
+line-answered : (t : Taken) (at : ℕ) (name : Option (List ℕ)) (read : Option Request) (before after : TableState)
     (replies : List Reply) (entries : List Entry) (answer : Said) → t.line ≡ read →
     IsAnswered before (asked at name read ++ []) replies entries after →
     AreAnswers at (t ∷ []) (map said replies) (answer ∷ []) → IsLineAnswered before name at read answer after
 line-answered t at name (Some (Act act)) before after [] entries answer is h k = absurd h
 line-answered t at name (Some (Act act)) before after (reply ∷ []) entries answer is h k =
-    let found = subst (λ (line : Option Line). MatchOption (own_answer at line)
+    let found = subst (λ (line : Option Request). MatchOption (own_answer at line)
     ((r : Said) × (others : List Said) × (rest : List Said) × (said reply ∷ [] ≡ r ∷ others)
     × (answer ∷ [] ≡ r ∷ rest) × AreAnswers at [] others rest)
     (λ l. (rest : List Said) × (answer ∷ [] ≡ alone l ∷ rest) × AreAnswers at [] (said reply ∷ []) rest)) is k in
@@ -221,7 +221,7 @@ line-answered t at name (Some (Act act)) before after (reply ∷ []) entries ans
     )
 line-answered t at name (Some (Act act)) before after (reply ∷ more ∷ replies) entries answer is h k = absurd h.rest
 line-answered t at name (Some (Called given)) before after [] entries answer is h k =
-    let found = subst (λ (line : Option Line). MatchOption (own_answer at line)
+    let found = subst (λ (line : Option Request). MatchOption (own_answer at line)
     ((r : Said) × (others : List Said) × (rest : List Said) × ([] ≡ r ∷ others)
     × (answer ∷ [] ≡ r ∷ rest) × AreAnswers at [] others rest)
     (λ l. (rest : List Said) × (answer ∷ [] ≡ alone l ∷ rest) × AreAnswers at [] [] rest)) is k in
@@ -230,7 +230,7 @@ line-answered t at name (Some (Called given)) before after [] entries answer is 
     (ap (λ (a : Said). Some a.line) (sym same), ap (λ (a : Said). a.body) same, h.same)
 line-answered t at name (Some (Called given)) before after (reply ∷ replies) entries answer is h k = absurd h
 line-answered t at name None before after [] entries answer is h k =
-    let found = subst (λ (line : Option Line). MatchOption (own_answer at line)
+    let found = subst (λ (line : Option Request). MatchOption (own_answer at line)
     ((r : Said) × (others : List Said) × (rest : List Said) × ([] ≡ r ∷ others)
     × (answer ∷ [] ≡ r ∷ rest) × AreAnswers at [] others rest)
     (λ l. (rest : List Said) × (answer ∷ [] ≡ alone l ∷ rest) × AreAnswers at [] [] rest)) is k in
@@ -321,7 +321,7 @@ turned-one at sid name part old new a u h e all =
 -- what a turn does for the one session
 pub record Turned (at : ℕ) (name : Option (List ℕ)) (text : List ℕ) (before after : TableState) (new : Sessions)
     (sid : ℕ) : Type 0 where
-  pub read : Option Line
+  pub read : Option Request
   pub reads : IsReading text read
   pub answer : Said
   pub answered : IsLineAnswered before name at read answer after
@@ -357,7 +357,7 @@ module _ (at sid : ℕ) (name : Option (List ℕ)) (part : List ℕ) (old : Sess
         reads = is.reads;
         answer = a.said;
         answered = line-answered t at name t.line before after turn.replies batch.entries a.said refl answered answers;
-        then = subst (λ (x : Option Line). IsAlone new sid (told (renamed (given_name at x) name) a.said)) line
+        then = subst (λ (x : Option Request). IsAlone new sid (told (renamed (given_name at x) name) a.said)) line
             (turned-one at sid name part old new a u h (ap (λ (x : Taken). x.sid) whose ∙ is.sid) all);
       }
 

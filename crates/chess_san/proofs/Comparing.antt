@@ -26,7 +26,7 @@ use Rattle.chess_notation.specs.Naming.{IsSanOrBody, Names}
 use Rattle.chess_san.specs.Asked.{may_leave, is_second, asked_of}
 use Rattle.chess_san.proofs.OneText.{IsBody-one, IsSan-one}
 use Rattle.chess_san.proofs.Shapes.{IsSpelled-from, IsPawnShape, IsShape, IsShape-spelled}
-use Rattle.chess_san.proofs.Endings.{asked_for, kind_of, own-shape, asked-shape}
+use Rattle.chess_san.proofs.Arrivals.{asked_for, kind_of, own-shape, asked-shape}
 use Rattle.chess_san.proofs.OneMove.{IsPawnWay, pawn_way, straight_file}
 
 -- ---- comparing

@@ -19,17 +19,17 @@ use Rattle.chess_board.specs.Computing.{legal_moves_of}
 use Rattle.chess_board.proofs.Deciding.{Decides-is_in_check}
 use Rattle.chess_board.proofs.LegalMoves.{legal_moves_of-legal, legal_moves_of-each}
 use Rattle.chess_moves.specs.Moves.{HasLegal}
-use Rattle.chess_notation.specs.declared.telling.Line.{Line}
-use Rattle.chess_notation.specs.declared.telling.Line.TheVariants as line
+use Rattle.chess_notation.specs.declared.telling.Among.{Among}
+use Rattle.chess_notation.specs.declared.telling.Among.TheVariants as among
 use Rattle.chess_notation.specs.San.{IsOn, HasRival, Tells, IsKingText, IsManText, GivesCheck, Threatens, IsSan, threat_text, castled_wing}
 use Rattle.chess_san.specs.Computing.{is_on, is_rival, has_rival, origin_by, origin_told, king_text, man_text, body_of, has_some, threat_by, threat_told, san_of}
 
-Decides-is_on : (along : Line) (a b : Square) → Decides (is_on along a b) (IsOn along a b)
-Decides-is_on line.Board a b = (λ _. tt, λ _. refl)
-Decides-is_on line.File a b = Decides-eqb b.file a.file
-Decides-is_on line.Rank a b = Decides-eqb b.rank a.rank
+Decides-is_on : (along : Among) (a b : Square) → Decides (is_on along a b) (IsOn along a b)
+Decides-is_on among.Board a b = (λ _. tt, λ _. refl)
+Decides-is_on among.File a b = Decides-eqb b.file a.file
+Decides-is_on among.Rank a b = Decides-eqb b.rank a.rank
 
-rival_decides : (p : Position) (m : Move) (man : Man) (along : Line) (r : Move) →
+rival_decides : (p : Position) (m : Move) (man : Man) (along : Among) (r : Move) →
     Decides (is_rival p m man along r)
     ((man_at p.placement r.from ≡ Some man) × ((r.to ≡ m.to) × ((r.from ≢ m.from) × IsOn along m.from r.from)))
 rival_decides p m man along r =
@@ -38,7 +38,7 @@ rival_decides p m man along r =
     (Decides-and _ _ (Decides-not (is_square r.from m.from) (Decides-is_square r.from m.from))
     (Decides-is_on along m.from r.from)))
 
-pub Decides-has_rival : (p : Position) (m : Move) (man : Man) (along : Line) → man_at p.placement m.from ≡ Some man →
+pub Decides-has_rival : (p : Position) (m : Move) (man : Man) (along : Among) → man_at p.placement m.from ≡ Some man →
     Decides (has_rival p m man along) (HasRival p m along)
 Decides-has_rival p m man along own = (
   λ e.
@@ -68,8 +68,8 @@ Decides-has_rival p m man along own = (
 no_decided : {P : Type 0} → Decides false P → P → ⊥
 no_decided decides p = false≢true (decides.1 p)
 
-tells_by : (p : Position) (m : Move) (a b c : Bool) → Decides a (HasRival p m line.Board) →
-    Decides b (HasRival p m line.File) → Decides c (HasRival p m line.Rank) → Tells p m (origin_by a b c)
+tells_by : (p : Position) (m : Move) (a b c : Bool) → Decides a (HasRival p m among.Board) →
+    Decides b (HasRival p m among.File) → Decides c (HasRival p m among.Rank) → Tells p m (origin_by a b c)
 tells_by p m false b c x y z = no_decided x
 tells_by p m true false c x y z = (x.0 refl, no_decided y)
 tells_by p m true true false x y z = (y.0 refl, no_decided z)
@@ -78,9 +78,9 @@ tells_by p m true true true x y z = (y.0 refl, z.0 refl)
 pub Tells-origin_told : (p : Position) (m : Move) (man : Man) → man_at p.placement m.from ≡ Some man →
     Tells p m (origin_told p m man)
 Tells-origin_told p m man own =
-    tells_by p m (has_rival p m man line.Board) (has_rival p m man line.File) (has_rival p m man line.Rank)
-    (Decides-has_rival p m man line.Board own) (Decides-has_rival p m man line.File own)
-    (Decides-has_rival p m man line.Rank own)
+    tells_by p m (has_rival p m man among.Board) (has_rival p m man among.File) (has_rival p m man among.Rank)
+    (Decides-has_rival p m man among.Board own) (Decides-has_rival p m man among.File own)
+    (Decides-has_rival p m man among.Rank own)
 
 king_told : (p : Position) (m : Move) (man : Man) (castled : Option Wing) → man_at p.placement m.from ≡ Some man →
     IsKingText p m castled (king_text p m man castled)

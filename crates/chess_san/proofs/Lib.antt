@@ -2,7 +2,7 @@ pub mod SourceLemmas
 pub mod Counters
 pub mod OneText
 pub mod Shapes
-pub mod Endings
+pub mod Arrivals
 pub mod OneMove
 pub mod Comparing
 pub mod Computed

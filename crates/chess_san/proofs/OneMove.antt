@@ -31,7 +31,7 @@ use Rattle.chess_notation.specs.Coordinate.{IsPromotionText, IsCoordinateOf}
 use Rattle.chess_notation.specs.Naming.{IsSanOrBody, Names}
 use Rattle.chess_san.proofs.SourceLemmas.{same_move}
 use Rattle.chess_san.proofs.Shapes.{IsSpelled-from, IsCastlingShape, IsPieceShape, IsPawnShape, IsShape, IsShape-spelled}
-use Rattle.chess_san.proofs.Endings.{capital_no_stroke, asked_for, kind_of, asked-shape}
+use Rattle.chess_san.proofs.Arrivals.{capital_no_stroke, asked_for, kind_of, asked-shape}
 
 -- ---- pieces
 

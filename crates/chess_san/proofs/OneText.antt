@@ -6,14 +6,14 @@ use Rattle.chess_bits.proofs.ManLemmas.{same_kind}
 use Rattle.chess_board.specs.declared.castling.Wing.{Wing}
 use Rattle.chess_board.specs.declared.moves.Move.{Move}
 use Rattle.chess_board.specs.Position.{Position, man_at}
-use Rattle.chess_notation.specs.declared.telling.Line.TheVariants as line
+use Rattle.chess_notation.specs.declared.telling.Among.TheVariants as among
 use Rattle.chess_notation.specs.declared.telling.Origin.{Origin}
 use Rattle.chess_notation.specs.declared.telling.Origin.TheVariants as origin
 use Rattle.chess_notation.specs.declared.telling.Threat.{Threat}
 use Rattle.chess_notation.specs.declared.telling.Threat.TheVariants as threat
 use Rattle.chess_notation.specs.San.{HasRival, Tells, IsPieceText, IsKingText, IsManText, IsBody, Threatens, threat_text, IsSan, piece_text, castled_wing}
 
-somewhere : (p : Position) (m : Move) → HasRival p m line.File → HasRival p m line.Board
+somewhere : (p : Position) (m : Move) → HasRival p m among.File → HasRival p m among.Board
 somewhere p m (rival, is, on) = (rival, is, tt)
 
 pub Tells-one : (p : Position) (m : Move) (a b : Origin) → Tells p m a → Tells p m b → a ≡ b

@@ -9,7 +9,7 @@ use Rattle.chess_board.specs.declared.moves.Move.{Move}
 use Rattle.chess_board.specs.Next.{castled_king}
 use Rattle.chess_notation.specs.Name.{square_named}
 use Rattle.chess_san.specs.declared.parsing.Asked.{Asked}
-use Rattle.chess_san.specs.declared.parsing.Ending.{Ending}
+use Rattle.chess_san.specs.declared.parsing.Arrival.{Arrival}
 
 -- What a text asks for, read from its two ends. No public contract speaks of it: it is a guess that no SAN is missed by,
 -- and the text is then compared with the SAN of the move that is found.
@@ -28,24 +28,24 @@ piece_named letter =
 unfoldable pub suffix_len : List ℕ → ℕ
 suffix_len text = if (slice_index text 0 == 43) || (slice_index text 0 == 35) then 1 else 0
 
-abbrev pub ended : Option Kind → Square → Ending
-ended promotion to = record { to = to; promotion = promotion }
+abbrev pub arrived : Option Kind → Square → Arrival
+arrived promotion to = record { to = to; promotion = promotion }
 
 -- the square reached, before `=` and a letter or without them
-unfoldable pub promoted_ending : List ℕ → ℕ → Option Ending
-promoted_ending text skip = option_and_then
-    (λ kind. option_map (ended (Some kind)) (square_named (slice_index text (skip + 3)) (slice_index text (skip + 2))))
+unfoldable pub promoted_arrival : List ℕ → ℕ → Option Arrival
+promoted_arrival text skip = option_and_then
+    (λ kind. option_map (arrived (Some kind)) (square_named (slice_index text (skip + 3)) (slice_index text (skip + 2))))
     (piece_named (slice_index text skip))
 
-unfoldable pub plain_ending : List ℕ → ℕ → Option Ending
-plain_ending text skip =
-    option_map (ended None) (square_named (slice_index text (skip + 1)) (slice_index text skip))
+unfoldable pub plain_arrival : List ℕ → ℕ → Option Arrival
+plain_arrival text skip =
+    option_map (arrived None) (square_named (slice_index text (skip + 1)) (slice_index text skip))
 
-unfoldable pub ending_of : List ℕ → Option Ending
-ending_of text =
+unfoldable pub arrival_of : List ℕ → Option Arrival
+arrival_of text =
     if slice_index text (suffix_len text + 1) == 61
-    then promoted_ending text (suffix_len text)
-    else plain_ending text (suffix_len text)
+    then promoted_arrival text (suffix_len text)
+    else plain_arrival text (suffix_len text)
 
 -- `O-O-O` has a stroke where `O-O` has ended
 unfoldable pub asked_castling : Colour → List ℕ → Asked
@@ -55,14 +55,14 @@ asked_castling side text = record {
   promotion = None;
 }
 
-abbrev pub asked_by : Kind → Ending → Asked
+abbrev pub asked_by : Kind → Arrival → Asked
 asked_by kind end = record { kind = kind; to = end.to; promotion = end.promotion }
 
 unfoldable pub asked_of : Colour → List ℕ → Option Asked
 asked_of side text =
     if slice_index text 0 == 79
     then Some (asked_castling side text)
-    else option_map (asked_by (unwrap_or (piece_named (slice_index text 0)) Pawn)) (ending_of (reverse text))
+    else option_map (asked_by (unwrap_or (piece_named (slice_index text 0)) Pawn)) (arrival_of (reverse text))
 
 -- The second byte of a piece's text: `x`, or what is told of the square left, or the file of the square reached.
 abbrev pub is_second : ℕ → Move → Bool

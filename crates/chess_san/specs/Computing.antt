@@ -9,8 +9,8 @@ use Rattle.chess_board.specs.declared.moves.Move.{Move}
 use Rattle.chess_board.specs.Position.{Position, man_at, is_in_check}
 use Rattle.chess_board.specs.Next.{next}
 use Rattle.chess_board.specs.Computing.{legal_moves_of}
-use Rattle.chess_notation.specs.declared.telling.Line.{Line}
-use Rattle.chess_notation.specs.declared.telling.Line.TheVariants as line
+use Rattle.chess_notation.specs.declared.telling.Among.{Among}
+use Rattle.chess_notation.specs.declared.telling.Among.TheVariants as among
 use Rattle.chess_notation.specs.declared.telling.Origin.{Origin}
 use Rattle.chess_notation.specs.declared.telling.Origin.TheVariants as origin
 use Rattle.chess_notation.specs.declared.telling.Threat.{Threat}
@@ -19,18 +19,18 @@ use Rattle.chess_notation.specs.San.{piece_text, pawn_text, castling_text, castl
 
 -- The relations of `San` as tests over the list of legal moves, and the SAN as a function, which compute.
 
-abbrev pub is_on : Line → Square → Square → Bool
-is_on line.Board a b = true
-is_on line.File a b = b.file == a.file
-is_on line.Rank a b = b.rank == a.rank
+abbrev pub is_on : Among → Square → Square → Bool
+is_on among.Board a b = true
+is_on among.File a b = b.file == a.file
+is_on among.Rank a b = b.rank == a.rank
 
 -- a legal move is that of a rival of the man that makes the move
-abbrev pub is_rival : Position → Move → Man → Line → Move → Bool
+abbrev pub is_rival : Position → Move → Man → Among → Move → Bool
 is_rival p m man along rival =
     holds (is_man man) (man_at p.placement rival.from)
     && (is_square rival.to m.to && (not (is_square rival.from m.from) && is_on along m.from rival.from))
 
-abbrev pub has_rival : Position → Move → Man → Line → Bool
+abbrev pub has_rival : Position → Move → Man → Among → Bool
 has_rival p m man along = list_any (is_rival p m man along) (legal_moves_of p)
 
 -- what tells a move, where there is a rival somewhere, on the file, on the rank
@@ -42,7 +42,7 @@ origin_by true true true = origin.Square
 
 abbrev pub origin_told : Position → Move → Man → Origin
 origin_told p m man =
-    origin_by (has_rival p m man line.Board) (has_rival p m man line.File) (has_rival p m man line.Rank)
+    origin_by (has_rival p m man among.Board) (has_rival p m man among.File) (has_rival p m man among.Rank)
 
 abbrev pub king_text : Position → Move → Man → Option Wing → List ℕ
 king_text p m man (Some to) = castling_text to

@@ -12,7 +12,7 @@ use chess_attacks::{bishop, knight, queen, rook};
 use chess_bits::{Bits, Kind, Square};
 use chess_board::{Board, Move};
 use chess_moves::legal;
-use chess_notation::{Line, Origin};
+use chess_notation::{Among, Origin};
 
 /// Squares with men of the side to move and the kind, among them all from which a legal move goes to the square. It looks
 /// outward from that square: a piece attacks it from where a piece of that kind on it would attack.
@@ -35,22 +35,22 @@ pub fn sources(board: &Board, kind: Kind, to: Square) -> Bits
     }
 }
 
-// Whether the second square is on that line of the first.
-fn is_on(line: Line, a: Square, b: Square) -> bool
-    ensures { IsTrue result ↔ IsOn line a b }
+// Whether the second square is on the board, or on the file or the rank of the first.
+fn is_on(among: Among, a: Square, b: Square) -> bool
+    ensures { IsTrue result ↔ IsOn among a b }
 {
-    match line {
-        Line::Board => true,
-        Line::File => b.file() == a.file(),
-        Line::Rank => b.rank() == a.rank(),
+    match among {
+        Among::Board => true,
+        Among::File => b.file() == a.file(),
+        Among::Rank => b.rank() == a.rank(),
     }
 }
 
-// Whether a man of the moving piece's kind, on a square of that line, may go where the piece goes.
-fn is_rival(board: &Board, mv: &Move, line: Line, from: Square) -> bool
+// Whether a man of the moving piece's kind, on a square that is looked at, may go where the piece goes.
+fn is_rival(board: &Board, mv: &Move, among: Among, from: Square) -> bool
     requires { man_at board.now.placement from ≡ man_at board.now.placement mv.now.from }
     ensures { IsTrue result ↔
-        (IsRival board.now mv.now (plain from mv.now.to) × IsOn line mv.now.from from) }
+        (IsRival board.now mv.now (plain from mv.now.to) × IsOn among mv.now.from from) }
 {
     let left = mv.from;
     let rival = Move {
@@ -58,17 +58,17 @@ fn is_rival(board: &Board, mv: &Move, line: Line, from: Square) -> bool
         to: mv.to,
         promotion: None,
     };
-    from.number() != left.number() && is_on(line, left, from) && legal(board, rival)
+    from.number() != left.number() && is_on(among, left, from) && legal(board, rival)
 }
 
-// Whether another piece of the kind, on that line of the square left, may go to the same square.
-fn has_rival(board: &Board, mv: &Move, kind: Kind, line: Line) -> bool
+// Whether another piece of the kind, of those that are looked at, may go to the same square.
+fn has_rival(board: &Board, mv: &Move, kind: Kind, among: Among) -> bool
     requires piece { kind ≢ kinds.Pawn }
     requires own { man_at board.now.placement mv.now.from ≡ Some (board.now.side, kind) }
-    ensures { IsTrue result ↔ HasRival board.now mv.now line }
+    ensures { IsTrue result ↔ HasRival board.now mv.now among }
 {
     for from in sources(board, kind, mv.to).iter() {
-        if is_rival(board, mv, line, from) {
+        if is_rival(board, mv, among, from) {
             return true;
         }
     }
@@ -81,11 +81,11 @@ pub fn origin_of(board: &Board, mv: &Move, kind: Kind) -> Origin
     requires own { man_at board.now.placement mv.now.from ≡ Some (board.now.side, kind) }
     ensures { Tells board.now mv.now result }
 {
-    if !has_rival(board, mv, kind, Line::Board) {
+    if !has_rival(board, mv, kind, Among::Board) {
         Origin::Nothing
-    } else if !has_rival(board, mv, kind, Line::File) {
+    } else if !has_rival(board, mv, kind, Among::File) {
         Origin::File
-    } else if !has_rival(board, mv, kind, Line::Rank) {
+    } else if !has_rival(board, mv, kind, Among::Rank) {
         Origin::Rank
     } else {
         Origin::Square

@@ -15,7 +15,7 @@ pub struct Asked {
 
 /// What a text ends with: the square reached, and what a pawn becomes there.
 #[derive(Clone, Copy, Debug)]
-pub struct Ending {
+pub struct Arrival {
     pub to: Square,
     pub promotion: Option<Kind>,
 }
@@ -66,42 +66,42 @@ fn suffix_len(text: &[u8]) -> usize
 }
 
 // The square before `=` and a letter.
-#[tactic(auto, unfolding(crate::specs::Asked::promoted_ending))]
-fn promoted_ending(text: &[u8], skip: usize) -> Option<Ending>
+#[tactic(auto, unfolding(crate::specs::Asked::promoted_arrival))]
+fn promoted_arrival(text: &[u8], skip: usize) -> Option<Arrival>
     requires { skip < 2 }
-    ensures { result ≡ asks.promoted_ending (reverse text.now) skip }
+    ensures { result ≡ asks.promoted_arrival (reverse text.now) skip }
 {
     let kind = piece_named(byte_from_end(text, skip))?;
     let to = square_named(byte_from_end(text, skip + 3), byte_from_end(text, skip + 2))?;
-    Some(Ending {
+    Some(Arrival {
         to,
         promotion: Some(kind),
     })
 }
 
 // The square at the end.
-#[tactic(auto, unfolding(crate::specs::Asked::plain_ending))]
-fn plain_ending(text: &[u8], skip: usize) -> Option<Ending>
+#[tactic(auto, unfolding(crate::specs::Asked::plain_arrival))]
+fn plain_arrival(text: &[u8], skip: usize) -> Option<Arrival>
     requires { skip < 2 }
-    ensures { result ≡ asks.plain_ending (reverse text.now) skip }
+    ensures { result ≡ asks.plain_arrival (reverse text.now) skip }
 {
     let to = square_named(byte_from_end(text, skip + 1), byte_from_end(text, skip))?;
-    Some(Ending {
+    Some(Arrival {
         to,
         promotion: None,
     })
 }
 
 // What a text ends with.
-#[tactic(auto, unfolding(crate::specs::Asked::ending_of))]
-fn ending_of(text: &[u8]) -> Option<Ending>
-    ensures { result ≡ asks.ending_of (reverse text.now) }
+#[tactic(auto, unfolding(crate::specs::Asked::arrival_of))]
+fn arrival_of(text: &[u8]) -> Option<Arrival>
+    ensures { result ≡ asks.arrival_of (reverse text.now) }
 {
     let skip = suffix_len(text);
     if byte_from_end(text, skip + 1) == b'=' {
-        promoted_ending(text, skip)
+        promoted_arrival(text, skip)
     } else {
-        plain_ending(text, skip)
+        plain_arrival(text, skip)
     }
 }
 
@@ -131,7 +131,7 @@ pub fn asked_of(side: Colour, text: &[u8]) -> Option<Asked>
     if first == b'O' {
         return Some(asked_castling(side, text));
     }
-    let end = ending_of(text)?;
+    let end = arrival_of(text)?;
     Some(Asked {
         kind: piece_named(first).unwrap_or(Kind::Pawn),
         to: end.to,

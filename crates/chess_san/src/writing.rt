@@ -5,7 +5,6 @@ ghost use Rattle.chess_board.specs.declared.moves.Move.{Move};
 ghost use Rattle.chess_board.specs.Position.{man_at};
 ghost use Rattle.chess_board.specs.Legal.{IsLegal};
 ghost use Rattle.chess_board.specs.Next as after;
-ghost use Rattle.chess_bits.specs.Square.{is_square};
 ghost use Rattle.chess_notation.specs.Name.{file_letter, rank_digit, square_name, capital_of, promotion_text};
 ghost use Rattle.chess_notation.specs.San as san;
 
@@ -13,14 +12,14 @@ use crate::origin::origin_of;
 use crate::threat::{threat_of, threat_on};
 use arrayvec::ArrayString;
 use chess_bits::{Kind, Square};
-use chess_board::{Board, Move, Wing, castled_king, king_home};
+use chess_board::{Board, Move, Wing, is_target};
 use chess_notation::{Origin, Threat};
 
 /// Room for a SAN: the longest have 7 bytes, as `Qh4xe1+` and `bxa8=Q+`.
-pub type Text = ArrayString<8>;
+pub type SanText = ArrayString<8>;
 
 // Appends an ASCII character.
-fn push(text: &mut Text, character: char)
+fn push(text: &mut SanText, character: char)
     requires ascii { character < 128 }
     requires room { array_string_len text.old < 8 }
     ensures bytes { text.new.bytes ≡ text.old.bytes ++ character ∷ [] }
@@ -30,7 +29,7 @@ fn push(text: &mut Text, character: char)
 }
 
 // Appends the letter of a square's file.
-fn push_file(text: &mut Text, square: Square)
+fn push_file(text: &mut SanText, square: Square)
     requires room { array_string_len text.old < 8 }
     ensures bytes { text.new.bytes ≡ text.old.bytes ++ file_letter square ∷ [] }
     ensures len { array_string_len text.new ≡ array_string_len text.old + 1 }
@@ -39,7 +38,7 @@ fn push_file(text: &mut Text, square: Square)
 }
 
 // Appends the digit of a square's rank.
-fn push_rank(text: &mut Text, square: Square)
+fn push_rank(text: &mut SanText, square: Square)
     requires room { array_string_len text.old < 8 }
     ensures bytes { text.new.bytes ≡ text.old.bytes ++ rank_digit square ∷ [] }
     ensures len { array_string_len text.new ≡ array_string_len text.old + 1 }
@@ -48,7 +47,7 @@ fn push_rank(text: &mut Text, square: Square)
 }
 
 // Appends a square's name.
-fn push_square(text: &mut Text, square: Square)
+fn push_square(text: &mut SanText, square: Square)
     requires room { array_string_len text.old + 2 ≤ 8 }
     ensures bytes { text.new.bytes ≡ text.old.bytes ++ square_name square }
     ensures len { array_string_len text.new ≡ array_string_len text.old + 2 }
@@ -58,7 +57,7 @@ fn push_square(text: &mut Text, square: Square)
 }
 
 // Appends the capital letter of a kind.
-fn push_kind(text: &mut Text, kind: Kind)
+fn push_kind(text: &mut SanText, kind: Kind)
     requires room { array_string_len text.old < 8 }
     ensures bytes { text.new.bytes ≡ text.old.bytes ++ capital_of kind ∷ [] }
     ensures len { array_string_len text.new ≡ array_string_len text.old + 1 }
@@ -74,7 +73,7 @@ fn push_kind(text: &mut Text, kind: Kind)
 }
 
 // Appends what is told of the square left.
-fn push_origin(text: &mut Text, origin: Origin, from: Square)
+fn push_origin(text: &mut SanText, origin: Origin, from: Square)
     requires room { array_string_len text.old + 2 ≤ 8 }
     ensures bytes { text.new.bytes ≡ text.old.bytes ++ san.origin_text origin from }
     ensures len { array_string_len text.new ≤ array_string_len text.old + 2 }
@@ -88,7 +87,7 @@ fn push_origin(text: &mut Text, origin: Origin, from: Square)
 }
 
 // Appends `x` for a capture.
-fn push_capture(text: &mut Text, takes: bool)
+fn push_capture(text: &mut SanText, takes: bool)
     requires room { array_string_len text.old < 8 }
     ensures bytes { text.new.bytes ≡ text.old.bytes ++ san.capture_text takes }
     ensures len { array_string_len text.new ≤ array_string_len text.old + 1 }
@@ -99,7 +98,7 @@ fn push_capture(text: &mut Text, takes: bool)
 }
 
 // Appends the file and `x` of a pawn's capture.
-fn push_pawn_origin(text: &mut Text, takes: bool, from: Square)
+fn push_pawn_origin(text: &mut SanText, takes: bool, from: Square)
     requires room { array_string_len text.old + 2 ≤ 8 }
     ensures bytes { text.new.bytes ≡ text.old.bytes ++ san.pawn_origin takes from }
     ensures len { array_string_len text.new ≤ array_string_len text.old + 2 }
@@ -111,7 +110,7 @@ fn push_pawn_origin(text: &mut Text, takes: bool, from: Square)
 }
 
 // Appends what a pawn becomes.
-fn push_promotion(text: &mut Text, promotion: Option<Kind>)
+fn push_promotion(text: &mut SanText, promotion: Option<Kind>)
     requires room { array_string_len text.old + 2 ≤ 8 }
     ensures bytes { text.new.bytes ≡ text.old.bytes ++ promotion_text promotion }
     ensures len { array_string_len text.new ≤ array_string_len text.old + 2 }
@@ -126,7 +125,7 @@ fn push_promotion(text: &mut Text, promotion: Option<Kind>)
 }
 
 // Appends `+` for check or `#` for mate.
-pub fn push_threat(text: &mut Text, threat: Threat)
+pub fn push_threat(text: &mut SanText, threat: Threat)
     requires room { array_string_len text.old < 8 }
     ensures bytes { text.new.bytes ≡ text.old.bytes ++ san.threat_text threat }
 {
@@ -148,16 +147,6 @@ fn moving_kind(board: &Board, mv: &Move) -> Kind
     }
 }
 
-// Whether a square is the target.
-fn is_target(target: Option<Square>, square: Square) -> bool
-    ensures { result ≡ after.is_target target square }
-{
-    match target {
-        None => false,
-        Some(crossed) => is_same(crossed, square),
-    }
-}
-
 // Whether a move by a man of the kind takes.
 fn is_capture(board: &Board, mv: &Move, kind: Kind) -> bool
     requires { man_at board.now.placement mv.now.from ≡ Some (board.now.side, kind) }
@@ -169,32 +158,14 @@ fn is_capture(board: &Board, mv: &Move, kind: Kind) -> bool
         || (kind == Kind::Pawn && from.file() != to.file() && is_target(board.target(), to))
 }
 
-// Whether two squares are one.
-fn is_same(a: Square, b: Square) -> bool
-    ensures { result ≡ is_square a b }
-{
-    a.number() == b.number()
-}
-
-// Whether the king castles to the wing.
-fn castles_to(board: &Board, mv: &Move, wing: Wing) -> bool
-    requires { man_at board.now.placement mv.now.from ≡ Some (board.now.side, kinds.King) }
-    ensures { result ≡ after.castles_to board.now mv.now wing }
-{
-    let from = mv.from;
-    let to = mv.to;
-    let side = board.side();
-    is_same(from, king_home(side)) && is_same(to, castled_king(side, wing))
-}
-
 // The wing to which the king castles.
 fn castled_wing(board: &Board, mv: &Move) -> Option<Wing>
     requires { man_at board.now.placement mv.now.from ≡ Some (board.now.side, kinds.King) }
     ensures { result ≡ san.castled_wing board.now mv.now }
 {
-    if castles_to(board, mv, Wing::King) {
+    if board.castles_to(mv, Wing::King) {
         Some(Wing::King)
-    } else if castles_to(board, mv, Wing::Queen) {
+    } else if board.castles_to(mv, Wing::Queen) {
         Some(Wing::Queen)
     } else {
         None
@@ -202,7 +173,7 @@ fn castled_wing(board: &Board, mv: &Move) -> Option<Wing>
 }
 
 // The text of castling.
-fn castling_text(wing: Wing) -> Text
+fn castling_text(wing: Wing) -> SanText
     ensures bytes { result.bytes ≡ san.castling_text wing }
     ensures len { array_string_len result ≤ 7 }
 {
@@ -215,7 +186,7 @@ fn castling_text(wing: Wing) -> Text
 }
 
 // The text of a pawn's move.
-fn pawn_text(board: &Board, mv: &Move) -> Text
+fn pawn_text(board: &Board, mv: &Move) -> SanText
     requires { man_at board.now.placement mv.now.from ≡ Some (board.now.side, kinds.Pawn) }
     ensures bytes { result.bytes ≡ san.pawn_text board.now mv.now }
     ensures len { array_string_len result ≤ 7 }
@@ -228,7 +199,7 @@ fn pawn_text(board: &Board, mv: &Move) -> Text
 }
 
 // The text of a piece's move.
-fn piece_text(board: &Board, mv: &Move, kind: Kind) -> Text
+fn piece_text(board: &Board, mv: &Move, kind: Kind) -> SanText
     requires piece { kind ≢ kinds.Pawn }
     requires own { man_at board.now.placement mv.now.from ≡ Some (board.now.side, kind) }
     ensures text { san.IsPieceText board.now mv.now kind result.bytes }
@@ -243,7 +214,7 @@ fn piece_text(board: &Board, mv: &Move, kind: Kind) -> Text
 }
 
 // The text of a king's move.
-fn king_text(board: &Board, mv: &Move) -> Text
+fn king_text(board: &Board, mv: &Move) -> SanText
     requires { man_at board.now.placement mv.now.from ≡ Some (board.now.side, kinds.King) }
     ensures text { san.IsKingText board.now mv.now (san.castled_wing board.now mv.now) result.bytes }
     ensures len { array_string_len result ≤ 7 }
@@ -255,7 +226,7 @@ fn king_text(board: &Board, mv: &Move) -> Text
 }
 
 /// A legal move's SAN without its suffix, of at most 7 bytes.
-pub fn body(board: &Board, mv: &Move) -> Text
+pub fn body(board: &Board, mv: &Move) -> SanText
     requires { IsLegal board.now mv.now }
     ensures text { san.IsBody board.now mv.now result.bytes }
     ensures len { array_string_len result ≤ 7 }

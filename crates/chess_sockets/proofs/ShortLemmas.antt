@@ -10,7 +10,7 @@ use Rattle.chess_entry.specs.declared.verdicts.Verdict.TheVariants.{Refuse, Ente
 use Rattle.chess_entry.specs.State.{TableState, find_game}
 use Rattle.chess_entry.specs.Verdict.{effective}
 use Rattle.rec_codec.specs.declared.record.Entry.{Entry}
-use Rattle.chess_line.specs.declared.lines.Line.TheVariants as lines
+use Rattle.chess_line.specs.declared.lines.Request.TheVariants as lines
 use Rattle.chess_line.specs.Line.{HasForm}
 use Rattle.chess_answer.specs.declared.reads.Reply.{Reply}
 use Rattle.chess_answer.specs.Reads.{IsReadReply, IsFenLine, show_text}

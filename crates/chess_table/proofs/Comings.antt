@@ -37,7 +37,7 @@ use Rattle.chess_entry.specs.declared.verdicts.Verdict.TheVariants.{Refuse, Ente
 use Rattle.chess_entry.specs.declared.refusals.Refusal.TheVariants.{OfferStands, NoOffer, TooEarly, AlreadyClaimed, FlagUp}
 use Rattle.chess_entry.specs.State.{GameState, TableState, position_of, ply_of, seat_of, is_joined, is_over, find_game}
 use Rattle.chess_entry.specs.Told.{Told, told, IsMoveTold}
-use Rattle.chess_entry.specs.Verdict.{Check, refuse, first_of, is_period, are_times, is_start, is_full, is_long, is_on_move, has_offer, has_fallen, in_game, by_side, while_running, in_turn, for_move, moved, join_verdict, move_verdict, offer_verdict, accept_verdict, decline_verdict, resign_verdict, claim_verdict, flag_verdict, drop_verdict, in_seat, side_of, is_named, player_verdict, is_read, verdict, IsTold}
+use Rattle.chess_entry.specs.Verdict.{Check, refuse, first_of, is_period, are_times, is_start, is_full, is_long, is_on_move, has_offer, has_fallen, in_game, by_side, while_running, in_turn, for_move, move_entered, join_verdict, move_verdict, offer_verdict, accept_verdict, decline_verdict, resign_verdict, claim_verdict, flag_verdict, drop_verdict, in_seat, side_of, is_named, player_verdict, is_read, verdict, IsTold}
 use Rattle.chess_entry.specs.Bounds.{AreDifferent}
 use Rattle.chess_entry.specs.Table.{IsTable, IsOnTable, IsEnteredOn}
 use Rattle.chess_game.specs.Turn.{IsRunningAt}
@@ -351,7 +351,7 @@ module _ (table : TableState) (e : Entry) (from : table.moment ≤ e.moment) (to
     move-comes made so r mover =
         let side = (position_of game).side in
         let p = seated r.ready.0.running.joined side in
-        let v = moved game e.moment (Some made.mv) in
+        let v = move_entered game e.moment (Some made.mv) in
         enters p.name (act.Play e.game made.ply (as_text (text_of made.mv))) (told None (Some made.mv)) p.named refl
         (refl, move_told made.mv r.ready.1.legal)
         (at_seat p.name game side (move_verdict table e.moment made.ply (Some made.mv)) found p.sits

@@ -24,7 +24,7 @@ use Rattle.chess_entry.specs.declared.verdicts.Verdict.TheVariants.{Refuse, Ente
 use Rattle.chess_entry.specs.declared.refusals.Refusal.TheVariants.{OfferStands, NoOffer, TooEarly, AlreadyClaimed, FlagUp}
 use Rattle.chess_entry.specs.State.{GameState, TableState, position_of, ply_of, seat_of, is_joined, is_over, find_game}
 use Rattle.chess_entry.specs.Told.{Told, IsStartTold, IsMoveTold, bytes_of}
-use Rattle.chess_entry.specs.Verdict.{Check, refuse, first_of, are_times, is_start, is_finished, is_full, is_long, is_on_move, has_offer, has_fallen, in_game, by_side, while_running, in_turn, for_move, for_stated, opened_from, moved, open_verdict, join_verdict, move_verdict, offer_verdict, accept_verdict, decline_verdict, resign_verdict, claim_verdict, flag_verdict, drop_verdict, in_seat, side_of, player_verdict, name_or_none, is_read, effective, verdict, IsTold}
+use Rattle.chess_entry.specs.Verdict.{Check, refuse, first_of, are_times, is_start, is_finished, is_full, is_long, is_on_move, has_offer, has_fallen, in_game, by_side, while_running, in_turn, for_move, for_stated, opened_from, move_entered, open_verdict, join_verdict, move_verdict, offer_verdict, accept_verdict, decline_verdict, resign_verdict, claim_verdict, flag_verdict, drop_verdict, in_seat, side_of, player_verdict, name_or_none, is_read, effective, verdict, IsTold}
 use Rattle.chess_entry.specs.Games.{control_of}
 use Rattle.chess_entry.specs.Bounds.{IsStart}
 use Rattle.chess_entry.specs.Table.{IsTable, IsOnTable, IsEnteredOn}
@@ -135,7 +135,7 @@ module _ (table : TableState) (is : IsTable table) (at : ℕ) (from : table.mome
 
   moved-follows : (game : GameState) (move : Option Move) (e : Entry) → IsInTime game at
       → ((m : Move) → move ≡ Some m → IsLegal (position_of game) m) → ply_of game < table.limits.plies
-      → moved game at move ≡ Enter e → Follows game e
+      → move_entered game at move ≡ Enter e → Follows game e
   moved-follows game None e up legal short h = absurd (cc)
   moved-follows game (Some m) e up legal short h = (
     event.Move (record { mv = m; ply = ply_of game }),
@@ -148,10 +148,10 @@ module _ (table : TableState) (is : IsTable table) (at : ℕ) (from : table.mome
       → EntersIn (move_verdict table at ply move) number
   move-enters number ply text move tells game side e found h =
       let here = subst (λ (o : Option GameState). IsMoveTold o (Some text) move) found tells in
-      runs number game (in_turn game side ply ++ for_move table game move) (moved game at move) e found h
+      runs number game (in_turn game side ply ++ for_move table game move) (move_entered game at move) e found h
       (λ up rest.
-      let turn = in_turn-passes game side ply (for_move table game move) (moved game at move) e rest in
-      let last = for_move-passes game move (moved game at move) e turn.1 in
+      let turn = in_turn-passes game side ply (for_move table game move) (move_entered game at move) e rest in
+      let last = for_move-passes game move (move_entered game at move) e turn.1 in
       moved-follows game move e up (λ m states. legal_told game (Some text) move m here states) last.0 last.1)
 
   -- ---- offers, and the end

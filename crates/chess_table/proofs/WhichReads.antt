@@ -16,7 +16,7 @@ use Rattle.chess_entry.specs.declared.verdicts.Verdict.{Verdict}
 use Rattle.chess_entry.specs.declared.verdicts.Verdict.TheVariants.{Refuse, Enter, Read}
 use Rattle.chess_entry.specs.State.{GameState, TableState, ply_of, seat_of, is_joined, is_over, find_game}
 use Rattle.chess_entry.specs.Told.{Told}
-use Rattle.chess_entry.specs.Verdict.{Check, refuse, first_of, are_times, is_start, is_finished, is_full, has_offer, is_read, in_game, by_side, while_running, in_turn, for_move, for_stated, opened_from, moved, in_seat, side_of, player_verdict, name_or_none, effective, move_verdict, offer_verdict, accept_verdict, decline_verdict, resign_verdict, claim_verdict, flag_verdict, drop_verdict, join_verdict}
+use Rattle.chess_entry.specs.Verdict.{Check, refuse, first_of, are_times, is_start, is_finished, is_full, has_offer, is_read, in_game, by_side, while_running, in_turn, for_move, for_stated, opened_from, move_entered, in_seat, side_of, player_verdict, name_or_none, effective, move_verdict, offer_verdict, accept_verdict, decline_verdict, resign_verdict, claim_verdict, flag_verdict, drop_verdict, join_verdict}
 use Rattle.chess_table.specs.Reading.{IsRead}
 
 -- what holds where a verdict is a read
@@ -61,7 +61,7 @@ in_seat-reads table name number v each =
     in_game-reads ⊥ (λ game. by_side (v game) (side_of name game)) (find_game number table.games)
     (λ game found. by_side-reads (v game) (side_of name game) (each game))
 
-moved-reads : (game : GameState) (at : ℕ) (move : Option Move) → OnRead ⊥ (moved game at move)
+moved-reads : (game : GameState) (at : ℕ) (move : Option Move) → OnRead ⊥ (move_entered game at move)
 moved-reads game at None = tt
 moved-reads game at (Some m) = tt
 
@@ -116,7 +116,7 @@ player-reads table at name told (act.Join game) =
 player-reads table at name told (act.Play game ply text) =
     in_seat-reads table name game (move_verdict table at ply told.move)
     (λ g side. first_of-reads ⊥
-    (while_running g at ++ (in_turn g side ply ++ for_move table g told.move)) (moved g at told.move)
+    (while_running g at ++ (in_turn g side ply ++ for_move table g told.move)) (move_entered g at told.move)
     (tt, (tt, (tt, (tt, (tt, (tt, (tt, tt))))))) (moved-reads g at told.move))
 player-reads table at name told (act.Offer game) =
     in_seat-reads table name game (offer_verdict at)

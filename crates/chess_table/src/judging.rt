@@ -1,10 +1,9 @@
-ghost use Rattle.std.specs.Prelude.{◌≡◌, ◌≤◌, ◌++◌, ℕ, List, Option, Some, None, is_some, true, false, IfOk, IfErr, IfSome};
+ghost use Rattle.std.specs.Prelude.{◌≡◌, ◌≤◌, ◌++◌, ℕ, List, Option, Some, None, is_some, true, false, IfOk, IfErr};
 ghost use Rattle.chess_bits.specs.declared.men.Colour.{Colour};
 ghost use Rattle.chess_bits.specs.Man.{other};
 ghost use Rattle.chess_board.specs.declared.moves.Move.{Move};
 ghost use Rattle.chess_board.specs.Position.{Position};
 ghost use Rattle.rec_codec.specs.declared.record.Event.TheVariants as event;
-ghost use Rattle.rec_codec.specs.Name.{IsName};
 ghost use Rattle.rec_codec.specs.Records.{entry};
 ghost use Rattle.chess_entry.specs.declared.verdicts.Verdict.{Verdict};
 ghost use Rattle.chess_entry.specs.declared.verdicts.Verdict.TheVariants.{Refuse, Enter};
@@ -22,6 +21,7 @@ use chess_board::Board;
 use chess_clock::is_time_control;
 use chess_entry::{
     Act, Claim, Command, Entry, Event, GameNumber, Made, Name, Opening, Refusal, Text, Verdict,
+    know_name,
 };
 use chess_fen::fen_read;
 use chess_game::{Game, Times, is_finished};
@@ -516,15 +516,6 @@ fn checked(table: &Table, command: &Command, tells: &Tells) -> Verdict
         return Verdict::Refuse(Refusal::NoName);
     };
     player_verdict(table, at, &name, tells, &command.act)
-}
-
-// Who asks has a name of the right form, if anybody does.
-fn know_name(who: &Option<Name>)
-    ensures { IfSome who.now IsName }
-{
-    if let Some(name) = who {
-        let _name = name.as_str();
-    }
 }
 
 /// What a command meets on a table: the first check that applies refuses it, or makes it the entry that a flag has fallen;

@@ -10,14 +10,14 @@ use crate::movetext::push_token;
 use arrayvec::ArrayString;
 use chess_bits::Colour;
 use chess_board::{Board, Move};
-use chess_fen::Text;
+use chess_fen::FenText;
 use chess_moves::legal;
 use chess_san::write;
 use itoa::Buffer;
 use std::alloc::AllocError;
 
 // A number and what follows it, as `1.` or `12...`.
-fn numbered(number: u16, dots: &str) -> Text
+fn numbered(number: u16, dots: &str) -> FenText
     requires { length dots.now ≤ 3 }
     ensures bytes { result.bytes ≡ decimal number ++ dots.now }
     ensures token { IsToken result.bytes }

@@ -6,7 +6,7 @@ ghost use Rattle.chess_text.specs.Pgn.{Tag, tag, tag_text, tags_text, result_tex
 use arrayvec::ArrayString;
 use chess_board::Board;
 use chess_end::{Article, Ending, GameResult};
-use chess_fen::{Text, fen_write, push};
+use chess_fen::{FenText, fen_write, push};
 use itoa::Buffer;
 use std::alloc::AllocError;
 
@@ -93,7 +93,7 @@ pub fn termination(ending: Option<Ending>) -> &'static str
 }
 
 // Appends a number.
-fn push_decimal(text: &mut Text, number: u32)
+fn push_decimal(text: &mut FenText, number: u32)
     requires room { array_string_len text.old + 10 ≤ 96 }
     ensures bytes { text.new.bytes ≡ text.old.bytes ++ decimal number }
     ensures len { array_string_len text.new ≤ array_string_len text.old + 10 }
@@ -103,7 +103,7 @@ fn push_decimal(text: &mut Text, number: u32)
 }
 
 // Appends a time, and the increment where it is not 0.
-fn push_time(text: &mut Text, time: u32, increment: u32)
+fn push_time(text: &mut FenText, time: u32, increment: u32)
     requires room { array_string_len text.old + 21 ≤ 96 }
     ensures bytes { text.new.bytes ≡ text.old.bytes ++ (decimal time ++ increment_text increment) }
     ensures len { array_string_len text.new ≤ array_string_len text.old + 21 }

@@ -5,7 +5,7 @@ ghost use Rattle.rec_codec.specs.Limits.{IsInRange};
 
 use crate::fault::Fault;
 use chess_entry::{Command, Name};
-use chess_line::{Line, parse};
+use chess_line::{Request, parse};
 use rec_codec::{Limits, Version};
 use sector_dev::Fate;
 use std::alloc::Global;
@@ -90,12 +90,12 @@ pub fn read_command(text: &str) -> Option<Command> {
         return None;
     };
     match parse(sent.line.as_bytes())? {
-        Line::Act(act) => Some(Command {
+        Request::Act(act) => Some(Command {
             at: sent.at,
             who: sent.who,
             act,
         }),
-        Line::Called(_) => None,
+        Request::Called(_) => None,
     }
 }
 

@@ -1,12 +1,10 @@
 //! What a server answers to a line.
-ghost use Rattle.std.specs.Prelude.{IfSome};
-ghost use Rattle.rec_codec.specs.Name.{IsName};
 
 use crate::lines::{Change, InputLine, read_line};
 use crate::stored::Stored;
 use chess_answer::{AnswerLine, Reply, named_line, refusal_line};
-use chess_entry::{Command, Entry, Name, Refusal, Verdict};
-use chess_line::{Line, parse};
+use chess_entry::{Command, Entry, Name, Refusal, Verdict, know_name};
+use chess_line::{Request, parse};
 use chess_table::{Table, judge};
 use player_lines::{Fault, LinePlayer, Sent, push_reply, text_line};
 use rec_bytes::write_record;
@@ -28,18 +26,6 @@ pub struct Player {
     alloc: Global,
     table: Table,
     stored: Option<Stored>,
-}
-
-// Who asks has a name of the right form, if any.
-fn know_name(who: &Option<Name>)
-    ensures { IfSome who.now IsName }
-{
-    match who {
-        None => {}
-        Some(name) => {
-            let _name = name.as_str();
-        }
-    }
 }
 
 // Appends a record up to its last byte that is not zero, in digits to base 16, as a line.
@@ -146,8 +132,8 @@ impl Player {
             return Ok(self.alone(refusal_line(Refusal::BadLine)));
         };
         match line {
-            Line::Called(name) => Ok(self.called(sent.at, &name)),
-            Line::Act(act) => self.acted(&Command {
+            Request::Called(name) => Ok(self.called(sent.at, &name)),
+            Request::Act(act) => self.acted(&Command {
                 at: sent.at,
                 who: sent.who,
                 act,

@@ -1,6 +1,6 @@
 //! Rows of clocks.
 use chess_bits::Colour::{Black, White};
-use chess_clock::{Clock, Event, is_time_control};
+use chess_clock::{Clock, ClockEvent, is_time_control};
 
 // 60 s and 2 s a move, from 1,000 on.
 #[test]
@@ -33,14 +33,14 @@ fn a_wrong_claim_gives_time_to_the_opponent(rt: HostRuntime) {
         1_000,
         None,
         &[
-            Event::Turn(White, 0),
-            Event::Turn(Black, 0),
-            Event::Turn(White, 0),
-            Event::Turn(Black, 0),
-            Event::Turn(White, 0),
-            Event::Turn(Black, 0),
-            Event::Turn(White, 0),
-            Event::Turn(Black, 0),
+            ClockEvent::Turn(White, 0),
+            ClockEvent::Turn(Black, 0),
+            ClockEvent::Turn(White, 0),
+            ClockEvent::Turn(Black, 0),
+            ClockEvent::Turn(White, 0),
+            ClockEvent::Turn(Black, 0),
+            ClockEvent::Turn(White, 0),
+            ClockEvent::Turn(Black, 0),
         ],
     );
     clock.penalty(Black);
@@ -75,7 +75,10 @@ fn a_clock_goes_on_from_a_snapshot(rt: HostRuntime) {
     let mut clock = Clock::new(60, 2, Black, 10_000, Some((1, 30)));
     clock.set_held(White, 82_000, 1);
     clock.set_held(Black, 60_000, 0);
-    clock.replay(&[Event::Turn(Black, 59_999), Event::WrongClaim(Black)]);
+    clock.replay(&[
+        ClockEvent::Turn(Black, 59_999),
+        ClockEvent::WrongClaim(Black),
+    ]);
     assert!(rt; clock.left(White, 69_999) == 202_000);
     assert!(rt; clock.left(Black, 69_999) == 32_001);
     assert!(rt; clock.since() == 69_999);

@@ -1,13 +1,13 @@
 //! Lines as clients send them: each form once, and lines that have no form.
 use chess_bits::Colour;
 use chess_entry::{Act, Name};
-use chess_line::{Line, parse};
+use chess_line::{Request, parse};
 use std::process::Abort;
 
 // The act of a line.
 fn act_of(line: &str) -> Option<Act> {
     match parse(line.as_bytes()) {
-        Some(Line::Act(act)) => Some(act),
+        Some(Request::Act(act)) => Some(act),
         _ => None,
     }
 }
@@ -18,8 +18,8 @@ fn name_of(line: &str) -> Option<Name> {
         return None;
     };
     match line {
-        Line::Called(name) => Some(name),
-        Line::Act(_) => None,
+        Request::Called(name) => Some(name),
+        Request::Act(_) => None,
     }
 }
 

@@ -20,7 +20,7 @@ loop-from-init c =
     let start : squares_left c.into_iter-from-iterator.result ≡ members c.sources.result =
     ap squares_left c.into_iter-from-iterator.ensures.into_iter_gives ∙ c.iter-from-items.ensures in
     let Some' : List Square → Type 0 = SomeOf
-    (λ s. IsRival p m (plain s m.to) × IsOn c.args.line m.from s) in
+    (λ s. IsRival p m (plain s m.to) × IsOn c.args.among m.from s) in
     let Same' : Square → Type 0 = λ s. man_at p.placement s ≡ man_at p.placement m.from in
     let Each' : List Square → Type 0 = EachOf Same' in
     record {
@@ -28,7 +28,7 @@ loop-from-init c =
           let own = is.same_man ∙ c.requires.own in
           let Legal' : Move → Type 0 = IsLegal p in
           subst Some' (sym start)
-          (SomeOf-members (λ s. IsRival p m (plain s m.to) × IsOn c.args.line m.from s) c.sources.result rival.from
+          (SomeOf-members (λ s. IsRival p m (plain s m.to) × IsOn c.args.among m.from s) c.sources.result rival.from
           (IsOnBoard-from_man p.placement rival.from (p.side, c.args.kind) own)
           (c.sources.ensures.all rival is.legal own is.same_target) (
             record {

@@ -10,7 +10,7 @@ use Rattle.chess_san.proofs.origin.has_rival.Given as goal
 -- if there is a rival, one of the squares that are left has one; and only men of the kind are left
 abbrev pub invariant-loop-from : goal.invariant-loop-from
 invariant-loop-from l = record {
-  some : HasRival l.board l.mv l.line → SomeOf
-      (λ s. IsRival l.board l.mv (plain s l.mv.to) × IsOn l.line l.mv.from s) (squares_left l.from-iterator);
+  some : HasRival l.board l.mv l.among → SomeOf
+      (λ s. IsRival l.board l.mv (plain s l.mv.to) × IsOn l.among l.mv.from s) (squares_left l.from-iterator);
   goes : EachOf (λ s. man_at l.board.placement s ≡ man_at l.board.placement l.mv.from) (squares_left l.from-iterator);
 }

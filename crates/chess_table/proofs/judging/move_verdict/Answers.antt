@@ -6,7 +6,7 @@ use Rattle.rec_codec.specs.Records.{entry}
 use Rattle.chess_entry.specs.declared.verdicts.Verdict.{Verdict}
 use Rattle.chess_entry.specs.declared.verdicts.Verdict.TheVariants.{Enter}
 use Rattle.chess_entry.specs.State.{GameState, TableState}
-use Rattle.chess_entry.specs.Verdict.{Check, first_of, in_turn, for_move, moved}
+use Rattle.chess_entry.specs.Verdict.{Check, first_of, in_turn, for_move, move_entered}
 use Rattle.chess_table.specs.Checks.{stopped_by}
 use Rattle.chess_table.proofs.CheckLemmas.{stops, passes, stops_last, passes_last}
 use Rattle.chess_table.proofs.judging.move_verdict.Goals as goal
@@ -15,7 +15,7 @@ abbrev checks : TableState → ℕ → Option Move → GameState → Colour → 
 checks table ply mv game side = in_turn game side ply ++ for_move table game mv
 
 abbrev made : ℕ → Option Move → GameState → Colour → Verdict
-made at mv game side = moved game at mv
+made at mv game side = move_entered game at mv
 
 -- the player is on move in a game of so many moves
 turn_passes : (table : TableState) (at ply : ℕ) (mv : Option Move) (game : GameState) (side : Colour) (o : Option Verdict)
@@ -23,7 +23,7 @@ turn_passes : (table : TableState) (at ply : ℕ) (mv : Option Move) (game : Gam
     → first_of (checks table ply mv game side) (made at mv game side)
     ≡ first_of (for_move table game mv) (made at mv game side)
 turn_passes table at ply mv game side o told none =
-    passes o (in_turn game side ply) (for_move table game mv) (moved game at mv) told none
+    passes o (in_turn game side ply) (for_move table game mv) (move_entered game at mv) told none
 
 pub returns-in-Err : goal.returns-in-Err
 returns-in-Err c =
@@ -35,7 +35,7 @@ returns-in-Some c =
     let mv = c.args.mv.now in
     let game = c.in-Ok.seat.0.now in
     sym (c.in-Ok.ensures.ok (checks table c.args.ply mv) (made c.args.at mv)
-    ∙ stops c.in_turn.result (in_turn game c.in-Ok.seat.1 c.args.ply) (for_move table game mv) (moved game c.args.at mv)
+    ∙ stops c.in_turn.result (in_turn game c.in-Ok.seat.1 c.args.ply) (for_move table game mv) (move_entered game c.args.at mv)
     c.in-Some.stop c.in_turn.ensures c.in-Some.is)
 
 pub returns-in-Some-for_move : goal.returns-in-Some-for_move
@@ -45,7 +45,7 @@ returns-in-Some-for_move c =
     let game = c.in-Ok.seat.0.now in
     sym (c.in-Ok.ensures.ok (checks table c.args.ply mv) (made c.args.at mv)
     ∙ turn_passes table c.args.at c.args.ply mv game c.in-Ok.seat.1 c.in_turn.result c.in_turn.ensures c.in_default.is
-    ∙ stops_last c.for_move.result (for_move table game mv) (moved game c.args.at mv) c.in-Some-for_move.stop
+    ∙ stops_last c.for_move.result (for_move table game mv) (move_entered game c.args.at mv) c.in-Some-for_move.stop
     c.for_move.ensures c.in-Some-for_move.is)
 
 pub returns-in-None : goal.returns-in-None
@@ -55,9 +55,9 @@ returns-in-None c =
     let game = c.in-Ok.seat.0.now in
     sym (c.in-Ok.ensures.ok (checks table c.args.ply mv) (made c.args.at mv)
     ∙ turn_passes table c.args.at c.args.ply mv game c.in-Ok.seat.1 c.in_turn.result c.in_turn.ensures c.in_default.is
-    ∙ passes_last c.for_move.result (for_move table game mv) (moved game c.args.at mv) c.for_move.ensures
+    ∙ passes_last c.for_move.result (for_move table game mv) (move_entered game c.args.at mv) c.for_move.ensures
     c.in_default-for_move.is
-    ∙ ap (moved game c.args.at) c.in-None.is)
+    ∙ ap (move_entered game c.args.at) c.in-None.is)
 
 pub returns-in-Some-mv : goal.returns-in-Some-mv
 returns-in-Some-mv c =
@@ -66,8 +66,8 @@ returns-in-Some-mv c =
     let game = c.in-Ok.seat.0.now in
     sym (c.in-Ok.ensures.ok (checks table c.args.ply mv) (made c.args.at mv)
     ∙ turn_passes table c.args.at c.args.ply mv game c.in-Ok.seat.1 c.in_turn.result c.in_turn.ensures c.in_default.is
-    ∙ passes_last c.for_move.result (for_move table game mv) (moved game c.args.at mv) c.for_move.ensures
+    ∙ passes_last c.for_move.result (for_move table game mv) (move_entered game c.args.at mv) c.for_move.ensures
     c.in_default-for_move.is
-    ∙ ap (moved game c.args.at) c.in-Some-mv.is
+    ∙ ap (move_entered game c.args.at) c.in-Some-mv.is
     ∙ sym (c.entered.ensures ∙ ap (λ (n : ℕ). Enter (entry game.number c.args.at
     (event.Move (record { mv = c.in-Some-mv.mv; ply = n })))) c.ply.ensures.ply))

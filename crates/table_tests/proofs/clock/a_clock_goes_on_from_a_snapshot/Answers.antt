@@ -1,7 +1,7 @@
 use Rattle.std.proofs.Common.{List, [], ◌∷◌, Some, refl, sym, ap, subst, ◌∙◌}
 use Rattle.chess_bits.specs.declared.men.Colour.TheVariants.{White, Black}
-use Rattle.chess_clock.specs.declared.events.Event.{Event}
-use Rattle.chess_clock.specs.declared.events.Event.TheVariants.{Turn, WrongClaim}
+use Rattle.chess_clock.specs.declared.events.ClockEvent.{ClockEvent}
+use Rattle.chess_clock.specs.declared.events.ClockEvent.TheVariants.{Turn, WrongClaim}
 use Rattle.chess_clock.specs.TimeControl.{time_control, moves_to_go}
 use Rattle.chess_clock.specs.ClockState.{ClockState, started, with_time}
 use Rattle.chess_clock.specs.Replay.{TurnsEndInTime, TimesAlwaysFit}
@@ -17,7 +17,7 @@ black_set s = with_time Black s (record { held = 60000; to_go = moves_to_go s.co
 abbrev snapshot : ClockState
 snapshot = black_set (white_set (started (time_control 60 2 (Some (1, 30))) Black 10000))
 
-abbrev two_events : List Event
+abbrev two_events : List ClockEvent
 two_events = Turn Black 59999 ∷ WrongClaim Black ∷ []
 
 pub replay-requires-clause-in_time : goal.replay-requires-clause-in_time

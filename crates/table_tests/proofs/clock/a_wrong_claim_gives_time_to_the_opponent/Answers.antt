@@ -1,7 +1,7 @@
 use Rattle.std.proofs.Common.{List, [], ◌∷◌, None, refl}
 use Rattle.chess_bits.specs.declared.men.Colour.TheVariants.{White, Black}
-use Rattle.chess_clock.specs.declared.events.Event.{Event}
-use Rattle.chess_clock.specs.declared.events.Event.TheVariants.{Turn}
+use Rattle.chess_clock.specs.declared.events.ClockEvent.{ClockEvent}
+use Rattle.chess_clock.specs.declared.events.ClockEvent.TheVariants.{Turn}
 use Rattle.chess_clock.specs.TimeControl.{time_control}
 use Rattle.chess_clock.specs.ClockState.{ClockState, started}
 use Rattle.chess_clock.proofs.Deciding.{TurnsEndInTime-from_test, TimesAlwaysFit-from_test}
@@ -10,7 +10,7 @@ use Rattle.table_tests.proofs.clock.a_wrong_claim_gives_time_to_the_opponent.Goa
 abbrev start : ClockState
 start = started (time_control 300 0 None) White 1000
 
-abbrev eight_turns : List Event
+abbrev eight_turns : List ClockEvent
 eight_turns =
     Turn White 0 ∷ Turn Black 0 ∷ Turn White 0 ∷ Turn Black 0
     ∷ Turn White 0 ∷ Turn Black 0 ∷ Turn White 0 ∷ Turn Black 0 ∷ []

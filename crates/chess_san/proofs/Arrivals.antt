@@ -22,7 +22,7 @@ use Rattle.chess_notation.specs.declared.telling.Threat.{Threat}
 use Rattle.chess_notation.specs.declared.telling.Threat.TheVariants as threat
 use Rattle.chess_notation.specs.Name.{square_name, square_named, capital_of, promotion_text}
 use Rattle.chess_notation.specs.San.{threat_text, origin_text, capture_text, is_capture, pawn_origin, castling_text}
-use Rattle.chess_san.specs.Asked.{piece_named, suffix_len, ended, promoted_ending, plain_ending, ending_of, asked_castling, asked_of}
+use Rattle.chess_san.specs.Asked.{piece_named, suffix_len, arrived, promoted_arrival, plain_arrival, arrival_of, asked_castling, asked_of}
 use Rattle.chess_san.proofs.SourceLemmas.{no_promotion}
 use Rattle.chess_san.proofs.Shapes.{IsCastlingShape, IsPieceShape, IsPawnShape, IsShape}
 
@@ -71,20 +71,20 @@ unfolding suffix_len
 suffix x rest (inl e) = rw e refl
 suffix x rest (inr e) = rw e refl
 
--- ---- the ending, read from the end
+-- ---- the arrival, read from the end
 
 plain_read : (text : List ℕ) (skip : ℕ) (to : Square) → IsOnBoard to → suffix_len text ≡ skip →
     get_or text (skip + 1) 0 ≡ 96 + to.file → get_or text skip 0 ≡ 48 + to.rank →
-    ending_of text ≡ Some (ended None to)
-unfolding ending_of plain_ending
+    arrival_of text ≡ Some (arrived None to)
+unfolding arrival_of plain_arrival
 plain_read text skip to on len file rank =
     rw (len, ne_eqb (get_or text (skip + 1) 0) 61 (omega (arith, on.file_from)), file, rank, square_named-name to on)
 
 promoted_read : (text : List ℕ) (skip : ℕ) (to : Square) (kind : Kind) → IsOnBoard to → kind ≢ Pawn →
     suffix_len text ≡ skip → get_or text (skip + 1) 0 ≡ 61 → get_or text skip 0 ≡ capital_of kind →
     get_or text (skip + 3) 0 ≡ 96 + to.file → get_or text (skip + 2) 0 ≡ 48 + to.rank →
-    ending_of text ≡ Some (ended (Some kind) to)
-unfolding ending_of promoted_ending
+    arrival_of text ≡ Some (arrived (Some kind) to)
+unfolding arrival_of promoted_arrival
 promoted_read text skip to kind on piece len sign letter file rank =
     rw (len, sign, letter, piece_named-capital kind piece, file, rank, square_named-name to on)
 
@@ -103,7 +103,7 @@ IsPieceOrNone (Some kind) = kind ≢ Pawn
 
 backward : (rest : List ℕ) (to : Square) (promotion : Option Kind) (t : Threat) → IsOnBoard to →
     IsPieceOrNone promotion →
-    ending_of (reverse (square_name to ++ (promotion_text promotion ++ threat_text t)) ++ rest) ≡ Some (ended promotion to)
+    arrival_of (reverse (square_name to ++ (promotion_text promotion ++ threat_text t)) ++ rest) ≡ Some (arrived promotion to)
 backward rest to None threat.Nothing on piece =
     plain_read _ 0 to on (no_suffix (48 + to.rank) _ (omega (arith, on.rank_from)) (omega (arith, on.rank_from))) refl refl
 backward rest to None threat.Check on piece = plain_read _ 1 to on (suffix 43 _ (inl refl)) refl refl
@@ -116,12 +116,12 @@ backward rest to (Some kind) threat.Check on piece =
 backward rest to (Some kind) threat.Mate on piece =
     promoted_read _ 1 to kind on piece (suffix 35 _ (inr refl)) refl refl refl refl
 
-pub ending-read : (front text : List ℕ) (to : Square) (promotion : Option Kind) (t : Threat) → IsOnBoard to →
+pub arrival-read : (front text : List ℕ) (to : Square) (promotion : Option Kind) (t : Threat) → IsOnBoard to →
     IsPieceOrNone promotion → text ≡ front ++ (square_name to ++ (promotion_text promotion ++ threat_text t)) →
-    ending_of (reverse text) ≡ Some (ended promotion to)
-ending-read front text to promotion t on piece joined =
-    ap (λ (x : List ℕ). ending_of (reverse x)) joined
-    ∙ ap ending_of (reverse-append front (square_name to ++ (promotion_text promotion ++ threat_text t)))
+    arrival_of (reverse text) ≡ Some (arrived promotion to)
+arrival-read front text to promotion t on piece joined =
+    ap (λ (x : List ℕ). arrival_of (reverse x)) joined
+    ∙ ap arrival_of (reverse-append front (square_name to ++ (promotion_text promotion ++ threat_text t)))
     ∙ backward (reverse front) to promotion t on piece
 
 -- ---- what is asked for
@@ -132,7 +132,7 @@ asked_for kind m = record { kind = kind; to = m.to; promotion = m.promotion }
 
 asked_man : (side : Colour) (text : List ℕ) (kind : Kind) (m : Move) → get_or text 0 0 ≢ 79 →
     unwrap_or (piece_named (get_or text 0 0)) Pawn ≡ kind →
-    ending_of (reverse text) ≡ Some (ended m.promotion m.to) → asked_of side text ≡ Some (asked_for kind m)
+    arrival_of (reverse text) ≡ Some (arrived m.promotion m.to) → asked_of side text ≡ Some (asked_for kind m)
 unfolding asked_of
 asked_man side text kind m first named end = rw (ne_eqb (get_or text 0 0) 79 first, named, end)
 
@@ -153,7 +153,7 @@ asked-piece p m text is =
     asked_man p.side text is.kind m (λ e. capital_no_stroke is.kind (sym first ∙ e))
     (ap (λ (x : ℕ). unwrap_or (piece_named x) Pawn) first
     ∙ ap (λ (o : Option Kind). unwrap_or o Pawn) (piece_named-capital is.kind is.piece))
-    (ending-read (capital_of is.kind ∷ (origin_text is.origin m.from ++ capture_text (is_capture p m))) text m.to
+    (arrival-read (capital_of is.kind ∷ (origin_text is.origin m.from ++ capture_text (is_capture p m))) text m.to
     m.promotion is.threat is.legal.candidate.on_board (subst May' (sym none) tt)
     (is.joined ∙ ap (λ (r : List ℕ). capital_of is.kind ∷ r)
     (sym (append_assoc (origin_text is.origin m.from) (capture_text (is_capture p m))
@@ -185,7 +185,7 @@ asked-pawn p m text is =
     (IsOnBoard-from_man p.placement m.from (p.side, Pawn) is.own) is.legal.candidate.on_board) in
     asked_man p.side text Pawn m (λ e. omega arith)
     (ap (λ (o : Option Kind). unwrap_or o Pawn) (piece_named-small (get_or text 0 0) first))
-    (ending-read (pawn_origin (is_capture p m) m.from) text m.to m.promotion is.threat is.legal.candidate.on_board
+    (arrival-read (pawn_origin (is_capture p m) m.from) text m.to m.promotion is.threat is.legal.candidate.on_board
     (pawn_promotion p.side m.to m.promotion
     (becomes_of_move p m Pawn (candidate_kind p m Pawn is.own is.legal.candidate))) is.joined)
 
