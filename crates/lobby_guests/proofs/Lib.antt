@@ -3,3 +3,4 @@ pub mod Making
 pub mod Telling
 pub mod Taking
 pub mod Saying
+pub mod Logging

@@ -1,5 +1,5 @@
 //! All browsers that are connected, by the names of their sockets, which grow.
-ghost use Rattle.std.specs.Prelude.{ℕ, Bool, ◌≡◌, [], Option, OnOk};
+ghost use Rattle.std.specs.Prelude.{ℕ, Bool, true, false, ◌≡◌, ◌++◌, ◌∷◌, [], Option, OnOk};
 ghost use Rattle.std.specs.List.{AllZip};
 ghost use Rattle.lobby_guests.specs.Guests.{IsAsBefore, IsAttended, AreAttended, AreTold, AreDelivered, IsWritten, IsLookedAfter, IsClosedIf, AreClosed, AreParted};
 
@@ -132,6 +132,14 @@ fn close_lost<S>(guests: &[Guest<S>], talk: &mut Talk)
     for guest in guests {
         close_if(guest.is_lost(), guest.number(), talk);
     }
+}
+
+/// A browser more, behind those who are there; false where memory is refused.
+pub fn push_guest<S: Drop>(guests: &mut Vec<Guest<S>>, guest: Guest<S>) -> bool
+    ensures pushed { result ≡ true → guests.new.items ≡ guests.old.items ++ guest ∷ [] }
+    ensures refused { result ≡ false → guests.new.items ≡ guests.old.items }
+{
+    guests.push(guest).is_ok()
 }
 
 /// Lets those go that are over or lost.

@@ -12,7 +12,7 @@ mod talk;
 
 pub use counts::{ACTS, BOUNDS, Counts};
 pub use guest::Guest;
-pub use guests::{attend_all, deliver, let_go, look_after_all, wake_all, write_all};
+pub use guests::{attend_all, deliver, let_go, look_after_all, push_guest, wake_all, write_all};
 pub use link::Link;
 pub use links::{Links, NoLinks};
 pub use pieces::PIECE_ROOM;

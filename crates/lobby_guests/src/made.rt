@@ -72,7 +72,7 @@ fn fen_in(text: &str) -> &str
 
 // Puts a line behind a text.
 fn push_line(text: &mut String, line: &str) -> Result<(), AllocError>
-    ensures { OnOk result (string_bytes text.new ≡ string_bytes text.old ++ (line.now ++ 10 ∷ [])) }
+    ensures { OnOk result (string_bytes text.new ≡ string_bytes text.old ++ line.now ++ 10 ∷ []) }
 {
     text.push_str(line)?;
     text.push('\n')

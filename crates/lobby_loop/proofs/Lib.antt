@@ -2,4 +2,3 @@ pub mod Serving
 pub mod Living
 pub mod Waking
 pub mod Speaking
-pub mod Logging
