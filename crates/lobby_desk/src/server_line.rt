@@ -147,9 +147,8 @@ impl ServerLine {
         ensures here { self.new.is_here ≡ self.old.is_here }
         ensures heard { IsHeardSame self.old self.new }
     {
-        put(wire, front, rest)?;
         self.queue.push_back(due)?;
-        Ok(())
+        put(wire, front, rest)
     }
 
     /// Passes a line on.

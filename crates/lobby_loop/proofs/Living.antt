@@ -20,15 +20,15 @@ use Rattle.lobby_web.specs.declared.site.Site.{Site}
 use Rattle.lobby_web.specs.declared.site.File.{File}
 use Rattle.lobby_web.specs.declared.socket.Heard.{Heard as HeardOf}
 use Rattle.lobby_web.specs.declared.socket.Heard.TheVariants as heards
-use Rattle.lobby_loop.specs.declared.guest.Guest.{Guest}
+use Rattle.lobby_guests.specs.declared.guest.Guest.{Guest}
 use Rattle.lobby_loop.specs.declared.hall.Hall.{Hall}
-use Rattle.lobby_loop.specs.declared.link.Link.{Link}
-use Rattle.lobby_loop.specs.declared.made.Made.{Made}
-use Rattle.lobby_loop.specs.declared.talk.Talk.{Talk}
-use Rattle.lobby_loop.specs.Talking.{Saying, InTime, TooFast, WithLink, saying, Moves}
-use Rattle.lobby_loop.specs.Guests.{IsNewGuest, IsHeardAs, IsAsBefore, IsAttended, AreAttended, IsLookedAfter, AreTold, IsWritten}
-use Rattle.lobby_loop.specs.Lines.{bytes_of as bytes_before, AreHeard, HoldsNoLine, IsKept}
-use Rattle.lobby_loop.specs.Turning.{BeginsHall, Admits, ServerComes, IsServerAsBefore, AreDelivered, HearsServer, bytes_heard, PartsFromServer, TellsServer, IsClosedIf, AreClosed, HasTurned, texts_put, AreAdmitted, IsReached, IsLobbyTurn}
+use Rattle.lobby_guests.specs.declared.link.Link.{Link}
+use Rattle.lobby_guests.specs.declared.made.Made.{Made}
+use Rattle.lobby_guests.specs.declared.talk.Talk.{Talk}
+use Rattle.lobby_guests.specs.Talking.{Saying, InTime, TooFast, WithLink, saying, Moves}
+use Rattle.lobby_guests.specs.Guests.{IsNewGuest, IsHeardAs, IsAsBefore, IsAttended, AreAttended, IsLookedAfter, AreTold, AreDelivered, IsWritten, IsClosedIf, AreClosed}
+use Rattle.lobby_guests.specs.Lines.{bytes_of as bytes_before, AreHeard, HoldsNoLine, IsKept}
+use Rattle.lobby_loop.specs.Turning.{BeginsHall, Admits, ServerComes, IsServerAsBefore, HearsServer, bytes_heard, PartsFromServer, TellsServer, HasTurned, texts_put, AreAdmitted, IsReached, IsLobbyTurn}
 use Rattle.lobby_loop.specs.Doing.{Gave, Spot, spot, DoesAt, all_tells, IsServed, AreServed, WereServed, Before}
 use Rattle.lobby_loop.specs.Living.{Happening, Came, Woke, ServerCame, Turned, IsWoken, IsLife, written_in, taken_in, put_in, lost_if, presences_in, kept, sent_in, line_more, lines_heard, presence_more, presences_told, IsHeld, IsOther, HasNone, IsOneOf, AreKnown, IsOwn, AreOwn, numbers, streams_in, NoLineWaits, IsRightLife, Passing, TurnAt, Rested, IsLobbyLife, Filed, Files, sites_in, before_in, Changed, Relisted, Renews, Enrolled}
 use Rattle.lobby_loop.proofs.Serving.{IsApart, ApartFrom, AreApart, served_before, served_read, served_looked, served_written, served_told, gave_nothing, gave_again, gave_early, gave_opened, gave_text, all_served_on, all_served_zip, all_served_filter, all_served_more, all_came, served_new, ClosedIf, AllClosed, closed_if_on, all_were_on, all_were_out, all_were_came, all_let_go, came_more, site_more, all_filed, all_were_filed}

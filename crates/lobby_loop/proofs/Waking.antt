@@ -1,10 +1,10 @@
 -- Browsers that come, and sockets that may be ready, one after the other.
 use Rattle.std.proofs.Common.{◌++◌, inl, inr, List, [], ◌∷◌, Option, None, Some, refl, ap, ◌∙◌, subst}
 use Rattle.std.specs.List.{AllZip}
-use Rattle.lobby_loop.specs.declared.guest.Guest.{Guest}
+use Rattle.lobby_guests.specs.declared.guest.Guest.{Guest}
 use Rattle.lobby_loop.specs.declared.hall.Hall.{Hall}
-use Rattle.lobby_loop.specs.declared.link.Link.{Link}
-use Rattle.lobby_loop.specs.Guests.{IsAsBefore}
+use Rattle.lobby_guests.specs.declared.link.Link.{Link}
+use Rattle.lobby_guests.specs.Guests.{IsAsBefore}
 use Rattle.lobby_loop.specs.Turning.{IsServerAsBefore, IsHallAsBefore, Admits}
 use Rattle.lobby_loop.specs.Living.{IsWoken}
 

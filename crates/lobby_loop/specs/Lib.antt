@@ -1,8 +1,3 @@
-pub mod Pieces
-pub mod Making
-pub mod Talking
-pub mod Guests
-pub mod Lines
 pub mod Logging
 pub mod Turning
 pub mod Doing

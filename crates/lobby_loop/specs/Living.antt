@@ -11,12 +11,12 @@ use Rattle.lobby_desk.specs.History.{Step, has_come, IsRun, AllRight, AllTold, I
 use Rattle.lobby_web.specs.declared.site.Site.{Site}
 use Rattle.lobby_web.specs.declared.site.File.{File}
 use Rattle.lobby_web.specs.Pages.{Changes, IsSame}
-use Rattle.lobby_loop.specs.declared.guest.Guest.{Guest}
+use Rattle.lobby_guests.specs.declared.guest.Guest.{Guest}
 use Rattle.lobby_loop.specs.declared.hall.Hall.{Hall}
-use Rattle.lobby_loop.specs.Guests.{IsAsBefore}
-use Rattle.lobby_loop.specs.Talking.{Moves}
-use Rattle.lobby_loop.specs.declared.link.Link.{Link}
-use Rattle.lobby_loop.specs.Lines.{HoldsNoLine, bytes_of as bytes_before}
+use Rattle.lobby_guests.specs.Guests.{IsAsBefore}
+use Rattle.lobby_guests.specs.Talking.{Moves}
+use Rattle.lobby_guests.specs.declared.link.Link.{Link}
+use Rattle.lobby_guests.specs.Lines.{HoldsNoLine, bytes_of as bytes_before}
 use Rattle.lobby_loop.specs.Turning.{BeginsHall, Admits, IsServerAsBefore, ServerComes, HasTurned, bytes_heard, texts_put, IsLobbyTurn}
 use Rattle.lobby_loop.specs.Doing.{all_tells, AreServed, WereServed, Before}
 

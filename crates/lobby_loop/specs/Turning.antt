@@ -1,26 +1,17 @@
 -- One turn of all that are connected.
-use Rattle.std.specs.Prelude.{ℕ, ◌≡◌, ◌⊎◌, Bool, true, false, not, List, [], ◌∷◌, ◌++◌, filter, Option, None, Some}
+use Rattle.std.specs.Prelude.{ℕ, ◌≡◌, ◌⊎◌, Bool, true, false, List, [], ◌∷◌, ◌++◌, Option, None, Some}
 use Rattle.std.specs.List.{AllZip}
 use Rattle.lobby_desk.specs.declared.players.Player.{Player}
-use Rattle.lobby_desk.specs.declared.telling.Told.{Told}
-use Rattle.lobby_desk.specs.Events.{Closed, Gone, Here, tellings}
+use Rattle.lobby_desk.specs.Events.{Gone, Here, tellings}
 use Rattle.lobby_desk.specs.Logging.{log_texts}
 use Rattle.lobby_web.specs.declared.site.Site.{Site}
-use Rattle.lobby_loop.specs.declared.guest.Guest.{Guest}
+use Rattle.lobby_guests.specs.declared.guest.Guest.{Guest}
+use Rattle.lobby_guests.specs.declared.link.Link.{Link}
+use Rattle.lobby_guests.specs.declared.talk.Talk.{Talk}
+use Rattle.lobby_guests.specs.Talking.{Begins, MovesAnew}
+use Rattle.lobby_guests.specs.Guests.{IsNewGuest, AreAttended, AreDelivered, IsWritten, IsLookedAfter, AreParted}
+use Rattle.lobby_guests.specs.Lines.{TakesIn, HandsOn, IsKept}
 use Rattle.lobby_loop.specs.declared.hall.Hall.{Hall}
-use Rattle.lobby_loop.specs.declared.link.Link.{Link}
-use Rattle.lobby_loop.specs.declared.made.Made.{Made}
-use Rattle.lobby_loop.specs.declared.talk.Talk.{Talk}
-use Rattle.lobby_loop.specs.Talking.{Begins, Moves, MovesAnew}
-use Rattle.lobby_loop.specs.Making.{IsMadeOf}
-use Rattle.lobby_loop.specs.Guests.{IsNewGuest, IsAsBefore, AreAttended, AreTold, IsWritten, IsLookedAfter}
-use Rattle.lobby_loop.specs.Lines.{TakesIn, HandsOn, IsKept}
-
--- Each browser is told those of these messages that are for its connection, whole and in their order, as they go out.
-pub record AreDelivered {S : Type 0} (told : List Told) (old new : List (Guest S)) : Type 0 where
-  pub made : List Made
-  pub are_made : AllZip IsMadeOf told made
-  pub are_told : AllZip (AreTold made) old new
 
 -- What the server says is taken, where it is there.
 abbrev pub HearsServer : {S : Type 0} → (S → Option (List ℕ)) → Option (Link S) → Option (Link S) → Talk → Talk → Type 0
@@ -51,23 +42,6 @@ TellsServer contents front None server old new = (server ≡ None) × (front ≡
 TellsServer {S} contents front (Some link) server old new =
     (after : Link S) × (server ≡ Some after) × HandsOn front (contents link.stream) (contents after.stream) old new
     × IsKept link after
-
--- The desk is told of one who is let go that its connection is gone, if that had come.
-abbrev pub IsClosedIf : Bool → Option ℕ → Talk → Talk → Type 0
-IsClosedIf false number old new = new ≡ old
-IsClosedIf true None old new = new ≡ old
-IsClosedIf true (Some c) old new = Moves old (Closed c) new
-
-abbrev pub AreClosed : {S : Type 0} → List (Guest S) → Talk → Talk → Type 0
-AreClosed [] old new = new ≡ old
-AreClosed (guest ∷ guests) old new = (between : Talk) × IsClosedIf guest.is_lost guest.number old between × AreClosed guests between new
-
--- Those who are lost are let go, and the others stay; the desk is told who is let go, and nothing else.
-pub record AreParted {S : Type 0} (guests stay : List (Guest S)) (old new : Talk) : Type 0 where
-  pub settled : List (Guest S)
-  pub settles : AllZip IsAsBefore guests settled
-  pub closes : AreClosed settled old new
-  pub stay_is : stay ≡ filter (λ guest. not guest.is_lost) settled
 
 -- Nobody is connected, and nothing was said.
 pub record BeginsHall {S : Type 0} (site : Site) (players : List Player) (now : Hall S) : Type 0 where

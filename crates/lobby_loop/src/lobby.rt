@@ -7,11 +7,10 @@ ghost use Rattle.lobby_loop.specs.Living.{IsWoken, Files, KeepsFiles, Renews};
 ghost use Rattle.lobby_loop.specs.Logging.{Logs};
 
 use crate::act_log::{ActLog, Fault};
-use crate::counts::Counts;
 use crate::door::{Entrance, Gate, Welcomed, welcome};
 use crate::hall::Hall;
-use crate::links::Links;
 use lobby_desk::Player;
+use lobby_guests::{Counts, Links};
 use lobby_web::{File, Site};
 use mio::net::TcpStream;
 use mio::{Events, Interest, Poll, Token};
@@ -62,6 +61,23 @@ pub struct Lobby {
     hall: Hall<TcpStream>,
     poll: Poll,
     events: Events,
+}
+
+// The sockets that are watched, and what the last wait told of them.
+#[derive(Drop)]
+struct Watched {
+    poll: Poll,
+    events: Events,
+}
+
+// Watches the entrance, and nothing else yet.
+fn watch_entrance(net: &impl Net, alloc: Global, entrance: &mut Entrance) -> io::Result<Watched> {
+    let poll = Poll::new(net)?;
+    poll.registry().register(&mut entrance.listener, Token(ENTRANCE), Interest::READABLE)?;
+    Ok(Watched {
+        poll,
+        events: Events::with_capacity(alloc, EVENTS)?,
+    })
 }
 
 // Whether a connection to the server is made; none where that is open.
@@ -128,8 +144,7 @@ impl Lobby {
     ) -> io::Result<Lobby>
         ensures { IfOk result (λ lobby. BeginsHall site players.items lobby.hall) }
     {
-        let poll = Poll::new(net)?;
-        poll.registry().register(&mut entrance.listener, Token(ENTRANCE), Interest::READABLE)?;
+        let Watched { poll, events } = watch_entrance(net, alloc, &mut entrance)?;
         Ok(Lobby {
             entrance,
             has_more: true,
@@ -140,7 +155,7 @@ impl Lobby {
             call_at: 0,
             hall: Hall::new(alloc, keys, site, players),
             poll,
-            events: Events::with_capacity(alloc, EVENTS)?,
+            events,
         })
     }
 
@@ -289,6 +304,15 @@ impl Lobby {
         earlier(earlier(call, ask), self.hall.look_at())
     }
 
+    // What came of a turn in which there was something to do, or nothing.
+    fn turned(&self, has_worked: bool, at: u64) -> Turned {
+        if has_worked {
+            Turned::Worked
+        } else {
+            Turned::Idle(self.next_moment().map(|moment| moment.saturating_sub(at)))
+        }
+    }
+
     /// One turn at a moment, in milliseconds of a clock that does not go back. It waits for nothing but the log and
     /// the players' file.
     pub fn turn<L: ActLog, K: Links>(
@@ -304,10 +328,7 @@ impl Lobby {
         let has_reached = self.reach_server(net, at)?;
         let has_welcomed = self.welcome(at);
         let has_turned = self.hall.turn(at, log, links)?;
-        if has_reached | has_welcomed | has_turned {
-            return Ok(Turned::Worked);
-        }
-        Ok(Turned::Idle(self.next_moment().map(|moment| moment.saturating_sub(at))))
+        Ok(self.turned(has_reached | has_welcomed | has_turned, at))
     }
 
     // The sockets that were ready are looked at in the next turn.

@@ -1,19 +1,6 @@
 -- The server is reached or not, browsers come, and the hall has its turn.
 use Rattle.lobby_loop.proofs.lobby.Lobby.turn.Goals as goal
 
-pub returns-then-has_reached-has_welcomed : goal.returns-then-has_reached-has_welcomed
-returns-then-has_reached-has_welcomed g c = (
-  record {
-    reached = c.reach_server.new.self.hall;
-    reaches = c.in_ok-has_reached.ensures;
-    streams = c.welcome-has_welcomed.ensures.0;
-    welcomed = c.welcome-has_welcomed.new.self.hall;
-    welcomes = c.welcome-has_welcomed.ensures.1;
-    turns = c.in_ok-has_turned.ensures.turned.0;
-  },
-  c.in_ok-has_turned.ensures.turned.1,
-)
-
 pub returns : goal.returns
 returns g c = (
   record {

@@ -1,0 +1,5 @@
+pub mod Pieces
+pub mod Making
+pub mod Talking
+pub mod Guests
+pub mod Lines

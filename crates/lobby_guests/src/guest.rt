@@ -1,0 +1,387 @@
+//! A browser's connection: its socket, what it says, and what it is told.
+ghost use Rattle.std.specs.Prelude.{◌≡◌, None, Some, OnOk};
+ghost use Rattle.std.specs.String.{string_bytes};
+ghost use Rattle.lobby_desk.specs.Who.{IsReady, at_table, order_asked};
+ghost use Rattle.lobby_guests.specs.Talking.{Says};
+ghost use Rattle.lobby_guests.specs.Guests.{IsNewGuest, IsAsBefore, IsRead, IsAsked, IsHeard, IsTextSaid, IsSaid, IsTold, AreTold, IsWritten, IsLookedAfter};
+
+use crate::counts::{Asked, Counts};
+use crate::links::Links;
+use crate::made::Made;
+use crate::pieces::{Came, Gone, PIECE_ROOM, read_piece, write_piece};
+use crate::talk::Talk;
+use lobby_desk::Order;
+use lobby_web::{Browser, Heard, Site, Unsaid};
+use std::alloc::{AllocError, Global};
+use std::hash::RandomState;
+use std::io::{Read, Write};
+use std::str;
+
+/// After so many milliseconds without a byte of it a browser is asked whether it is there.
+const ASKED_AFTER: u64 = 30_000;
+
+/// After so many milliseconds without a byte of it a connection is closed.
+const CLOSED_AFTER: u64 = 75_000;
+
+/// So many milliseconds at most a connection has for HTTP.
+const HTTP_MOST: u64 = 60_000;
+
+/// A browser's connection.
+#[derive(Drop)]
+pub struct Guest<S> {
+    stream: S,
+    browser: Browser,
+    /// Its number at the desk, once its socket is open.
+    number: Option<u64>,
+    /// The name of its socket among those that are watched.
+    key: usize,
+    can_read: bool,
+    can_write: bool,
+    /// Whether it may have a message that was not heard.
+    has_more: bool,
+    /// Whether it is to be closed at once.
+    is_lost: bool,
+    came_at: u64,
+    /// When it last sent something.
+    heard_at: u64,
+    /// Whether it was asked since whether it is there.
+    is_asked: bool,
+    /// When its messages were taken that are not answered.
+    asked: Asked,
+}
+
+// Whether a connection is among these.
+fn is_among(connections: &[u64], number: u64) -> bool
+    ensures { result ≡ at_table connections.now number }
+{
+    connections.iter().any(|one| *one == number)
+}
+
+impl<S> Guest<S> {
+    /// A connection that begins. The keys are for the names of headers, which the peer chooses.
+    pub fn new(alloc: Global, keys: RandomState, stream: S, key: usize, at: u64) -> Guest<S>
+        ensures { IsNewGuest stream result }
+    {
+        Guest {
+            stream,
+            browser: Browser::new(alloc, keys),
+            number: None,
+            key,
+            can_read: true,
+            can_write: true,
+            has_more: false,
+            is_lost: false,
+            came_at: at,
+            heard_at: at,
+            is_asked: false,
+            asked: Asked::new(),
+        }
+    }
+
+    /// Its stream.
+    pub fn stream(&self) -> &S
+        ensures { result.now ≡ self.now.stream }
+    {
+        &self.stream
+    }
+
+    /// Its number at the desk.
+    pub fn number(&self) -> Option<u64>
+        ensures { result ≡ self.now.number }
+    {
+        self.number
+    }
+
+    /// The socket of this name may be ready.
+    pub fn wake(&mut self, key: usize)
+        ensures { IsAsBefore self.old self.new }
+    {
+        if self.key == key {
+            self.can_read = true;
+            self.can_write = true;
+        }
+    }
+
+    /// It is to be closed where it is over, with nothing left to write or to hear.
+    pub fn settle(&mut self)
+        ensures { IsAsBefore self.old self.new }
+    {
+        if self.browser.is_over() && !self.has_more && self.browser.out().is_empty() {
+            self.is_lost = true;
+        }
+    }
+
+    /// Whether it is to be closed at once.
+    pub fn is_lost(&self) -> bool
+        ensures { result ≡ self.now.is_lost }
+    {
+        self.is_lost
+    }
+
+    // Its socket is open, and the desk is told so.
+    fn welcome(&mut self, talk: &mut Talk, at: u64) -> Result<bool, AllocError>
+        requires { self.old.number ≡ None }
+        ensures { OnOk result (IsAsked at self.old self.new talk.old talk.new) }
+    {
+        match self.browser.next() {
+            None => {
+                self.has_more = false;
+                Ok(false)
+            }
+            Some(Heard::Opened) => {
+                self.number = Some(talk.opened()?);
+                Ok(true)
+            }
+            // (none comes before that the socket is open)
+            Some(Heard::Text(_)) => {
+                self.is_lost = true;
+                Ok(true)
+            }
+        }
+    }
+
+    // Its next message is said to the desk.
+    fn listen<K: Links>(
+        &mut self,
+        number: u64,
+        talk: &mut Talk,
+        at: u64,
+        links: &mut K,
+        counts: &mut Counts,
+    ) -> Result<bool, AllocError>
+        requires number { self.old.number ≡ Some number }
+        requires ready { IsReady talk.old.desk number }
+        ensures { OnOk result (IsAsked at self.old self.new talk.old talk.new) }
+    {
+        match self.browser.next() {
+            None => {
+                self.has_more = false;
+                Ok(false)
+            }
+            // (it is told but once)
+            Some(Heard::Opened) => {
+                self.is_lost = true;
+                Ok(true)
+            }
+            Some(Heard::Text(text)) => {
+                say_to_desk(text.as_slice(), number, talk, at, links)?;
+                counts.said();
+                self.asked.push(at);
+                Ok(true)
+            }
+        }
+    }
+
+    /// What came next of it is said to the desk: that its socket is open, or a message, once the one before it is answered.
+    /// It tells whether there was any.
+    pub fn hear<K: Links>(
+        &mut self,
+        talk: &mut Talk,
+        at: u64,
+        links: &mut K,
+        counts: &mut Counts,
+    ) -> Result<bool, AllocError>
+        ensures { OnOk result (IsHeard at self.old self.new talk.old talk.new) }
+    {
+        if !self.has_more || self.is_lost {
+            return Ok(false);
+        }
+        match self.number {
+            None => self.welcome(talk, at),
+            Some(number) => {
+                if talk.is_ready(number) {
+                    self.listen(number, talk, at, links, counts)
+                } else {
+                    Ok(false)
+                }
+            }
+        }
+    }
+
+    // It is told a text. Who is slow, or for whom memory is refused, is let go.
+    fn be_told_text(&mut self, text: &str)
+        ensures said { IsSaid text.now self.old.browser self.new.browser }
+        ensures number { self.new.number ≡ self.old.number }
+        ensures stream { self.new.stream ≡ self.old.stream }
+    {
+        match self.browser.say(text.as_bytes()) {
+            Ok(()) => {}
+            Err(Unsaid::NotOpen | Unsaid::NotText) => {}
+            Err(Unsaid::Slow | Unsaid::Memory) => self.is_lost = true,
+        }
+    }
+
+    // It is told a message, if that goes to it.
+    fn be_told(&mut self, made: &Made, counts: &mut Counts)
+        ensures { IsTold made.now self.old self.new }
+    {
+        match self.number {
+            None => {}
+            Some(number) => {
+                if is_among(made.to.as_slice(), number) {
+                    self.be_told_text(made.text.as_str());
+                    counts.told(made.text.as_str(), &mut self.asked);
+                }
+            }
+        }
+    }
+
+    /// It is told those of these messages that go to it, in their order.
+    pub fn be_told_all(&mut self, made: &[Made], counts: &mut Counts)
+        ensures { AreTold made.now self.old self.new }
+    {
+        for one in made {
+            self.be_told(one, counts);
+        }
+    }
+
+    // Asks a browser of which nothing came whether it is there.
+    fn ask(&mut self)
+        ensures { IsLookedAfter self.old self.new }
+    {
+        if self.browser.ping().is_err() {
+            self.is_lost = true;
+        }
+        self.is_asked = true;
+    }
+
+    /// Where it is time, asks a browser that has been silent whether it is there, and lets one go that has been for too long,
+    /// or that has spoken HTTP for too long.
+    pub fn look_after(&mut self, is_time: bool, at: u64)
+        ensures { IsLookedAfter self.old self.new }
+    {
+        if !is_time {
+            return;
+        }
+        let silent = at.saturating_sub(self.heard_at);
+        let is_web = self.number.is_none();
+        if silent >= CLOSED_AFTER || is_web && at.saturating_sub(self.came_at) >= HTTP_MOST {
+            self.is_lost = true;
+        } else if silent >= ASKED_AFTER && !self.is_asked && self.browser.is_open() {
+            self.ask();
+        }
+    }
+}
+
+// A message is said to the desk that asks for a player's link: whoever keeps the players' file is asked first.
+fn say_order<K: Links>(
+    shown: &str,
+    number: u64,
+    talk: &mut Talk,
+    at: u64,
+    order: &Order,
+    links: &mut K,
+) -> Result<(), AllocError>
+    requires ready { IsReady talk.old.desk number }
+    requires asked { order_asked talk.old.desk number shown.now at ≡ Some order.now }
+    ensures { OnOk result (Says shown.now number at talk.old talk.new) }
+{
+    match links.change(order) {
+        None => {
+            talk.said(number, shown, at)?;
+            Ok(())
+        }
+        Some(linked) => {
+            talk.linked(number, shown, at, order, linked)?;
+            Ok(())
+        }
+    }
+}
+
+// A message is said to the desk.
+fn say<K: Links>(
+    shown: &str,
+    number: u64,
+    talk: &mut Talk,
+    at: u64,
+    links: &mut K,
+) -> Result<(), AllocError>
+    requires { IsReady talk.old.desk number }
+    ensures { OnOk result (Says shown.now number at talk.old talk.new) }
+{
+    match talk.order(number, shown, at) {
+        None => {
+            talk.said(number, shown, at)?;
+            Ok(())
+        }
+        Some(order) => {
+            say_order(shown, number, talk, at, &order, links)?;
+            Ok(())
+        }
+    }
+}
+
+// A text of a connection is said to the desk; one that is no UTF-8 as the empty text, which is refused.
+fn say_to_desk<K: Links>(
+    text: &[u8],
+    number: u64,
+    talk: &mut Talk,
+    at: u64,
+    links: &mut K,
+) -> Result<(), AllocError>
+    requires { IsReady talk.old.desk number }
+    ensures { OnOk result (IsTextSaid text.now number at talk.old talk.new) }
+{
+    let shown = str::from_utf8(text).unwrap_or("");
+    say(shown, number, talk, at, links)
+}
+
+impl<S: Read + Write> Guest<S> {
+    /// Reads a piece, if bytes are wanted. It tells whether anything came.
+    pub fn read_in(&mut self, site: &Site, at: u64, piece: &mut [u8; PIECE_ROOM]) -> bool
+        ensures { IsRead S.remaining site.now self.old self.new }
+    {
+        if !self.can_read || self.is_lost || !self.browser.wants_read() {
+            return false;
+        }
+        match read_piece(&mut self.stream, piece) {
+            Came::Nothing => {
+                self.can_read = false;
+                false
+            }
+            Came::Interrupted => true,
+            Came::Bytes(count) => {
+                self.browser.take(site, &piece[..count]);
+                self.heard_at = at;
+                self.is_asked = false;
+                self.has_more = true;
+                true
+            }
+            Came::End => {
+                self.browser.take(site, &[]);
+                self.can_read = false;
+                self.has_more = true;
+                true
+            }
+            Came::Fault => {
+                self.is_lost = true;
+                true
+            }
+        }
+    }
+
+    /// Writes what the socket takes at once of what waits. It tells whether that was anything.
+    pub fn write_out(&mut self, site: &Site) -> bool
+        ensures { IsWritten S.contents site.now self.old self.new }
+    {
+        if !self.can_write || self.is_lost || self.browser.out().is_empty() {
+            return false;
+        }
+        match write_piece(&mut self.stream, self.browser.out()) {
+            Gone::Nothing => {
+                self.can_write = false;
+                false
+            }
+            Gone::Interrupted => true,
+            Gone::Bytes(count) => {
+                self.browser.written(site, count);
+                self.has_more = true;
+                true
+            }
+            Gone::Fault => {
+                self.is_lost = true;
+                true
+            }
+        }
+    }
+}
