@@ -32,14 +32,16 @@ prints
 const HELP_OF_EXPORT: &str = "\
 It writes the PGN of each game of an archive, in the order in which they were kept; with
 --csv a row for each, as CSV: its number, how many moves were made, and the values of its
-tags. The archive is only read, also while another keeps games in it.
+tags; with --sqlite a database with these rows and the PGNs in a table, for SQLite. The
+archive is only read, also while another keeps games in it.
 
 Exit status: 0; 1 with what is wrong on standard error; 2 for words that the program does
 not know.
 
 Examples:
   chess-archive export --archive night.jsonl >night.pgn
-  chess-archive export --archive night.jsonl --csv >games.csv";
+  chess-archive export --archive night.jsonl --csv >games.csv
+  chess-archive export --archive night.jsonl --sqlite >league.db";
 
 const HELP_OF_LIVE: &str = "\
 It writes the games that are played at the game server at --server to a file, each with all
@@ -87,8 +89,18 @@ pub struct Keeping<'a> {
 #[derive(Clone, Copy)]
 pub struct Exporting<'a> {
     pub archive: &'a str,
-    /// As CSV, and not as PGN.
-    pub is_csv: bool,
+    pub form: Form,
+}
+
+/// The form in which games are written.
+#[derive(Clone, Copy)]
+pub enum Form {
+    /// Their PGNs.
+    Pgn,
+    /// A row for each, as CSV.
+    Csv,
+    /// A database of SQLite.
+    Sqlite,
 }
 
 /// What is written where others fetch it.
@@ -183,10 +195,15 @@ fn live_command<'a>(alloc: Global) -> Result<Command<'a>, AllocError> {
 
 fn export_command<'a>(alloc: Global) -> Result<Command<'a>, AllocError> {
     Command::new(alloc, "export")
-        .about("Writes the games of an archive as PGN or CSV")
+        .about("Writes the games of an archive as PGN, CSV or a database")
         .after_help(HELP_OF_EXPORT)
         .arg(archive_option(alloc))?
-        .arg(flag(alloc, "csv", "Writes a row a game as CSV, and no PGN"))
+        .arg(flag(alloc, "csv", "Writes a row a game as CSV, and no PGN"))?
+        .arg(flag(
+            alloc,
+            "sqlite",
+            "Writes a database for SQLite, with a row a game and its PGN there",
+        ))
 }
 
 /// The program's command line.
@@ -217,7 +234,7 @@ pub fn read_words<'a>(alloc: Global, words: &'a [String]) -> Result<Word<'a>, Er
         Some(word) => Ok(word),
         None => Err(command.error(
             ErrorKind::InvalidValue,
-            "an address is none, a tag's value has a control character, or --lobby stands without --drop",
+            "an address is none, a tag's value has a control character, --lobby stands without --drop, or --csv beside --sqlite",
         )?),
     }
 }
@@ -258,11 +275,21 @@ fn keeping_of<'a>(values: &ArgMatches<'a>) -> Option<Keeping<'a>> {
     })
 }
 
-// What `export` asks for.
+// The form that is asked for; none where two are.
+fn form_of(values: &ArgMatches<'_>) -> Option<Form> {
+    match (values.get_flag("csv"), values.get_flag("sqlite")) {
+        (false, false) => Some(Form::Pgn),
+        (true, false) => Some(Form::Csv),
+        (false, true) => Some(Form::Sqlite),
+        (true, true) => None,
+    }
+}
+
+// What `export` asks for; none where it asks for two forms.
 fn exporting_of<'a>(values: &ArgMatches<'a>) -> Option<Exporting<'a>> {
     Some(Exporting {
         archive: values.get_str("archive")?,
-        is_csv: values.get_flag("csv"),
+        form: form_of(values)?,
     })
 }
 

@@ -4,6 +4,8 @@
 mod asking;
 mod command_line;
 mod compared;
+mod continued;
+mod database;
 mod export;
 mod figures;
 mod halves;

@@ -11,8 +11,8 @@ const COLUMNS: [&str; 11] = [
     "game", "event", "site", "date", "round", "white", "black", "result", "article", "plies", "fen",
 ];
 
-// The tags whose values stand behind the game's number.
-const TAGS: [&str; 8] = [
+/// The tags whose values stand behind the game's number.
+pub const TAGS: [&str; 8] = [
     "Event", "Site", "Date", "Round", "White", "Black", "Result", "Article",
 ];
 
@@ -24,8 +24,8 @@ fn is_move(word: &str) -> bool {
     }
 }
 
-// How many moves a PGN has.
-fn plies_of(alloc: Global, pgn: &str) -> Result<usize, AllocError> {
+/// How many moves a PGN has.
+pub fn plies_of(alloc: Global, pgn: &str) -> Result<usize, AllocError> {
     let mut plies: usize = 0;
     for word in telling_parts(alloc, pgn)?.as_slice() {
         if is_move(word) {

@@ -8,6 +8,8 @@ mod archive;
 #[cfg(test)]
 mod cuts;
 #[cfg(test)]
+mod database;
+#[cfg(test)]
 mod report;
 #[cfg(test)]
 mod rounds;

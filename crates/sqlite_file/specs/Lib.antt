@@ -1,0 +1,5 @@
+pub mod Varint
+pub mod Record
+pub mod Cell
+pub mod Page
+pub mod Header
