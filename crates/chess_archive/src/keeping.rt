@@ -1,8 +1,10 @@
 //! The word that keeps games that are over.
 use crate::asking::Knowledge;
 use crate::command_line::Keeping;
+use crate::hold::Hold;
 use crate::keeper::{Counts, Done, Keeper, NOTHING};
 use crate::log_reader::LogReader;
+use crate::players::Players;
 use crate::rows::{games_over, rows_of};
 use crate::telling::Telling;
 use adjourned::in_order;
@@ -10,9 +12,7 @@ use anyhow::{Context, Result};
 use archive_file::Archive;
 use archive_lines::{end_last_line, lines_of};
 use lobby_archive::look;
-use lobby_desk::Player;
 use night_files::NamedFile;
-use players_file::players_of;
 use server_link::{Link, Row};
 use std::fs::{self, File};
 use std::net::{Net, TcpStream};
@@ -39,7 +39,7 @@ where
 struct Looking<'a, R> {
     rt: &'a R,
     keeping: &'a Keeping<'a>,
-    players: Vec<Player>,
+    players: Players<'a, R>,
     log: LogReader<'a>,
     // Whether the archive was opened: then it is left alone while no game is over.
     has_looked: bool,
@@ -47,11 +47,12 @@ struct Looking<'a, R> {
 
 impl<R> Looking<'_, R>
 where
-    R: Files<File = File> + Net<Stream = TcpStream> + AllocGlobal + Print + Clock,
+    R: Files<File = File> + Net<Stream = TcpStream> + AllocGlobal + Print + Eprint + Clock,
 {
-    // Reads the log on where there is a game that is to be kept: behind the list, so that it has what is told of the games that
-    // are over in it.
-    fn read_log(&mut self, archive: &Archive<NamedFile>, rows: &[Row<'_>]) -> Result<()> {
+    // Reads the players' file again, and the log on where there is a game that is to be kept: behind the list, so that they have
+    // who plays, and what is told of, the games that are over in it.
+    fn read_on(&mut self, archive: &Archive<NamedFile>, rows: &[Row<'_>]) -> Result<()> {
+        self.players.renew()?;
         let is_asked = rows.iter().any(|row| row.is_over && !archive.has(row.game));
         if is_asked {
             self.log.read_on(self.rt, rows)?;
@@ -73,7 +74,7 @@ where
         }
         let (archive, lines) = archive_of(self.rt, self.keeping.archive)?;
         self.has_looked = true;
-        self.read_log(&archive, rows.as_slice())?;
+        self.read_on(&archive, rows.as_slice())?;
         // (a first half before its second one, which is linked with it)
         let over = in_order(alloc, self.log.records(), over.as_slice())?;
         let mut keeper = Keeper {
@@ -84,7 +85,7 @@ where
             lines,
             kept: Vec::new(alloc),
             known: Knowledge {
-                players: self.players.as_slice(),
+                players: self.players.known(),
                 heading: self.keeping.heading,
                 records: self.log.records(),
             },
@@ -115,19 +116,17 @@ fn tell_counts<R: Print + AllocGlobal>(rt: &R, counts: Counts) -> Result<()> {
     Ok(())
 }
 
-/// Keeps the games of a server that are over, and drops them where that is asked: once, or again and again until it is killed.
+/// Keeps the games of a server that are over, and drops them where that is asked: once, or again and again until it is killed. It
+/// fails where another does so in this archive.
 pub fn keep<R>(rt: &R, keeping: &Keeping<'_>) -> Result<()>
 where
     R: Files<File = File> + Net<Stream = TcpStream> + AllocGlobal + Print + Eprint + Clock,
 {
-    let players = match keeping.players {
-        Some(file) => players_of(rt, file)?,
-        None => Vec::new(rt.alloc()),
-    };
+    let _hold = Hold::of(rt, keeping.archive)?;
     let mut looking = Looking {
         rt,
         keeping,
-        players,
+        players: Players::open(rt, keeping.players)?,
         log: LogReader::new(rt.alloc(), keeping.log),
         has_looked: false,
     };

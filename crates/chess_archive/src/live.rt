@@ -2,13 +2,12 @@
 use crate::asking::{Knowledge, pgn_of};
 use crate::command_line::Living;
 use crate::log_reader::LogReader;
+use crate::players::Players;
 use crate::rows::rows_of;
 use crate::telling::Telling;
 use anyhow::{Context, Result};
 use archive_file::{game_of, pgn_of as pgn_in};
 use archive_lines::lines_of;
-use lobby_desk::Player;
-use players_file::players_of;
 use server_link::{Link, Row};
 use std::alloc::Global;
 use std::fs::{self, File};
@@ -30,7 +29,7 @@ struct Board {
 struct Writer<'a, R> {
     rt: &'a R,
     living: &'a Living<'a>,
-    players: Vec<Player>,
+    players: Players<'a, R>,
     link: Option<Link>,
     log: LogReader<'a>,
     // The games of the archive that are written, and how long it was when they were read.
@@ -102,9 +101,11 @@ where
         };
         let list = link.list()?;
         let rows = rows_of(alloc, list.as_str())?;
+        // (behind the list, so that they have who plays, and what is told of, its games)
+        self.players.renew()?;
         self.log.read_on(self.rt, rows.as_slice())?;
         let known = Knowledge {
-            players: self.players.as_slice(),
+            players: self.players.known(),
             heading: self.living.heading,
             records: self.log.records(),
         };
@@ -194,14 +195,10 @@ pub fn live<R>(rt: &R, living: &Living<'_>) -> Result<()>
 where
     R: Files<File = File> + Net<Stream = TcpStream> + AllocGlobal + Print + Eprint + Clock,
 {
-    let players = match living.players {
-        Some(file) => players_of(rt, file)?,
-        None => Vec::new(rt.alloc()),
-    };
     let mut writer = Writer {
         rt,
         living,
-        players,
+        players: Players::open(rt, living.players)?,
         link: None,
         log: LogReader::new(rt.alloc(), living.log),
         archived: Vec::new(rt.alloc()),

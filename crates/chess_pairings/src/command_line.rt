@@ -36,7 +36,8 @@ It writes a line for each board, as CSV: the board, White, Black, the result (* 
 game goes on), the article of the Laws by which it ended, and the game. Asked are the
 archive, where --archive names one, and then the server, where --server does. In the archive
 a game is the board's where it has the names of its players, or by --players their full
-names. Of each game that goes on or was not found it says so on standard error.
+names. Of each game that goes on or was not found it says so on standard error; where one is
+of others than the board's players it ends with status 1 besides.
 
 Exit status: 0; 1 with what is wrong on standard error; 2 for words that the program does
 not know.
@@ -51,7 +52,8 @@ prints
 const HELP_OF_TRF: &str = "\
 It writes the tournament's report, TRF-16: who played whom in each round, with the results
 and points. Players are numbered by their place in the players' file. Asked for results are
-the archive, where --archive names one, and then the server, where --server does.
+the archive, where --archive names one, and then the server, where --server does. Where a
+game is of others than its board's players it writes nothing, and ends with status 1.
 
 Exit status: 0; 1 with what is wrong on standard error; 2 for words that the program does
 not know.

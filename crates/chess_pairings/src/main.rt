@@ -11,6 +11,7 @@ mod results_word;
 mod round_file;
 mod start_word;
 mod table;
+mod tags;
 
 use command_line::{Word, command, read_words};
 use command_words::{NotDone, end_of, words_given};

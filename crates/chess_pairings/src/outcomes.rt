@@ -1,7 +1,8 @@
 //! What came of games: in the archive, and on the table.
 use crate::command_line::Source;
 use crate::table::{Shown, connect, show_game};
-use anyhow::{Context, Result};
+use crate::tags::{tag_value, unescaped};
+use anyhow::{Context, Result, bail};
 use archive_file::{game_of, pgn_of};
 use archive_lines::lines_of;
 use lobby_desk::Player;
@@ -22,10 +23,11 @@ pub struct Ended {
     pub plies: u32,
 }
 
-// What was found of a board's game: what came of it, or why that is not known; else nothing.
+// What was found of a board's game: what came of it, that it is of others, or why it is not known; else nothing.
 #[derive(Drop)]
 enum Found {
     Ended(Ended),
+    Others(String),
     Unknown(String),
     Nothing,
 }
@@ -55,30 +57,8 @@ pub struct Outcomes<'a> {
     players: &'a [Player],
     // What is to be told of boards.
     words: Vec<String>,
-}
-
-// What stands in the quotes of a tag's line.
-fn tag_value<'a>(line: &'a str, front: &str) -> Option<&'a str> {
-    line.strip_prefix(front)?.strip_suffix("\"]")
-}
-
-// Whether a tag's value, which has a backslash before each quote and each backslash, is this text.
-fn is_value_of(value: &str, text: &str) -> bool {
-    let value = value.as_bytes();
-    let mut at: usize = 0;
-    for byte in text.as_bytes() {
-        if *byte == b'"' || *byte == b'\\' {
-            if value.get(at).copied() != Some(b'\\') {
-                return false;
-            }
-            at = at.saturating_add(1);
-        }
-        if value.get(at).copied() != Some(*byte) {
-            return false;
-        }
-        at = at.saturating_add(1);
-    }
-    at == value.len()
+    // Whether a board's game is of others.
+    has_others: bool,
 }
 
 // Whether a word of a PGN is a move: it begins with a letter.
@@ -217,15 +197,26 @@ fn seat_text(seat: &Option<Name>) -> &str {
     }
 }
 
-// Why nothing came of a game where others sit in it.
+// Who plays a game, as it is told to the arbiter.
+#[derive(Clone, Copy)]
+struct Sides<'a> {
+    white: &'a str,
+    black: &'a str,
+}
+
+// Why nothing came of a game of others than the board's players.
 fn others_text(
     alloc: Global,
     game: u32,
     place: &str,
-    white: &str,
-    black: &str,
+    found: Sides<'_>,
+    wanted: Sides<'_>,
 ) -> Result<String, AllocError> {
-    format!(in alloc; "game {game} {place} is of {white} against {black}")
+    let (white, black) = (found.white, found.black);
+    let (first, second) = (wanted.white, wanted.black);
+    format!(in alloc;
+        "game {game} {place} is of {white} against {black}, and not of {first} against {second}"
+    )
 }
 
 // The article, empty where there is none.
@@ -247,9 +238,16 @@ fn found_by(
 ) -> Result<Found, AllocError> {
     let seats = shown.seats;
     if seats.white != Some(*white) || seats.black != Some(*black) {
-        let (first, second) = (seat_text(&seats.white), seat_text(&seats.black));
-        let why = others_text(alloc, game, "on the table", first, second)?;
-        return Ok(Found::Unknown(why));
+        let found = Sides {
+            white: seat_text(&seats.white),
+            black: seat_text(&seats.black),
+        };
+        let wanted = Sides {
+            white: white.as_str(),
+            black: black.as_str(),
+        };
+        let why = others_text(alloc, game, "on the table", found, wanted)?;
+        return Ok(Found::Others(why));
     }
     Ok(Found::Ended(Ended {
         result: shown.result,
@@ -271,13 +269,29 @@ impl<'a> Outcomes<'a> {
             link: link_of(rt, source.server)?,
             players,
             words: Vec::new(rt.alloc()),
+            has_others: false,
         })
     }
 
-    // Whether a tag names a player.
-    fn is_named(&self, value: &str, name: &Name) -> bool {
+    // Whether a game of the archive names a player so.
+    fn is_named(&self, told: &str, name: &Name) -> bool {
         let name = name.as_str();
-        is_value_of(value, name) || is_value_of(value, full_name(self.players, name))
+        told == name || told == full_name(self.players, name)
+    }
+
+    // Why nothing came of a game of the archive, of others than the board's players.
+    fn others_in_archive(
+        &self,
+        game: u32,
+        found: Sides<'_>,
+        white: &Name,
+        black: &Name,
+    ) -> Result<String, AllocError> {
+        let wanted = Sides {
+            white: full_name(self.players, white.as_str()),
+            black: full_name(self.players, black.as_str()),
+        };
+        others_text(self.alloc, game, "of the archive", found, wanted)
     }
 
     // The PGN that the archive has under a game's number.
@@ -300,11 +314,17 @@ impl<'a> Outcomes<'a> {
         pgn: &str,
     ) -> Result<Found, AllocError> {
         let told = told_in(self.alloc, pgn)?;
-        if self.is_named(told.white, white) && self.is_named(told.black, black) {
+        let first = unescaped(self.alloc, told.white)?;
+        let second = unescaped(self.alloc, told.black)?;
+        if self.is_named(first.as_str(), white) && self.is_named(second.as_str(), black) {
             return Ok(Found::Ended(told.ended(self.alloc)?));
         }
-        let why = others_text(self.alloc, game, "of the archive", told.white, told.black)?;
-        Ok(Found::Unknown(why))
+        let found = Sides {
+            white: first.as_str(),
+            black: second.as_str(),
+        };
+        let why = self.others_in_archive(game, found, white, black)?;
+        Ok(Found::Others(why))
     }
 
     // What the archive tells of a board's game.
@@ -373,6 +393,10 @@ impl<'a> Outcomes<'a> {
     // Has it told later why nothing came of a board's game, or that it goes on.
     fn put_why(&mut self, file: &str, board: u32, found: &Found) -> Result<(), AllocError> {
         match found {
+            Found::Others(why) => {
+                self.has_others = true;
+                self.put_word(file, board, why.as_str())
+            }
             Found::Unknown(why) => self.put_word(file, board, why.as_str()),
             Found::Ended(ended) if ended.result.as_str() == "*" => {
                 self.put_word(file, board, "its game goes on")
@@ -404,6 +428,16 @@ impl<'a> Outcomes<'a> {
     pub fn tell<R: Eprint>(&self, rt: &R) -> Result<()> {
         for word in self.words.as_slice() {
             eprintln!(rt; "chess-pairings: {word}")?;
+        }
+        Ok(())
+    }
+
+    /// Fails where a board's game is of others than its players: it may have ended, though nothing came of it.
+    pub fn check(&self) -> Result<()> {
+        if self.has_others {
+            bail!(
+                "a game of other names counts for no board: where a full name was changed since, change it in the archive too"
+            );
         }
         Ok(())
     }

@@ -147,18 +147,18 @@ where
         players.as_slice(),
         &mut outcomes,
     )?;
+    outcomes.tell(rt)?;
+    outcomes.check()?;
     let names = names_of(rt.alloc(), players.as_slice())?;
-    let text = report(
+    Ok(report(
         rt.alloc(),
         &reporting.event,
         names.as_slice(),
         rounds.as_slice(),
-    )?;
-    outcomes.tell(rt)?;
-    Ok(text)
+    )?)
 }
 
-/// Writes the report of a tournament.
+/// Writes the report of a tournament; none where a board's game is of others than its players, since it would lack points.
 pub fn write_report<R>(rt: &R, reporting: &Reporting<'_>) -> Result<()>
 where
     R: Files + Net<Stream = TcpStream> + AllocGlobal + Print + Eprint,

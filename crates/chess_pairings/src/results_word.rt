@@ -89,8 +89,8 @@ fn players_in<R: Files + AllocGlobal>(rt: &R, file: Option<&str>) -> Result<Vec<
     }
 }
 
-// The text of a round's results; it is told what is to be told of boards.
-fn results_of<R>(rt: &R, asking: &Asking<'_>, players: &[Player]) -> Result<Vec<u8>>
+// The text of a round's results, and whether each game is of its board's players; it is told what is to be told of boards.
+fn results_of<R>(rt: &R, asking: &Asking<'_>, players: &[Player]) -> Result<(Vec<u8>, Result<()>)>
 where
     R: Files + Net<Stream = TcpStream> + AllocGlobal + Eprint,
 {
@@ -99,16 +99,16 @@ where
     let endings = endings(rt.alloc(), asking.round.pairings, &paired, &mut outcomes)?;
     let text = text_of(rt.alloc(), &paired, endings.as_slice())?;
     outcomes.tell(rt)?;
-    Ok(text)
+    Ok((text, outcomes.check()))
 }
 
-/// Writes the results of a round as CSV.
+/// Writes the results of a round as CSV. It fails behind that where a board's game is of others than its players.
 pub fn write_results<R>(rt: &R, asking: &Asking<'_>) -> Result<()>
 where
     R: Files + Net<Stream = TcpStream> + AllocGlobal + Print + Eprint,
 {
     let players = players_in(rt, asking.players)?;
-    let text = results_of(rt, asking, players.as_slice())?;
+    let (text, checked) = results_of(rt, asking, players.as_slice())?;
     io::writer(rt).write_all(text.as_slice())?;
-    Ok(())
+    checked
 }

@@ -5,6 +5,7 @@ use crate::files::{check_notes, pairings_of};
 use crate::round_file::RoundFile;
 use crate::table::connect;
 use anyhow::{Context, Error, Result};
+use jiff::Timestamp;
 use lobby_desk::Player;
 use pairing_texts::{Pairing, Stage, is_newer, with_newest};
 use players_file::players_of;
@@ -336,6 +337,27 @@ where
     }
 }
 
+// Tells that a board waits for its start.
+fn tell_wait<R: Eprint>(rt: &R, number: u32, start: i64) -> Result<()> {
+    let start = Timestamp::from_millisecond(start)?;
+    eprintln!(rt; "chess-pairings: board {number} waits until {start}")?;
+    Ok(())
+}
+
+// Tells which boards wait for their starts.
+fn tell_waits<R: Eprint + Clock>(rt: &R, boards: &[Board]) -> Result<()> {
+    // (that the clock is wrong is told later, each time that it is tried)
+    let now = moment(rt).unwrap_or(i64::MAX);
+    for board in boards {
+        if let Some(start) = board.game.start
+            && start > now
+        {
+            tell_wait(rt, board.pairing.board, start)?;
+        }
+    }
+    Ok(())
+}
+
 // Goes round the boards until each has its game or is the arbiter's.
 fn go_round<R>(rt: &R, rounds: &mut Rounds, server: SocketAddr, boards: &[Board]) -> Result<()>
 where
@@ -410,6 +432,7 @@ where
         done: Vec::new(rt.alloc()),
         is_unheard: false,
     };
+    tell_waits(rt, boards)?;
     go_round(rt, &mut rounds, starting.server, boards)?;
     Ok(rounds.done.len())
 }
