@@ -15,7 +15,7 @@ pub struct Hold {
 // Why an archive cannot be held.
 fn not_held(archive: &str, path: &str, error: io::Error) -> Error {
     if error.kind() == ErrorKind::WouldBlock {
-        anyhow!("another keep has {archive}: it holds {path}, and goes on with --every")
+        anyhow!("another keep has {archive}: it has locked {path}")
     } else {
         Error::from(error).context(format_args!("opening {path}"))
     }

@@ -49,10 +49,9 @@ impl<R> Looking<'_, R>
 where
     R: Files<File = File> + Net<Stream = TcpStream> + AllocGlobal + Print + Eprint + Clock,
 {
-    // Reads the players' file again, and the log on where there is a game that is to be kept: behind the list, so that they have
-    // who plays, and what is told of, the games that are over in it.
-    fn read_on(&mut self, archive: &Archive<NamedFile>, rows: &[Row<'_>]) -> Result<()> {
-        self.players.renew()?;
+    // Reads the log on where there is a game that is to be kept: behind the list, so that it has what is told of the games that
+    // are over in it.
+    fn read_log(&mut self, archive: &Archive<NamedFile>, rows: &[Row<'_>]) -> Result<()> {
         let is_asked = rows.iter().any(|row| row.is_over && !archive.has(row.game));
         if is_asked {
             self.log.read_on(self.rt, rows)?;
@@ -72,9 +71,11 @@ where
         if self.has_looked && over.is_empty() {
             return Ok((NOTHING, Ok(())));
         }
+        // (behind the list, so that they are all there who played its games)
+        self.players.renew()?;
         let (archive, lines) = archive_of(self.rt, self.keeping.archive)?;
         self.has_looked = true;
-        self.read_on(&archive, rows.as_slice())?;
+        self.read_log(&archive, rows.as_slice())?;
         // (a first half before its second one, which is linked with it)
         let over = in_order(alloc, self.log.records(), over.as_slice())?;
         let mut keeper = Keeper {

@@ -101,7 +101,7 @@ where
         };
         let list = link.list()?;
         let rows = rows_of(alloc, list.as_str())?;
-        // (behind the list, so that they have who plays, and what is told of, its games)
+        // (behind the list, so that they are all there who play its games)
         self.players.renew()?;
         self.log.read_on(self.rt, rows.as_slice())?;
         let known = Knowledge {
