@@ -6,11 +6,14 @@ const TABLE: &str = "CREATE TABLE t (a INTEGER PRIMARY KEY, b TEXT, c INTEGER, d
 
 // What each leaf begins with: that of the table, and the one behind the header.
 const LEAF: &[u8] = b"\x0d\x00\x00\x00\x01\x0f\xf0\x00\x0f\xf0\x00";
+
 const FIRST: &[u8] = b"\x0d\x00\x00\x00\x01\x0f\xae\x00\x0f\xae\x00";
 
 // What it ends with.
 const ROW: &[u8] = b"\x0d\x82\x2c\x05\x00\x17\x03\x00hello\x01\x11\x70";
-const SCHEMA: &[u8] = b"\x50\x01\x07\x17\x0f\x0f\x01\x81\x0ftablett\x02CREATE TABLE t (a INTEGER PRIMARY KEY, b TEXT, c INTEGER, d TEXT)";
+
+const SCHEMA: &[u8] =
+    b"\x50\x01\x07\x17\x0f\x0f\x01\x81\x0ftablett\x02CREATE TABLE t (a INTEGER PRIMARY KEY, b TEXT, c INTEGER, d TEXT)";
 
 // A database of one row.
 fn one_row(rt: &HostRuntime) -> Result<Database, Fault> {

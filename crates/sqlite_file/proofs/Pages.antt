@@ -23,7 +23,7 @@ length_page_of before kind right cells fits =
     let most : length_of cells ≤ 4096 = fits.most in
     let within : before + 8 + length right + 2 * length cells ≤ 4096 - length_of cells = fits.within in
     let gap = content_of cells - (before + 8 + length right + 2 * length cells) in
-    let zeros : length (replicate gap 0) ≡ gap = length-replicate gap 0 in
+    let zeros : length (replicate {A = ℕ} gap 0) ≡ gap = length-replicate {A = ℕ} gap 0 in
     omega (
       arith,
       length-append right (pointers (content_of cells) cells ++ (replicate gap 0 ++ concat cells)),

@@ -8,6 +8,7 @@ use std::alloc::AllocError;
 
 // The most bytes of a payload that stands whole in its cell, and how many stand there at least of a longer one.
 const MOST_LOCAL: usize = 4061;
+
 const LEAST_LOCAL: usize = 489;
 
 /// How many bytes of a payload stand in its cell.
