@@ -12,8 +12,7 @@ returns-in-Some c =
     let fen = c.fen_in.ensures ∙ ap fen_in c.as_str.ensures.value in
     on_ok_weaker c.push_line.result (λ pushed. record {
       told = λ p valid is.
-          let told = c.in_ok-line.ensures.told p valid (subst (λ (l : List ℕ). IsFenOf l p) (sym fen) is) in
-          (
+          let told = c.in_ok-line.ensures.told p valid (subst (λ (l : List ℕ). IsFenOf l p) (sym fen) is) in (
             string_bytes c.in-Some.line,
             rw c.in-Some.is at told,
             pushed ∙ ap (λ (l : List ℕ). text ++ l ++ 10 ∷ []) c.as_str-in-Some.ensures.value,
