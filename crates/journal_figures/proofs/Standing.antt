@@ -4,7 +4,7 @@ use Rattle.std.specs.Prelude.{Some, Result, Ok, Err, IfOk, IfErr, IsErrAnd}
 use Rattle.sector_dev.specs.Image.{Sectors}
 use Rattle.rec_codec.specs.declared.header.Header.{Header}
 use Rattle.journal_layout.specs.Parts.{bytes_at}
-use Rattle.journal_layout.specs.Stands.{half_start, free_start, HasNoHeader, IsOurs}
+use Rattle.journal_layout.specs.Stands.{half_start, free_start, IsOurs}
 use Rattle.journal_copy.specs.Source.{IsSeen, IsSeenInForce, IsWritten}
 use Rattle.journal_copy.specs.Copying.{Follows}
 use Rattle.journal_copy.proofs.Steps.{unmoved}
@@ -12,7 +12,7 @@ use Rattle.journal_figures.specs.declared.fault.FiguresFault.{FiguresFault}
 use Rattle.journal_figures.specs.declared.fault.FiguresFault.TheVariants as fault
 use Rattle.journal_figures.specs.declared.reading.Figures.{Figures}
 use Rattle.journal_figures.specs.Figures.{HasNoMoment, AreFiguresOf}
-use Rattle.journal_figures.specs.Faults.{IsAtSome, IsTooLarge, HasGoneOn, IsCause}
+use Rattle.journal_figures.specs.Faults.{IsAtSome, IsTooLarge, IsSpoilt, HasGoneOn, IsCause}
 
 -- a sector that the header names has at the header's moment what was read between it and one that follows
 pub stood : (image : ℕ → Sectors) (from mid high to : ℕ) (h next : Header) (at : ℕ) (bytes : List ℕ) → IsWritten image
@@ -52,7 +52,7 @@ cause_wider image from to first last count fault.NotOurs before behind (inl few)
 cause_wider image from to first last count fault.NotOurs before behind (inr some) =
     inr (some_wider (λ sectors. IsOurs sectors → ⊥) image from to first last before behind some)
 cause_wider image from to first last count fault.Damaged before behind (inl some) =
-    inl (some_wider HasNoHeader image from to first last before behind some)
+    inl (some_wider IsSpoilt image from to first last before behind some)
 cause_wider image from to first last count fault.Damaged before behind (inr some) =
     inr (λ written. some_wider HasNoMoment image from to first last before behind (some written))
 cause_wider image from to first last count fault.TooSmall before behind some =

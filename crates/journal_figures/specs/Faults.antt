@@ -21,6 +21,11 @@ pub record IsTooLarge (count : ℕ) (image : Sectors) : Type 0 where
   pub in_force : IsInForce image header
   pub large : count < header.sectors
 
+-- a slot starts as a header does, and there is no valid header
+pub record IsSpoilt (image : Sectors) : Type 0 where
+  pub ours : IsOurs image
+  pub none : HasNoHeader image
+
 -- at two of these moments different headers are in force
 pub record HasGoneOn (image : ℕ → Sectors) (from to : ℕ) : Type 0 where
   pub one : Header
@@ -34,7 +39,7 @@ pub record HasGoneOn (image : ℕ → Sectors) (from to : ℕ) : Type 0 where
 abbrev pub IsCause : (ℕ → Sectors) → ℕ → ℕ → ℕ → FiguresFault → Type 0
 IsCause image from to count fault.NotOurs = (count < 2) ⊎ IsAtSome (λ sectors. IsOurs sectors → ⊥) image from to
 IsCause image from to count fault.Damaged =
-    IsAtSome HasNoHeader image from to ⊎ (IsWritten image → IsAtSome HasNoMoment image from to)
+    IsAtSome IsSpoilt image from to ⊎ (IsWritten image → IsAtSome HasNoMoment image from to)
 IsCause image from to count fault.TooSmall = IsAtSome (IsTooLarge count) image from to
 IsCause image from to count fault.Changing = HasGoneOn image from to
 IsCause image from to count fault.Device = Unit {0}

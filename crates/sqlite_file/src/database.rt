@@ -15,6 +15,9 @@ use std::mem;
 
 const PAGE: usize = 4096;
 
+// The most pages: in the next one lies the byte that SQLite locks, and it holds nothing (file format, section 1.4).
+const MOST_PAGES: u32 = 262_144;
+
 // What a leaf has for its cells and their pointers.
 const ROOM: usize = PAGE - 8;
 
@@ -132,10 +135,10 @@ impl Database {
     // How many pages the file has with those that are written.
     fn page_count(&self) -> Result<u32, Fault>
         ensures count { IfOk result (λ count. count ≡ vec_len self.now.pages / 4096 + 1) }
-        ensures most { IfOk result (λ count. count < 2 ^ 32 - 2) }
+        ensures most { IfOk result (λ count. count ≤ 262144) }
     {
         match u32::try_from(self.pages.len() / PAGE + 1) {
-            Ok(count) if count < u32::MAX - 1 => Ok(count),
+            Ok(count) if count <= MOST_PAGES => Ok(count),
             _ => Err(Fault::TooManyPages),
         }
     }
@@ -297,6 +300,7 @@ impl Database {
         ensures page { IfOk result (λ page. page.items ≡ header (vec_len self.now.pages / 4096 + 1)
             ++ leaf_page 100 (map (λ c. c.items) self.now.tables.items)) }
         ensures length { IfOk result (λ page. length page.items ≡ 4096) }
+        ensures most { IfOk result (λ _. vec_len self.now.pages / 4096 + 1 ≤ 262144) }
     {
         if !self.is_whole || self.last.is_some() {
             return Err(Fault::NotWhole);

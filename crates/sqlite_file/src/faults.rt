@@ -20,8 +20,8 @@ pub enum Fault {
     /// The cells do not fit into a page.
     #[error("a page has no room for its cells")]
     NoRoom,
-    /// The database has more pages than SQLite takes.
-    #[error("the database has too many pages")]
+    /// The database has more than 262,144 pages, 1 GiB.
+    #[error("the database is greater than 1 GiB")]
     TooManyPages,
     /// An earlier call failed: the database is to be made anew.
     #[error("an earlier call failed")]
