@@ -34,7 +34,8 @@ fn row_in(line: &str) -> Result<Row> {
 
 fn put_rows(rows: &mut Vec<Row>, lines: &[&str]) -> Result<()> {
     for line in lines {
-        rows.push(row_in(line)?)?;
+        let row = row_in(line)?;
+        rows.extend_from_slice(&[row])?;
     }
     Ok(())
 }
