@@ -187,10 +187,8 @@ impl<'a, R: Files<File = OpenFile> + AllocGlobal + Eprint> Health<'a, R> {
         let mut text = String::new(self.alloc);
         put_counts(&mut text, self.alloc, lobby, at)?;
         self.journals.put(&mut text)?;
-        lobby.put_file(File {
-            path: PATH.to_vec(self.alloc)?,
-            kind: Kind::Figures,
-            bytes: Bytes::from_vec(text.into_bytes())?,
-        })
+        let path = PATH.to_vec(self.alloc)?;
+        let bytes = Bytes::from_vec(text.into_bytes())?;
+        lobby.put_file(File::new(self.alloc, path, Kind::Figures, bytes)?)
     }
 }

@@ -60,11 +60,10 @@ impl<'a> Live<'a> {
         lobby: &mut Lobby,
     ) -> Result<(), AllocError> {
         match read_regular(rt, self.file) {
-            Ok(bytes) => lobby.put_file(File {
-                path: PATH.to_vec(rt.alloc())?,
-                kind: Kind::Pgn,
-                bytes: Bytes::from_vec(bytes)?,
-            }),
+            Ok(bytes) => {
+                let path = PATH.to_vec(rt.alloc())?;
+                lobby.put_file(File::new(rt.alloc(), path, Kind::Pgn, Bytes::from_vec(bytes)?)?)
+            }
             Err(_) => {
                 self.seen = None;
                 lobby.take_off_file(PATH);

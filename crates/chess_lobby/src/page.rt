@@ -22,11 +22,8 @@ fn files_of<R: Files + AllocGlobal + Clone + Drop>(rt: &R, folder: &str) -> Resu
         let entry = entry.context(format_args!("reading the folder {folder}"))?;
         if let Some(kind) = Kind::of(entry.file_name().as_bytes()) {
             let bytes = fs::read(rt, entry.path()).context(format_args!("reading {folder}"))?;
-            files.push(File {
-                path: path_of(rt.alloc(), entry.file_name())?,
-                kind,
-                bytes: Bytes::from_vec(bytes)?,
-            })?;
+            let path = path_of(rt.alloc(), entry.file_name())?;
+            files.push(File::new(rt.alloc(), path, kind, Bytes::from_vec(bytes)?)?)?;
         }
     }
     Ok(files)

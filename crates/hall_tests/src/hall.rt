@@ -376,11 +376,7 @@ fn a_file_changes_between_turns(rt: HostRuntime) {
     for bytes in [b"one".as_slice(), b"another"] {
         let path = b"/live.pgn".to_vec(alloc).expect(&rt, "memory");
         let bytes_now = Bytes::from_static(bytes);
-        let file = File {
-            path,
-            kind: Kind::Pgn,
-            bytes: bytes_now,
-        };
+        let file = File::new(alloc, path, Kind::Pgn, bytes_now).expect(&rt, "memory");
         hall.put_file(file).expect(&rt, "memory");
         turn(&rt, &mut hall, 2, 1);
         assert!(rt; is_told(&hall, bytes));

@@ -31,12 +31,9 @@ fn lab_of(rt: &impl Abort, alloc: Global, keys: RandomState) -> Lab {
         .push(b"a:1".to_vec(alloc).expect(rt, "memory"))
         .expect(rt, "memory");
     let mut files = Vec::new(alloc);
-    let file = File {
-        path: b"/".to_vec(alloc).expect(rt, "memory"),
-        kind: Kind::Html,
-        bytes: Bytes::from_static(b"the page"),
-    };
-    files.push(file).expect(rt, "memory");
+    let path = b"/".to_vec(alloc).expect(rt, "memory");
+    let file = File::new(alloc, path, Kind::Html, Bytes::from_static(b"the page"));
+    files.push(file.expect(rt, "memory")).expect(rt, "memory");
     Lab {
         alloc,
         keys,
@@ -129,7 +126,7 @@ fn check(rt: &impl Abort, lab: &Lab, bytes: &[u8], said: &[u8], answer: &[u8], i
 // A request, how its answer begins, and whether the connection is over then.
 type Request = (&'static [u8], &'static [u8], bool);
 
-const REQUESTS: [Request; 22] = [
+const REQUESTS: [Request; 26] = [
     (
         b"GET / HTTP/1.1\r\nHost: a:1\r\n\r\n",
         b"HTTP/1.1 200 OK\r\n",
@@ -137,6 +134,26 @@ const REQUESTS: [Request; 22] = [
     ),
     (
         b"HEAD / HTTP/1.1\r\nHost: a:1\r\n\r\n",
+        b"HTTP/1.1 200 OK\r\n",
+        false,
+    ),
+    (
+        b"GET / HTTP/1.1\r\nHost: a:1\r\nIf-None-Match: \"aafdd3f20726bac0993d94996c006d7053e72b1b8f96371ace7ba7b5e8c06fd1\"\r\n\r\n",
+        b"HTTP/1.1 304 Not Modified\r\n",
+        false,
+    ),
+    (
+        b"GET / HTTP/1.1\r\nHost: a:1\r\nIf-None-Match: W/\"aafdd3f20726bac0993d94996c006d7053e72b1b8f96371ace7ba7b5e8c06fd1\"\r\n\r\n",
+        b"HTTP/1.1 304 Not Modified\r\n",
+        false,
+    ),
+    (
+        b"GET / HTTP/1.1\r\nHost: a:1\r\nIf-None-Match: \"e3b0c44298fc1c149afbf4c8996fb92427ae41e4649b934ca495991b7852b855\"\r\n\r\n",
+        b"HTTP/1.1 200 OK\r\n",
+        false,
+    ),
+    (
+        b"GET / HTTP/1.1\r\nHost: a:1\r\nIf-None-Match: \"\"\r\n\r\n",
         b"HTTP/1.1 200 OK\r\n",
         false,
     ),
@@ -244,12 +261,9 @@ fn a_request_is_answered_or_refused(rt: HostRuntime) {
 
 // From now on a path has these bytes.
 fn put(rt: &impl Abort, lab: &mut Lab, path: &[u8], kind: Kind, bytes: &'static [u8]) {
-    let file = File {
-        path: path.to_vec(lab.alloc).expect(rt, "memory"),
-        kind,
-        bytes: Bytes::from_static(bytes),
-    };
-    lab.site.put(file).expect(rt, "memory");
+    let path = path.to_vec(lab.alloc).expect(rt, "memory");
+    let file = File::new(lab.alloc, path, kind, Bytes::from_static(bytes));
+    lab.site.put(file.expect(rt, "memory")).expect(rt, "memory");
 }
 
 // Whether the answer to this request ends so.
@@ -284,11 +298,11 @@ fn check_files(rt: &impl Abort, lab: &mut Lab, bytes: &'static [u8]) {
 const ENDS: [(&[u8], &[u8]); 3] = [
     (
         GAMES,
-        b"\r\naccess-control-allow-origin: *\r\ncontent-length: 0\r\n\r\n",
+        b"\r\naccess-control-allow-origin: *\r\netag: \"e3b0c44298fc1c149afbf4c8996fb92427ae41e4649b934ca495991b7852b855\"\r\ncontent-length: 0\r\n\r\n",
     ),
     (
         FIGURES,
-        b"\r\ncache-control: no-cache\r\ncontent-length: 0\r\n\r\n",
+        b"\r\ncache-control: no-cache\r\netag: \"e3b0c44298fc1c149afbf4c8996fb92427ae41e4649b934ca495991b7852b855\"\r\ncontent-length: 0\r\n\r\n",
     ),
     (PAGE, b"the page"),
 ];

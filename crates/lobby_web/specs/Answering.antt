@@ -1,5 +1,5 @@
 -- What a site answers to a request.
-use Rattle.std.specs.Prelude.{ℕ, ◌≡◌, ◌⊎◌, ◌==◌, Bool, true, List, [], ◌∷◌, ◌++◌, Option, None, Some, codes, MatchBool}
+use Rattle.std.specs.Prelude.{ℕ, ◌≡◌, ◌⊎◌, ◌==◌, ◌||◌, Bool, true, List, [], ◌∷◌, ◌++◌, Option, None, Some, bytes_eq, codes, MatchBool}
 use Rattle.http.specs.declared.request.Request.{Request}
 use Rattle.http1.specs.Fields.{Header}
 use Rattle.http_server.specs.declared.response.Response.{Response}
@@ -32,14 +32,23 @@ abbrev pub IsTold : ℕ → List ℕ → Response → Type 0
 IsTold status words = IsResponse status (guarded plain_text) words
 
 -- Pages of other hosts may read games, and nothing else.
-abbrev pub file_fields : Kind → List Header
-file_fields Pgn = guarded (media_type Pgn) ++ (codes "access-control-allow-origin", codes "*") ∷ []
-file_fields kind = guarded (media_type kind)
+abbrev pub kind_fields : Kind → List Header
+kind_fields Pgn = guarded (media_type Pgn) ++ (codes "access-control-allow-origin", codes "*") ∷ []
+kind_fields kind = guarded (media_type kind)
 
--- 200 with the file, or 404
-abbrev pub IsFileAnswer : Option File → Response → Type 0
-IsFileAnswer None = IsTold 404 (codes "There is no such page here.")
-IsFileAnswer (Some file) = IsResponse 200 (file_fields file.kind) file.bytes
+-- the fields of an answer of a file: those of its kind, and its entity tag
+abbrev pub file_fields : File → List Header
+file_fields file = kind_fields file.kind ++ (codes "etag", file.tag.items) ∷ []
+
+-- Who asks has the file already: `If-None-Match` has its tag, as it is or as a weak one (RFC 9110, 8.8.3.2 and 13.1.2).
+abbrev pub is_known : List ℕ → File → Bool
+is_known known file = bytes_eq known file.tag.items || bytes_eq known (codes "W/" ++ file.tag.items)
+
+-- 200 with the file, 304 without it for who has it already, or 404
+abbrev pub IsFileAnswer : List ℕ → Option File → Response → Type 0
+IsFileAnswer known None = IsTold 404 (codes "There is no such page here.")
+IsFileAnswer known (Some file) response =
+    MatchBool (is_known known file) (IsResponse 304 (file_fields file) [] response) (IsResponse 200 (file_fields file) file.bytes response)
 
 -- 405 with the methods that are answered
 abbrev pub IsOtherMethodAnswer : Response → Type 0
@@ -71,7 +80,9 @@ IsSocketAnswer r response =
 -- A page's answer: its file, or that only reading is answered.
 abbrev pub IsPageAnswer : Site → Request (List ℕ) → Response → Type 0
 IsPageAnswer site r response =
-    MatchBool (only_reads r) (IsFileAnswer (file_at site (served_path (path_of r))) response) (IsOtherMethodAnswer response)
+    MatchBool (only_reads r)
+    (IsFileAnswer (field r (codes "if-none-match")) (file_at site (served_path (path_of r))) response)
+    (IsOtherMethodAnswer response)
 
 -- What a site answers: 403 for a host that is not taken; else the socket at `/ws`, and everywhere else the page's files.
 abbrev pub IsAnswer : Site → Request (List ℕ) → Response → Type 0

@@ -1,8 +1,22 @@
 -- What a site has: its hosts and its files.
-use Rattle.std.specs.Prelude.{ℕ, ◌≡◌, ◌≢◌, Bool, List, Option, bytes_eq, find}
+use Rattle.std.specs.Prelude.{ℕ, ◌≡◌, ◌≢◌, Bool, List, [], ◌∷◌, ◌++◌, Option, bytes_eq, find}
 use Rattle.std.specs.List.{list_any, position}
 use Rattle.lobby_web.specs.declared.site.Site.{Site}
 use Rattle.lobby_web.specs.declared.site.File.{File}
+use Rattle.lobby_web.specs.declared.site.Kind.{Kind}
+use Rattle.hex.specs.Hex.{encode_lower}
+use Rattle.sha2.specs.Sha256.{sha256}
+
+-- the entity tag of bytes: their SHA-256 as hex digits, in quotes
+abbrev pub tag_of : List ℕ → List ℕ
+tag_of bytes = 34 ∷ encode_lower (sha256 bytes) ++ 34 ∷ []
+
+-- The file is of this path, this kind and these bytes, with their tag.
+pub record IsFile (path : List ℕ) (kind : Kind) (bytes : List ℕ) (file : File) : Type 0 where
+  pub path : file.path.items ≡ path
+  pub kind : file.kind ≡ kind
+  pub bytes : file.bytes ≡ bytes
+  pub tag : file.tag.items ≡ tag_of bytes
 
 -- the host is one of those that are taken, byte for byte
 abbrev pub has_host : Site → List ℕ → Bool

@@ -8,7 +8,7 @@ ghost use Rattle.http_header.specs.FieldValue.{plain_value};
 ghost use Rattle.http_server.specs.Response.{IsBlank, IsResponse};
 ghost use Rattle.lobby_web.specs.Media.{media_type};
 ghost use Rattle.lobby_web.specs.Requests.{field, path_of, is_from_page, lists_upgrade, asks_upgrade, only_reads, is_number, names_game, is_board, served_path};
-ghost use Rattle.lobby_web.specs.Answering.{guarded, file_fields, IsTold, IsFileAnswer, IsOtherMethodAnswer, IsSwitch, IsKeyAnswer, IsSocketAnswer, IsPageAnswer, IsAnswer};
+ghost use Rattle.lobby_web.specs.Answering.{guarded, kind_fields, file_fields, is_known, IsTold, IsFileAnswer, IsOtherMethodAnswer, IsSwitch, IsKeyAnswer, IsSocketAnswer, IsPageAnswer, IsAnswer};
 
 use crate::site::{File, Kind, Site};
 use bytes::{BufMut, Bytes};
@@ -36,12 +36,12 @@ fn path_of(request: &Request<Bytes>) -> &[u8]
     request.uri().path().as_bytes()
 }
 
-// Whether an origin is this scheme, `http://` or `https://`, and this host.
-fn is_origin_of(origin: &[u8], scheme: &[u8], host: &[u8]) -> bool
-    ensures { result ≡ bytes_eq origin.now (scheme.now ++ host.now) }
+// Whether a text is these two parts, as an origin is its scheme, `http://` or `https://`, and its host.
+fn is_made_of(text: &[u8], front: &[u8], end: &[u8]) -> bool
+    ensures { result ≡ bytes_eq text.now (front.now ++ end.now) }
 {
-    match origin.strip_prefix(scheme) {
-        Some(rest) => rest == host,
+    match text.strip_prefix(front) {
+        Some(rest) => rest == end,
         None => false,
     }
 }
@@ -52,7 +52,7 @@ fn is_from_page(request: &Request<Bytes>) -> bool
 {
     let host = field(request, "host");
     let origin = field(request, "origin");
-    is_origin_of(origin, b"http://", host) || is_origin_of(origin, b"https://", host)
+    is_made_of(origin, b"http://", host) || is_made_of(origin, b"https://", host)
 }
 
 // Whether `Connection` lists `upgrade`.
@@ -137,12 +137,12 @@ fn tell(response: &mut Response, status: StatusCode, words: &str) -> Result<(), 
     response.body.put_slice(words.as_bytes())
 }
 
-// The status and the fields of the answer that is a file of this kind: pages of other hosts may read games, and nothing else.
-fn begin_file(response: &mut Response, kind: Kind) -> Result<(), AllocError>
+// The status and the fields by the kind of a file: pages of other hosts may read games, and nothing else.
+fn begin_kind(response: &mut Response, status: StatusCode, kind: Kind) -> Result<(), AllocError>
     requires { IsBlank response.old }
-    ensures { OnOk result (IsResponse 200 (file_fields kind) [] response.new) }
+    ensures { OnOk result (IsResponse status (kind_fields kind) [] response.new) }
 {
-    begin(response, StatusCode::OK, media_type(kind))?;
+    begin(response, status, media_type(kind))?;
     match kind {
         Kind::Pgn => response.add_header(
             HeaderName::from_static("access-control-allow-origin"),
@@ -152,22 +152,54 @@ fn begin_file(response: &mut Response, kind: Kind) -> Result<(), AllocError>
     }
 }
 
-// A file, with its media type.
-fn send(response: &mut Response, file: &File) -> Result<(), AllocError>
+// The status and the fields of an answer of a file.
+fn begin_file(
+    alloc: Global,
+    response: &mut Response,
+    status: StatusCode,
+    file: &File,
+) -> Result<(), AllocError>
     requires { IsBlank response.old }
-    ensures { OnOk result (IsResponse 200 (file_fields file.now.kind) file.now.bytes response.new) }
+    ensures { OnOk result (IsResponse status (file_fields file.now) [] response.new) }
 {
-    begin_file(response, file.kind)?;
-    response.body.push(file.bytes.clone()?)
+    let Ok(tag) = HeaderValue::from_bytes(alloc, file.tag()) else {
+        return Err(AllocError);
+    };
+    begin_kind(response, status, file.kind())?;
+    response.add_header(HeaderName::from_static("etag"), tag)
 }
 
-// The file of the path, or that there is none.
-fn send_file(response: &mut Response, file: Option<&File>) -> Result<(), AllocError>
+// A file, with its media type.
+fn send(alloc: Global, response: &mut Response, file: &File) -> Result<(), AllocError>
     requires { IsBlank response.old }
-    ensures { OnOk result (IsFileAnswer (option_copied file.entry) response.new) }
+    ensures { OnOk result (IsResponse 200 (file_fields file.now) file.now.bytes response.new) }
+{
+    begin_file(alloc, response, StatusCode::OK, file)?;
+    response.body.push(file.bytes().clone()?)
+}
+
+// Whether who asks has the file already: by its tag, which one that packs its bytes on the way makes a weak one.
+fn is_known(file: &File, known: &[u8]) -> bool
+    ensures { result ≡ is_known known.now file.now }
+{
+    known == file.tag() || is_made_of(known, b"W/", file.tag())
+}
+
+// The file of the path, or that who asks has it, or that there is none.
+fn send_file(
+    alloc: Global,
+    response: &mut Response,
+    file: Option<&File>,
+    known: &[u8],
+) -> Result<(), AllocError>
+    requires { IsBlank response.old }
+    ensures { OnOk result (IsFileAnswer known.now (option_copied file.entry) response.new) }
 {
     match file {
-        Some(file) => send(response, file),
+        Some(file) if is_known(file, known) => {
+            begin_file(alloc, response, StatusCode::NOT_MODIFIED, file)
+        }
+        Some(file) => send(alloc, response, file),
         None => tell(
             response,
             StatusCode::NOT_FOUND,
@@ -293,6 +325,7 @@ fn open_socket(
 
 // The file of the path that is asked for, or that only reading is answered.
 fn send_page(
+    alloc: Global,
     site: &Site,
     request: &Request<Bytes>,
     response: &mut Response,
@@ -303,7 +336,8 @@ fn send_page(
     if !only_reads(request) {
         return refuse_method(response);
     }
-    send_file(response, site.file_at(served_path(path_of(request))))
+    let file = site.file_at(served_path(path_of(request)));
+    send_file(alloc, response, file, field(request, "if-none-match"))
 }
 
 // What is answered.
@@ -326,7 +360,7 @@ fn answer(
     if path_of(request) == b"/ws".as_slice() {
         return open_socket(alloc, request, response);
     }
-    send_page(site, request, response)
+    send_page(alloc, site, request, response)
 }
 
 /// The site, as it answers the requests of one connection, and whether the last answer was an upgrade.

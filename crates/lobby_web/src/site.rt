@@ -3,6 +3,7 @@ ghost use Rattle.std.specs.Prelude.{◌≡◌, Some, None, OnOk, OnErr};
 ghost use Rattle.std.specs.Option.{option_copied};
 
 use bytes::Bytes;
+use sha2::{Digest, Sha256};
 use std::alloc::{AllocError, Global};
 
 /// What a file is, by which its media type goes.
@@ -42,9 +43,53 @@ impl Kind {
 /// A file of the page: the path that a request names it by, as `/page.js`, what it is, and its bytes.
 #[derive(Debug, Drop)]
 pub struct File {
-    pub path: Vec<u8>,
-    pub kind: Kind,
-    pub bytes: Bytes,
+    path: Vec<u8>,
+    kind: Kind,
+    bytes: Bytes,
+    tag: Vec<u8>,
+}
+
+impl File {
+    ghost use Rattle.lobby_web.specs.Pages.{IsFile};
+
+    /// A file with its entity tag, by which who has these bytes already is not sent them again (RFC 9110, 8.8.3 and 13.1.2): their
+    /// SHA-256 as 64 hex digits, in quotes.
+    pub fn new(alloc: Global, path: Vec<u8>, kind: Kind, bytes: Bytes) -> Result<File, AllocError>
+        ensures { OnOk result (IsFile path.items kind bytes) }
+    {
+        let sum = Sha256::digest(&bytes);
+        let mut tag = Vec::new(alloc);
+        tag.push(b'"')?;
+        tag.extend_from_slice(hex::encode(alloc, sum.as_slice())?.as_bytes())?;
+        tag.push(b'"')?;
+        Ok(File {
+            path,
+            kind,
+            bytes,
+            tag,
+        })
+    }
+
+    /// What it is.
+    pub(crate) fn kind(&self) -> Kind
+        ensures { result ≡ self.now.kind }
+    {
+        self.kind
+    }
+
+    /// Its bytes.
+    pub(crate) fn bytes(&self) -> &Bytes
+        ensures { result.now ≡ self.now.bytes }
+    {
+        &self.bytes
+    }
+
+    /// Its entity tag.
+    pub(crate) fn tag(&self) -> &[u8]
+        ensures { result.now ≡ self.now.tag.items }
+    {
+        self.tag.as_slice()
+    }
 }
 
 /// The hosts that are taken, and the files that are served under them.
