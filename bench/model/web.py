@@ -199,10 +199,11 @@ class Browser(asyncio.Protocol):
         return answer
 
 
-def fetch(port, path, method='GET'):
-    """The status, the fields in small letters, and the body."""
+def fetch(port, path, method='GET', more=''):
+    """The status, the fields in small letters, and the body. More fields are lines that end in CRLF."""
     with socket.create_connection(('127.0.0.1', port)) as line:
-        line.sendall(('%s %s HTTP/1.1\r\nHost: 127.0.0.1:%d\r\nConnection: close\r\n\r\n' % (method, path, port)).encode())
+        line.sendall(('%s %s HTTP/1.1\r\nHost: 127.0.0.1:%d\r\n%sConnection: close\r\n\r\n' %
+                      (method, path, port, more)).encode())
         data = b''
         while some := line.recv(65536):
             data += some

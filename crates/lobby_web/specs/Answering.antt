@@ -46,7 +46,7 @@ is_known known file = bytes_eq known file.tag.items || bytes_eq known (codes "W/
 
 -- 200 with the file, 304 without it for who has it already, or 404
 abbrev pub IsFileAnswer : List ℕ → Option File → Response → Type 0
-IsFileAnswer known None = IsTold 404 (codes "There is no such page here.")
+IsFileAnswer known None response = IsTold 404 (codes "There is no such page here.") response
 IsFileAnswer known (Some file) response =
     MatchBool (is_known known file) (IsResponse 304 (file_fields file) [] response) (IsResponse 200 (file_fields file) file.bytes response)
 

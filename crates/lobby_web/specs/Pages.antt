@@ -12,11 +12,11 @@ abbrev pub tag_of : List ℕ → List ℕ
 tag_of bytes = 34 ∷ encode_lower (sha256 bytes) ++ 34 ∷ []
 
 -- The file is of this path, this kind and these bytes, with their tag.
-pub record IsFile (path : List ℕ) (kind : Kind) (bytes : List ℕ) (file : File) : Type 0 where
-  pub path : file.path.items ≡ path
-  pub kind : file.kind ≡ kind
-  pub bytes : file.bytes ≡ bytes
-  pub tag : file.tag.items ≡ tag_of bytes
+pub record IsFile (place : List ℕ) (sort : Kind) (content : List ℕ) (file : File) : Type 0 where
+  pub path : file.path.items ≡ place
+  pub kind : file.kind ≡ sort
+  pub bytes : file.bytes ≡ content
+  pub tag : file.tag.items ≡ tag_of content
 
 -- the host is one of those that are taken, byte for byte
 abbrev pub has_host : Site → List ℕ → Bool

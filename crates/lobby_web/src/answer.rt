@@ -1,5 +1,5 @@
 //! What a request is answered.
-ghost use Rattle.std.specs.Prelude.{◌≡◌, ◌++◌, [], false, OnOk, bytes_eq};
+ghost use Rattle.std.specs.Prelude.{◌≡◌, ◌++◌, [], Some, false, OnOk, bytes_eq};
 ghost use Rattle.std.specs.Option.{option_copied};
 ghost use Rattle.std.specs.Char.{is_ascii_digit};
 ghost use Rattle.std.specs.List.{list_all};
@@ -185,7 +185,24 @@ fn is_known(file: &File, known: &[u8]) -> bool
     known == file.tag() || is_made_of(known, b"W/", file.tag())
 }
 
-// The file of the path, or that who asks has it, or that there is none.
+// A file, or that who asks has it.
+fn answer_file(
+    alloc: Global,
+    response: &mut Response,
+    file: &File,
+    known: &[u8],
+) -> Result<(), AllocError>
+    requires { IsBlank response.old }
+    ensures { OnOk result (IsFileAnswer known.now (Some file.now) response.new) }
+{
+    if is_known(file, known) {
+        begin_file(alloc, response, StatusCode::NOT_MODIFIED, file)
+    } else {
+        send(alloc, response, file)
+    }
+}
+
+// The file of the path, or that there is none.
 fn send_file(
     alloc: Global,
     response: &mut Response,
@@ -196,10 +213,7 @@ fn send_file(
     ensures { OnOk result (IsFileAnswer known.now (option_copied file.entry) response.new) }
 {
     match file {
-        Some(file) if is_known(file, known) => {
-            begin_file(alloc, response, StatusCode::NOT_MODIFIED, file)
-        }
-        Some(file) => send(alloc, response, file),
+        Some(file) => answer_file(alloc, response, file, known),
         None => tell(
             response,
             StatusCode::NOT_FOUND,
@@ -336,8 +350,12 @@ fn send_page(
     if !only_reads(request) {
         return refuse_method(response);
     }
-    let file = site.file_at(served_path(path_of(request)));
-    send_file(alloc, response, file, field(request, "if-none-match"))
+    send_file(
+        alloc,
+        response,
+        site.file_at(served_path(path_of(request))),
+        field(request, "if-none-match"),
+    )
 }
 
 // What is answered.

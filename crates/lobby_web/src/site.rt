@@ -1,5 +1,5 @@
 //! What is served: the files of the page, under the hosts that are taken.
-ghost use Rattle.std.specs.Prelude.{◌≡◌, Some, None, OnOk, OnErr};
+ghost use Rattle.std.specs.Prelude.{◌≡◌, Some, None, IfOk, OnOk, OnErr};
 ghost use Rattle.std.specs.Option.{option_copied};
 
 use bytes::Bytes;
@@ -55,7 +55,7 @@ impl File {
     /// A file with its entity tag, by which who has these bytes already is not sent them again (RFC 9110, 8.8.3 and 13.1.2): their
     /// SHA-256 as 64 hex digits, in quotes.
     pub fn new(alloc: Global, path: Vec<u8>, kind: Kind, bytes: Bytes) -> Result<File, AllocError>
-        ensures { OnOk result (IsFile path.items kind bytes) }
+        ensures { IfOk result (IsFile path.items kind bytes) }
     {
         let sum = Sha256::digest(&bytes);
         let mut tag = Vec::new(alloc);
