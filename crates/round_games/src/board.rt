@@ -252,13 +252,24 @@ impl Board {
         Ok(None)
     }
 
+    // Looks what is to be done about it now, and does that.
+    fn do_step(
+        &self,
+        link: &mut Link,
+        file: &mut RoundFile,
+        without: &[u32],
+        opened: &mut Option<u32>,
+    ) -> Result<Option<Became>> {
+        let seen = self.seen(link, file, without, *opened)?;
+        self.act(link, file, &seen, opened)
+    }
+
     /// Goes on with its game until Black has joined it, or until it is the arbiter's to say which it is; these servers are not
     /// waited for. Wherever it fails or the process is killed, it may be called again.
     pub fn go_on(&self, link: &mut Link, file: &mut RoundFile, without: &[u32]) -> Result<Became> {
         let mut opened = None;
         for _ in 0..8 {
-            let seen = self.seen(link, file, without, opened)?;
-            if let Some(became) = self.act(link, file, &seen, &mut opened)? {
+            if let Some(became) = self.do_step(link, file, without, &mut opened)? {
                 return Ok(became);
             }
         }
@@ -275,4 +286,31 @@ impl Board {
             None => format!(in self.alloc; "board {board}: several games may be its"),
         }
     }
+}
+
+// The game that the arbiter said is a board's.
+fn taken_of(takes: &[(u32, u32)], number: u32) -> Option<u32> {
+    let mut taken = None;
+    for (board, game) in takes {
+        if *board == number {
+            taken = Some(*game);
+        }
+    }
+    taken
+}
+
+/// The boards of pairings that have a game, with the games that the arbiter said are theirs.
+pub fn boards_of(alloc: Global, pairings: &[Pairing], takes: &[(u32, u32)]) -> Result<Vec<Board>> {
+    let mut boards = Vec::new(alloc);
+    for pairing in pairings {
+        if let Some(game) = pairing.game {
+            boards.push(Board {
+                alloc,
+                pairing: *pairing,
+                game,
+                taken: taken_of(takes, pairing.board),
+            })?;
+        }
+    }
+    Ok(boards)
 }

@@ -1,5 +1,4 @@
 //! The files that are only read.
-use crate::command_line::Round;
 use anyhow::{Context, Result};
 use night_files::whole_length;
 use pairing_texts::{Note, Pairing, note_of, read};
@@ -97,17 +96,13 @@ pub struct Paired {
     pub notes: Vec<Note>,
 }
 
-/// What the files of a round have. It fails where the notes are of other pairings.
-pub fn paired_of<R: Files + AllocGlobal>(rt: &R, round: Round<'_>) -> Result<Paired> {
+/// What the files of a round have, its pairings and its notes. It fails where the notes are of other pairings.
+pub fn paired_of<R: Files + AllocGlobal>(rt: &R, pairings: &str, games: &str) -> Result<Paired> {
     let paired = Paired {
-        pairings: pairings_of(rt, round.pairings)?,
-        notes: notes_of(rt, round.games)?,
+        pairings: pairings_of(rt, pairings)?,
+        notes: notes_of(rt, games)?,
     };
-    check_notes(
-        round.games,
-        paired.notes.as_slice(),
-        paired.pairings.as_slice(),
-    )?;
+    check_notes(games, paired.notes.as_slice(), paired.pairings.as_slice())?;
     Ok(paired)
 }
 
