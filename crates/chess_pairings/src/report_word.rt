@@ -129,7 +129,7 @@ fn rounds_of<R: Files + AllocGlobal>(
     for round in rounds {
         let file = round.pairings;
         let meetings = meetings_of(rt, *round, players, outcomes);
-        met.push(meetings.context(format_args!("{file}"))?)?;
+        met.push(meetings.context(file)?)?;
     }
     Ok(met)
 }

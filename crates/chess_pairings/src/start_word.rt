@@ -237,7 +237,7 @@ fn check_in_file<R: Files + AllocGlobal>(
     pairings: &[Pairing],
 ) -> Result<()> {
     let players = players_of(rt, file)?;
-    check_players(players.as_slice(), pairings).context(format_args!("{rows}"))
+    check_players(players.as_slice(), pairings).context(rows)
 }
 
 // Whether pairings may be opened: by their players, where a file of these is named, and by their times.
@@ -253,7 +253,7 @@ fn check_pairings<R: Files + AllocGlobal>(
     if starting.is_short {
         return Ok(());
     }
-    check_times(pairings).context(format_args!("{rows}"))
+    check_times(pairings).context(rows)
 }
 
 // Puts what the arbiter said to the round's file. It fails where that is of other pairings.

@@ -10,7 +10,7 @@ use text_parts::parts;
 /// The pairings of a file.
 pub fn pairings_of<R: Files + AllocGlobal>(rt: &R, file: &str) -> Result<Vec<Pairing>> {
     let text = fs::read(rt, file).context(format_args!("reading {file}"))?;
-    read(rt.alloc(), text.as_slice()).context(format_args!("{file}"))
+    read(rt.alloc(), text.as_slice()).context(file)
 }
 
 // How a note begins.
@@ -56,7 +56,7 @@ fn lines_of<R: Files + AllocGlobal>(rt: &R, file: &str) -> Result<String> {
     let kept = whole_length(bytes.as_slice());
     check_behind(file, bytes.get(kept..).unwrap_or(&[]))?;
     bytes.truncate(kept);
-    String::from_utf8(bytes).context(format_args!("{file}"))
+    String::from_utf8(bytes).context(file)
 }
 
 // The note of a line.
