@@ -251,16 +251,25 @@ fn with_head<'a>(alloc: Global, command: Command<'a>) -> Result<Command<'a>, All
     Ok(command)
 }
 
+// (Without a clause: what a chain of calls says is carried no further.)
+fn word_command<'a>(
+    alloc: Global,
+    name: &'static str,
+    about: &'static str,
+    help: &'static str,
+) -> Command<'a> {
+    Command::new(alloc, name).about(about).after_help(help)
+}
+
 fn start_command<'a>(alloc: Global) -> Result<Command<'a>, AllocError> {
-    let command = Command::new(alloc, "start")
-        .about("Opens the games of a round")
-        .after_help(HELP_OF_START);
+    let command = word_command(alloc, "start", "Opens the games of a round", HELP_OF_START);
     let players = players_option(
         "The players' file: nothing is opened where a player is not in it",
     );
     let command = with_required(alloc, command, &[PAIRINGS, ROUND_FILE, SERVER])?;
     let command = with_optional(alloc, command, &[players])?;
-    with_options(alloc, command, &TOLD_TO_START, false, ArgAction::Append)?.arg(flag(
+    let command = with_options(alloc, command, &TOLD_TO_START, false, ArgAction::Append)?;
+    command.arg(flag(
         alloc,
         "short",
         "Initial times of less than 60 seconds are meant",
@@ -268,18 +277,24 @@ fn start_command<'a>(alloc: Global) -> Result<Command<'a>, AllocError> {
 }
 
 fn results_command<'a>(alloc: Global) -> Result<Command<'a>, AllocError> {
-    let command = Command::new(alloc, "results")
-        .about("Writes the results of a round as CSV")
-        .after_help(HELP_OF_RESULTS);
+    let command = word_command(
+        alloc,
+        "results",
+        "Writes the results of a round as CSV",
+        HELP_OF_RESULTS,
+    );
     let players = players_option("The players' file, with the full names that the archive has");
     let command = with_required(alloc, command, &[PAIRINGS, ROUND_FILE])?;
     with_optional(alloc, command, &[players, ARCHIVE, SERVER])
 }
 
 fn trf_command<'a>(alloc: Global) -> Result<Command<'a>, AllocError> {
-    let command = Command::new(alloc, "trf")
-        .about("Writes the report of a tournament, TRF-16")
-        .after_help(HELP_OF_TRF);
+    let command = word_command(
+        alloc,
+        "trf",
+        "Writes the report of a tournament, TRF-16",
+        HELP_OF_TRF,
+    );
     let command = with_required(alloc, command, &[players_option("The players' file")])?;
     let command = with_options(alloc, command, &[ROUNDS], true, ArgAction::Append)?;
     let command = with_head(alloc, command)?;
