@@ -4,7 +4,7 @@ use anyhow::{Context, Result, bail};
 use archive_text::{Heading, archived};
 use lobby_desk::Player;
 use players_file::full_name;
-use server_link::{Link, Row};
+use server_link::{Answer, Link, Row};
 use std::alloc::Global;
 
 /// What a PGN is made with: the players, what the tags are to say, and what the log has.
@@ -16,6 +16,26 @@ pub struct Knowledge<'a> {
     pub records: &'a [Record],
 }
 
+// The server's answer to `pgn`.
+fn answer_of(alloc: Global, link: &mut Link, game: u32) -> Result<Answer> {
+    let line = format!(in alloc; "pgn {game}")?;
+    let front = format!(in alloc; "ok pgn {game} ")?;
+    link.ask(line.as_str(), front.as_str())
+}
+
+// The PGN of a game as the server tells it; none where the game has left the table since.
+fn told(alloc: Global, link: &mut Link, game: u32) -> Result<Option<String>> {
+    let answer = answer_of(alloc, link, game)?;
+    if !answer.behind.is_empty() {
+        return Ok(Some(answer.behind));
+    }
+    let first = answer.first.as_str();
+    if first.starts_with("no 3 ") {
+        return Ok(None);
+    }
+    bail!("the server does not tell game {game}: {first}")
+}
+
 /// Asks for the PGN of a game, and makes it as the archive has it, with the clocks that the log knows; none where the game has
 /// left the table since.
 pub fn pgn_of(
@@ -25,24 +45,17 @@ pub fn pgn_of(
     row: Row<'_>,
 ) -> Result<Option<Vec<u8>>> {
     let game = row.game;
-    let line = format!(in alloc; "pgn {game}")?;
-    let front = format!(in alloc; "ok pgn {game} ")?;
-    let answer = link.ask(line.as_str(), front.as_str())?;
-    if answer.behind.is_empty() {
-        let first = answer.first.as_str();
-        if first.starts_with("no 3 ") {
-            return Ok(None);
-        }
-        bail!("the server does not tell game {game}: {first}");
-    }
+    let Some(told) = told(alloc, link, game)? else {
+        return Ok(None);
+    };
     let heading = Heading {
         white: full_name(known.players, row.white),
         black: full_name(known.players, row.black),
         ..known.heading
     };
     let clocks = clocks(alloc, known.records, game, row.ply)?;
-    let pgn = archived(alloc, &heading, answer.behind.as_str(), clocks.as_slice()).context(
-        format_args!("game {game}"),
-    )?;
+    let pgn = archived(alloc, &heading, told.as_str(), clocks.as_slice()).context(format_args!(
+        "game {game}"
+    ))?;
     Ok(Some(pgn))
 }

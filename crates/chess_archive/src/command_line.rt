@@ -2,8 +2,9 @@
 use archive_text::Heading;
 use clap::builder::ValueParser;
 use clap::error::ErrorKind;
-use clap::{Arg, ArgMatches, Command, Error};
+use clap::{Arg, ArgAction, ArgMatches, Command, Error};
 use command_words::{VERSION, flag, option};
+use option_tables::{OptionText, with_options};
 use std::alloc::{AllocError, Global};
 use std::net::SocketAddr;
 
@@ -59,7 +60,7 @@ Example:
   chess-archive live --server 127.0.0.1:5001 --file live.pgn --log club.log --every 5";
 
 /// What the program is to do.
-#[derive(Drop)]
+#[derive(Clone, Copy)]
 pub enum Word<'a> {
     /// To keep games that are over.
     Keep(Keeping<'a>),
@@ -119,85 +120,150 @@ pub struct Living<'a> {
     pub every: Option<u32>,
 }
 
-fn archive_option<'a>(alloc: Global) -> Arg<'a> {
-    option(alloc, "archive", "FILE", "The archive's file").required(true)
-}
+// Which games are kept, and where.
+const KEEP: [OptionText; 2] = [
+    OptionText {
+        name: "server",
+        value: "A:P",
+        help: "Where the game server listens",
+        is_required: true,
+        action: ArgAction::Set,
+    },
+    OptionText {
+        name: "archive",
+        value: "FILE",
+        help: "The archive's file",
+        is_required: true,
+        action: ArgAction::Set,
+    },
+];
 
-fn server_option<'a>(alloc: Global) -> Arg<'a> {
-    option(alloc, "server", "A:P", "Where the game server listens").required(true)
-}
+// Which games are written, and where.
+const LIVE: [OptionText; 3] = [
+    OptionText {
+        name: "server",
+        value: "A:P",
+        help: "Where the game server listens",
+        is_required: true,
+        action: ArgAction::Set,
+    },
+    OptionText {
+        name: "file",
+        value: "FILE",
+        help: "The file that is written",
+        is_required: true,
+        action: ArgAction::Set,
+    },
+    OptionText {
+        name: "archive",
+        value: "FILE",
+        help: "An archive whose games are written too; with --date those of this date",
+        is_required: false,
+        action: ArgAction::Set,
+    },
+];
+
+// Which archive's games are written.
+const EXPORT: [OptionText; 1] = [OptionText {
+    name: "archive",
+    value: "FILE",
+    help: "The archive's file",
+    is_required: true,
+    action: ArgAction::Set,
+}];
+
+// What the tags are to say, who the players are, and what the log has.
+const KNOWLEDGE: [OptionText; 6] = [
+    OptionText {
+        name: "players",
+        value: "FILE",
+        help: "The players' file, for full names",
+        is_required: false,
+        action: ArgAction::Set,
+    },
+    OptionText {
+        name: "log",
+        value: "FILE",
+        help: "The lobby's log, for clocks",
+        is_required: false,
+        action: ArgAction::Set,
+    },
+    OptionText {
+        name: "event",
+        value: "TEXT",
+        help: "The tag Event, ? without it",
+        is_required: false,
+        action: ArgAction::Set,
+    },
+    OptionText {
+        name: "site",
+        value: "TEXT",
+        help: "The tag Site, ? without it",
+        is_required: false,
+        action: ArgAction::Set,
+    },
+    OptionText {
+        name: "date",
+        value: "DATE",
+        help: "The tag Date, ????.??.?? without it",
+        is_required: false,
+        action: ArgAction::Set,
+    },
+    OptionText {
+        name: "round",
+        value: "TEXT",
+        help: "The tag Round, ? without it",
+        is_required: false,
+        action: ArgAction::Set,
+    },
+];
+
+// Who is asked before a game is dropped.
+const LOBBY: [OptionText; 1] = [OptionText {
+    name: "lobby",
+    value: "A:P",
+    help: "Where the lobby listens: with --drop, no game is dropped that is watched there",
+    is_required: false,
+    action: ArgAction::Set,
+}];
 
 fn every_option<'a>(alloc: Global, help: &'static str) -> Arg<'a> {
     option(alloc, "every", "SECONDS", help).value_parser(ValueParser::Unsigned(1, 3_600))
 }
 
-// What the tags are to say, who the players are, and what the log has.
-fn with_knowledge<'a>(alloc: Global, command: Command<'a>) -> Result<Command<'a>, AllocError> {
-    command
-        .arg(option(
-            alloc,
-            "players",
-            "FILE",
-            "The players' file, for full names",
-        ))?
-        .arg(option(alloc, "log", "FILE", "The lobby's log, for clocks"))?
-        .arg(option(alloc, "event", "TEXT", "The tag Event, ? without it"))?
-        .arg(option(alloc, "site", "TEXT", "The tag Site, ? without it"))?
-        .arg(option(alloc, "date", "DATE", "The tag Date, ????.??.?? without it"))?
-        .arg(option(alloc, "round", "TEXT", "The tag Round, ? without it"))
-}
-
 fn keep_command<'a>(alloc: Global) -> Result<Command<'a>, AllocError> {
-    let drop = flag(
+    let command = Command::new(alloc, "keep")
+        .about("Keeps the games that are over")
+        .after_help(HELP_OF_KEEP);
+    let command = with_options(alloc, command, &KEEP)?;
+    let command = with_options(alloc, command, &KNOWLEDGE)?;
+    let command = command.arg(flag(
         alloc,
         "drop",
         "Drops each game that is in the archive from the table",
-    );
-    let command = Command::new(alloc, "keep")
-        .about("Keeps the games that are over")
-        .after_help(HELP_OF_KEEP)
-        .arg(server_option(alloc))?
-        .arg(archive_option(alloc))?;
-    with_knowledge(alloc, command)?
-        .arg(drop)?
-        .arg(option(
-            alloc,
-            "lobby",
-            "A:P",
-            "Where the lobby listens: with --drop, no game is dropped that is watched there",
-        ))?
-        .arg(every_option(
-            alloc,
-            "After how many seconds it is done again, 1 to 3600; once without it",
-        ))
+    ))?;
+    with_options(alloc, command, &LOBBY)?.arg(every_option(
+        alloc,
+        "After how many seconds it is done again, 1 to 3600; once without it",
+    ))
 }
 
 fn live_command<'a>(alloc: Global) -> Result<Command<'a>, AllocError> {
-    let file = option(alloc, "file", "FILE", "The file that is written").required(true);
-    let archive = option(
-        alloc,
-        "archive",
-        "FILE",
-        "An archive whose games are written too; with --date those of this date",
-    );
-    let every = every_option(
-        alloc,
-        "After how many seconds it is written again, 1 to 3600; once without it",
-    );
     let command = Command::new(alloc, "live")
         .about("Writes the games that are played to a file that others fetch")
-        .after_help(HELP_OF_LIVE)
-        .arg(server_option(alloc))?
-        .arg(file)?
-        .arg(archive)?;
-    with_knowledge(alloc, command)?.arg(every)
+        .after_help(HELP_OF_LIVE);
+    let command = with_options(alloc, command, &LIVE)?;
+    with_options(alloc, command, &KNOWLEDGE)?.arg(every_option(
+        alloc,
+        "After how many seconds it is written again, 1 to 3600; once without it",
+    ))
 }
 
 fn export_command<'a>(alloc: Global) -> Result<Command<'a>, AllocError> {
-    Command::new(alloc, "export")
+    let command = Command::new(alloc, "export")
         .about("Writes the games of an archive as PGN, CSV or a database")
-        .after_help(HELP_OF_EXPORT)
-        .arg(archive_option(alloc))?
+        .after_help(HELP_OF_EXPORT);
+    with_options(alloc, command, &EXPORT)?
         .arg(flag(alloc, "csv", "Writes a row a game as CSV, and no PGN"))?
         .arg(flag(
             alloc,
@@ -208,34 +274,35 @@ fn export_command<'a>(alloc: Global) -> Result<Command<'a>, AllocError> {
 
 /// The program's command line.
 pub fn command<'a>(alloc: Global) -> Result<Command<'a>, AllocError> {
-    let keep = keep_command(alloc)?;
-    let export = export_command(alloc)?;
-    let live = live_command(alloc)?;
-    Command::new(alloc, "chess-archive")
+    let command = Command::new(alloc, "chess-archive")
         .about("The archive of a chess club's games.")
         .version(VERSION)
-        .subcommand_required(true)
-        .subcommand(keep)?
-        .subcommand(export)?
-        .subcommand(live)
+        .subcommand_required(true);
+    let command = command.subcommand(keep_command(alloc)?)?;
+    let command = command.subcommand(export_command(alloc)?)?;
+    command.subcommand(live_command(alloc)?)
 }
 
 /// Reads the words, the program's own name first. An `Err` is a usage fault, or a request for help.
 pub fn read_words<'a>(alloc: Global, words: &'a [String]) -> Result<Word<'a>, Error> {
     let mut command = command(alloc)?;
     let matches = command.try_get_matches_from_mut(words)?;
-    let word = match matches.subcommand() {
-        Some(("keep", values)) => keeping_of(values).map(Word::Keep),
-        Some(("export", values)) => exporting_of(values).map(Word::Export),
-        Some(("live", values)) => living_of(values).map(Word::Live),
-        _ => None,
-    };
-    match word {
+    match word_of(&matches) {
         Some(word) => Ok(word),
         None => Err(command.error(
             ErrorKind::InvalidValue,
             "an address is none, a tag's value has a control character, --lobby stands without --drop, or --csv beside --sqlite",
         )?),
+    }
+}
+
+// What words ask for; none where one of them is none that the program knows.
+fn word_of<'a>(matches: &ArgMatches<'a>) -> Option<Word<'a>> {
+    match matches.subcommand() {
+        Some(("keep", values)) => keeping_of(values).map(Word::Keep),
+        Some(("export", values)) => exporting_of(values).map(Word::Export),
+        Some(("live", values)) => living_of(values).map(Word::Live),
+        _ => None,
     }
 }
 

@@ -1,10 +1,9 @@
 //! The word that writes the games of an archive.
 use crate::command_line::{Exporting, Form};
-use crate::continued::{Halves, halves_of, pgn_continued};
-use crate::database::database_of_games;
-use crate::kept::{Kept, kept_in};
-use crate::spreadsheet::rows_of_games;
 use anyhow::Result;
+use archive_games::{
+    Halves, Kept, database_of_games, halves_of, kept_in, pgn_continued, rows_of_games,
+};
 use archive_lines::lines_of;
 use std::io::{self, Write};
 use std::rt::Files;
@@ -12,12 +11,10 @@ use text_parts::parts;
 
 // Writes the PGN of a game.
 fn write_game<R: AllocGlobal + Print>(rt: &R, kept: &Kept, halves: &[Halves]) -> Result<()> {
-    let told = pgn_continued(rt.alloc(), kept, halves)?;
-    let pgn = match &told {
-        Some(pgn) => pgn.as_bytes(),
-        None => kept.pgn.as_bytes(),
-    };
-    io::writer(rt).write_all(pgn)?;
+    match pgn_continued(rt.alloc(), kept, halves)? {
+        Some(pgn) => io::writer(rt).write_all(pgn.as_bytes())?,
+        None => io::writer(rt).write_all(kept.pgn.as_bytes())?,
+    }
     Ok(())
 }
 
@@ -46,14 +43,20 @@ fn write_database<R: AllocGlobal + Print>(rt: &R, games: &[Kept]) -> Result<()> 
     Ok(())
 }
 
+// Writes games in a form.
+fn write<R: AllocGlobal + Print>(rt: &R, form: Form, games: &[Kept]) -> Result<()> {
+    match form {
+        Form::Pgn => write_games(rt, games),
+        Form::Csv => write_rows(rt, games),
+        Form::Sqlite => write_database(rt, games),
+    }
+}
+
 /// Writes the games of an archive: the PGN of each, a row for each, or a database of them.
 pub fn export<R: Files + AllocGlobal + Print>(rt: &R, exporting: &Exporting<'_>) -> Result<()> {
     let alloc = rt.alloc();
     let text = lines_of(rt, exporting.archive)?;
-    let games = kept_in(alloc, parts(alloc, text.as_str(), '\n')?.as_slice())?;
-    match exporting.form {
-        Form::Pgn => write_games(rt, games.as_slice()),
-        Form::Csv => write_rows(rt, games.as_slice()),
-        Form::Sqlite => write_database(rt, games.as_slice()),
-    }
+    let lines = parts(alloc, text.as_str(), '\n')?;
+    let games = kept_in(alloc, lines.as_slice())?;
+    write(rt, exporting.form, games.as_slice())
 }

@@ -7,16 +7,14 @@ ghost use Rattle.chess_archive.specs.Games.{games_over_in, is_at};
 
 use crate::asking::{Knowledge, pgn_of};
 use crate::command_line::Keeping;
-use crate::compared::has_game;
-use crate::figures::watched_games;
-use crate::halves::push_ended;
-use crate::kept::{Kept, kept_in};
-use crate::tags::with_tag;
-use adjourned::{first_half, is_opened_for};
+use adjourned::{Ended, first_half, is_opened_for};
 use anyhow::{Context, Result, anyhow, bail};
 use archive_file::Archive;
+use archive_games::{Kept, has_game, kept_in, push_ended};
 use lobby_archive::Night;
+use lobby_watchers::watched_games;
 use night_files::NamedFile;
+use pgn_tags::with_tag;
 use server_link::{Link, Row};
 use std::alloc::{AllocError, Global};
 use std::collections::BTreeSet;
@@ -176,7 +174,26 @@ fn row_of<'a>(rows: &[Row<'a>], game: u32) -> Result<Row<'a>> {
     bail!("the server's list has no game {game}")
 }
 
+// Whether the server drops a game, asked under the name of a player who has a seat in it.
+fn is_dropped(alloc: Global, link: &mut Link, row: Row<'_>) -> Result<bool> {
+    let white = row.white;
+    let game = row.game;
+    let name = format!(in alloc; "name {white}")?;
+    let drop = format!(in alloc; "drop {game}")?;
+    Ok(link.is_done(name.as_str())? && link.is_done(drop.as_str())?)
+}
+
 impl<R: AllocGlobal> Keeper<'_, R> {
+    // Puts those of the archive's games behind others that may go on in a game with this PGN.
+    fn push_halves(&self, ended: &mut Vec<Ended>, pgn: &str) -> Result<()> {
+        let alloc = self.rt.alloc();
+        let lines = parts(alloc, self.lines.as_str(), '\n')?;
+        let before = kept_in(alloc, lines.as_slice())?;
+        push_ended(ended, alloc, before.as_slice(), pgn)?;
+        push_ended(ended, alloc, self.kept.as_slice(), pgn)?;
+        Ok(())
+    }
+
     // The game that goes on in a game with this PGN, where the log tells how an arbiter opened it.
     fn half_of(&self, game: u32, pgn: &str) -> Result<Option<u32>> {
         let alloc = self.rt.alloc();
@@ -185,10 +202,8 @@ impl<R: AllocGlobal> Keeper<'_, R> {
         if !is_opened_for(records, game, white) {
             return Ok(None);
         }
-        let before = kept_in(alloc, parts(alloc, self.lines.as_str(), '\n')?.as_slice())?;
         let mut ended = Vec::new(alloc);
-        push_ended(&mut ended, alloc, before.as_slice(), pgn)?;
-        push_ended(&mut ended, alloc, self.kept.as_slice(), pgn)?;
+        self.push_halves(&mut ended, pgn)?;
         Ok(first_half(alloc, records, game, white, ended.as_slice())?)
     }
 
@@ -201,15 +216,15 @@ impl<R: AllocGlobal> Keeper<'_, R> {
         }
     }
 
-    /// What came of it.
-    pub fn end(self) -> (Counts, Result<()>) {
+    /// What came of a look that was done, or broke off.
+    pub fn end(&mut self, done: Result<()>) -> Result<(Counts, Result<()>)> {
+        done?;
         let mut counts = self.counts;
         counts.all = self.archive.games().len();
-        let done = match self.fault {
-            Some(fault) => Err(fault),
-            None => Ok(()),
-        };
-        (counts, done)
+        match self.fault.take() {
+            Some(fault) => Ok((counts, Err(fault))),
+            None => Ok((counts, Ok(()))),
+        }
     }
 }
 
@@ -311,13 +326,8 @@ where
 
     fn drop_game(&mut self, game: u32) -> Result<bool> {
         self.done.unwatched = None;
-        let alloc = self.rt.alloc();
         let row = row_of(self.rows, game)?;
-        let white = row.white;
-        // (under the name of a player who has a seat in it)
-        let name = format!(in alloc; "name {white}")?;
-        let drop = format!(in alloc; "drop {game}")?;
-        let is_done = self.link.is_done(name.as_str())? && self.link.is_done(drop.as_str())?;
+        let is_done = is_dropped(self.rt.alloc(), &mut self.link, row)?;
         if is_done {
             self.counts.dropped = self.counts.dropped.saturating_add(1);
         }

@@ -20,18 +20,34 @@ use std::rt::{Clock, Files};
 use std::thread;
 use std::time::Duration;
 
-// The archive of a file, and its lines when it was opened.
-fn archive_of<R>(rt: &R, path: &str) -> Result<(Archive<NamedFile>, String)>
+// An archive, and its lines when it was opened.
+#[derive(Drop)]
+struct Opened {
+    archive: Archive<NamedFile>,
+    lines: String,
+}
+
+// The archive of a file.
+fn archive_of<R>(rt: &R, path: &str) -> Result<Archive<NamedFile>>
+where
+    R: Files<File = File> + AllocGlobal,
+{
+    let mut file = NamedFile::open(rt, path)?;
+    end_last_line(rt, path, &mut file)?;
+    Ok(Archive::open(rt.alloc(), file)?)
+}
+
+// The archive of a file, and its lines.
+fn open_archive<R>(rt: &R, path: &str) -> Result<Opened>
 where
     R: Files<File = File> + AllocGlobal,
 {
     if fs::exists(rt, path)? {
         lines_of(rt, path)?;
     }
-    let mut file = NamedFile::open(rt, path).context(format_args!("opening {path}"))?;
-    end_last_line(rt, path, &mut file).context(format_args!("opening {path}"))?;
-    let archive = Archive::open(rt.alloc(), file).context(format_args!("opening {path}"))?;
-    Ok((archive, lines_of(rt, path)?))
+    let archive = archive_of(rt, path).context(format_args!("opening {path}"))?;
+    let lines = lines_of(rt, path)?;
+    Ok(Opened { archive, lines })
 }
 
 // What `keep` has of one look to the next.
@@ -59,45 +75,63 @@ where
         Ok(())
     }
 
-    // Keeps the games that are over now, and drops them where that is asked. What went wrong though the work went on comes beside
-    // the counts.
-    fn look(&mut self) -> Result<(Counts, Result<()>)> {
-        let alloc = self.rt.alloc();
-        let server = self.keeping.server;
-        let mut link = Link::open(self.rt, server).context(format_args!("the server at {server}"))?;
-        let list = link.list()?;
-        let rows = rows_of(alloc, list.as_str())?;
-        let over = games_over(alloc, rows.as_slice())?;
-        if self.has_looked && over.is_empty() {
-            return Ok((NOTHING, Ok(())));
+    // Opens the archive, with the players and the log as they are now; none where no game is over, and it was opened before.
+    fn open(&mut self, rows: &[Row<'_>]) -> Result<Option<Opened>> {
+        if self.has_looked && !rows.iter().any(|row| row.is_over) {
+            return Ok(None);
         }
         // (behind the list, so that they are all there who played its games)
         self.players.renew()?;
-        let (archive, lines) = archive_of(self.rt, self.keeping.archive)?;
+        let opened = open_archive(self.rt, self.keeping.archive)?;
         self.has_looked = true;
-        self.read_log(&archive, rows.as_slice())?;
+        self.read_log(&opened.archive, rows)?;
+        Ok(Some(opened))
+    }
+
+    // Keeps the games of a list that are over, and drops them where that is asked.
+    fn keep_games(
+        &self,
+        link: Link,
+        opened: Opened,
+        rows: &[Row<'_>],
+    ) -> Result<(Counts, Result<()>)> {
+        let alloc = self.rt.alloc();
+        let over = games_over(alloc, rows)?;
         // (a first half before its second one, which is linked with it)
         let over = in_order(alloc, self.log.records(), over.as_slice())?;
         let mut keeper = Keeper {
             rt: self.rt,
             keeping: self.keeping,
             link,
-            archive,
-            lines,
+            archive: opened.archive,
+            lines: opened.lines,
             kept: Vec::new(alloc),
             known: Knowledge {
                 players: self.players.known(),
                 heading: self.keeping.heading,
                 records: self.log.records(),
             },
-            rows: rows.as_slice(),
+            rows,
             drops: self.keeping.drops,
             done: Done::nothing(alloc),
             counts: NOTHING,
             fault: None,
         };
-        look(&mut keeper, alloc, over.as_slice())?;
-        Ok(keeper.end())
+        let done = look(&mut keeper, alloc, over.as_slice());
+        keeper.end(done)
+    }
+
+    // Keeps the games that are over now, and drops them where that is asked. What went wrong though the work went on comes beside
+    // the counts.
+    fn look(&mut self) -> Result<(Counts, Result<()>)> {
+        let server = self.keeping.server;
+        let mut link = Link::open(self.rt, server).context(format_args!("the server at {server}"))?;
+        let list = link.list()?;
+        let rows = rows_of(self.rt.alloc(), list.as_str())?;
+        match self.open(rows.as_slice())? {
+            Some(opened) => self.keep_games(link, opened, rows.as_slice()),
+            None => Ok((NOTHING, Ok(()))),
+        }
     }
 
     // Looks once, and tells of it where games were kept or dropped, or where that is all.
@@ -107,6 +141,20 @@ where
             tell_counts(self.rt, counts)?;
         }
         done
+    }
+
+    // Looks once, or again and again until it is killed.
+    fn go_on(&mut self) -> Result<()> {
+        let Some(every) = self.keeping.every else {
+            return self.look_and_tell(true);
+        };
+        let mut telling = Telling::new(self.rt, "all is well again");
+        for _ in 0..u64::MAX {
+            let done = self.look_and_tell(false);
+            telling.tell(done)?;
+            thread::sleep(self.rt, Duration::from_secs(u64::from(every)));
+        }
+        Ok(())
     }
 }
 
@@ -131,14 +179,5 @@ where
         log: LogReader::new(rt.alloc(), keeping.log),
         has_looked: false,
     };
-    let Some(every) = keeping.every else {
-        return looking.look_and_tell(true);
-    };
-    let mut telling = Telling::new(rt, "all is well again");
-    for _ in 0..u64::MAX {
-        let done = looking.look_and_tell(false);
-        telling.tell(done)?;
-        thread::sleep(rt, Duration::from_secs(u64::from(every)));
-    }
-    Ok(())
+    looking.go_on()
 }

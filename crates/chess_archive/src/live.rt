@@ -87,57 +87,93 @@ fn text_of(alloc: Global, table: &[Board], archived: &[Board]) -> Result<Vec<u8>
     Ok(text)
 }
 
+// The length of a file; 0 where it is not there.
+fn length_of<R: Files>(rt: &R, path: &str) -> Result<u64> {
+    if !fs::exists(rt, path)? {
+        return Ok(0);
+    }
+    let found = fs::metadata(rt, path).context(format_args!("reading {path}"))?;
+    Ok(found.len())
+}
+
 impl<R> Writer<'_, R>
 where
     R: Files<File = File> + Net<Stream = TcpStream> + AllocGlobal + Print + Eprint + Clock,
 {
-    // The games of the server's table that are played or over, but those that were kept.
-    fn push_table(&mut self, boards: &mut Vec<Board>) -> Result<()> {
-        let alloc = self.rt.alloc();
+    // The connection that there was, or a new one.
+    fn linked(&mut self) -> Result<Link> {
         let server = self.living.server;
-        let mut link = match self.link.take() {
-            Some(link) => link,
-            None => Link::open(self.rt, server).context(format_args!("the server at {server}"))?,
-        };
-        let list = link.list()?;
-        let rows = rows_of(alloc, list.as_str())?;
-        // (behind the list, so that they are all there who play its games)
-        self.players.renew()?;
-        self.log.read_on(self.rt, rows.as_slice())?;
+        match self.link.take() {
+            Some(link) => Ok(link),
+            None => Link::open(self.rt, server).context(format_args!("the server at {server}")),
+        }
+    }
+
+    // Those games of the server's list that are played or over, but those that were kept.
+    fn push_rows(&self, boards: &mut Vec<Board>, link: &mut Link, rows: &[Row<'_>]) -> Result<()> {
         let known = Knowledge {
             players: self.players.known(),
             heading: self.living.heading,
             records: self.log.records(),
         };
-        for row in rows.as_slice() {
+        for row in rows {
             if is_played(*row)
                 && !is_kept(*row, self.archived.as_slice())
-                && let Some(pgn) = pgn_of(alloc, &mut link, &known, *row)?
+                && let Some(pgn) = pgn_of(self.rt.alloc(), link, &known, *row)?
             {
                 let game = row.game;
                 boards.push(Board { game, pgn })?;
             }
         }
+        Ok(())
+    }
+
+    // The same of the list as it is now, with the players and the log as they are behind it.
+    fn push_list(&mut self, boards: &mut Vec<Board>, link: &mut Link) -> Result<()> {
+        let list = link.list()?;
+        let rows = rows_of(self.rt.alloc(), list.as_str())?;
+        // (behind the list, so that they are all there who play its games)
+        self.players.renew()?;
+        self.log.read_on(self.rt, rows.as_slice())?;
+        self.push_rows(boards, link, rows.as_slice())
+    }
+
+    // The games of the server's table that are played or over, but those that were kept.
+    fn push_table(&mut self, boards: &mut Vec<Board>) -> Result<()> {
+        let mut link = self.linked()?;
+        self.push_list(boards, &mut link)?;
         self.link = Some(link);
         Ok(())
     }
 
-    // The games of the archive that are written: those of this night alone where its date is given.
+    // Whether a game of the archive with this PGN is written: each one, or those of this night alone where its date is given.
+    fn is_here(&self, pgn: &[u8]) -> Result<bool> {
+        match self.living.date {
+            Some(date) => is_of_date(self.rt.alloc(), pgn, date),
+            None => Ok(true),
+        }
+    }
+
+    // Puts the game of a line of the archive behind others, where it is written.
+    fn push_line(&self, boards: &mut Vec<Board>, line: &str) -> Result<()> {
+        let alloc = self.rt.alloc();
+        let Some(game) = game_of(alloc, line)? else {
+            return Ok(());
+        };
+        let pgn = pgn_in(alloc, line)?;
+        if self.is_here(pgn.as_slice())? {
+            boards.push(Board { game, pgn })?;
+        }
+        Ok(())
+    }
+
+    // The games of the archive that are written.
     fn boards_of(&self, text: &str) -> Result<Vec<Board>> {
         let alloc = self.rt.alloc();
+        let lines = parts(alloc, text, '\n')?;
         let mut boards = Vec::new(alloc);
-        for line in parts(alloc, text, '\n')?.as_slice() {
-            let Some(game) = game_of(alloc, line)? else {
-                continue;
-            };
-            let pgn = pgn_in(alloc, line)?;
-            let is_here = match self.living.date {
-                Some(date) => is_of_date(alloc, pgn.as_slice(), date)?,
-                None => true,
-            };
-            if is_here {
-                boards.push(Board { game, pgn })?;
-            }
+        for line in lines.as_slice() {
+            self.push_line(&mut boards, line)?;
         }
         Ok(boards)
     }
@@ -147,13 +183,7 @@ where
         let Some(path) = self.living.archive else {
             return Ok(());
         };
-        let length = if fs::exists(self.rt, path)? {
-            fs::metadata(self.rt, path)
-                .context(format_args!("reading {path}"))?
-                .len()
-        } else {
-            0
-        };
+        let length = length_of(self.rt, path)?;
         if length == self.archive_length {
             return Ok(());
         }
@@ -172,18 +202,37 @@ where
         Ok(())
     }
 
-    // Writes the file where it has changed.
-    fn write(&mut self) -> Result<()> {
+    // What the file is to have.
+    fn text(&mut self) -> Result<Vec<u8>> {
         let alloc = self.rt.alloc();
-        let mut boards = Vec::new(alloc);
         self.read_archive()?;
+        let mut boards = Vec::new(alloc);
         self.push_table(&mut boards)?;
         // (once more, as a game may have been kept and dropped meanwhile)
         self.read_archive()?;
-        let text = text_of(alloc, boards.as_slice(), self.archived.as_slice())?;
+        text_of(alloc, boards.as_slice(), self.archived.as_slice())
+    }
+
+    // Writes the file where it has changed.
+    fn write(&mut self) -> Result<()> {
+        let text = self.text()?;
         if self.written.as_ref() != Some(&text) {
             self.put(text.as_slice())?;
             self.written = Some(text);
+        }
+        Ok(())
+    }
+
+    // Writes once, or again and again until it is killed.
+    fn go_on(&mut self) -> Result<()> {
+        let Some(every) = self.living.every else {
+            return self.write();
+        };
+        let mut telling = Telling::new(self.rt, "the file is written again");
+        for _ in 0..u64::MAX {
+            let done = self.write();
+            telling.tell(done)?;
+            thread::sleep(self.rt, Duration::from_secs(u64::from(every)));
         }
         Ok(())
     }
@@ -205,14 +254,5 @@ where
         archive_length: 0,
         written: fs::read(rt, living.file).ok(),
     };
-    let Some(every) = living.every else {
-        return writer.write();
-    };
-    let mut telling = Telling::new(rt, "the file is written again");
-    for _ in 0..u64::MAX {
-        let done = writer.write();
-        telling.tell(done)?;
-        thread::sleep(rt, Duration::from_secs(u64::from(every)));
-    }
-    Ok(())
+    writer.go_on()
 }

@@ -3,24 +3,15 @@
 
 mod asking;
 mod command_line;
-mod compared;
-mod continued;
-mod database;
 mod export;
-mod figures;
-mod halves;
 mod hold;
 mod keeper;
 mod keeping;
-mod kept;
 mod live;
 mod log_reader;
 mod players;
 mod rows;
-mod spreadsheet;
-mod tags;
 mod telling;
-mod watched;
 
 use command_line::{Word, command, read_words};
 use command_words::{NotDone, end_of, words_given};
@@ -37,15 +28,15 @@ fn main(rt: HostRuntime) -> ExitCode {
 fn do_words(rt: &HostRuntime) -> Result<(), NotDone> {
     let words = words_given(rt, &mut command(rt.alloc())?)?;
     let word = read_words(rt.alloc(), words.as_slice())?;
-    do_word(rt, word)?;
+    do_word(rt, &word)?;
     Ok(())
 }
 
 // Does what a word asks for.
-fn do_word(rt: &HostRuntime, word: Word<'_>) -> anyhow::Result<()> {
+fn do_word(rt: &HostRuntime, word: &Word<'_>) -> anyhow::Result<()> {
     match word {
-        Word::Keep(keeping) => keep(rt, &keeping),
-        Word::Export(exporting) => export(rt, &exporting),
-        Word::Live(living) => live(rt, &living),
+        Word::Keep(keeping) => keep(rt, keeping),
+        Word::Export(exporting) => export(rt, exporting),
+        Word::Live(living) => live(rt, living),
     }
 }

@@ -83,6 +83,28 @@ fn put_answers(text: &mut String, alloc: Global, counts: &Counts) -> Result<(), 
     Ok(())
 }
 
+// Counts how often each game is there.
+fn count(counts: &mut BTreeMap<u32, u64>, games: &[u32]) -> Result<(), AllocError> {
+    for game in games {
+        let before = counts.get(game).copied().unwrap_or(0);
+        counts.insert(*game, before.saturating_add(1))?;
+    }
+    Ok(())
+}
+
+// The rows of games that are watched.
+fn put_watched(
+    text: &mut String,
+    alloc: Global,
+    counts: &BTreeMap<u32, u64>,
+) -> Result<(), AllocError> {
+    for (game, count) in counts.iter() {
+        let game = format!(in alloc; "{game}")?;
+        put_labelled(text, alloc, "watchers", "game", game.as_str(), *count)?;
+    }
+    Ok(())
+}
+
 // Which games are watched, by how many connections each.
 fn put_watchers(text: &mut String, alloc: Global, games: &[u32]) -> Result<(), AllocError> {
     put_head(
@@ -92,16 +114,9 @@ fn put_watchers(text: &mut String, alloc: Global, games: &[u32]) -> Result<(), A
         "gauge",
         "Connections that watch a game, for each game that is watched.",
     )?;
-    let mut counts: BTreeMap<u32, u64> = BTreeMap::new(alloc);
-    for game in games {
-        let before = counts.get(game).copied().unwrap_or(0);
-        counts.insert(*game, before.saturating_add(1))?;
-    }
-    for (game, count) in counts.iter() {
-        let game = format!(in alloc; "{game}")?;
-        put_labelled(text, alloc, "watchers", "game", game.as_str(), *count)?;
-    }
-    Ok(())
+    let mut counts = BTreeMap::new(alloc);
+    count(&mut counts, games)?;
+    put_watched(text, alloc, &counts)
 }
 
 // How long answers took.
@@ -116,23 +131,29 @@ fn put_times(text: &mut String, alloc: Global, counts: &Counts) -> Result<(), Al
     )?;
     for (bound, number) in BOUNDS.iter().zip(counts.within.iter()) {
         let bound = seconds(alloc, *bound)?;
-        put_labelled(
-            text,
-            alloc,
-            "answer_seconds_bucket",
-            "le",
-            bound.as_str(),
-            *number,
-        )?;
+        put_bucket(text, alloc, bound.as_str(), *number)?;
     }
-    put_labelled(
-        text,
-        alloc,
-        "answer_seconds_bucket",
-        "le",
-        "+Inf",
-        counts.timed,
-    )?;
+    put_bucket(text, alloc, "+Inf", counts.timed)?;
+    put_sum(text, alloc, name, counts)
+}
+
+// How many answers took no longer.
+fn put_bucket(
+    text: &mut String,
+    alloc: Global,
+    bound: &str,
+    number: u64,
+) -> Result<(), AllocError> {
+    put_labelled(text, alloc, "answer_seconds_bucket", "le", bound, number)
+}
+
+// How long they took together, and how many there were.
+fn put_sum(
+    text: &mut String,
+    alloc: Global,
+    name: &str,
+    counts: &Counts,
+) -> Result<(), AllocError> {
     let sum = seconds(alloc, counts.time)?;
     let count = counts.timed;
     let lines = format!(in alloc;
@@ -141,8 +162,8 @@ fn put_times(text: &mut String, alloc: Global, counts: &Counts) -> Result<(), Al
     text.push_str(lines.as_str())
 }
 
-// What the lobby counts, at a moment.
-fn put_counts(text: &mut String, alloc: Global, lobby: &Lobby, at: u64) -> Result<(), AllocError> {
+// How long the lobby is there.
+fn put_up(text: &mut String, alloc: Global, at: u64) -> Result<(), AllocError> {
     put_head(
         text,
         alloc,
@@ -152,12 +173,24 @@ fn put_counts(text: &mut String, alloc: Global, lobby: &Lobby, at: u64) -> Resul
     )?;
     let up = seconds(alloc, at)?;
     let line = format!(in alloc; "chess_lobby_up_seconds {up}\n")?;
-    text.push_str(line.as_str())?;
+    text.push_str(line.as_str())
+}
+
+// What the lobby counts, at a moment.
+fn put_counts(text: &mut String, alloc: Global, lobby: &Lobby, at: u64) -> Result<(), AllocError> {
+    put_up(text, alloc, at)?;
     put_connections(text, alloc, lobby)?;
     let games = lobby.watched_games()?;
     put_watchers(text, alloc, games.as_slice())?;
     put_answers(text, alloc, lobby.counts())?;
     put_times(text, alloc, lobby.counts())
+}
+
+// A text as the file that is served.
+fn file_of(alloc: Global, text: String) -> Result<File, AllocError> {
+    let bytes = Bytes::from_vec(text.into_bytes())?;
+    let path = PATH.to_vec(alloc)?;
+    File::new(alloc, path, Kind::Figures, bytes)
 }
 
 /// The text that is served, and from when on another is made.
@@ -178,17 +211,21 @@ impl<'a, R: Files<File = OpenFile> + AllocGlobal + Eprint> Health<'a, R> {
         })
     }
 
+    // The text, at a moment.
+    fn text(&mut self, lobby: &Lobby, at: u64) -> Result<String, AllocError> {
+        let mut text = String::new(self.alloc);
+        put_counts(&mut text, self.alloc, lobby, at)?;
+        self.journals.put(&mut text)?;
+        Ok(text)
+    }
+
     /// The text is made anew, where the one that is served is older than a second.
     pub fn look(&mut self, lobby: &mut Lobby, at: u64) -> Result<(), AllocError> {
         if at < self.next_at {
             return Ok(());
         }
         self.next_at = at.saturating_add(REST);
-        let mut text = String::new(self.alloc);
-        put_counts(&mut text, self.alloc, lobby, at)?;
-        self.journals.put(&mut text)?;
-        let path = PATH.to_vec(self.alloc)?;
-        let bytes = Bytes::from_vec(text.into_bytes())?;
-        lobby.put_file(File::new(self.alloc, path, Kind::Figures, bytes)?)
+        let text = self.text(lobby, at)?;
+        lobby.put_file(file_of(self.alloc, text)?)
     }
 }

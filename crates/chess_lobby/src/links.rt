@@ -6,7 +6,7 @@ ghost use Rattle.lobby_desk.specs.Players.{IsRelinked};
 use anyhow::Result;
 use lobby_desk::{Linked, Order, Player};
 use lobby_loop::Links;
-use lobby_players::{new_token, relinked};
+use lobby_players::{ChangedFile, new_token, relinked};
 use players_file::Hold;
 use std::fs::File;
 use std::random::RandomSource;
@@ -31,16 +31,23 @@ impl<'a, R: Files<File = File> + AllocGlobal + RandomSource> FileLinks<'a, R> {
         }
     }
 
+    // The player has the sum of a new token in the file, which is held.
+    fn put(&self, order: &Order) -> Result<ChangedFile>
+        ensures { IfOk result (λ new. IsRelinked order.now.name (string_bytes new.linked.token) new.before.items new.linked.players.items) }
+    {
+        let text = players_file::read(self.rt, self.file)?;
+        let token = new_token(self.rt)?;
+        let new = relinked(self.rt.alloc(), text.as_slice(), &order.name, &token)?;
+        players_file::put(self.rt, self.rt.alloc(), self.file, new.text.as_str())?;
+        Ok(new)
+    }
+
     // The player has the sum of a new token in the file. Where the link is closed nobody is told that token.
     fn changed(&mut self, order: &Order) -> Result<Linked>
         ensures { IfOk result (λ linked. IsRelinked order.now.name (string_bytes linked.token) self.new.found.items linked.players.items) }
     {
-        let alloc = self.rt.alloc();
         let _hold = Hold::at_once(self.rt, self.file)?;
-        let text = players_file::read(self.rt, self.file)?;
-        let token = new_token(self.rt)?;
-        let new = relinked(alloc, text.as_slice(), &order.name, &token)?;
-        players_file::put(self.rt, alloc, self.file, new.text.as_str())?;
+        let new = self.put(order)?;
         self.found = new.before;
         Ok(new.linked)
     }

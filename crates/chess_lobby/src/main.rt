@@ -27,15 +27,15 @@ fn main(rt: HostRuntime) -> ExitCode {
 fn do_words(rt: &HostRuntime) -> Result<(), NotDone> {
     let words = words_given(rt, &mut command(rt.alloc())?)?;
     let word = read_words(rt.alloc(), words.as_slice())?;
-    do_word(rt, word)?;
+    do_word(rt, &word)?;
     Ok(())
 }
 
 // Does what a word asks for.
-fn do_word(rt: &HostRuntime, word: Word<'_>) -> anyhow::Result<()> {
+fn do_word(rt: &HostRuntime, word: &Word<'_>) -> anyhow::Result<()> {
     match word {
-        Word::Serve(serving) => serve(rt, &serving),
-        Word::Player(adding) => add_player(rt, &adding),
-        Word::Evidence(asked) => evidence(rt, &asked),
+        Word::Serve(serving) => serve(rt, serving),
+        Word::Player(adding) => add_player(rt, adding),
+        Word::Evidence(asked) => evidence(rt, asked),
     }
 }

@@ -3,8 +3,8 @@ use anyhow::{Context, Result};
 use bytes::Bytes;
 use lobby_web::{File, Kind, Site};
 use std::alloc::Global;
-use std::fs;
-use std::net::{IpAddr, SocketAddr};
+use std::fs::{self, DirEntry};
+use std::net::SocketAddr;
 use std::rt::Files;
 
 // The path that a request names a file by: `/` for `index.html`.
@@ -14,19 +14,34 @@ fn path_of(alloc: Global, name: &str) -> Result<Vec<u8>> {
     Ok(path.into_bytes())
 }
 
-// The files of a folder that are of the page, by the endings of their names.
-fn files_of<R: Files + AllocGlobal + Clone + Drop>(rt: &R, folder: &str) -> Result<Vec<File>> {
-    let mut files = Vec::new(rt.alloc());
+// A file of a folder, where its name has the ending of one that is of the page.
+fn file_of<R: Files + AllocGlobal>(
+    rt: &R,
+    folder: &str,
+    entry: &DirEntry<R>,
+) -> Result<Option<File>> {
+    let Some(kind) = Kind::of(entry.file_name().as_bytes()) else {
+        return Ok(None);
+    };
+    let bytes = fs::read(rt, entry.path()).context(format_args!("reading {folder}"))?;
+    let bytes = Bytes::from_vec(bytes)?;
+    let path = path_of(rt.alloc(), entry.file_name())?;
+    Ok(Some(File::new(rt.alloc(), path, kind, bytes)?))
+}
+
+// Puts those files of a folder behind others that are of the page, by the endings of their names.
+fn push_files<R>(files: &mut Vec<File>, rt: &R, folder: &str) -> Result<()>
+where
+    R: Files + AllocGlobal + Clone + Drop,
+{
     let entries = fs::read_dir(rt, folder).context(format_args!("reading the folder {folder}"))?;
     for entry in entries {
         let entry = entry.context(format_args!("reading the folder {folder}"))?;
-        if let Some(kind) = Kind::of(entry.file_name().as_bytes()) {
-            let bytes = fs::read(rt, entry.path()).context(format_args!("reading {folder}"))?;
-            let path = path_of(rt.alloc(), entry.file_name())?;
-            files.push(File::new(rt.alloc(), path, kind, Bytes::from_vec(bytes)?)?)?;
+        if let Some(file) = file_of(rt, folder, &entry)? {
+            files.push(file)?;
         }
     }
-    Ok(files)
+    Ok(())
 }
 
 // A host with its port.
@@ -36,20 +51,31 @@ fn push_host(hosts: &mut Vec<Vec<u8>>, alloc: Global, host: &str, port: u16) -> 
     Ok(())
 }
 
-// The hosts that are taken.
-fn hosts_of(alloc: Global, address: SocketAddr, names: &[&str]) -> Result<Vec<Vec<u8>>> {
-    let mut hosts = Vec::new(alloc);
+// Puts the hosts that are taken behind others.
+fn push_hosts(
+    hosts: &mut Vec<Vec<u8>>,
+    alloc: Global,
+    address: SocketAddr,
+    names: &[&str],
+) -> Result<()> {
     let port = address.port();
     let shown = format!(in alloc; "{address}")?;
     hosts.push(shown.into_bytes())?;
-    push_host(&mut hosts, alloc, "127.0.0.1", port)?;
-    push_host(&mut hosts, alloc, "localhost", port)?;
+    push_host(hosts, alloc, "127.0.0.1", port)?;
+    push_host(hosts, alloc, "localhost", port)?;
     for name in names {
-        push_host(&mut hosts, alloc, name, port)?;
+        push_host(hosts, alloc, name, port)?;
         let name = String::from_str(alloc, name)?;
         hosts.push(name.into_bytes())?;
     }
-    Ok(hosts)
+    Ok(())
+}
+
+// Whether one of the files is the page.
+fn has_page(files: &[File]) -> bool {
+    files
+        .iter()
+        .any(|file| file.path.as_slice() == b"/".as_slice())
 }
 
 /// The site of a folder's files, which is listened for on an address. It fails where the folder has no page.
@@ -59,21 +85,13 @@ pub fn site_of<R: Files + AllocGlobal + Clone + Drop>(
     address: SocketAddr,
     names: &[&str],
 ) -> Result<Site> {
-    let files = files_of(rt, folder)?;
+    let mut hosts = Vec::new(rt.alloc());
+    let mut files = Vec::new(rt.alloc());
+    push_files(&mut files, rt, folder)?;
     anyhow::ensure!(
-        files
-            .iter()
-            .any(|file| file.path.as_slice() == b"/".as_slice()),
+        has_page(files.as_slice()),
         "there is no index.html in {folder}"
     );
-    let hosts = hosts_of(rt.alloc(), address, names)?;
+    push_hosts(&mut hosts, rt.alloc(), address, names)?;
     Ok(Site::new(hosts, files))
-}
-
-/// Whether only this machine reaches an address.
-pub fn is_loopback(address: SocketAddr) -> bool {
-    match address.ip() {
-        IpAddr::V4(ip) => ip.is_loopback(),
-        IpAddr::V6(ip) => ip.is_loopback(),
-    }
 }

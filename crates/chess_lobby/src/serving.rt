@@ -3,10 +3,11 @@ use crate::health::Health;
 use crate::links::FileLinks;
 use crate::live::Live;
 use crate::log::FileLog;
-use crate::page::{is_loopback, site_of};
+use crate::page::site_of;
 use crate::players::Players;
 use anyhow::{Context, Result};
 use lobby_commands::Serving;
+use lobby_desk::Player;
 use lobby_loop::{ActLog, Entrance, Lobby, NoActLog};
 use monotonic_clock::Moments;
 use std::fs::File;
@@ -52,6 +53,55 @@ impl<R: Eprint> Telling<'_, R> {
     }
 }
 
+// What is looked at and told beside the turns.
+#[derive(Drop)]
+struct Beside<'a, R> {
+    rt: &'a R,
+    telling: Telling<'a, R>,
+    health: Health<'a, R>,
+    live: Option<Live<'a>>,
+    links: FileLinks<'a, R>,
+}
+
+impl<'a, R> Beside<'a, R>
+where
+    R: Files<File = File> + AllocGlobal + Clone + Drop + Clock + Eprint + Net + RandomSource,
+{
+    // Nothing was looked at or told.
+    fn new(rt: &'a R, serving: &'a Serving<'a>) -> Result<Self> {
+        let health = Health::new(rt, serving.journals.as_slice())?;
+        Ok(Beside {
+            rt,
+            telling: Telling {
+                rt,
+                server: serving.server,
+                is_here: false,
+                turned_away: 0,
+                next_at: 0,
+            },
+            health,
+            live: match serving.live {
+                Some(file) => Some(Live::new(file)),
+                None => None,
+            },
+            links: FileLinks::new(rt, serving.players),
+        })
+    }
+
+    // Takes a turn of the lobby.
+    fn turn<L: ActLog>(&mut self, lobby: &mut Lobby, log: &mut L, at: u64) -> Result<()> {
+        self.health.look(lobby, at)?;
+        if let Some(live) = &mut self.live {
+            live.look(self.rt, lobby, at)?;
+        }
+        let turned = lobby.turn(self.rt, at, log, &mut self.links)?;
+        self.telling.tell_server(lobby.has_server());
+        self.telling.tell_turned_away(lobby.turned_away(), at);
+        lobby.rest(turned)?;
+        Ok(())
+    }
+}
+
 // Takes turns until something is at fault.
 fn take_turns<R, L: ActLog>(
     rt: &R,
@@ -64,32 +114,67 @@ where
     R: Files<File = File> + AllocGlobal + Clone + Drop + Clock + Eprint + Net + RandomSource,
 {
     let mut moments = Moments::new(rt)?;
-    let mut telling = Telling {
-        rt,
-        server: serving.server,
-        is_here: false,
-        turned_away: 0,
-        next_at: 0,
-    };
-    let mut health = Health::new(rt, serving.journals.as_slice())?;
-    let mut live = match serving.live {
-        Some(file) => Some(Live::new(file)),
-        None => None,
-    };
-    let mut links = FileLinks::new(rt, serving.players);
+    let mut beside = Beside::new(rt, serving)?;
     for _ in 0..u64::MAX {
         let at = moments.next();
         players.look(lobby, at);
-        health.look(lobby, at)?;
-        if let Some(live) = &mut live {
-            live.look(rt, lobby, at)?;
-        }
-        let turned = lobby.turn(rt, at, log, &mut links)?;
-        telling.tell_server(lobby.has_server());
-        telling.tell_turned_away(lobby.turned_away(), at);
-        lobby.rest(turned)?;
+        beside.turn(lobby, log, at)?;
     }
     Ok(())
+}
+
+// Prints the page's address.
+fn tell_address<R: Print + Eprint>(rt: &R, address: SocketAddr) -> Result<()> {
+    println!(rt; "http://{address}/")?;
+    if !address.ip().is_loopback() {
+        eprintln!(rt; "the line is not encrypted: whoever is on the way reads along, links too")?;
+    }
+    Ok(())
+}
+
+// The lobby of those who come in there.
+fn lobby_of<R>(
+    rt: &R,
+    serving: &Serving<'_>,
+    entrance: Entrance,
+    address: SocketAddr,
+    known: Vec<Player>,
+) -> Result<Lobby>
+where
+    R: Files<File = File> + AllocGlobal + Clone + Drop + Net + RandomSource,
+{
+    let site = site_of(rt, serving.page, address, serving.hosts.as_slice())?;
+    let keys = RandomState::new(rt)?;
+    Ok(Lobby::new(rt, rt.alloc(), keys, entrance, serving.server, site, known)?)
+}
+
+// Serves browsers, with a log of acts.
+fn serve_with<R, L: ActLog>(
+    rt: &R,
+    serving: &Serving<'_>,
+    players: &mut Players<'_, R>,
+    known: Vec<Player>,
+    log: &mut L,
+) -> Result<()>
+where
+    R: Files<File = File>
+        + AllocGlobal
+        + Clone
+        + Drop
+        + Clock
+        + Print
+        + Eprint
+        + Net
+        + RandomSource,
+{
+    let entrance = Entrance::open(rt, serving.address).context(format_args!(
+        "listening on {}",
+        serving.address
+    ))?;
+    let address = entrance.address()?;
+    let mut lobby = lobby_of(rt, serving, entrance, address, known)?;
+    tell_address(rt, address)?;
+    take_turns(rt, serving, players, &mut lobby, log)
 }
 
 /// Serves browsers, and first prints the page's address.
@@ -107,24 +192,9 @@ where
 {
     let mut players = Players::new(rt, serving.players);
     let known = players.read()?;
-    let mut log = match serving.log {
-        Some(file) => Some(FileLog::open(rt, file).context(format_args!("opening {file}"))?),
-        None => None,
+    let Some(file) = serving.log else {
+        return serve_with(rt, serving, &mut players, known, &mut NoActLog);
     };
-    let entrance = Entrance::open(rt, serving.address).context(format_args!(
-        "listening on {}",
-        serving.address
-    ))?;
-    let address = entrance.address()?;
-    let site = site_of(rt, serving.page, address, serving.hosts.as_slice())?;
-    let keys = RandomState::new(rt)?;
-    let mut lobby = Lobby::new(rt, rt.alloc(), keys, entrance, serving.server, site, known)?;
-    println!(rt; "http://{address}/")?;
-    if !is_loopback(address) {
-        eprintln!(rt; "the line is not encrypted: whoever is on the way reads along, links too")?;
-    }
-    match &mut log {
-        Some(log) => take_turns(rt, serving, &mut players, &mut lobby, log),
-        None => take_turns(rt, serving, &mut players, &mut lobby, &mut NoActLog),
-    }
+    let mut log = FileLog::open(rt, file).context(format_args!("opening {file}"))?;
+    serve_with(rt, serving, &mut players, known, &mut log)
 }

@@ -10,15 +10,20 @@ pub struct Kept {
     pub pgn: String,
 }
 
+// The game of a line.
+fn kept_of(alloc: Global, line: &str) -> Result<Kept> {
+    let Some(game) = game_of(alloc, line)? else {
+        bail!("a line is no game's");
+    };
+    let pgn = String::from_utf8(pgn_of(alloc, line)?)?;
+    Ok(Kept { game, pgn })
+}
+
 /// The games of an archive's lines, in their order.
 pub fn kept_in(alloc: Global, lines: &[&str]) -> Result<Vec<Kept>> {
     let mut games = Vec::new(alloc);
     for line in lines {
-        let Some(game) = game_of(alloc, line)? else {
-            bail!("a line is no game's");
-        };
-        let pgn = String::from_utf8(pgn_of(alloc, line)?)?;
-        games.push(Kept { game, pgn })?;
+        games.push(kept_of(alloc, line)?)?;
     }
     Ok(games)
 }

@@ -71,6 +71,16 @@ fn request_of(alloc: Global, client: &mut Client, lobby: SocketAddr) -> Result<V
 }
 
 impl Coming {
+    // Nothing came.
+    fn new(alloc: Global) -> Coming {
+        Coming {
+            client: Client::new(Limits::default()),
+            input: Vec::new(alloc),
+            status: 0,
+            body: Vec::new(alloc),
+        }
+    }
+
     // Takes the next part of what came.
     fn take(&mut self, spans: &mut [HeaderSpan]) -> Result<Next> {
         let progress = self.client.read(self.input.as_slice(), spans)?;
@@ -139,28 +149,31 @@ fn read_answer<R: Clock>(rt: &R, stream: &mut TcpStream, coming: &mut Coming) ->
     Ok(())
 }
 
+// Asks a lobby for its figures, and reads its answer.
+fn ask<R>(rt: &R, lobby: SocketAddr, coming: &mut Coming) -> Result<()>
+where
+    R: Net<Stream = TcpStream> + AllocGlobal + Clock,
+{
+    let patience = Duration::from_secs(PATIENCE);
+    let mut stream = TcpStream::connect_timeout(rt, &lobby, patience).map_err(told)?;
+    stream.set_write_timeout(Some(patience))?;
+    let request = request_of(rt.alloc(), &mut coming.client, lobby)?;
+    stream.write_all(request.as_slice()).map_err(told)?;
+    read_answer(rt, &mut stream, coming)?;
+    let status = coming.status;
+    if status != 200 {
+        bail!("it answers with status {status}");
+    }
+    Ok(())
+}
+
 // The figures of a lobby.
 fn figures_of<R>(rt: &R, lobby: SocketAddr) -> Result<String>
 where
     R: Net<Stream = TcpStream> + AllocGlobal + Clock,
 {
-    let alloc = rt.alloc();
-    let patience = Duration::from_secs(PATIENCE);
-    let mut stream = TcpStream::connect_timeout(rt, &lobby, patience).map_err(told)?;
-    stream.set_write_timeout(Some(patience))?;
-    let mut coming = Coming {
-        client: Client::new(Limits::default()),
-        input: Vec::new(alloc),
-        status: 0,
-        body: Vec::new(alloc),
-    };
-    let request = request_of(alloc, &mut coming.client, lobby)?;
-    stream.write_all(request.as_slice()).map_err(told)?;
-    read_answer(rt, &mut stream, &mut coming)?;
-    let status = coming.status;
-    if status != 200 {
-        bail!("it answers with status {status}");
-    }
+    let mut coming = Coming::new(rt.alloc());
+    ask(rt, lobby, &mut coming)?;
     Ok(String::from_utf8(coming.body)?)
 }
 

@@ -1,7 +1,7 @@
 //! Games that go on in others, and what is told of them.
 use crate::kept::Kept;
-use crate::tags::{value_of, with_tag};
 use anyhow::Result;
+use pgn_tags::{value_of, with_tag};
 use std::alloc::{AllocError, Global};
 
 /// A game that goes on in another.

@@ -2,8 +2,8 @@
 use crate::continued::{Halves, continued_in, halves_of, pgn_continued};
 use crate::kept::Kept;
 use crate::spreadsheet::{TAGS, plies_of};
-use crate::tags::value_of;
 use anyhow::Result;
+use pgn_tags::value_of;
 use sqlite_file::{Database, Value};
 use std::alloc::{AllocError, Global};
 
@@ -33,11 +33,15 @@ fn tags_of(alloc: Global, pgn: &str) -> Result<Vec<Option<String>>, AllocError> 
 
 // What is told of a PGN.
 fn row_of(alloc: Global, pgn: &str) -> Result<Row, AllocError> {
+    let plies = plies_of(alloc, pgn)?;
+    let continues = continued_in(alloc, pgn)?;
+    let fen = value_of(alloc, pgn, "FEN")?;
+    let tags = tags_of(alloc, pgn)?;
     Ok(Row {
-        tags: tags_of(alloc, pgn)?,
-        plies: plies_of(alloc, pgn)?,
-        fen: value_of(alloc, pgn, "FEN")?,
-        continues: continued_in(alloc, pgn)?,
+        tags,
+        plies,
+        fen,
+        continues,
     })
 }
 
@@ -57,9 +61,12 @@ fn number<'a>(value: Option<u32>) -> Value<'a> {
     }
 }
 
-// The columns of a row, in their order; the first is the row's own number.
-fn columns_of<'a>(alloc: Global, row: &'a Row, pgn: &'a str) -> Result<Vec<Value<'a>>, AllocError> {
-    let mut columns = Vec::new(alloc);
+// Puts the columns of a row behind others, in their order; the first is the row's own number.
+fn push_columns<'a>(
+    columns: &mut Vec<Value<'a>>,
+    row: &'a Row,
+    pgn: &'a str,
+) -> Result<(), AllocError> {
     columns.push(Value::Null)?;
     for tag in row.tags.as_slice() {
         columns.push(text(tag))?;
@@ -68,20 +75,24 @@ fn columns_of<'a>(alloc: Global, row: &'a Row, pgn: &'a str) -> Result<Vec<Value
     columns.push(text(&row.fen))?;
     columns.push(number(row.continues))?;
     columns.push(Value::Text(pgn))?;
-    Ok(columns)
+    Ok(())
+}
+
+// Puts a row with this PGN behind the others.
+fn put_row(database: &mut Database, alloc: Global, game: u32, row: &Row, pgn: &str) -> Result<()> {
+    let mut columns = Vec::new(alloc);
+    push_columns(&mut columns, row, pgn)?;
+    database.put(game, columns.as_slice())?;
+    Ok(())
 }
 
 // Puts the row of a game behind the others.
 fn put_game(database: &mut Database, alloc: Global, kept: &Kept, halves: &[Halves]) -> Result<()> {
-    let told = pgn_continued(alloc, kept, halves)?;
-    let pgn = match &told {
-        Some(pgn) => pgn.as_str(),
-        None => kept.pgn.as_str(),
-    };
     let row = row_of(alloc, kept.pgn.as_str())?;
-    let columns = columns_of(alloc, &row, pgn)?;
-    database.put(kept.game, columns.as_slice())?;
-    Ok(())
+    match pgn_continued(alloc, kept, halves)? {
+        Some(pgn) => put_row(database, alloc, kept.game, &row, pgn.as_str()),
+        None => put_row(database, alloc, kept.game, &row, kept.pgn.as_str()),
+    }
 }
 
 // Games by their numbers, as the rows of a table stand.
@@ -94,14 +105,21 @@ fn by_number(alloc: Global, games: &[Kept]) -> Result<Vec<&Kept>, AllocError> {
     Ok(ordered)
 }
 
+// Puts the row of each game, by their numbers.
+fn put_games(database: &mut Database, alloc: Global, games: &[Kept]) -> Result<()> {
+    let halves = halves_of(alloc, games)?;
+    let ordered = by_number(alloc, games)?;
+    for kept in ordered.as_slice() {
+        put_game(database, alloc, kept, halves.as_slice())?;
+    }
+    Ok(())
+}
+
 /// A database with the table `games`, which has a row for each of these games, of which no two have the same number: what
 /// `rows_of_games` has, where the PGN has it, the game that it continues, and its PGN.
 pub fn database_of_games(alloc: Global, games: &[Kept]) -> Result<Database> {
-    let halves = halves_of(alloc, games)?;
     let mut database = Database::new(alloc);
-    for kept in by_number(alloc, games)?.as_slice() {
-        put_game(&mut database, alloc, kept, halves.as_slice())?;
-    }
+    put_games(&mut database, alloc, games)?;
     database.end_table("games", TABLE)?;
     Ok(database)
 }

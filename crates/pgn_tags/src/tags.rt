@@ -2,8 +2,8 @@
 use std::alloc::{AllocError, Global};
 use text_parts::parts;
 
-// The value of a tag without its escapes: a backslash stands before each quote and each backslash (PGN Standard, section 7).
-fn unescaped(alloc: Global, value: &str) -> Result<String, AllocError> {
+/// The value of a tag without its escapes: a backslash stands before each quote and each backslash (PGN Standard, section 7).
+pub fn unescaped(alloc: Global, value: &str) -> Result<String, AllocError> {
     let mut text = String::new(alloc);
     let mut is_escaped = false;
     for character in value.chars() {

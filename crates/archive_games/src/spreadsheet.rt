@@ -1,9 +1,9 @@
 //! The games of an archive as CSV (RFC 4180), for a club's spreadsheet and database.
 use crate::compared::telling_parts;
 use crate::kept::Kept;
-use crate::tags::value_of;
 use anyhow::{Result, anyhow, bail};
 use csv::{Terminator, Writer, WriterBuilder};
+use pgn_tags::value_of;
 use std::alloc::{AllocError, Global};
 
 // The names of the columns.
@@ -62,17 +62,38 @@ fn field_of(alloc: Global, pgn: &str, tag: &str) -> Result<String, AllocError> {
     }
 }
 
-// The fields of a game.
-fn fields_of(alloc: Global, game: u32, pgn: &str) -> Result<Vec<String>, AllocError> {
+// Puts the fields of a game behind others.
+fn push_fields(
+    fields: &mut Vec<String>,
+    alloc: Global,
+    game: u32,
+    pgn: &str,
+) -> Result<(), AllocError> {
     let plies = plies_of(alloc, pgn)?;
-    let mut fields = Vec::new(alloc);
     fields.push(format!(in alloc; "{game}")?)?;
     for tag in &TAGS {
         fields.push(field_of(alloc, pgn, tag)?)?;
     }
     fields.push(format!(in alloc; "{plies}")?)?;
     fields.push(field_of(alloc, pgn, "FEN")?)?;
-    Ok(fields)
+    Ok(())
+}
+
+// Puts the row of a game behind the others.
+fn put_game(rows: &mut Writer<Vec<u8>>, alloc: Global, kept: &Kept) -> Result<()> {
+    let mut fields = Vec::new(alloc);
+    push_fields(&mut fields, alloc, kept.game, kept.pgn.as_str())?;
+    put(rows, alloc, fields.as_slice())
+}
+
+// Puts the names of the columns and the row of each game.
+fn put_games(rows: &mut Writer<Vec<u8>>, alloc: Global, games: &[Kept]) -> Result<()> {
+    let names = names_of_columns(alloc)?;
+    put(rows, alloc, names.as_slice())?;
+    for kept in games {
+        put_game(rows, alloc, kept)?;
+    }
+    Ok(())
 }
 
 /// A line for each of these games, in their order, behind one with the names of the columns: the game's number, the values of its
@@ -81,11 +102,7 @@ pub fn rows_of_games(alloc: Global, games: &[Kept]) -> Result<Vec<u8>> {
     let mut rows = WriterBuilder::new()
         .terminator(Terminator::CRLF)
         .from_writer(Vec::new(alloc));
-    put(&mut rows, alloc, names_of_columns(alloc)?.as_slice())?;
-    for kept in games {
-        let fields = fields_of(alloc, kept.game, kept.pgn.as_str())?;
-        put(&mut rows, alloc, fields.as_slice())?;
-    }
+    put_games(&mut rows, alloc, games)?;
     match rows.into_inner() {
         Ok(text) => Ok(text),
         Err(_) => bail!("memory was refused"),

@@ -1,0 +1,7 @@
+//! Which games the browsers of a lobby watch, asked of the lobby.
+#![tactic(auto)]
+
+mod figures;
+mod watched;
+
+pub use figures::watched_games;

@@ -1,0 +1,6 @@
+//! The tags of a game's PGN.
+#![tactic(auto)]
+
+mod tags;
+
+pub use tags::{unescaped, value_of, with_tag};
