@@ -15,12 +15,13 @@ use std::net::{Net, SocketAddr, TcpStream};
 use std::rt::Files;
 use text_parts::parts;
 
-/// What came of a game: the result as PGN has it, the article by which it ended, and how many moves were made.
+/// What came of a game: the result as PGN has it, the article by which it ended, and whether both sides made a move in it, or it
+/// was played on from a position.
 #[derive(Drop)]
 pub struct Ended {
     pub result: String,
     pub article: String,
-    pub plies: u32,
+    pub is_played: bool,
 }
 
 // What was found of a board's game: what came of it, that it is of others, or why it is not known; else nothing.
@@ -41,11 +42,12 @@ impl Found {
     }
 }
 
-// A game of the archive, with its line.
+// A game of the archive, with its line, and the adjourned game that it goes on in.
 #[derive(Drop)]
 struct ArchivedGame {
     game: u32,
     line: String,
+    continues: Option<u32>,
 }
 
 /// Where it is looked for what came of games.
@@ -59,6 +61,8 @@ pub struct Outcomes<'a> {
     words: Vec<String>,
     // Whether a board's game is of others.
     has_others: bool,
+    // Whether a board's game was played on as another.
+    has_halves: bool,
 }
 
 // Whether a word of a PGN is a move: it begins with a letter.
@@ -89,13 +93,16 @@ fn moves_in(alloc: Global, line: &str) -> Result<u32, AllocError> {
     Ok(moves_among(words.as_slice()))
 }
 
-// What the tags of a PGN tell, who played and what came of it, and how many moves it has.
+// What the tags of a PGN tell, who played, from which position, what came of it and which game it goes on in, and how many moves
+// it has.
 #[derive(Clone, Copy)]
 struct PgnTags<'a> {
     white: &'a str,
     black: &'a str,
+    fen: &'a str,
     result: &'a str,
     article: &'a str,
+    continues: &'a str,
     plies: u32,
 }
 
@@ -105,8 +112,10 @@ impl<'a> PgnTags<'a> {
         PgnTags {
             white: tag_value(line, "[White \"").unwrap_or(self.white),
             black: tag_value(line, "[Black \"").unwrap_or(self.black),
+            fen: tag_value(line, "[FEN \"").unwrap_or(self.fen),
             result: tag_value(line, "[Result \"").unwrap_or(self.result),
             article: tag_value(line, "[Article \"").unwrap_or(self.article),
+            continues: tag_value(line, "[Continues \"").unwrap_or(self.continues),
             plies: self.plies.saturating_add(moves),
         }
     }
@@ -115,7 +124,7 @@ impl<'a> PgnTags<'a> {
         Ok(Ended {
             result: String::from_str(alloc, self.result)?,
             article: String::from_str(alloc, self.article)?,
-            plies: self.plies,
+            is_played: self.plies >= 2 || !self.fen.is_empty(),
         })
     }
 }
@@ -125,8 +134,10 @@ fn tags_among<'a>(alloc: Global, lines: &[&'a str]) -> Result<PgnTags<'a>, Alloc
     let mut tags = PgnTags {
         white: "",
         black: "",
+        fen: "",
         result: "*",
         article: "",
+        continues: "",
         plies: 0,
     };
     for line in lines {
@@ -141,13 +152,28 @@ fn tags_in(alloc: Global, pgn: &str) -> Result<PgnTags<'_>, AllocError> {
     tags_among(alloc, lines.as_slice())
 }
 
+// The adjourned game that the game of an archive's line goes on in.
+fn continued_in(alloc: Global, line: &str) -> Result<Option<u32>, AllocError> {
+    let pgn = pgn_of(alloc, line)?;
+    let Ok(pgn) = String::from_utf8(pgn) else {
+        return Ok(None);
+    };
+    let tags = tags_in(alloc, pgn.as_str())?;
+    Ok(tags.continues.parse::<u32>().ok())
+}
+
 // Puts the game of a line, where it tells one.
 fn put_game(games: &mut Vec<ArchivedGame>, alloc: Global, line: &str) -> Result<(), AllocError> {
     let Some(game) = game_of(alloc, line)? else {
         return Ok(());
     };
+    let continues = continued_in(alloc, line)?;
     let line = String::from_str(alloc, line)?;
-    games.push(ArchivedGame { game, line })?;
+    games.push(ArchivedGame {
+        game,
+        line,
+        continues,
+    })?;
     Ok(())
 }
 
@@ -257,7 +283,7 @@ fn ended_of(alloc: Global, shown: Shown) -> Ended {
     Ended {
         result: shown.result,
         article: article_of(alloc, shown.article),
-        plies: shown.plies,
+        is_played: shown.plies >= 2,
     }
 }
 
@@ -289,6 +315,7 @@ impl<'a> Outcomes<'a> {
             players,
             words: Vec::new(rt.alloc()),
             has_others: false,
+            has_halves: false,
         })
     }
 
@@ -447,8 +474,31 @@ impl<'a> Outcomes<'a> {
         }
     }
 
-    /// What came of the game of a board, in the round of this file; none where that is not known. Of a game that goes on or
-    /// is not known there is a word to be told.
+    // The last game of the archive that goes on in a game.
+    fn continued_by(&self, game: u32) -> Option<u32> {
+        let mut later = None;
+        for archived in self.archived.as_slice() {
+            if archived.continues == Some(game) {
+                later = Some(archived.game);
+            }
+        }
+        later
+    }
+
+    // Has it told later that a board's game was played on as another, which the board's notes do not name.
+    fn put_half(&mut self, file: &str, board: u32, game: u32) -> Result<(), AllocError> {
+        let Some(later) = self.continued_by(game) else {
+            return Ok(());
+        };
+        self.has_halves = true;
+        let why = format!(in self.alloc;
+            "game {game} was played on as game {later}: give start with --take {board}={later}"
+        )?;
+        self.put_word(file, board, why.as_str())
+    }
+
+    /// What came of the game of a board, in the round of this file; none where that is not known. Of a game that goes on, is
+    /// not known or was played on as another there is a word to be told.
     pub fn of(
         &mut self,
         file: &str,
@@ -457,6 +507,9 @@ impl<'a> Outcomes<'a> {
     ) -> Result<Option<Ended>> {
         let found = self.found_at(pairing, game)?;
         self.put_why(file, pairing.board, &found)?;
+        if let Some(game) = game {
+            self.put_half(file, pairing.board, game)?;
+        }
         Ok(found.ended())
     }
 
@@ -468,8 +521,12 @@ impl<'a> Outcomes<'a> {
         Ok(())
     }
 
-    /// Fails where a board's game is of others than its players: it may have ended, though nothing came of it.
+    /// Fails where a board's game is of others than its players, since it may have ended though nothing came of it, or was
+    /// played on as another.
     pub fn check(&self) -> Result<()> {
+        if self.has_halves {
+            bail!("a board has the result of a game that was adjourned and played on");
+        }
         if self.has_others {
             bail!(
                 "a game of other names counts for no board: where a full name was changed since, change it in the archive too"

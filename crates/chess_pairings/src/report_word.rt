@@ -42,10 +42,11 @@ fn score_of(ended: &Option<Ended>) -> Score {
     }
 }
 
-// How a game ended. One in which not both sides made a move is not rated; by the clock it is lost by who did not come.
+// How a game ended. One in which not both sides made a move, and none before it, is not rated; by the clock it is lost by who did
+// not come.
 fn play_of(ended: &Option<Ended>) -> Play {
     match ended {
-        Some(ended) if ended.plies < 2 => {
+        Some(ended) if !ended.is_played => {
             if ended.article.as_str() == "6.9" {
                 Play::Forfeit
             } else {
