@@ -5,7 +5,6 @@ mod outcomes;
 mod report_word;
 mod results_word;
 mod start_word;
-mod tags;
 
 use clap::Error;
 use command_words::{NotDone, end_of, words_given};

@@ -1,11 +1,11 @@
 //! What came of games: in the archive, and on the table.
-use crate::tags::{tag_value, unescaped};
 use anyhow::{Context, Result, bail};
 use archive_file::{game_of, pgn_of};
 use archive_lines::lines_of;
 use lobby_desk::Player;
 use pairing_commands::Source;
 use pairing_texts::{Pairing, Seats};
+use pgn_tags::{unescaped, value_in};
 use players_file::full_name;
 use rec_codec::Name;
 use round_games::{Shown, connect, show_game};
@@ -110,12 +110,12 @@ impl<'a> PgnTags<'a> {
     // The same with what a line tells, in which so many moves stand.
     fn with_line(self, line: &'a str, moves: u32) -> PgnTags<'a> {
         PgnTags {
-            white: tag_value(line, "[White \"").unwrap_or(self.white),
-            black: tag_value(line, "[Black \"").unwrap_or(self.black),
-            fen: tag_value(line, "[FEN \"").unwrap_or(self.fen),
-            result: tag_value(line, "[Result \"").unwrap_or(self.result),
-            article: tag_value(line, "[Article \"").unwrap_or(self.article),
-            continues: tag_value(line, "[Continues \"").unwrap_or(self.continues),
+            white: value_in(line, "White").unwrap_or(self.white),
+            black: value_in(line, "Black").unwrap_or(self.black),
+            fen: value_in(line, "FEN").unwrap_or(self.fen),
+            result: value_in(line, "Result").unwrap_or(self.result),
+            article: value_in(line, "Article").unwrap_or(self.article),
+            continues: value_in(line, "Continues").unwrap_or(self.continues),
             plies: self.plies.saturating_add(moves),
         }
     }

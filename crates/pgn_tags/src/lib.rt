@@ -3,4 +3,4 @@
 
 mod tags;
 
-pub use tags::{unescaped, value_of, with_tag};
+pub use tags::{unescaped, value_in, value_of, with_tag};

@@ -15,8 +15,8 @@ pub fn unescaped(alloc: Global, value: &str) -> Result<String, AllocError> {
     Ok(text)
 }
 
-// What a line has as the value of this tag, with its escapes; none where it is another's.
-fn value_in<'a>(line: &'a str, tag: &str) -> Option<&'a str> {
+/// What a line has as the value of this tag, with its escapes; none where it is another's.
+pub fn value_in<'a>(line: &'a str, tag: &str) -> Option<&'a str> {
     let rest = line.strip_prefix('[')?.strip_prefix(tag)?;
     rest.strip_prefix(" \"")?.strip_suffix("\"]")
 }
