@@ -7,8 +7,19 @@ use pgn_tags::value_of;
 use std::alloc::{AllocError, Global};
 
 // The names of the columns.
-const COLUMNS: [&str; 11] = [
-    "game", "event", "site", "date", "round", "white", "black", "result", "article", "plies", "fen",
+const COLUMNS: [&str; 12] = [
+    "game",
+    "event",
+    "site",
+    "date",
+    "round",
+    "white",
+    "black",
+    "result",
+    "article",
+    "plies",
+    "fen",
+    "continues",
 ];
 
 /// The tags whose values stand behind the game's number.
@@ -76,6 +87,7 @@ fn push_fields(
     }
     fields.push(format!(in alloc; "{plies}")?)?;
     fields.push(field_of(alloc, pgn, "FEN")?)?;
+    fields.push(field_of(alloc, pgn, "Continues")?)?;
     Ok(())
 }
 
@@ -97,7 +109,8 @@ fn put_games(rows: &mut Writer<Vec<u8>>, alloc: Global, games: &[Kept]) -> Resul
 }
 
 /// A line for each of these games, in their order, behind one with the names of the columns: the game's number, the values of its
-/// tags, how many moves were made, and the position from which it began where that is not the initial one.
+/// tags, how many moves were made, the position from which it began where that is not the initial one, and the adjourned game that
+/// it goes on in.
 pub fn rows_of_games(alloc: Global, games: &[Kept]) -> Result<Vec<u8>> {
     let mut rows = WriterBuilder::new()
         .terminator(Terminator::CRLF)

@@ -264,6 +264,7 @@ fn export_command<'a>(alloc: Global) -> Result<Command<'a>, AllocError> {
         .about("Writes the games of an archive as PGN, CSV or a database")
         .after_help(HELP_OF_EXPORT);
     with_options(alloc, command, &EXPORT)?
+        .arg(flag(alloc, "pgn", "Writes the PGN of each game, as without it"))?
         .arg(flag(alloc, "csv", "Writes a row a game as CSV, and no PGN"))?
         .arg(flag(
             alloc,
@@ -291,7 +292,7 @@ pub fn read_words<'a>(alloc: Global, words: &'a [String]) -> Result<Word<'a>, Er
         Some(word) => Ok(word),
         None => Err(command.error(
             ErrorKind::InvalidValue,
-            "an address is none, a tag's value has a control character, --lobby stands without --drop, or --csv beside --sqlite",
+            "an address is none, a tag's value has a control character, --lobby stands without --drop, or export has two forms",
         )?),
     }
 }
@@ -344,11 +345,12 @@ fn keeping_of<'a>(values: &ArgMatches<'a>) -> Option<Keeping<'a>> {
 
 // The form that is asked for; none where two are.
 fn form_of(values: &ArgMatches<'_>) -> Option<Form> {
-    match (values.get_flag("csv"), values.get_flag("sqlite")) {
-        (false, false) => Some(Form::Pgn),
-        (true, false) => Some(Form::Csv),
-        (false, true) => Some(Form::Sqlite),
-        (true, true) => None,
+    let forms = ["pgn", "csv", "sqlite"];
+    match forms.map(|form| values.get_flag(form)) {
+        [_, false, false] => Some(Form::Pgn),
+        [false, true, false] => Some(Form::Csv),
+        [false, false, true] => Some(Form::Sqlite),
+        _ => None,
     }
 }
 

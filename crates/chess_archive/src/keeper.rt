@@ -12,13 +12,13 @@ use anyhow::{Context, Result, anyhow, bail};
 use archive_file::Archive;
 use archive_games::{Kept, has_game, kept_in, push_ended};
 use lobby_archive::Night;
-use lobby_watchers::watched_games;
+use lobby_watchers::Watchers;
 use night_files::NamedFile;
 use pgn_tags::with_tag;
 use server_link::{Link, Row};
 use std::alloc::{AllocError, Global};
 use std::collections::BTreeSet;
-use std::net::{Net, SocketAddr, TcpStream};
+use std::net::{Net, TcpStream};
 use std::rt::Clock;
 use text_parts::parts;
 
@@ -52,6 +52,8 @@ pub struct Keeper<'a, R> {
     pub rows: &'a [Row<'a>],
     /// Whether games are dropped still.
     pub drops: bool,
+    /// What browsers watch, where a lobby is asked.
+    pub watchers: Option<Watchers>,
     pub done: Done,
     pub counts: Counts,
     /// What went wrong first, though the work went on.
@@ -74,7 +76,7 @@ pub struct Done {
     told: Option<u32>,
     /// Those of which the archive has the PGN that the table told last.
     matched: BTreeSet<u32>,
-    /// The one at which nobody looks, as the lobby answered right now.
+    /// The one at which nobody looks, as the lobby answered within the last second.
     unwatched: Option<u32>,
     /// Those that have another PGN in the archive, that somebody looks at, or for which a drop was sent.
     settled: BTreeSet<u32>,
@@ -154,12 +156,12 @@ fn is_kept_as(
 }
 
 // Whether nobody looks at a game, as the lobby answers, where one is asked.
-fn nobody_looks<R>(rt: &R, lobby: Option<SocketAddr>, game: u32) -> Result<bool>
+fn nobody_looks<R>(rt: &R, watchers: &mut Option<Watchers>, game: u32) -> Result<bool>
 where
     R: Net<Stream = TcpStream> + AllocGlobal + Clock,
 {
-    match lobby {
-        Some(lobby) => Ok(!watched_games(rt, lobby)?.contains(&game)),
+    match watchers {
+        Some(watchers) => Ok(!watchers.has(rt, game)?),
         None => Ok(true),
     }
 }
@@ -308,7 +310,7 @@ where
 
     fn is_left(&mut self, game: u32) -> Result<bool> {
         self.done.unwatched = None;
-        match nobody_looks(self.rt, self.keeping.lobby, game) {
+        match nobody_looks(self.rt, &mut self.watchers, game) {
             Ok(is_left) => {
                 set_among(&mut self.done.settled, game, !is_left)?;
                 self.done.unwatched = left_game(game, is_left);

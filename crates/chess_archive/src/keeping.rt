@@ -12,6 +12,7 @@ use anyhow::{Context, Result};
 use archive_file::Archive;
 use archive_lines::{end_last_line, lines_of};
 use lobby_archive::look;
+use lobby_watchers::Watchers;
 use night_files::NamedFile;
 use server_link::{Link, Row};
 use std::fs::{self, File};
@@ -113,6 +114,7 @@ where
             },
             rows,
             drops: self.keeping.drops,
+            watchers: self.keeping.lobby.map(Watchers::new),
             done: Done::nothing(alloc),
             counts: NOTHING,
             fault: None,

@@ -179,7 +179,7 @@ where
 
 /// The games that browsers of a lobby watch. It fails where the lobby cannot be asked, does not tell this, or began so lately
 /// that browsers may not be back.
-pub fn watched_games<R>(rt: &R, lobby: SocketAddr) -> Result<Vec<u32>>
+pub(crate) fn watched_games<R>(rt: &R, lobby: SocketAddr) -> Result<Vec<u32>>
 where
     R: Net<Stream = TcpStream> + AllocGlobal + Clock,
 {

@@ -3,5 +3,6 @@
 
 mod figures;
 mod watched;
+mod watchers;
 
-pub use figures::watched_games;
+pub use watchers::Watchers;
