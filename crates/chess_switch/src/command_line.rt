@@ -80,8 +80,25 @@ pub fn command<'a>(alloc: Global) -> Result<Command<'a>, AllocError> {
 /// Reads the words, the program's own name first. An `Err` is a usage fault, or a request for help.
 pub fn read_words(alloc: Global, words: &[String]) -> Result<Serving, Error> {
     let mut command = command(alloc)?;
+    read_by(alloc, &mut command, words)
+}
+
+// (One function owns the command line, and one what was read by it: each call that may fail would drop both.)
+fn read_by<'a>(
+    alloc: Global,
+    command: &mut Command<'a>,
+    words: &'a [String],
+) -> Result<Serving, Error> {
     let matches = command.try_get_matches_from_mut(words)?;
-    match serving_of(alloc, &matches)? {
+    serving_or_fault(alloc, command, &matches)
+}
+
+fn serving_or_fault(
+    alloc: Global,
+    command: &mut Command<'_>,
+    matches: &ArgMatches<'_>,
+) -> Result<Serving, Error> {
+    match serving_of(alloc, matches)? {
         Some(serving) => Ok(serving),
         None => Err(command.error(
             ErrorKind::InvalidValue,
@@ -95,14 +112,16 @@ fn serving_of(alloc: Global, matches: &ArgMatches<'_>) -> Result<Option<Serving>
     let (Some(address), Some(port)) = (address_of(matches), matches.get_one("port")) else {
         return Ok(None);
     };
-    let mut servers = Vec::new(alloc);
-    if !put_servers(&mut servers, matches.get_strs("server").unwrap_or(&[]))? {
-        return Ok(None);
-    }
-    Ok(Some(Serving {
-        servers,
+    let mut serving = Serving {
+        servers: Vec::new(alloc),
         address: SocketAddr::new(address, port),
-    }))
+    };
+    let servers = matches.get_strs("server").unwrap_or(&[]);
+    if put_servers(&mut serving.servers, servers)? {
+        Ok(Some(serving))
+    } else {
+        Ok(None)
+    }
 }
 
 // The number and the address of a server, which is the next one where no number is said.

@@ -73,14 +73,22 @@ where
     Ok(())
 }
 
-/// Serves clients, and first prints the port.
-pub fn serve<R>(rt: &R, serving: &Serving) -> Result<()>
+// (What owns the hall leaves once, and so drops it once.)
+fn serve_hall<R>(rt: &R, serving: &Serving, hall: &mut Hall<'_>) -> Result<()>
 where
     R: AllocGlobal + Clock + Print + Eprint + Net,
 {
     let servers = serving.servers.as_slice();
     let mut told = Vec::from_elem(rt.alloc(), None, servers.len())?;
-    let mut hall = Hall::open(rt, rt.alloc(), serving.address, servers)?;
-    tell_port(rt, &hall, serving.address)?;
-    take_turns(rt, &mut hall, servers, told.as_mut_slice())
+    tell_port(rt, hall, serving.address)?;
+    take_turns(rt, hall, servers, told.as_mut_slice())
+}
+
+/// Serves clients, and first prints the port.
+pub fn serve<R>(rt: &R, serving: &Serving) -> Result<()>
+where
+    R: AllocGlobal + Clock + Print + Eprint + Net,
+{
+    let mut hall = Hall::open(rt, rt.alloc(), serving.address, serving.servers.as_slice())?;
+    serve_hall(rt, serving, &mut hall)
 }
