@@ -1,14 +1,14 @@
 //! What came of games: in the archive, and on the table.
-use crate::command_line::Source;
-use crate::table::{Shown, connect, show_game};
 use crate::tags::{tag_value, unescaped};
 use anyhow::{Context, Result, bail};
 use archive_file::{game_of, pgn_of};
 use archive_lines::lines_of;
 use lobby_desk::Player;
-use pairing_texts::Pairing;
+use pairing_commands::Source;
+use pairing_texts::{Pairing, Seats};
 use players_file::full_name;
 use rec_codec::Name;
+use round_games::{Shown, connect, show_game};
 use server_link::Link;
 use std::alloc::{AllocError, Global};
 use std::net::{Net, SocketAddr, TcpStream};
@@ -41,18 +41,18 @@ impl Found {
     }
 }
 
-/// The line of a game in the archive.
+// A game of the archive, with its line.
 #[derive(Drop)]
-struct Line {
+struct ArchivedGame {
     game: u32,
-    text: String,
+    line: String,
 }
 
 /// Where it is looked for what came of games.
 #[derive(Drop)]
 pub struct Outcomes<'a> {
     alloc: Global,
-    lines: Vec<Line>,
+    archived: Vec<ArchivedGame>,
     link: Option<Link>,
     players: &'a [Player],
     // What is to be told of boards.
@@ -89,9 +89,9 @@ fn moves_in(alloc: Global, line: &str) -> Result<u32, AllocError> {
     Ok(moves_among(words.as_slice()))
 }
 
-// What a PGN tells: who played, and what came of it.
+// What the tags of a PGN tell, who played and what came of it, and how many moves it has.
 #[derive(Clone, Copy)]
-struct Told<'a> {
+struct PgnTags<'a> {
     white: &'a str,
     black: &'a str,
     result: &'a str,
@@ -99,10 +99,10 @@ struct Told<'a> {
     plies: u32,
 }
 
-impl<'a> Told<'a> {
+impl<'a> PgnTags<'a> {
     // The same with what a line tells, in which so many moves stand.
-    fn with_line(self, line: &'a str, moves: u32) -> Told<'a> {
-        Told {
+    fn with_line(self, line: &'a str, moves: u32) -> PgnTags<'a> {
+        PgnTags {
             white: tag_value(line, "[White \"").unwrap_or(self.white),
             black: tag_value(line, "[Black \"").unwrap_or(self.black),
             result: tag_value(line, "[Result \"").unwrap_or(self.result),
@@ -121,8 +121,8 @@ impl<'a> Told<'a> {
 }
 
 // What the lines of a PGN tell; `*` where they do not tell the result.
-fn told_by<'a>(alloc: Global, lines: &[&'a str]) -> Result<Told<'a>, AllocError> {
-    let mut told = Told {
+fn tags_among<'a>(alloc: Global, lines: &[&'a str]) -> Result<PgnTags<'a>, AllocError> {
+    let mut tags = PgnTags {
         white: "",
         black: "",
         result: "*",
@@ -130,52 +130,53 @@ fn told_by<'a>(alloc: Global, lines: &[&'a str]) -> Result<Told<'a>, AllocError>
         plies: 0,
     };
     for line in lines {
-        told = told.with_line(line, moves_in(alloc, line)?);
+        tags = tags.with_line(line, moves_in(alloc, line)?);
     }
-    Ok(told)
+    Ok(tags)
 }
 
 // What a PGN tells.
-fn told_in(alloc: Global, pgn: &str) -> Result<Told<'_>, AllocError> {
+fn tags_in(alloc: Global, pgn: &str) -> Result<PgnTags<'_>, AllocError> {
     let lines = parts(alloc, pgn, '\n')?;
-    told_by(alloc, lines.as_slice())
+    tags_among(alloc, lines.as_slice())
 }
 
-// The line of a game; none where it tells none.
-fn line_in(alloc: Global, line: &str) -> Result<Option<Line>, AllocError> {
-    match game_of(alloc, line)? {
-        Some(game) => Ok(Some(Line {
-            game,
-            text: String::from_str(alloc, line)?,
-        })),
-        None => Ok(None),
-    }
+// Puts the game of a line, where it tells one.
+fn put_game(games: &mut Vec<ArchivedGame>, alloc: Global, line: &str) -> Result<(), AllocError> {
+    let Some(game) = game_of(alloc, line)? else {
+        return Ok(());
+    };
+    let line = String::from_str(alloc, line)?;
+    games.push(ArchivedGame { game, line })?;
+    Ok(())
 }
 
-fn put_lines(lines: &mut Vec<Line>, alloc: Global, texts: &[&str]) -> Result<(), AllocError> {
-    for text in texts {
-        if let Some(line) = line_in(alloc, text)? {
-            lines.push(line)?;
-        }
+fn put_games(
+    games: &mut Vec<ArchivedGame>,
+    alloc: Global,
+    lines: &[&str],
+) -> Result<(), AllocError> {
+    for line in lines {
+        put_game(games, alloc, line)?;
     }
     Ok(())
 }
 
-// The lines of an archive's text, each with its game.
-fn lines_in(alloc: Global, text: &str) -> Result<Vec<Line>, AllocError> {
-    let texts = parts(alloc, text, '\n')?;
-    let mut lines = Vec::new(alloc);
-    put_lines(&mut lines, alloc, texts.as_slice())?;
-    Ok(lines)
+// The games of an archive's text.
+fn games_in(alloc: Global, text: &str) -> Result<Vec<ArchivedGame>, AllocError> {
+    let lines = parts(alloc, text, '\n')?;
+    let mut games = Vec::new(alloc);
+    put_games(&mut games, alloc, lines.as_slice())?;
+    Ok(games)
 }
 
-// The lines of an archive, where one is named.
-fn archive_of<R: Files + AllocGlobal>(rt: &R, file: Option<&str>) -> Result<Vec<Line>> {
+// The games of an archive, where one is named.
+fn archive_of<R: Files + AllocGlobal>(rt: &R, file: Option<&str>) -> Result<Vec<ArchivedGame>> {
     let Some(file) = file else {
         return Ok(Vec::new(rt.alloc()));
     };
     let text = lines_of(rt, file)?;
-    Ok(lines_in(rt.alloc(), text.as_str())?)
+    Ok(games_in(rt.alloc(), text.as_str())?)
 }
 
 // The connection to the server, where one is named.
@@ -228,6 +229,38 @@ fn article_of(alloc: Global, article: String) -> String {
     }
 }
 
+// Why nothing came of a game of the table; none where it is of the board's players.
+fn others_on_table(
+    alloc: Global,
+    white: &Name,
+    black: &Name,
+    game: u32,
+    seats: Seats,
+) -> Result<Option<String>, AllocError> {
+    if seats.white == Some(*white) && seats.black == Some(*black) {
+        return Ok(None);
+    }
+    let found = Sides {
+        white: seat_text(&seats.white),
+        black: seat_text(&seats.black),
+    };
+    let wanted = Sides {
+        white: white.as_str(),
+        black: black.as_str(),
+    };
+    let why = others_text(alloc, game, "on the table", found, wanted)?;
+    Ok(Some(why))
+}
+
+// What came of a game of the table.
+fn ended_of(alloc: Global, shown: Shown) -> Ended {
+    Ended {
+        result: shown.result,
+        article: article_of(alloc, shown.article),
+        plies: shown.plies,
+    }
+}
+
 // What was found of a game of the table.
 fn found_by(
     alloc: Global,
@@ -236,24 +269,10 @@ fn found_by(
     game: u32,
     shown: Shown,
 ) -> Result<Found, AllocError> {
-    let seats = shown.seats;
-    if seats.white != Some(*white) || seats.black != Some(*black) {
-        let found = Sides {
-            white: seat_text(&seats.white),
-            black: seat_text(&seats.black),
-        };
-        let wanted = Sides {
-            white: white.as_str(),
-            black: black.as_str(),
-        };
-        let why = others_text(alloc, game, "on the table", found, wanted)?;
-        return Ok(Found::Others(why));
+    match others_on_table(alloc, white, black, game, shown.seats)? {
+        Some(why) => Ok(Found::Others(why)),
+        None => Ok(Found::Ended(ended_of(alloc, shown))),
     }
-    Ok(Found::Ended(Ended {
-        result: shown.result,
-        article: article_of(alloc, shown.article),
-        plies: shown.plies,
-    }))
 }
 
 impl<'a> Outcomes<'a> {
@@ -265,7 +284,7 @@ impl<'a> Outcomes<'a> {
     {
         Ok(Outcomes {
             alloc: rt.alloc(),
-            lines: archive_of(rt, source.archive)?,
+            archived: archive_of(rt, source.archive)?,
             link: link_of(rt, source.server)?,
             players,
             words: Vec::new(rt.alloc()),
@@ -296,13 +315,29 @@ impl<'a> Outcomes<'a> {
 
     // The PGN that the archive has under a game's number.
     fn pgn(&self, game: u32) -> Result<Option<String>> {
-        for line in self.lines.as_slice() {
-            if line.game == game {
-                let pgn = pgn_of(self.alloc, line.text.as_str())?;
+        for archived in self.archived.as_slice() {
+            if archived.game == game {
+                let pgn = pgn_of(self.alloc, archived.line.as_str())?;
                 return Ok(Some(String::from_utf8(pgn).context(format_args!("game {game}"))?));
             }
         }
         Ok(None)
+    }
+
+    // What a game's PGN tells of a board's game, which names its players so.
+    fn found_by_tags(
+        &self,
+        white: &Name,
+        black: &Name,
+        game: u32,
+        tags: PgnTags<'_>,
+        sides: Sides<'_>,
+    ) -> Result<Found, AllocError> {
+        if self.is_named(sides.white, white) && self.is_named(sides.black, black) {
+            return Ok(Found::Ended(tags.ended(self.alloc)?));
+        }
+        let why = self.others_in_archive(game, sides, white, black)?;
+        Ok(Found::Others(why))
     }
 
     // What a game's PGN tells of a board's game.
@@ -313,18 +348,14 @@ impl<'a> Outcomes<'a> {
         game: u32,
         pgn: &str,
     ) -> Result<Found, AllocError> {
-        let told = told_in(self.alloc, pgn)?;
-        let first = unescaped(self.alloc, told.white)?;
-        let second = unescaped(self.alloc, told.black)?;
-        if self.is_named(first.as_str(), white) && self.is_named(second.as_str(), black) {
-            return Ok(Found::Ended(told.ended(self.alloc)?));
-        }
-        let found = Sides {
+        let tags = tags_in(self.alloc, pgn)?;
+        let first = unescaped(self.alloc, tags.white)?;
+        let second = unescaped(self.alloc, tags.black)?;
+        let sides = Sides {
             white: first.as_str(),
             black: second.as_str(),
         };
-        let why = self.others_in_archive(game, found, white, black)?;
-        Ok(Found::Others(why))
+        self.found_by_tags(white, black, game, tags, sides)
     }
 
     // What the archive tells of a board's game.
@@ -383,6 +414,17 @@ impl<'a> Outcomes<'a> {
         }
     }
 
+    // What is known of a board's game. Of a bye nothing is.
+    fn found_at(&mut self, pairing: &Pairing, game: Option<u32>) -> Result<Found> {
+        match (&pairing.game, game) {
+            (None, _) => Ok(Found::Nothing),
+            (Some(paired), Some(game)) => self.found(&pairing.white, &paired.black, game),
+            (Some(_), None) => {
+                Ok(Found::Unknown(String::from_str(self.alloc, "no game was opened for it")?))
+            }
+        }
+    }
+
     // Has it told later what is to be told of a board.
     fn put_word(&mut self, file: &str, board: u32, why: &str) -> Result<(), AllocError> {
         let word = format!(in self.alloc; "{file}, board {board}: {why}")?;
@@ -413,13 +455,7 @@ impl<'a> Outcomes<'a> {
         pairing: &Pairing,
         game: Option<u32>,
     ) -> Result<Option<Ended>> {
-        let Some(paired) = pairing.game else {
-            return Ok(None);
-        };
-        let found = match game {
-            Some(game) => self.found(&pairing.white, &paired.black, game)?,
-            None => { Found::Unknown(String::from_str(self.alloc, "no game was opened for it")?) }
-        };
+        let found = self.found_at(pairing, game)?;
         self.put_why(file, pairing.board, &found)?;
         Ok(found.ended())
     }

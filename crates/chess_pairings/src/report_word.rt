@@ -1,18 +1,18 @@
 //! The word that writes the report of a tournament.
-use crate::command_line::{Reporting, Round};
-use crate::files::{Paired, paired_of};
 use crate::outcomes::{Ended, Outcomes};
 use crate::results_word::game_of;
 use anyhow::{Context, Result};
 use lobby_desk::Player;
+use pairing_commands::{Reporting, Round};
 use pairing_texts::Pairing;
 use players_file::players_of;
 use rec_codec::Name;
+use round_games::{Paired, paired_of};
 use std::alloc::{AllocError, Global};
 use std::io::{self, Write};
 use std::net::{Net, TcpStream};
 use std::rt::Files;
-use trf_texts::{Meeting, Play, Score, report};
+use trf_texts::{Event, Meeting, Play, Score, report};
 
 // The starting number of a player: the place among those of the report.
 fn number_of(players: &[&Player], name: &Name) -> Result<u32> {
@@ -98,7 +98,7 @@ fn meetings_of<R: Files + AllocGlobal>(
     players: &[&Player],
     outcomes: &mut Outcomes<'_>,
 ) -> Result<Vec<Meeting>> {
-    let paired = paired_of(rt, round)?;
+    let paired = paired_of(rt, round.pairings, round.games)?;
     let mut meetings = Vec::new(rt.alloc());
     put_meetings(&mut meetings, round.pairings, &paired, players, outcomes)?;
     Ok(meetings)
@@ -129,9 +129,51 @@ fn rounds_of<R: Files + AllocGlobal>(
     for round in rounds {
         let file = round.pairings;
         let meetings = meetings_of(rt, *round, players, outcomes);
-        met.push(meetings.context(format_args!("{file}"))?)?;
+        met.push(meetings.context(file)?)?;
     }
     Ok(met)
+}
+
+// The meetings of each round; it is told what is to be told of boards.
+fn rounds_told<R>(
+    rt: &R,
+    reporting: &Reporting<'_>,
+    players: &[&Player],
+    outcomes: &mut Outcomes<'_>,
+) -> Result<Vec<Vec<Meeting>>>
+where
+    R: Files + AllocGlobal + Eprint,
+{
+    let rounds = rounds_of(rt, reporting.rounds.as_slice(), players, outcomes)?;
+    outcomes.tell(rt)?;
+    Ok(rounds)
+}
+
+// The same. It fails where a board's game is of others than its players.
+fn rounds_in<R>(
+    rt: &R,
+    reporting: &Reporting<'_>,
+    all: &[Player],
+    players: &[&Player],
+) -> Result<Vec<Vec<Meeting>>>
+where
+    R: Files + Net<Stream = TcpStream> + AllocGlobal + Eprint,
+{
+    let mut outcomes = Outcomes::open(rt, reporting.source, all)?;
+    let rounds = rounds_told(rt, reporting, players, &mut outcomes)?;
+    outcomes.check()?;
+    Ok(rounds)
+}
+
+// The text of a report of these rounds.
+fn text_of(
+    alloc: Global,
+    event: &Event<'_>,
+    players: &[&Player],
+    rounds: &[Vec<Meeting>],
+) -> Result<Vec<u8>> {
+    let names = names_of(alloc, players)?;
+    Ok(report(alloc, event, names.as_slice(), rounds)?)
 }
 
 // The text of a report; it is told what is to be told of boards.
@@ -140,22 +182,22 @@ where
     R: Files + Net<Stream = TcpStream> + AllocGlobal + Eprint,
 {
     let players = playing(rt.alloc(), all)?;
-    let mut outcomes = Outcomes::open(rt, reporting.source, all)?;
-    let rounds = rounds_of(
-        rt,
-        reporting.rounds.as_slice(),
-        players.as_slice(),
-        &mut outcomes,
-    )?;
-    outcomes.tell(rt)?;
-    outcomes.check()?;
-    let names = names_of(rt.alloc(), players.as_slice())?;
-    Ok(report(
+    let rounds = rounds_in(rt, reporting, all, players.as_slice())?;
+    text_of(
         rt.alloc(),
         &reporting.event,
-        names.as_slice(),
+        players.as_slice(),
         rounds.as_slice(),
-    )?)
+    )
+}
+
+// Writes the report of a tournament of these players.
+fn write_report_of<R>(rt: &R, reporting: &Reporting<'_>, all: &[Player]) -> Result<()>
+where
+    R: Files + Net<Stream = TcpStream> + AllocGlobal + Print + Eprint,
+{
+    let text = report_of(rt, reporting, all)?;
+    Ok(io::writer(rt).write_all(text.as_slice())?)
 }
 
 /// Writes the report of a tournament; none where a board's game is of others than its players, since it would lack points.
@@ -164,7 +206,5 @@ where
     R: Files + Net<Stream = TcpStream> + AllocGlobal + Print + Eprint,
 {
     let all = players_of(rt, reporting.players)?;
-    let text = report_of(rt, reporting, all.as_slice())?;
-    io::writer(rt).write_all(text.as_slice())?;
-    Ok(())
+    write_report_of(rt, reporting, all.as_slice())
 }

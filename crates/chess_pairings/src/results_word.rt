@@ -1,11 +1,11 @@
 //! The word that writes the results of a round.
-use crate::command_line::Asking;
-use crate::files::{Paired, paired_of};
 use crate::outcomes::{Ended, Outcomes};
 use anyhow::Result;
 use lobby_desk::Player;
+use pairing_commands::Asking;
 use pairing_texts::{Note, Outcome, Pairing, game_in, last_of, results};
 use players_file::players_of;
+use round_games::{Paired, paired_of};
 use std::alloc::{AllocError, Global};
 use std::io::{self, Write};
 use std::net::{Net, TcpStream};
@@ -89,17 +89,44 @@ fn players_in<R: Files + AllocGlobal>(rt: &R, file: Option<&str>) -> Result<Vec<
     }
 }
 
-// The text of a round's results, and whether each game is of its board's players; it is told what is to be told of boards.
-fn results_of<R>(rt: &R, asking: &Asking<'_>, players: &[Player]) -> Result<(Vec<u8>, Result<()>)>
+// The text of a round's results, by what came of its games.
+fn results_of(
+    alloc: Global,
+    file: &str,
+    paired: &Paired,
+    outcomes: &mut Outcomes<'_>,
+) -> Result<Vec<u8>> {
+    let endings = endings(alloc, file, paired, outcomes)?;
+    Ok(text_of(alloc, paired, endings.as_slice())?)
+}
+
+// Writes the results of a round, and tells before what is to be told of boards.
+fn write_outcomes<R>(rt: &R, file: &str, paired: &Paired, outcomes: &mut Outcomes<'_>) -> Result<()>
 where
-    R: Files + Net<Stream = TcpStream> + AllocGlobal + Eprint,
+    R: AllocGlobal + Print + Eprint,
 {
-    let paired = paired_of(rt, asking.round)?;
-    let mut outcomes = Outcomes::open(rt, asking.source, players)?;
-    let endings = endings(rt.alloc(), asking.round.pairings, &paired, &mut outcomes)?;
-    let text = text_of(rt.alloc(), &paired, endings.as_slice())?;
+    let text = results_of(rt.alloc(), file, paired, outcomes)?;
     outcomes.tell(rt)?;
-    Ok((text, outcomes.check()))
+    Ok(io::writer(rt).write_all(text.as_slice())?)
+}
+
+// Writes the results of a round, for which these players are known.
+fn write_round<R>(rt: &R, asking: &Asking<'_>, players: &[Player], paired: &Paired) -> Result<()>
+where
+    R: Files + Net<Stream = TcpStream> + AllocGlobal + Print + Eprint,
+{
+    let mut outcomes = Outcomes::open(rt, asking.source, players)?;
+    write_outcomes(rt, asking.round.pairings, paired, &mut outcomes)?;
+    outcomes.check()
+}
+
+// The same, of which the files are still to be read.
+fn write_with<R>(rt: &R, asking: &Asking<'_>, players: &[Player]) -> Result<()>
+where
+    R: Files + Net<Stream = TcpStream> + AllocGlobal + Print + Eprint,
+{
+    let paired = paired_of(rt, asking.round.pairings, asking.round.games)?;
+    write_round(rt, asking, players, &paired)
 }
 
 /// Writes the results of a round as CSV. It fails behind that where a board's game is of others than its players.
@@ -108,7 +135,5 @@ where
     R: Files + Net<Stream = TcpStream> + AllocGlobal + Print + Eprint,
 {
     let players = players_in(rt, asking.players)?;
-    let (text, checked) = results_of(rt, asking, players.as_slice())?;
-    io::writer(rt).write_all(text.as_slice())?;
-    checked
+    write_with(rt, asking, players.as_slice())
 }

@@ -1,17 +1,15 @@
 //! The word that opens the games of a round.
-use crate::board::{Became, Board};
-use crate::command_line::{Said, Starting};
-use crate::files::{check_notes, pairings_of};
-use crate::round_file::RoundFile;
-use crate::table::connect;
 use anyhow::{Context, Error, Result};
 use jiff::Timestamp;
-use lobby_desk::Player;
-use pairing_texts::{Pairing, Stage, is_newer, with_newest};
+use pairing_commands::Starting;
+use pairing_texts::Pairing;
 use players_file::players_of;
-use rec_codec::Name;
+use round_games::{
+    Became, Board, RoundFile, boards_of, check_notes, check_players, check_times, connect,
+    pairings_of, take_words,
+};
 use server_link::Link;
-use std::alloc::Global;
+use std::alloc::{AllocError, Global};
 use std::fs::File;
 use std::net::{Net, SocketAddr, TcpStream};
 use std::rt::{Clock, Files};
@@ -20,9 +18,6 @@ use std::time::{Duration, SystemTime};
 
 // How often it is looked for the server, and for boards whose start has come: the milliseconds between.
 const PAUSE: u64 = 500;
-
-// The seconds below which an initial time is taken for minutes.
-const SHORT: u32 = 60;
 
 /// What became of the boards of a round.
 #[derive(Drop)]
@@ -166,146 +161,6 @@ impl Rounds {
     }
 }
 
-// The pairing of a board.
-fn board_of(boards: &[Board], number: u32) -> Result<Board> {
-    for board in boards {
-        if board.pairing.board == number {
-            return Ok(*board);
-        }
-    }
-    anyhow::bail!("board {number} has no game to be opened")
-}
-
-// Whether no game up to this one of its server is a board's by its notes.
-fn is_after(file: &RoundFile, board: u32, game: u32) -> bool {
-    match file.stage_of(board) {
-        Some(Stage::Opening(older)) => !is_newer(older.as_slice(), game),
-        Some(Stage::Opened(noted)) | Some(Stage::Joined(noted)) => is_newer(&[game], *noted),
-        None => false,
-    }
-}
-
-// Notes the game that the arbiter said is a board's, where that was not noted before.
-fn take_game(file: &mut RoundFile, boards: &[Board], number: u32, game: u32) -> Result<()> {
-    let board = board_of(boards, number)?;
-    if file.game_of(number) == Some(game) {
-        return Ok(());
-    }
-    file.put(board.note(Stage::Opened(game)))
-}
-
-// Notes that no game up to this one of its server is a board's, where that was not noted before.
-fn take_after(
-    alloc: Global,
-    file: &mut RoundFile,
-    boards: &[Board],
-    number: u32,
-    game: u32,
-) -> Result<()> {
-    let board = board_of(boards, number)?;
-    if is_after(file, number, game) {
-        return Ok(());
-    }
-    let older = with_newest(alloc, file.older_of(number), game)?;
-    file.put(board.note(Stage::Opening(older)))
-}
-
-// Notes what the arbiter said of boards.
-fn take_words(alloc: Global, file: &mut RoundFile, boards: &[Board], said: &Said) -> Result<()> {
-    for (number, game) in said.takes.as_slice() {
-        take_game(file, boards, *number, *game)?;
-    }
-    for (number, game) in said.afters.as_slice() {
-        take_after(alloc, file, boards, *number, *game)?;
-    }
-    Ok(())
-}
-
-// The game that the arbiter said is a board's.
-fn taken_of(takes: &[(u32, u32)], number: u32) -> Option<u32> {
-    let mut taken = None;
-    for (board, game) in takes {
-        if *board == number {
-            taken = Some(*game);
-        }
-    }
-    taken
-}
-
-// Whether a player of a row is in the players' file. It fails where that is not so.
-fn check_player(players: &[Player], row: usize, name: &Name) -> Result<()> {
-    if players
-        .iter()
-        .any(|player| player.name.as_str() == name.as_str())
-    {
-        return Ok(());
-    }
-    let name = name.as_str();
-    anyhow::bail!("row {row}: {name} is not in the players' file")
-}
-
-// The same of the players of a row.
-fn check_pairing(players: &[Player], row: usize, pairing: &Pairing) -> Result<()> {
-    check_player(players, row, &pairing.white)?;
-    match &pairing.game {
-        Some(game) => check_player(players, row, &game.black),
-        None => Ok(()),
-    }
-}
-
-// Whether all players of pairings are in the players' file. It fails at the first row where one is not.
-fn check_players(players: &[Player], pairings: &[Pairing]) -> Result<()> {
-    // (row 1 is the header)
-    let mut row: usize = 1;
-    for pairing in pairings {
-        row = row.saturating_add(1);
-        check_pairing(players, row, pairing)?;
-    }
-    Ok(())
-}
-
-// Whether a game has a minute at least. It fails where it has not: whoever writes 15 means minutes.
-fn check_time(row: usize, seconds: u32) -> Result<()> {
-    if seconds >= SHORT {
-        return Ok(());
-    }
-    anyhow::bail!(
-        "row {row}: the initial time is {seconds} seconds: 15 minutes are 900. Where seconds are meant, it is given again with --short"
-    )
-}
-
-// The same of all games. It fails at the first that has less.
-fn check_times(pairings: &[Pairing]) -> Result<()> {
-    let mut row: usize = 1;
-    for pairing in pairings {
-        row = row.saturating_add(1);
-        if let Some(game) = pairing.game {
-            check_time(row, game.times.initial)?;
-        }
-    }
-    Ok(())
-}
-
-// The boards of pairings that have a game.
-fn boards_of<R: AllocGlobal>(
-    rt: &R,
-    pairings: &[Pairing],
-    takes: &[(u32, u32)],
-) -> Result<Vec<Board>> {
-    let mut boards = Vec::new(rt.alloc());
-    for pairing in pairings {
-        if let Some(game) = pairing.game {
-            boards.push(Board {
-                alloc: rt.alloc(),
-                pairing: *pairing,
-                game,
-                taken: taken_of(takes, pairing.board),
-            })?;
-        }
-    }
-    Ok(boards)
-}
-
 // Tells a failure after which it is tried again, unless it was told last.
 fn tell_failure<R: AllocGlobal + Eprint>(rt: &R, told: &mut String, error: Error) -> Result<()> {
     let text = format!(in rt.alloc(); "{error:#}")?;
@@ -382,7 +237,7 @@ fn check_in_file<R: Files + AllocGlobal>(
     pairings: &[Pairing],
 ) -> Result<()> {
     let players = players_of(rt, file)?;
-    check_players(players.as_slice(), pairings).context(format_args!("{rows}"))
+    check_players(players.as_slice(), pairings).context(rows)
 }
 
 // Whether pairings may be opened: by their players, where a file of these is named, and by their times.
@@ -398,7 +253,23 @@ fn check_pairings<R: Files + AllocGlobal>(
     if starting.is_short {
         return Ok(());
     }
-    check_times(pairings).context(format_args!("{rows}"))
+    check_times(pairings).context(rows)
+}
+
+// Puts what the arbiter said to the round's file. It fails where that is of other pairings.
+fn take_said(
+    alloc: Global,
+    file: &mut RoundFile,
+    starting: &Starting<'_>,
+    pairings: &[Pairing],
+    boards: &[Board],
+) -> Result<()> {
+    check_notes(starting.round.games, file.notes(), pairings)?;
+    let (takes, afters) = (
+        starting.said.takes.as_slice(),
+        starting.said.afters.as_slice(),
+    );
+    take_words(alloc, file, boards, takes, afters)
 }
 
 // The round's file with what the arbiter said.
@@ -408,11 +279,30 @@ fn file_of<R: Files<File = File> + AllocGlobal>(
     pairings: &[Pairing],
     boards: &[Board],
 ) -> Result<RoundFile> {
-    let path = starting.round.games;
-    let mut file = RoundFile::open(rt, path)?;
-    check_notes(path, file.notes(), pairings)?;
-    take_words(rt.alloc(), &mut file, boards, &starting.said)?;
+    let mut file = RoundFile::open(rt, starting.round.games)?;
+    take_said(rt.alloc(), &mut file, starting, pairings, boards)?;
     Ok(file)
+}
+
+// Nothing has become of boards yet.
+fn rounds_of(alloc: Global, file: RoundFile, without: &[u32]) -> Result<Rounds, AllocError> {
+    Ok(Rounds {
+        without: Vec::from_slice(alloc, without)?,
+        file,
+        asks: Vec::new(alloc),
+        done: Vec::new(alloc),
+        is_unheard: false,
+    })
+}
+
+// Goes round the boards to the end, and tells how many have their games.
+fn go_through<R>(rt: &R, rounds: &mut Rounds, server: SocketAddr, boards: &[Board]) -> Result<usize>
+where
+    R: Net<Stream = TcpStream> + AllocGlobal + Print + Eprint + Clock,
+{
+    tell_waits(rt, boards)?;
+    go_round(rt, rounds, server, boards)?;
+    Ok(rounds.done.len())
 }
 
 // Opens the games of boards, and tells how many have theirs.
@@ -425,16 +315,8 @@ fn open_games<R>(
 where
     R: Net<Stream = TcpStream> + AllocGlobal + Print + Eprint + Clock,
 {
-    let mut rounds = Rounds {
-        without: Vec::from_slice(rt.alloc(), starting.said.without.as_slice())?,
-        file,
-        asks: Vec::new(rt.alloc()),
-        done: Vec::new(rt.alloc()),
-        is_unheard: false,
-    };
-    tell_waits(rt, boards)?;
-    go_round(rt, &mut rounds, starting.server, boards)?;
-    Ok(rounds.done.len())
+    let mut rounds = rounds_of(rt.alloc(), file, starting.said.without.as_slice())?;
+    go_through(rt, &mut rounds, starting.server, boards)
 }
 
 // Tells how many boards have their games. It fails where not all have.
@@ -451,7 +333,7 @@ fn start_boards<R>(rt: &R, starting: &Starting<'_>, pairings: &[Pairing]) -> Res
 where
     R: Files<File = File> + Net<Stream = TcpStream> + AllocGlobal + Print + Eprint + Clock,
 {
-    let boards = boards_of(rt, pairings, starting.said.takes.as_slice())?;
+    let boards = boards_of(rt.alloc(), pairings, starting.said.takes.as_slice())?;
     let file = file_of(rt, starting, pairings, boards.as_slice())?;
     let games = open_games(rt, starting, file, boards.as_slice())?;
     tell_end(rt, boards.len(), games)

@@ -83,6 +83,15 @@ fn numbers_text(alloc: Global, numbers: &[u32]) -> Result<String, AllocError> {
     Ok(text)
 }
 
+// What became of a board, where that is settled by what was to be done about it.
+fn became_by(step: Step) -> Option<Became> {
+    match step {
+        Step::Has(game) => Some(Became::Has(game)),
+        Step::Ask => Some(Became::Asks),
+        _ => None,
+    }
+}
+
 impl Board {
     /// A note of it.
     pub fn note(&self, stage: Stage) -> Note {
@@ -104,10 +113,11 @@ impl Board {
     }
 
     // Opens its game. The answer, as that a game was opened, may be lost: what was noted before tells which games may be it.
-    fn open(&self, link: &mut Link, file: &mut RoundFile) -> Result<u32> {
+    fn open(&self, link: &mut Link, file: &mut RoundFile, opened: &mut Option<u32>) -> Result<()> {
         let game = self.ask_open(link)?;
         file.put(self.note(Stage::Opened(game)))?;
-        Ok(game)
+        *opened = Some(game);
+        Ok(())
     }
 
     // Joins its game, under Black's name. Whether it was joined is looked up.
@@ -210,10 +220,17 @@ impl Board {
         })
     }
 
-    // Notes that its game is about to be opened, and is newer than these of the table.
-    fn begin(&self, file: &mut RoundFile, rows: &[Row]) -> Result<()> {
+    // Notes that its game is about to be opened, and is newer than these of the table, and opens it.
+    fn begin(
+        &self,
+        link: &mut Link,
+        file: &mut RoundFile,
+        rows: &[Row],
+        opened: &mut Option<u32>,
+    ) -> Result<()> {
         let older = newest(self.alloc, rows)?;
-        file.put(self.note(Stage::Opening(older)))
+        file.put(self.note(Stage::Opening(older)))?;
+        self.open(link, file, opened)
     }
 
     // That servers were not heard, one of which may have its game.
@@ -224,32 +241,39 @@ impl Board {
         Ok(anyhow!("these servers are away and may have games of {white}:{servers}"))
     }
 
-    // Does what was seen to be done, and tells what became of it, where that is settled. `opened` is its game where White has
-    // just opened it.
+    // Does what was seen to be done. `opened` is its game where White has just opened it.
     fn act(
         &self,
         link: &mut Link,
         file: &mut RoundFile,
         seen: &Seen,
         opened: &mut Option<u32>,
-    ) -> Result<Option<Became>> {
+    ) -> Result<()> {
         match seen.step {
-            Step::Begin => {
-                self.begin(file, seen.sight.rows.as_slice())?;
-                *opened = Some(self.open(link, file)?);
-            }
-            Step::Open => *opened = Some(self.open(link, file)?),
-            Step::Take(game) => file.put(self.note(Stage::Opened(game)))?,
+            Step::Begin => self.begin(link, file, seen.sight.rows.as_slice(), opened),
+            Step::Open => self.open(link, file, opened),
+            Step::Take(game) => file.put(self.note(Stage::Opened(game))),
             Step::Join(game) => {
                 *opened = None;
-                self.join(link, game)?;
+                self.join(link, game)
             }
-            Step::Note(game) => file.put(self.note(Stage::Joined(game)))?,
-            Step::Has(game) => return Ok(Some(Became::Has(game))),
-            Step::LookAgain => return Err(self.not_heard(seen.sight.away.as_slice())?),
-            Step::Ask => return Ok(Some(Became::Asks)),
+            Step::Note(game) => file.put(self.note(Stage::Joined(game))),
+            Step::LookAgain => Err(self.not_heard(seen.sight.away.as_slice())?),
+            Step::Has(_) | Step::Ask => Ok(()),
         }
-        Ok(None)
+    }
+
+    // Looks what is to be done about it now, does that, and tells what became of it, where that is settled.
+    fn do_step(
+        &self,
+        link: &mut Link,
+        file: &mut RoundFile,
+        without: &[u32],
+        opened: &mut Option<u32>,
+    ) -> Result<Option<Became>> {
+        let seen = self.seen(link, file, without, *opened)?;
+        self.act(link, file, &seen, opened)?;
+        Ok(became_by(seen.step))
     }
 
     /// Goes on with its game until Black has joined it, or until it is the arbiter's to say which it is; these servers are not
@@ -257,8 +281,7 @@ impl Board {
     pub fn go_on(&self, link: &mut Link, file: &mut RoundFile, without: &[u32]) -> Result<Became> {
         let mut opened = None;
         for _ in 0..8 {
-            let seen = self.seen(link, file, without, opened)?;
-            if let Some(became) = self.act(link, file, &seen, &mut opened)? {
+            if let Some(became) = self.do_step(link, file, without, &mut opened)? {
                 return Ok(became);
             }
         }
@@ -275,4 +298,31 @@ impl Board {
             None => format!(in self.alloc; "board {board}: several games may be its"),
         }
     }
+}
+
+// The game that the arbiter said is a board's.
+fn taken_of(takes: &[(u32, u32)], number: u32) -> Option<u32> {
+    let mut taken = None;
+    for (board, game) in takes {
+        if *board == number {
+            taken = Some(*game);
+        }
+    }
+    taken
+}
+
+/// The boards of pairings that have a game, with the games that the arbiter said are theirs.
+pub fn boards_of(alloc: Global, pairings: &[Pairing], takes: &[(u32, u32)]) -> Result<Vec<Board>> {
+    let mut boards = Vec::new(alloc);
+    for pairing in pairings {
+        if let Some(game) = pairing.game {
+            boards.push(Board {
+                alloc,
+                pairing: *pairing,
+                game,
+                taken: taken_of(takes, pairing.board),
+            })?;
+        }
+    }
+    Ok(boards)
 }

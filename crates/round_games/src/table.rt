@@ -57,17 +57,17 @@ pub struct Shown {
     pub article: String,
 }
 
-// The same, as it is told.
+// The same, as the fields of an answer to `show` tell it.
 #[derive(Clone, Copy)]
-struct Told<'a> {
+struct ShownFields<'a> {
     seats: Seats,
     plies: u32,
     result: &'a str,
     article: &'a str,
 }
 
-// What the fields of an answer to `show` tell; none where they have another form.
-fn told_in<'a>(fields: &[&'a str]) -> Option<Told<'a>> {
+// What these fields tell; none where they have another form.
+fn shown_by<'a>(fields: &[&'a str]) -> Option<ShownFields<'a>> {
     let [
         "ok",
         "show",
@@ -85,7 +85,7 @@ fn told_in<'a>(fields: &[&'a str]) -> Option<Told<'a>> {
     else {
         return None;
     };
-    Some(Told {
+    Some(ShownFields {
         seats: Seats {
             white: seat_of(white),
             black: seat_of(black),
@@ -96,12 +96,12 @@ fn told_in<'a>(fields: &[&'a str]) -> Option<Told<'a>> {
     })
 }
 
-fn shown_of(alloc: Global, told: Told<'_>) -> Result<Shown, AllocError> {
+fn shown_of(alloc: Global, fields: ShownFields<'_>) -> Result<Shown, AllocError> {
     Ok(Shown {
-        seats: told.seats,
-        plies: told.plies,
-        result: String::from_str(alloc, told.result)?,
-        article: String::from_str(alloc, told.article)?,
+        seats: fields.seats,
+        plies: fields.plies,
+        result: String::from_str(alloc, fields.result)?,
+        article: String::from_str(alloc, fields.article)?,
     })
 }
 
@@ -111,8 +111,8 @@ fn shown_in(alloc: Global, line: &str, first: &str) -> Result<Option<Shown>> {
         return Ok(None);
     }
     let fields = parts(alloc, first, ' ')?;
-    match told_in(fields.as_slice()) {
-        Some(told) => Ok(Some(shown_of(alloc, told)?)),
+    match shown_by(fields.as_slice()) {
+        Some(fields) => Ok(Some(shown_of(alloc, fields)?)),
         None => Err(refused(line, first)),
     }
 }

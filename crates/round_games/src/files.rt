@@ -1,5 +1,4 @@
 //! The files that are only read.
-use crate::command_line::Round;
 use anyhow::{Context, Result};
 use night_files::whole_length;
 use pairing_texts::{Note, Pairing, note_of, read};
@@ -11,7 +10,7 @@ use text_parts::parts;
 /// The pairings of a file.
 pub fn pairings_of<R: Files + AllocGlobal>(rt: &R, file: &str) -> Result<Vec<Pairing>> {
     let text = fs::read(rt, file).context(format_args!("reading {file}"))?;
-    read(rt.alloc(), text.as_slice()).context(format_args!("{file}"))
+    read(rt.alloc(), text.as_slice()).context(file)
 }
 
 // How a note begins.
@@ -57,7 +56,7 @@ fn lines_of<R: Files + AllocGlobal>(rt: &R, file: &str) -> Result<String> {
     let kept = whole_length(bytes.as_slice());
     check_behind(file, bytes.get(kept..).unwrap_or(&[]))?;
     bytes.truncate(kept);
-    String::from_utf8(bytes).context(format_args!("{file}"))
+    String::from_utf8(bytes).context(file)
 }
 
 // The note of a line.
@@ -97,17 +96,13 @@ pub struct Paired {
     pub notes: Vec<Note>,
 }
 
-/// What the files of a round have. It fails where the notes are of other pairings.
-pub fn paired_of<R: Files + AllocGlobal>(rt: &R, round: Round<'_>) -> Result<Paired> {
+/// What the files of a round have, its pairings and its notes. It fails where the notes are of other pairings.
+pub fn paired_of<R: Files + AllocGlobal>(rt: &R, pairings: &str, games: &str) -> Result<Paired> {
     let paired = Paired {
-        pairings: pairings_of(rt, round.pairings)?,
-        notes: notes_of(rt, round.games)?,
+        pairings: pairings_of(rt, pairings)?,
+        notes: notes_of(rt, games)?,
     };
-    check_notes(
-        round.games,
-        paired.notes.as_slice(),
-        paired.pairings.as_slice(),
-    )?;
+    check_notes(games, paired.notes.as_slice(), paired.pairings.as_slice())?;
     Ok(paired)
 }
 

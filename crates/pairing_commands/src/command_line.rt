@@ -134,223 +134,142 @@ struct OptionText {
     name: &'static str,
     value: &'static str,
     help: &'static str,
-    is_required: bool,
-    // What comes of several.
-    action: ArgAction,
 }
 
-const START: [OptionText; 7] = [
-    OptionText {
-        name: "pairings",
-        value: "FILE",
-        help: "The round's pairings, a CSV file",
-        is_required: true,
-        action: ArgAction::Set,
-    },
-    OptionText {
-        name: "round-file",
-        value: "FILE",
-        help: "Which game is which board's",
-        is_required: true,
-        action: ArgAction::Set,
-    },
-    OptionText {
-        name: "server",
-        value: "A:P",
-        help: "Where the game server listens",
-        is_required: true,
-        action: ArgAction::Set,
-    },
-    OptionText {
-        name: "players",
-        value: "FILE",
-        help: "The players' file: nothing is opened where a player is not in it",
-        is_required: false,
-        action: ArgAction::Set,
-    },
+const PAIRINGS: OptionText = OptionText {
+    name: "pairings",
+    value: "FILE",
+    help: "The round's pairings, a CSV file",
+};
+
+const ROUND_FILE: OptionText = OptionText {
+    name: "round-file",
+    value: "FILE",
+    help: "Which game is which board's",
+};
+
+const SERVER: OptionText = OptionText {
+    name: "server",
+    value: "A:P",
+    help: "Where the game server listens",
+};
+
+const ARCHIVE: OptionText = OptionText {
+    name: "archive",
+    value: "FILE",
+    help: "The archive of games that are over",
+};
+
+// What `start` may be told several times.
+const TOLD_TO_START: [OptionText; 3] = [
     OptionText {
         name: "take",
         value: "BOARD=GAME",
         help: "This game is the board's; it may be given several times",
-        is_required: false,
-        action: ArgAction::Append,
     },
     OptionText {
         name: "after",
         value: "BOARD=GAME",
         help: "No game up to this one of its server is the board's; it may be given several times",
-        is_required: false,
-        action: ArgAction::Append,
     },
     OptionText {
         name: "without",
         value: "SERVER",
         help: "This server of a switch is not waited for; it may be given several times",
-        is_required: false,
-        action: ArgAction::Append,
     },
 ];
 
-const RESULTS: [OptionText; 5] = [
-    OptionText {
-        name: "pairings",
-        value: "FILE",
-        help: "The round's pairings, a CSV file",
-        is_required: true,
-        action: ArgAction::Set,
-    },
-    OptionText {
-        name: "round-file",
-        value: "FILE",
-        help: "Which game is which board's",
-        is_required: true,
-        action: ArgAction::Set,
-    },
-    OptionText {
-        name: "players",
-        value: "FILE",
-        help: "The players' file, with the full names that the archive has",
-        is_required: false,
-        action: ArgAction::Set,
-    },
-    OptionText {
-        name: "archive",
-        value: "FILE",
-        help: "The archive of games that are over",
-        is_required: false,
-        action: ArgAction::Set,
-    },
-    OptionText {
-        name: "server",
-        value: "A:P",
-        help: "Where the game server listens",
-        is_required: false,
-        action: ArgAction::Set,
-    },
+const ROUNDS: OptionText = OptionText {
+    name: "rounds",
+    value: "CSV,GAMES",
+    help: "The two files of a round; it is given once for each round, in their order",
+};
+
+// What a report's head tells of the tournament, each with its help.
+const HEAD: [(&str, &str); 10] = [
+    ("name", "The tournament's name"),
+    ("city", "The city"),
+    ("federation", "The federation, as GER"),
+    ("begins", "The first day, YYYY/MM/DD"),
+    ("ends", "The last day, YYYY/MM/DD"),
+    ("kind", "As Individual: Swiss-System"),
+    ("arbiter", "The chief arbiter"),
+    ("deputy", "The deputy"),
+    ("times", "The times of a game"),
+    ("all-rounds", "How many rounds there are to be"),
 ];
 
-const TRF: [OptionText; 14] = [
+fn players_option(help: &'static str) -> OptionText {
     OptionText {
         name: "players",
         value: "FILE",
-        help: "The players' file",
-        is_required: true,
-        action: ArgAction::Set,
-    },
-    OptionText {
-        name: "rounds",
-        value: "CSV,GAMES",
-        help: "The two files of a round; it is given once for each round, in their order",
-        is_required: true,
-        action: ArgAction::Append,
-    },
-    OptionText {
-        name: "name",
-        value: "TEXT",
-        help: "The tournament's name",
-        is_required: false,
-        action: ArgAction::Set,
-    },
-    OptionText {
-        name: "city",
-        value: "TEXT",
-        help: "The city",
-        is_required: false,
-        action: ArgAction::Set,
-    },
-    OptionText {
-        name: "federation",
-        value: "TEXT",
-        help: "The federation, as GER",
-        is_required: false,
-        action: ArgAction::Set,
-    },
-    OptionText {
-        name: "begins",
-        value: "TEXT",
-        help: "The first day, YYYY/MM/DD",
-        is_required: false,
-        action: ArgAction::Set,
-    },
-    OptionText {
-        name: "ends",
-        value: "TEXT",
-        help: "The last day, YYYY/MM/DD",
-        is_required: false,
-        action: ArgAction::Set,
-    },
-    OptionText {
-        name: "kind",
-        value: "TEXT",
-        help: "As Individual: Swiss-System",
-        is_required: false,
-        action: ArgAction::Set,
-    },
-    OptionText {
-        name: "arbiter",
-        value: "TEXT",
-        help: "The chief arbiter",
-        is_required: false,
-        action: ArgAction::Set,
-    },
-    OptionText {
-        name: "deputy",
-        value: "TEXT",
-        help: "The deputy",
-        is_required: false,
-        action: ArgAction::Set,
-    },
-    OptionText {
-        name: "times",
-        value: "TEXT",
-        help: "The times of a game",
-        is_required: false,
-        action: ArgAction::Set,
-    },
-    OptionText {
-        name: "all-rounds",
-        value: "TEXT",
-        help: "How many rounds there are to be",
-        is_required: false,
-        action: ArgAction::Set,
-    },
-    OptionText {
-        name: "archive",
-        value: "FILE",
-        help: "The archive of games that are over",
-        is_required: false,
-        action: ArgAction::Set,
-    },
-    OptionText {
-        name: "server",
-        value: "A:P",
-        help: "Where the game server listens",
-        is_required: false,
-        action: ArgAction::Set,
-    },
-];
+        help,
+    }
+}
 
 // (A loop over a table is proved once, and each call in a chain over what all calls before it say.)
 fn with_options<'a>(
     alloc: Global,
     command: Command<'a>,
     options: &[OptionText],
+    is_required: bool,
+    // What comes of several.
+    action: ArgAction,
 ) -> Result<Command<'a>, AllocError> {
     let mut command = command;
     for text in options {
         let made = option(alloc, text.name, text.value, text.help)
-            .required(text.is_required)
-            .action(text.action);
+            .required(is_required)
+            .action(action);
         command = command.arg(made)?;
     }
     Ok(command)
 }
 
+// Options that are to be there, and others that may be, each once.
+fn with_required<'a>(
+    alloc: Global,
+    command: Command<'a>,
+    options: &[OptionText],
+) -> Result<Command<'a>, AllocError> {
+    with_options(alloc, command, options, true, ArgAction::Set)
+}
+
+fn with_optional<'a>(
+    alloc: Global,
+    command: Command<'a>,
+    options: &[OptionText],
+) -> Result<Command<'a>, AllocError> {
+    with_options(alloc, command, options, false, ArgAction::Set)
+}
+
+fn with_head<'a>(alloc: Global, command: Command<'a>) -> Result<Command<'a>, AllocError> {
+    let mut command = command;
+    for (name, help) in &HEAD {
+        command = command.arg(option(alloc, *name, "TEXT", *help))?;
+    }
+    Ok(command)
+}
+
+// (Without a clause: what a chain of calls says is carried no further.)
+fn word_command<'a>(
+    alloc: Global,
+    name: &'static str,
+    about: &'static str,
+    help: &'static str,
+) -> Command<'a> {
+    Command::new(alloc, name).about(about).after_help(help)
+}
+
 fn start_command<'a>(alloc: Global) -> Result<Command<'a>, AllocError> {
-    let command = Command::new(alloc, "start")
-        .about("Opens the games of a round")
-        .after_help(HELP_OF_START);
-    with_options(alloc, command, &START)?.arg(flag(
+    let command = word_command(alloc, "start", "Opens the games of a round", HELP_OF_START);
+    let players = players_option(
+        "The players' file: nothing is opened where a player is not in it",
+    );
+    let command = with_required(alloc, command, &[PAIRINGS, ROUND_FILE, SERVER])?;
+    let command = with_optional(alloc, command, &[players])?;
+    let command = with_options(alloc, command, &TOLD_TO_START, false, ArgAction::Append)?;
+    command.arg(flag(
         alloc,
         "short",
         "Initial times of less than 60 seconds are meant",
@@ -358,17 +277,36 @@ fn start_command<'a>(alloc: Global) -> Result<Command<'a>, AllocError> {
 }
 
 fn results_command<'a>(alloc: Global) -> Result<Command<'a>, AllocError> {
-    let command = Command::new(alloc, "results")
-        .about("Writes the results of a round as CSV")
-        .after_help(HELP_OF_RESULTS);
-    with_options(alloc, command, &RESULTS)
+    let command = word_command(
+        alloc,
+        "results",
+        "Writes the results of a round as CSV",
+        HELP_OF_RESULTS,
+    );
+    let players = players_option("The players' file, with the full names that the archive has");
+    let command = with_required(alloc, command, &[PAIRINGS, ROUND_FILE])?;
+    with_optional(alloc, command, &[players, ARCHIVE, SERVER])
 }
 
 fn trf_command<'a>(alloc: Global) -> Result<Command<'a>, AllocError> {
-    let command = Command::new(alloc, "trf")
-        .about("Writes the report of a tournament, TRF-16")
-        .after_help(HELP_OF_TRF);
-    with_options(alloc, command, &TRF)
+    let command = word_command(
+        alloc,
+        "trf",
+        "Writes the report of a tournament, TRF-16",
+        HELP_OF_TRF,
+    );
+    let command = with_required(alloc, command, &[players_option("The players' file")])?;
+    let command = with_options(alloc, command, &[ROUNDS], true, ArgAction::Append)?;
+    let command = with_head(alloc, command)?;
+    with_optional(alloc, command, &[ARCHIVE, SERVER])
+}
+
+// (A word is made before it is added, so that one call alone has the command to drop where that fails.)
+fn with_word<'a>(
+    command: Command<'a>,
+    word: Result<Command<'a>, AllocError>,
+) -> Result<Command<'a>, AllocError> {
+    command.subcommand(word?)
 }
 
 /// The program's command line.
@@ -377,16 +315,33 @@ pub fn command<'a>(alloc: Global) -> Result<Command<'a>, AllocError> {
         .about("The rounds of a chess league.")
         .version(VERSION)
         .subcommand_required(true);
-    let command = command.subcommand(start_command(alloc)?)?;
-    let command = command.subcommand(results_command(alloc)?)?;
-    command.subcommand(trf_command(alloc)?)
+    let command = with_word(command, start_command(alloc))?;
+    let command = with_word(command, results_command(alloc))?;
+    with_word(command, trf_command(alloc))
 }
 
 /// Reads the words, the program's own name first. An `Err` is a usage fault, or a request for help.
 pub fn read_words<'a>(alloc: Global, words: &'a [String]) -> Result<Word<'a>, Error> {
     let mut command = command(alloc)?;
+    read_by(alloc, &mut command, words)
+}
+
+// (One function owns the command line, and one what was read by it: each call that may fail would drop both.)
+fn read_by<'a>(
+    alloc: Global,
+    command: &mut Command<'a>,
+    words: &'a [String],
+) -> Result<Word<'a>, Error> {
     let matches = command.try_get_matches_from_mut(words)?;
-    match word_of(alloc, &matches)? {
+    word_or_fault(alloc, command, &matches)
+}
+
+fn word_or_fault<'a>(
+    alloc: Global,
+    command: &mut Command<'a>,
+    matches: &ArgMatches<'a>,
+) -> Result<Word<'a>, Error> {
+    match word_of(alloc, matches)? {
         Some(word) => Ok(word),
         None => Err(command.error(
             ErrorKind::InvalidValue,

@@ -1,0 +1,8 @@
+//! The command line of `chess_pairings`: its words, with the texts of their help.
+#![tactic(auto)]
+
+mod command_line;
+
+pub use command_line::{
+    Asking, Reporting, Round, Said, Source, Starting, Word, command, read_words,
+};
