@@ -71,11 +71,10 @@ fn push_hosts(
     Ok(())
 }
 
-// Whether one of the files is the page.
-fn has_page(files: &[File]) -> bool {
-    files
-        .iter()
-        .any(|file| file.path.as_slice() == b"/".as_slice())
+// Whether a folder has the page.
+fn has_page<R: Files + AllocGlobal>(rt: &R, folder: &str) -> Result<bool> {
+    let page = format!(in rt.alloc(); "{folder}/index.html")?;
+    Ok(fs::exists(rt, page.as_str())?)
 }
 
 /// The site of a folder's files, which is listened for on an address. It fails where the folder has no page.
@@ -88,10 +87,7 @@ pub fn site_of<R: Files + AllocGlobal + Clone + Drop>(
     let mut hosts = Vec::new(rt.alloc());
     let mut files = Vec::new(rt.alloc());
     push_files(&mut files, rt, folder)?;
-    anyhow::ensure!(
-        has_page(files.as_slice()),
-        "there is no index.html in {folder}"
-    );
+    anyhow::ensure!(has_page(rt, folder)?, "there is no index.html in {folder}");
     push_hosts(&mut hosts, rt.alloc(), address, names)?;
     Ok(Site::new(hosts, files))
 }
