@@ -42,7 +42,7 @@ impl Found {
     }
 }
 
-// A game of the archive, with its line, and the adjourned game that it goes on in.
+// A game of the archive, with its line, and the adjourned game that it continues.
 #[derive(Drop)]
 struct ArchivedGame {
     game: u32,
@@ -93,8 +93,8 @@ fn moves_in(alloc: Global, line: &str) -> Result<u32, AllocError> {
     Ok(moves_among(words.as_slice()))
 }
 
-// What the tags of a PGN tell, who played, from which position, what came of it and which game it goes on in, and how many moves
-// it has.
+// What the tags of a PGN tell, who played, from which position, what came of it and which game it continues, and how many moves it
+// has.
 #[derive(Clone, Copy)]
 struct PgnTags<'a> {
     white: &'a str,
@@ -152,7 +152,7 @@ fn tags_in(alloc: Global, pgn: &str) -> Result<PgnTags<'_>, AllocError> {
     tags_among(alloc, lines.as_slice())
 }
 
-// The adjourned game that the game of an archive's line goes on in.
+// The adjourned game that the game of an archive's line continues.
 fn continued_in(alloc: Global, line: &str) -> Result<Option<u32>, AllocError> {
     let pgn = pgn_of(alloc, line)?;
     let Ok(pgn) = String::from_utf8(pgn) else {
@@ -474,7 +474,7 @@ impl<'a> Outcomes<'a> {
         }
     }
 
-    // The last game of the archive that goes on in a game.
+    // The last game of the archive that continues a game.
     fn continued_by(&self, game: u32) -> Option<u32> {
         let mut later = None;
         for archived in self.archived.as_slice() {
@@ -521,12 +521,8 @@ impl<'a> Outcomes<'a> {
         Ok(())
     }
 
-    /// Fails where a board's game is of others than its players, since it may have ended though nothing came of it, or was
-    /// played on as another.
-    pub fn check(&self) -> Result<()> {
-        if self.has_halves {
-            bail!("a board has the result of a game that was adjourned and played on");
-        }
+    /// Fails where a board's game is of others than its players: it may have ended, though nothing came of it.
+    pub fn check_players(&self) -> Result<()> {
         if self.has_others {
             bail!(
                 "a game of other names counts for no board: where a full name was changed since, change it in the archive too"
@@ -534,4 +530,17 @@ impl<'a> Outcomes<'a> {
         }
         Ok(())
     }
+
+    /// Whether a board has the result of a game that was played on as another.
+    pub fn has_halves(&self) -> bool {
+        self.has_halves
+    }
+}
+
+/// Fails where a board has the result of a game that was played on as another.
+pub fn check_halves(has_halves: bool) -> Result<()> {
+    if has_halves {
+        bail!("a board has the result of a game that was adjourned and played on");
+    }
+    Ok(())
 }

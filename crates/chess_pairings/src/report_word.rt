@@ -1,5 +1,5 @@
 //! The word that writes the report of a tournament.
-use crate::outcomes::{Ended, Outcomes};
+use crate::outcomes::{Ended, Outcomes, check_halves};
 use crate::results_word::game_of;
 use anyhow::{Context, Result};
 use lobby_desk::Player;
@@ -150,20 +150,25 @@ where
     Ok(rounds)
 }
 
-// The same. It fails where a board's game is of others than its players.
-fn rounds_in<R>(
-    rt: &R,
-    reporting: &Reporting<'_>,
-    all: &[Player],
-    players: &[&Player],
-) -> Result<Vec<Vec<Meeting>>>
+// The meetings of each round, and whether a board has the result of a game that was played on as another.
+#[derive(Drop)]
+struct Met {
+    rounds: Vec<Vec<Meeting>>,
+    has_halves: bool,
+}
+
+// What was met in the rounds. It fails where a board's game is of others than its players.
+fn met_in<R>(rt: &R, reporting: &Reporting<'_>, all: &[Player], players: &[&Player]) -> Result<Met>
 where
     R: Files + Net<Stream = TcpStream> + AllocGlobal + Eprint,
 {
     let mut outcomes = Outcomes::open(rt, reporting.source, all)?;
     let rounds = rounds_told(rt, reporting, players, &mut outcomes)?;
-    outcomes.check()?;
-    Ok(rounds)
+    outcomes.check_players()?;
+    Ok(Met {
+        rounds,
+        has_halves: outcomes.has_halves(),
+    })
 }
 
 // The text of a report of these rounds.
@@ -177,19 +182,13 @@ fn text_of(
     Ok(report(alloc, event, names.as_slice(), rounds)?)
 }
 
-// The text of a report; it is told what is to be told of boards.
-fn report_of<R>(rt: &R, reporting: &Reporting<'_>, all: &[Player]) -> Result<Vec<u8>>
+// Writes the report of what was met.
+fn write_met<R>(rt: &R, event: &Event<'_>, players: &[&Player], met: &Met) -> Result<()>
 where
-    R: Files + Net<Stream = TcpStream> + AllocGlobal + Eprint,
+    R: AllocGlobal + Print,
 {
-    let players = playing(rt.alloc(), all)?;
-    let rounds = rounds_in(rt, reporting, all, players.as_slice())?;
-    text_of(
-        rt.alloc(),
-        &reporting.event,
-        players.as_slice(),
-        rounds.as_slice(),
-    )
+    let text = text_of(rt.alloc(), event, players, met.rounds.as_slice())?;
+    Ok(io::writer(rt).write_all(text.as_slice())?)
 }
 
 // Writes the report of a tournament of these players.
@@ -197,11 +196,14 @@ fn write_report_of<R>(rt: &R, reporting: &Reporting<'_>, all: &[Player]) -> Resu
 where
     R: Files + Net<Stream = TcpStream> + AllocGlobal + Print + Eprint,
 {
-    let text = report_of(rt, reporting, all)?;
-    Ok(io::writer(rt).write_all(text.as_slice())?)
+    let players = playing(rt.alloc(), all)?;
+    let met = met_in(rt, reporting, all, players.as_slice())?;
+    write_met(rt, &reporting.event, players.as_slice(), &met)?;
+    check_halves(met.has_halves)
 }
 
-/// Writes the report of a tournament; none where a board's game is of others than its players, since it would lack points.
+/// Writes the report of a tournament; none where a board's game is of others than its players, since it would lack points. It
+/// fails behind that where a board has the result of a game that was played on as another.
 pub fn write_report<R>(rt: &R, reporting: &Reporting<'_>) -> Result<()>
 where
     R: Files + Net<Stream = TcpStream> + AllocGlobal + Print + Eprint,

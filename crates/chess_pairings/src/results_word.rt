@@ -1,5 +1,5 @@
 //! The word that writes the results of a round.
-use crate::outcomes::{Ended, Outcomes};
+use crate::outcomes::{Ended, Outcomes, check_halves};
 use anyhow::Result;
 use lobby_desk::Player;
 use pairing_commands::Asking;
@@ -117,7 +117,8 @@ where
 {
     let mut outcomes = Outcomes::open(rt, asking.source, players)?;
     write_outcomes(rt, asking.round.pairings, paired, &mut outcomes)?;
-    outcomes.check()
+    outcomes.check_players()?;
+    check_halves(outcomes.has_halves())
 }
 
 // The same, of which the files are still to be read.
