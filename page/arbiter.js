@@ -398,7 +398,7 @@ export class ArbiterView {
       button.hidden = kind === 'pgn' ? !card.isOver : kind !== 'drop' && Boolean(standing) && !runs;
       button.disabled = !standing || busy || !this.app.reachable() || kind === 'draw' && standing.ply < AGREED;
     }
-    card.more.hidden = !standing || runs;
+    card.more.hidden = !standing || runs || card.isOver;
     acts.draw.title = standing && standing.ply < AGREED ? 'A draw can be agreed on once both sides have made a move.' : '';
     if (card.root.contains(had) && !had.getClientRects().length) card.title.focus();
   }
@@ -451,10 +451,7 @@ export class ArbiterView {
         lines: [`as ${seat[OTHER[side]]} flag ${number}`] };
     }
     const title = `Take game ${number} of ${[name.w, name.b].filter(Boolean).join(' and ')} off the table?`;
-    const words = standing.article ? 'Its moves and its result are gone from here then. Whether an archive has kept them this '
-      + 'page is not told: one that keeps the games of this table takes each off by itself. Else save its PGN before.'
-      : 'It waits for a second player. No move has been made.';
-    return { title, words, yes: 'Take it off', lines: [`drop ${number}`] };
+    return { title, words: 'It waits for a second player. No move has been made.', yes: 'Take it off', lines: [`drop ${number}`] };
   }
 
   async askAbout(card, kind) {

@@ -93,7 +93,7 @@ export function drawActions(game) {
   show('resign', runs && seat);
   show('copy-invitation', !game.started() && seat);
   show('join', !game.started() && !seat && me);
-  show('drop', game.app.isArbiter() && (!game.started() || standing.article));
+  show('drop', game.app.isArbiter() && !game.started());
   show('again', standing.article && seat && game.tags.TimeControl);
   byId('move-form').hidden = !(runs && seat);
   byId('actions').hidden = ![...byId('actions').children].some((one) => !one.hidden);

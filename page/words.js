@@ -37,6 +37,8 @@ const REFUSALS = {
   39: 'An arbiter has stopped new games for the moment. Games that were begun go on.',
   40: 'The lobby could not change the file of the players, or another writes it at the moment. Try again; if that does not '
     + 'help, tell who runs the lobby.',
+  41: 'This game does not wait for a second player, so it is not taken off from here. One that is over goes by itself where '
+    + 'games are kept, once it has been.',
 };
 
 const OF_ANOTHER = {

@@ -15,6 +15,7 @@ from its standard input, and answers each by `ok` once it holds, so that a test 
     silent   nothing is answered any more, and the connections stay open
     slow MS  each answer comes MS milliseconds late
     beside WHITE BLACK   a game is opened and joined on the server, past the lobby: nobody is told
+    off G    a game that is over is taken off the table there, as by who keeps games: nobody is told
 
 Wants Debian's python3-websockets."""
 
@@ -41,7 +42,8 @@ OF_ARBITERS = ('who', 'pause entries', 'resume entries')
 OF_LINKS = ('link', 'close')
 OWN = ('login', 'players', 'lobby', 'watch', 'leave', 'line')
 REFUSED = {1: 'BadLine', 31: 'NoToken', 32: 'BadToken', 33: 'NotArbiter', 34: 'TooFast', 35: 'TooManyOpen',
-           36: 'NoServer', 37: 'TooManyWatched', 38: 'NoPlayer', 39: 'EntriesPaused', 40: 'NotWritten'}
+           36: 'NoServer', 37: 'TooManyWatched', 38: 'NoPlayer', 39: 'EntriesPaused', 40: 'NotWritten',
+           41: 'NotWaiting'}
 POLICY = ("default-src 'none'; script-src 'self'; style-src 'self'; img-src 'self'; connect-src 'self'; "
           "base-uri 'none'; form-action 'none'; frame-ancestors 'none'")
 TYPES = {'html': 'text/html; charset=utf-8', 'css': 'text/css; charset=utf-8',
@@ -165,6 +167,8 @@ class Lobby:
             show = self.server.ask(None, 'show' + text[4:])[0].split(' ')
             if show[0] == 'no':
                 return [' '.join(show)], None
+            if '-' not in show[3:5]:
+                refuse(41)
             seat = show[3] if show[3] != '-' else show[4]
         answer = self.server.ask(seat, line)
         if fault == 'lose':
@@ -296,6 +300,9 @@ class Lobby:
             white, black = word.split()[1:]
             number = self.server.ask(white, 'open white 300 2')[0].split()[2]
             self.server.ask(black, 'join ' + number)
+        elif word.startswith('off '):
+            white = self.server.ask(None, 'show ' + word[4:])[0].split(' ')[3]
+            self.server.ask(white, 'drop ' + word[4:])
 
     # ---- a connection
 

@@ -9,6 +9,7 @@ two stands a relay, so that a test can bring about what goes wrong:
     slow MS  each answer of the server comes MS milliseconds late
     silent   the lobby stands still, and its connections stay open
     beside WHITE BLACK   a game is opened and joined on the server, past the lobby
+    off G    a game that is over is taken off the table there, as by who keeps games
 
 `SeveralServers` are two servers, `chess_switch` before them, with a relay before the second, and a lobby before that.
 
@@ -211,27 +212,37 @@ class Programs:
             self.relay.delay = int(word[5:]) / 1000
         elif word.startswith('beside '):
             self.beside(*word.split()[1:])
+        elif word.startswith('off '):
+            self.off(word[4:])
 
-    def beside(self, white, black):
+    def at_server(self, then):
+        """Calls `then` with what asks the server a line, past the lobby."""
         with socket.create_connection(('127.0.0.1', self.server.port)) as line:
             answers = line.makefile('rb')
 
             def ask(text):
                 line.sendall(text.encode() + b'\n')
                 return answers.readline().decode().split()
+            return then(ask)
+
+    def beside(self, white, black):
+        def pairs(ask):
             ask('name ' + white)
             number = ask('open white 300 2')[2]
             ask('name ' + black)
             ask('join ' + number)
+        self.at_server(pairs)
+
+    def off(self, number):
+        def takes(ask):
+            ask('name ' + ask('show ' + number)[3])
+            ask('drop ' + number)
+        self.at_server(takes)
 
     def crowd(self, count):
         """Running games of two moves, eight of them of ann and bob; the first one's number."""
-        with socket.create_connection(('127.0.0.1', self.server.port)) as line:
-            answers, first = line.makefile('rb'), None
-
-            def ask(text):
-                line.sendall(text.encode() + b'\n')
-                return answers.readline().decode().split()
+        def play(ask):
+            first = None
             for place in range(count):
                 white, black = ('ann', 'bob') if place < 8 else ('cid', 'dee')
                 ask('name ' + white)
@@ -243,7 +254,8 @@ class Programs:
                 ask('move %d 0 e4' % number)
                 ask('name ' + black)
                 ask('move %d 1 e5' % number)
-        return first
+            return first
+        return self.at_server(play)
 
     def stop(self):
         self.kill()

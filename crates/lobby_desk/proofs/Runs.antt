@@ -774,6 +774,7 @@ dropped_heard players past line c by text others waits asked lines later h =
         name = h.name;
         seated = h.seated;
         first = h.first;
+        empty = h.empty;
         acts = subst (λ (ls : List (List ℕ)). ActsUnder (name_in past) ls h.name) (sym h.lines_are) under.acts;
         of_text = subst (λ (ls : List (List ℕ)). IsOf (text ∷ []) ls) (sym h.lines_are) under.of_text;
       }));

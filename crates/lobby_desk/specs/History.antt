@@ -7,7 +7,7 @@ use Rattle.lobby_words.specs.declared.planning.Identity.{Identity}
 use Rattle.lobby_desk.specs.declared.players.Player.{Player}
 use Rattle.lobby_words.specs.Words.{rest_of, as_name, as_line, is_message, sort_of, is_act_sort, is_as_sort, is_drop_sort, is_name_sort, is_login_sort, is_link_sort, number_or_0}
 use Rattle.lobby_desk.specs.Players.{holder_of, player_named, renewed, is_token_of}
-use Rattle.lobby_words.specs.Answers.{IsSeated, IsFirstSeated, act_game, is_whole, answer}
+use Rattle.lobby_words.specs.Answers.{IsSeated, IsFirstSeated, has_empty_seat, act_game, is_whole, answer}
 use Rattle.lobby_desk.specs.Lines.{name_line, game_line, notice_lines}
 use Rattle.lobby_desk.specs.Events.{Event, Opened, Closed, Said, Heard, Gone, Here, Renewed, Linked, Telling, ForAct, Owed, Asker, Dropper, Followers}
 use Rattle.lobby_desk.specs.Refusals.{is_act_accepted, refused_game}
@@ -151,8 +151,8 @@ HasAsked players [] c text = ⊥
 HasAsked players (s ∷ past) c text = AsksNow players past s.event c text ⊎ HasAsked players past c text
 
 -- A drop goes out behind an answer of the server. It is the message of a connection that had shown an arbiter's token when it
--- said it; the answer is the one for which this message waits; and the drop stands under the name of a player who, as that
--- answer says, has a seat in the game: of White, where somebody is White.
+-- said it; the answer is the one for which this message waits, and shows the game with an empty seat, so that it waits for its
+-- second player; and the drop stands under the name of the player who, as that answer says, has the other seat.
 pub record IsDropOf (players : List Player) (past : List Step) (line : List ℕ) (lines : List (List ℕ)) : Type 0 where
   pub c : ℕ
   pub by : List ℕ
@@ -163,6 +163,7 @@ pub record IsDropOf (players : List Player) (past : List Step) (line : List ℕ)
   pub name : List ℕ
   pub seated : IsSeated (answer (known_in players past).begun line) (rest_of text) name
   pub first : IsFirstSeated (answer (known_in players past).begun line) name
+  pub empty : has_empty_seat (answer (known_in players past).begun line) ≡ true
   pub acts : ActsUnder (name_in past) lines name
   pub of_text : IsOf (text ∷ []) lines
 

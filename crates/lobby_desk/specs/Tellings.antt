@@ -7,6 +7,8 @@ use Rattle.lobby_desk.specs.declared.refusals.Refused.{Refused}
 use Rattle.lobby_desk.specs.declared.telling.Kind.{Kind}
 use Rattle.lobby_desk.specs.declared.telling.Kind.TheVariants as kinds
 use Rattle.lobby_words.specs.Words.{rest_of, is_message, sort_of, is_close_sort, is_leave_sort, is_leave_lobby_sort, number_in}
+use Rattle.lobby_words.specs.declared.refusals.Refusal.TheVariants as refusals
+use Rattle.lobby_words.specs.Plans.{refusal_text}
 use Rattle.lobby_words.specs.Answers.{left_after, is_whole, answer, is_accepted, is_over, act_game}
 use Rattle.lobby_desk.specs.Watching.{at_table, watch_if, sit_if, unwatched, none_watched, risen, followers}
 use Rattle.lobby_desk.specs.Events.{Event, Opened, Closed, Said, Hurried, Heard, Gone, Here, Renewed, Linked, Telling, to_one, to_one_as, Ask, ForPositions, ForGame, ForTable, ForAct, Owed, Nobody, Asker, Dropper, Followers, owed_last, asker, follower}
@@ -194,12 +196,17 @@ notice watches table game act is_table before now = record {
   text = codes "told " ++ decimal game ++ codes "\n" ++ act ++ before ++ now;
 }
 
+-- What an arbiter's `drop` is answered that does not go out: where the game is shown, that it does not wait for a second player; else
+-- the refusal to show it.
+abbrev pub undropped : List ℕ → List ℕ
+undropped now = if is_accepted now then refusal_text refusals.NotWaiting else now
+
 -- What is told for an answer of the server, by whose it is. What goes to the log is told before the rest.
 abbrev pub IsToldFor : List ℕ → List Watch → List ℕ → List Refused → Owed → List ℕ → List (List ℕ) → List Telling → Type 0
 IsToldFor before watches table refused Nobody now lines tells = (lines ≡ []) × (tells ≡ [])
 IsToldFor before watches table refused (Asker c ask) now lines tells =
     tells ≡ logged_for refused ask now ++ to_one_as c (kind_of ask before now) (made_of ask before now) ∷ []
-IsToldFor before watches table refused (Dropper c by text) now [] tells = tells ≡ to_one c now ∷ []
+IsToldFor before watches table refused (Dropper c by text) now [] tells = tells ≡ to_one c (undropped now) ∷ []
 IsToldFor before watches table refused (Dropper c by text) now (line ∷ lines) tells = tells ≡ []
 IsToldFor before watches table refused (Followers game act is_table) now lines tells =
     (lines ≡ []) × (tells ≡ logged_standing before ++ notice watches table game act is_table before now ∷ [])

@@ -19,7 +19,7 @@ use Rattle.lobby_words.specs.Waiting.{is_open as opens_game}
 use Rattle.lobby_desk.specs.Players.{holder_of, player_named, renewed, is_token_of, login_text, players_text, present_names, who_text}
 use Rattle.lobby_words.specs.Plans.{refusal_text, plan_of, order_of}
 use Rattle.lobby_desk.specs.Lines.{bytes_of, lines_of, act_lines, said_after, notice_lines, IsNamed}
-use Rattle.lobby_words.specs.Answers.{IsSeated, IsFirstSeated, IsSeatless, act_game, is_whole, answer}
+use Rattle.lobby_words.specs.Answers.{IsSeated, IsFirstSeated, IsSeatless, has_empty_seat, act_game, is_whole, answer}
 use Rattle.lobby_desk.specs.Watching.{games_of, unwatched, risen, is_full}
 use Rattle.lobby_desk.specs.Waiting.{is_crowded}
 use Rattle.lobby_desk.specs.Pace.{is_too_fast}
@@ -245,24 +245,24 @@ pub record IsSaid (players : List Player) (old : View) (c : ℕ) (text : List �
   pub paused_is : new.paused ≡ paused_after plan old.paused
   pub who_is : (d : ℕ) → new.who d ≡ (if c == d then who_noted plan (old.who d) else old.who d)
 
--- A drop that waited goes out, under the name of a player who has a seat in its game, as the answer to `show` says: White, where
--- somebody is White.
+-- A drop that waited goes out, under the name of the player who waits in its game for a second one, as the answer to `show` says.
 pub record IsDropped (said : Option (List ℕ)) (now text : List ℕ) (lines : List (List ℕ)) (later : Option (List ℕ)) : Type 0 where
   pub name : List ℕ
   pub named : IsName name
   pub seated : IsSeated now (rest_of text) name
   pub first : IsFirstSeated now name
+  pub empty : has_empty_seat now ≡ true
   pub lines_are : lines ≡ act_lines said name text
   pub said_is : later ≡ Some name
 
--- Nothing goes out for a drop that waited: nobody has a seat in its game.
+-- Nothing goes out for a drop that waited: nobody has a seat in its game, or no seat of it is empty.
 pub record IsNotDropped (said : Option (List ℕ)) (now text : List ℕ) (lines : List (List ℕ)) (later : Option (List ℕ)) : Type 0 where
   pub none : lines ≡ []
   pub said_is : later ≡ said
-  pub seatless : IsSeatless now (rest_of text)
+  pub not_waiting : IsSeatless now (rest_of text) ⊎ (has_empty_seat now ≡ false)
 
 -- What goes out for an answer, by whose it is, and the name that was said last then. For the answer to an act it is asked how the
--- game stands that it names; a drop goes out for the answer that it waits for, where somebody is seated; else nothing does.
+-- game stands that it names; a drop goes out for the answer that it waits for, where a seat is empty; else nothing does.
 abbrev pub IsSentFor : Owed → Option (List ℕ) → List ℕ → List (List ℕ) → Option (List ℕ) → Type 0
 IsSentFor (Asker c (ForAct by text)) said now lines later = (lines ≡ notice_lines (act_game now)) × (later ≡ said)
 IsSentFor (Dropper c by text) said now lines later = IsNotDropped said now text lines later ⊎ IsDropped said now text lines later

@@ -64,6 +64,10 @@ IsFirstSeated answer name = IsName (white_in answer) → name ≡ white_in answe
 abbrev pub IsSeatless : List ℕ → List ℕ → Type 0
 IsSeatless answer game = (name : List ℕ) → IsName name → IsSeated answer game name → ⊥
 
+-- The answer to `show` says that one of the two seats is empty, which is told as `-`: the game waits for its second player.
+abbrev pub has_empty_seat : List ℕ → Bool
+has_empty_seat answer = bytes_eq (white_in answer) (codes "-") || bytes_eq (black_in answer) (codes "-")
+
 -- what stands before the first line feed
 abbrev pub first_line : List ℕ → List ℕ
 first_line answer = before_first (λ b. b == 10) answer

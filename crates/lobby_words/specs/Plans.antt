@@ -22,6 +22,7 @@ refusal_text refusals.TooManyWatched = codes "no 37 TooManyWatched\n"
 refusal_text refusals.NoPlayer = codes "no 38 NoPlayer\n"
 refusal_text refusals.EntriesPaused = codes "no 39 EntriesPaused\n"
 refusal_text refusals.NotWritten = codes "no 40 NotWritten\n"
+refusal_text refusals.NotWaiting = codes "no 41 NotWaiting\n"
 
 -- what asks for the server
 abbrev pub asked : Standing → Plan → Plan

@@ -2,7 +2,7 @@
 ghost use Rattle.std.specs.Prelude.{codes, ◌≡◌, ◌==◌, IfSome, IfNone};
 ghost use Rattle.std.specs.List.{ends_with};
 ghost use Rattle.rec_codec.specs.Name.{IsName};
-ghost use Rattle.lobby_words.specs.Answers.{IsSeated, IsFirstSeated, IsSeatless, first_line, act_game, is_table_act, is_accepted, is_ended, is_no_game, is_over};
+ghost use Rattle.lobby_words.specs.Answers.{IsSeated, IsFirstSeated, IsSeatless, has_empty_seat, first_line, act_game, is_table_act, is_accepted, is_ended, is_no_game, is_over};
 
 use crate::words::{cut, line_said, number_named};
 use rec_codec::Name;
@@ -106,4 +106,18 @@ pub fn seated(answer: &str, game: &str) -> Option<Name>
     } else {
         None
     }
+}
+
+/// Whether the answer to `show` says that a seat of the game is empty, so that it waits for its second player.
+pub fn has_empty_seat(answer: &str) -> bool
+    ensures { result ≡ has_empty_seat answer.now }
+{
+    let (_, rest) = cut(answer);
+    let (_, rest) = cut(rest);
+    let (_, rest) = cut(rest);
+    let (white, rest) = cut(rest);
+    let (black, _) = cut(rest);
+    let is_white = white == "-";
+    let is_black = black == "-";
+    is_white | is_black
 }

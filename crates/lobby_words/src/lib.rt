@@ -8,7 +8,7 @@ mod planning;
 mod refusals;
 mod words;
 
-pub use answers::{game_told, is_accepted, is_over, is_table_act, seated};
+pub use answers::{game_told, has_empty_seat, is_accepted, is_over, is_table_act, seated};
 pub use coming::Coming;
 pub use listing::{Waiting, ends_wait, is_list, is_open, waiting_in, waiting_of};
 pub use planning::{Identity, Order, Plan, Standing, order_of, plan_of};

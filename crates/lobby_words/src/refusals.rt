@@ -25,6 +25,8 @@ pub enum Refusal {
     EntriesPaused,
     /// The players' file is as it was: the player's link could not be changed there.
     NotWritten,
+    /// The game does not wait for a second player, so that it is not dropped from here.
+    NotWaiting,
 }
 
 impl Refusal {
@@ -43,6 +45,7 @@ impl Refusal {
             Refusal::NoPlayer => "no 38 NoPlayer\n",
             Refusal::EntriesPaused => "no 39 EntriesPaused\n",
             Refusal::NotWritten => "no 40 NotWritten\n",
+            Refusal::NotWaiting => "no 41 NotWaiting\n",
         }
     }
 }
