@@ -43,7 +43,7 @@ impl Found {
 
 /// The line of a game in the archive.
 #[derive(Drop)]
-struct Line {
+struct ArchiveLine {
     game: u32,
     text: String,
 }
@@ -52,7 +52,7 @@ struct Line {
 #[derive(Drop)]
 pub struct Outcomes<'a> {
     alloc: Global,
-    lines: Vec<Line>,
+    lines: Vec<ArchiveLine>,
     link: Option<Link>,
     players: &'a [Player],
     // What is to be told of boards.
@@ -91,7 +91,7 @@ fn moves_in(alloc: Global, line: &str) -> Result<u32, AllocError> {
 
 // What a PGN tells: who played, and what came of it.
 #[derive(Clone, Copy)]
-struct Told<'a> {
+struct PgnTags<'a> {
     white: &'a str,
     black: &'a str,
     result: &'a str,
@@ -99,10 +99,10 @@ struct Told<'a> {
     plies: u32,
 }
 
-impl<'a> Told<'a> {
+impl<'a> PgnTags<'a> {
     // The same with what a line tells, in which so many moves stand.
-    fn with_line(self, line: &'a str, moves: u32) -> Told<'a> {
-        Told {
+    fn with_line(self, line: &'a str, moves: u32) -> PgnTags<'a> {
+        PgnTags {
             white: tag_value(line, "[White \"").unwrap_or(self.white),
             black: tag_value(line, "[Black \"").unwrap_or(self.black),
             result: tag_value(line, "[Result \"").unwrap_or(self.result),
@@ -121,8 +121,8 @@ impl<'a> Told<'a> {
 }
 
 // What the lines of a PGN tell; `*` where they do not tell the result.
-fn told_by<'a>(alloc: Global, lines: &[&'a str]) -> Result<Told<'a>, AllocError> {
-    let mut told = Told {
+fn told_by<'a>(alloc: Global, lines: &[&'a str]) -> Result<PgnTags<'a>, AllocError> {
+    let mut told = PgnTags {
         white: "",
         black: "",
         result: "*",
@@ -136,15 +136,15 @@ fn told_by<'a>(alloc: Global, lines: &[&'a str]) -> Result<Told<'a>, AllocError>
 }
 
 // What a PGN tells.
-fn told_in(alloc: Global, pgn: &str) -> Result<Told<'_>, AllocError> {
+fn told_in(alloc: Global, pgn: &str) -> Result<PgnTags<'_>, AllocError> {
     let lines = parts(alloc, pgn, '\n')?;
     told_by(alloc, lines.as_slice())
 }
 
 // The line of a game; none where it tells none.
-fn line_in(alloc: Global, line: &str) -> Result<Option<Line>, AllocError> {
+fn line_in(alloc: Global, line: &str) -> Result<Option<ArchiveLine>, AllocError> {
     match game_of(alloc, line)? {
-        Some(game) => Ok(Some(Line {
+        Some(game) => Ok(Some(ArchiveLine {
             game,
             text: String::from_str(alloc, line)?,
         })),
@@ -152,7 +152,11 @@ fn line_in(alloc: Global, line: &str) -> Result<Option<Line>, AllocError> {
     }
 }
 
-fn put_lines(lines: &mut Vec<Line>, alloc: Global, texts: &[&str]) -> Result<(), AllocError> {
+fn put_lines(
+    lines: &mut Vec<ArchiveLine>,
+    alloc: Global,
+    texts: &[&str],
+) -> Result<(), AllocError> {
     for text in texts {
         if let Some(line) = line_in(alloc, text)? {
             lines.push(line)?;
@@ -162,7 +166,7 @@ fn put_lines(lines: &mut Vec<Line>, alloc: Global, texts: &[&str]) -> Result<(),
 }
 
 // The lines of an archive's text, each with its game.
-fn lines_in(alloc: Global, text: &str) -> Result<Vec<Line>, AllocError> {
+fn lines_in(alloc: Global, text: &str) -> Result<Vec<ArchiveLine>, AllocError> {
     let texts = parts(alloc, text, '\n')?;
     let mut lines = Vec::new(alloc);
     put_lines(&mut lines, alloc, texts.as_slice())?;
@@ -170,7 +174,7 @@ fn lines_in(alloc: Global, text: &str) -> Result<Vec<Line>, AllocError> {
 }
 
 // The lines of an archive, where one is named.
-fn archive_of<R: Files + AllocGlobal>(rt: &R, file: Option<&str>) -> Result<Vec<Line>> {
+fn archive_of<R: Files + AllocGlobal>(rt: &R, file: Option<&str>) -> Result<Vec<ArchiveLine>> {
     let Some(file) = file else {
         return Ok(Vec::new(rt.alloc()));
     };

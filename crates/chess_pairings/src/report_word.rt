@@ -152,7 +152,7 @@ where
     let names = names_of(rt.alloc(), players.as_slice())?;
     Ok(report(
         rt.alloc(),
-        &reporting.event,
+        &reporting.tournament,
         names.as_slice(),
         rounds.as_slice(),
     )?)

@@ -59,7 +59,7 @@ pub struct Shown {
 
 // The same, as it is told.
 #[derive(Clone, Copy)]
-struct Told<'a> {
+struct ShownFields<'a> {
     seats: Seats,
     plies: u32,
     result: &'a str,
@@ -67,7 +67,7 @@ struct Told<'a> {
 }
 
 // What the fields of an answer to `show` tell; none where they have another form.
-fn told_in<'a>(fields: &[&'a str]) -> Option<Told<'a>> {
+fn told_in<'a>(fields: &[&'a str]) -> Option<ShownFields<'a>> {
     let [
         "ok",
         "show",
@@ -85,7 +85,7 @@ fn told_in<'a>(fields: &[&'a str]) -> Option<Told<'a>> {
     else {
         return None;
     };
-    Some(Told {
+    Some(ShownFields {
         seats: Seats {
             white: seat_of(white),
             black: seat_of(black),
@@ -96,7 +96,7 @@ fn told_in<'a>(fields: &[&'a str]) -> Option<Told<'a>> {
     })
 }
 
-fn shown_of(alloc: Global, told: Told<'_>) -> Result<Shown, AllocError> {
+fn shown_of(alloc: Global, told: ShownFields<'_>) -> Result<Shown, AllocError> {
     Ok(Shown {
         seats: told.seats,
         plies: told.plies,
