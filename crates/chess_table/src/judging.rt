@@ -33,7 +33,7 @@ pub(crate) const GREATEST_MOMENT: u64 = 4_611_686_018_427_387_903;
 
 // What the text of a command tells: the start of a game, or a move.
 #[derive(Clone, Copy)]
-struct Parsed {
+struct ParsedText {
     start: Option<Board>,
     mv: Option<StoredMove>,
 }
@@ -81,23 +81,23 @@ fn stated_parsed(table: &Table, number: u32, text: &Option<Text>) -> Option<Stor
 }
 
 // What the text of an act tells on the table.
-fn parsed_by(table: &Table, act: &Act) -> Parsed
+fn parsed_by(table: &Table, act: &Act) -> ParsedText
     ensures { IsTheParsed table.now act.now (parsed result.start result.mv) }
 {
     match act {
-        Act::Open { fen, .. } => Parsed {
+        Act::Open { fen, .. } => ParsedText {
             start: start_parsed(fen),
             mv: None,
         },
-        Act::Move { game, text, .. } => Parsed {
+        Act::Move { game, text, .. } => ParsedText {
             start: None,
             mv: move_parsed(table, *game, text),
         },
-        Act::Claim { game, text, .. } => Parsed {
+        Act::Claim { game, text, .. } => ParsedText {
             start: None,
             mv: stated_parsed(table, *game, text),
         },
-        _ => Parsed {
+        _ => ParsedText {
             start: None,
             mv: None,
         },
@@ -451,7 +451,7 @@ fn read_verdict(table: &Table, act: &Act) -> Verdict
 }
 
 // The verdict on an act that a player may make.
-fn player_verdict(table: &Table, at: u64, name: &Name, named: &Parsed, act: &Act) -> Verdict
+fn player_verdict(table: &Table, at: u64, name: &Name, named: &ParsedText, act: &Act) -> Verdict
     requires { table.now.moment ≤ at }
     ensures { result ≡ player_verdict table.now at name.now (parsed named.now.start named.now.mv) act.now }
 {
@@ -502,7 +502,7 @@ fn player_verdict(table: &Table, at: u64, name: &Name, named: &Parsed, act: &Act
 }
 
 // The verdict on a command, by what its text tells.
-fn checked(table: &Table, command: &Command, named: &Parsed) -> Verdict
+fn checked(table: &Table, command: &Command, named: &ParsedText) -> Verdict
     ensures { result ≡ verdict table.now command.now (parsed named.now.start named.now.mv) }
 {
     if command.moment > GREATEST_MOMENT {

@@ -4,7 +4,7 @@ use Rattle.chess_board.specs.Position.{Position}
 use Rattle.chess_board.specs.Next.{next}
 use Rattle.chess_board.specs.Line.{positions_of}
 use Rattle.chess_game.specs.Scoresheet.{last_of}
-use Rattle.chess_game.proofs.ScoresheetKept.{length-history, IsSound-push, ending-answered}
+use Rattle.chess_game.proofs.ScoresheetKept.{length-history, IsSoundScoresheet-push, ending-answered}
 use Rattle.chess_game.proofs.scoresheet.Scoresheet.push_made.Goals as goal
 
 pub push-requires : goal.push-requires
@@ -16,7 +16,7 @@ push-requires c =
 
 pub invariant_of-self-2 : goal.invariant_of-self-2
 invariant_of-self-2 c =
-    IsSound-push c.self.inside _ c.args.mv.now c.self.invariant refl
+    IsSoundScoresheet-push c.self.inside _ c.args.mv.now c.self.invariant refl
     (c.push_reserved.ensures.items ∙ ap (λ (ms : List Move). ms ++ c.args.mv.now ∷ []) c.reserve.ensures.items)
     (c.requires.made
     ∙ ap (λ (p : Position). next p c.args.mv.now)
