@@ -94,7 +94,7 @@ open-entered = record {
   within = within;
   command = by_a 0 (act.Open White 60 2 None None);
   named = a-named;
-  entered = record { parsed = parsed (Some initial) None; is_told = (refl, refl); is = refl };
+  entered = record { parsed = parsed (Some initial) None; is_parsed = (refl, refl); is = refl };
 }
 
 join-entered : IsEntered limits opened (entry 1 1000 (event.Join (66 ∷ [])))
@@ -104,7 +104,7 @@ join-entered = record {
   within = within;
   command = by_b 1000 (act.Join 1);
   named = b-named;
-  entered = record { parsed = parsed None None; is_told = (refl, refl); is = refl };
+  entered = record { parsed = parsed None None; is_parsed = (refl, refl); is = refl };
 }
 
 offer-entered : IsEntered limits joined (entry 1 2000 (event.Offer White))
@@ -114,7 +114,7 @@ offer-entered = record {
   within = within;
   command = by_a 2000 (act.Offer 1);
   named = a-named;
-  entered = record { parsed = parsed None None; is_told = (refl, refl); is = refl };
+  entered = record { parsed = parsed None None; is_parsed = (refl, refl); is = refl };
 }
 
 claim-entered : IsEntered limits offered
@@ -125,7 +125,7 @@ claim-entered = record {
   within = within;
   command = by_a 3000 (act.Claim 1 0 true None);
   named = a-named;
-  entered = record { parsed = parsed None None; is_told = (refl, refl); is = refl };
+  entered = record { parsed = parsed None None; is_parsed = (refl, refl); is = refl };
 }
 
 resign-entered : IsEntered limits claimed (entry 1 9000 (event.Resign Black))
@@ -135,7 +135,7 @@ resign-entered = record {
   within = within;
   command = by_b 9000 (act.Resign 1);
   named = b-named;
-  entered = record { parsed = parsed None None; is_told = (refl, refl); is = refl };
+  entered = record { parsed = parsed None None; is_parsed = (refl, refl); is = refl };
 }
 
 opened-lawful : IsLawful limits opened
@@ -169,7 +169,7 @@ e2e4-named : Names initial (101 ∷ 50 ∷ 101 ∷ 52 ∷ []) e2e4
 unfolding board_opens
 e2e4-named = record {
   legal = (Decides-is_legal initial e2e4).0 refl;
-  parsed = inr (record {
+  told = inr (record {
     letter = [];
     from_on_board = record { file_from = omega arith; file_to = omega arith; rank_from = omega arith; rank_to = omega arith };
     to_on_board = record { file_from = omega arith; file_to = omega arith; rank_from = omega arith; rank_to = omega arith };
@@ -185,7 +185,7 @@ move-entered = record {
   within = within;
   command = by_a 500 (act.Move 1 0 e2e4-text);
   named = a-named;
-  entered = record { parsed = parsed None (Some e2e4); is_told = (refl, e2e4-named); is = refl };
+  entered = record { parsed = parsed None (Some e2e4); is_parsed = (refl, e2e4-named); is = refl };
 }
 
 moved-lawful : IsLawful limits (joined ++ entry 1 1000 (event.Move (record { mv = e2e4; ply = 0 })) ∷ [])

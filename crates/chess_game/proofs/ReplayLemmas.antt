@@ -30,7 +30,7 @@ GoesOnUntilLast-none start (n ∷ before) m last rest same = absurd cc
 pub IsReplayed-none : (start : Position) (line : ScoresheetState) → line ≡ record { start = start; moves = [] }
     → IsReplayed start [] line None
 IsReplayed-none start line is = record {
-  is_line = record { legal = tt; goes_on = GoesOnUntilLast-none start };
+  is_scoresheet = record { legal = tt; goes_on = GoesOnUntilLast-none start };
   start = ap (λ (l : ScoresheetState). l.start) is;
   moves = ap (λ (l : ScoresheetState). l.moves) is;
   ends = refl;
@@ -52,10 +52,10 @@ IsReplayed-push start moves m line after by_line ends so_far goes_on legal pushe
     ap (λ (l : ScoresheetState). l.moves) pushed ∙ ap (λ (ms : List Move). ms ++ m ∷ []) so_far.moves in
     let P : Position → Type 0 = λ p. IsLegal p m in
     record {
-      is_line = record {
-        legal = IsLegalLine-push start moves m so_far.is_line.legal
+      is_scoresheet = record {
+        legal = IsLegalLine-push start moves m so_far.is_scoresheet.legal
             (subst P (last_is start moves line by_line so_far) legal);
-        goes_on = GoesOnUntilLast-push start moves m so_far.is_line.goes_on (sym so_far.ends ∙ goes_on);
+        goes_on = GoesOnUntilLast-push start moves m so_far.is_scoresheet.goes_on (sym so_far.ends ∙ goes_on);
       };
       start = same_start;
       moves = same_moves;

@@ -171,7 +171,7 @@ text_of m = square_name m.from ++ (square_name m.to ++ letter_of m.promotion)
 text-names : (p : Position) (m : Move) → IsLegal p m → Names p (text_of m) m
 text-names p m legal = record {
   legal = legal;
-  parsed = inr (record {
+  told = inr (record {
     letter = letter_of m.promotion;
     from_on_board = IsOnBoard-from_man p.placement m.from (p.side, legal.candidate.kind) legal.candidate.own;
     to_on_board = legal.candidate.on_board;
@@ -241,7 +241,7 @@ module _ (table : TableState) (e : Entry) (from : table.moment ≤ e.moment) (to
       record {
         command = command;
         named = named;
-        entered = record { parsed = t; is_told = tells; is = sym here };
+        entered = record { parsed = t; is_parsed = tells; is = sym here };
       }
 
   at_seat : (name : List ℕ) (game : GameState) (side : Colour) (v : GameState → Colour → Verdict)

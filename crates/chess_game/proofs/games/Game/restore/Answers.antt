@@ -25,7 +25,7 @@ invariant_of-result c =
     IsSound-shown _ (game_named head moves)
     (Shows-named _ head moves c.in-Some.replayed.by_line refl refl made c.sides_named.ensures)
     (IsGame-asked (game_named head moves) c.get-numbered.ensures.from c.get-numbered.ensures.fits
-    (c.may_be_opened.ensures.0 c.if-not-may_be_opened.false) made.is_line
+    (c.may_be_opened.ensures.0 c.if-not-may_be_opened.false) made.is_scoresheet
     (c.may_stand.ensures.0 c.if-not-may_stand.false))
 
 pub returns-clause-some : goal.returns-clause-some
@@ -37,5 +37,5 @@ returns-clause-some c =
     (Shows-named _ head moves c.in-Some.replayed.by_line refl refl made c.sides_named.ensures)
     (c.is_counted.ensures.0 c.if-not-is_counted.false)
     (IsGame-asked (game_named head moves) c.get-numbered.ensures.from c.get-numbered.ensures.fits
-    (c.may_be_opened.ensures.0 c.if-not-may_be_opened.false) made.is_line
+    (c.may_be_opened.ensures.0 c.if-not-may_be_opened.false) made.is_scoresheet
     (c.may_stand.ensures.0 c.if-not-may_stand.false))
