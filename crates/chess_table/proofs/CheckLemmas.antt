@@ -13,11 +13,15 @@ use Rattle.chess_board.specs.Legal.{IsLegal, IsMoveOf, IsPromotion, IsPromotionK
 use Rattle.chess_notation.specs.Naming.{Names}
 use Rattle.rec_codec.specs.Moves.{CanBecome}
 use Rattle.chess_entry.specs.declared.verdicts.Verdict.{Verdict}
-use Rattle.chess_entry.specs.State.{GameState, position_of}
-use Rattle.chess_entry.specs.Told.{IsMoveTold}
-use Rattle.chess_entry.specs.Verdict.{Check, first_of}
+use Rattle.arrayvec.specs.ArrayString.{ArrayString}
+use Rattle.chess_entry.specs.declared.commands.Act.{Act}
+use Rattle.chess_entry.specs.declared.commands.Act.TheVariants as act
+use Rattle.chess_entry.specs.State.{GameState, TableState, position_of, find_game}
+use Rattle.chess_entry.specs.Told.{Told, told, IsMoveTold, bytes_of}
+use Rattle.chess_entry.specs.Verdict.{Check, first_of, is_read}
 use Rattle.chess_table.specs.Checks.{stopped_by}
-use Rattle.chess_table.specs.Telling.{IsTheMove}
+use Rattle.chess_table.specs.Asked.{game_of, AsksNoSeat}
+use Rattle.chess_table.specs.Telling.{IsTheMove, IsTheTold}
 
 -- ---- groups of checks
 
@@ -135,3 +139,51 @@ move-unnamed (Some h) g text p is stands none =
         → IsMoveTold (Some h) (Some text) other → other ≡ None
     only never None told = refl
     only never (Some n) told = absurd (never n told)
+
+-- a told move is the only thing that an act's text tells
+one-told : (o : Option GameState) (text : Option (List ℕ)) (mv : Option Move) → IsTheMove o text mv → (other : Told)
+    → (other.start ≡ None) × IsMoveTold o text other.move → other ≡ told None mv
+one-told o text mv the other is =
+    ap (λ (s : Option Position). told s other.move) is.0
+    ∙ ap (λ (m : Option Move). told None m) (the.one other.move is.1)
+
+pub play-told : (table : TableState) (a : Act) (game ply : ℕ) (text : ArrayString) (o : Option GameState)
+    (mv : Option Move) → a ≡ act.Play game ply text → o ≡ find_game (game_of a) table.games
+    → IsTheMove o (Some text.bytes) mv → IsTheTold table a (told None mv)
+play-told table a game ply text o mv is found the =
+    let here : IsTheMove (find_game game table.games) (Some text.bytes) mv =
+    subst (λ (x : Option GameState). IsTheMove x (Some text.bytes) mv)
+    (found ∙ ap (λ (x : Act). find_game (game_of x) table.games) is) the in
+    subst (λ (x : Act). IsTheTold table x (told None mv)) (sym is)
+    (record { is = (refl, here.told); one = one-told _ _ mv here })
+
+pub claim-told : (table : TableState) (a : Act) (game ply : ℕ) (fifty : Bool) (text : Option ArrayString)
+    (o : Option GameState) (mv : Option Move) → a ≡ act.Claim game ply fifty text
+    → o ≡ find_game (game_of a) table.games → IsTheMove o (bytes_of text) mv → IsTheTold table a (told None mv)
+claim-told table a game ply fifty text o mv is found the =
+    let here : IsTheMove (find_game game table.games) (bytes_of text) mv =
+    subst (λ (x : Option GameState). IsTheMove x (bytes_of text) mv)
+    (found ∙ ap (λ (x : Act). find_game (game_of x) table.games) is) the in
+    subst (λ (x : Act). IsTheTold table x (told None mv)) (sym is)
+    (record { is = (refl, here.told); one = one-told _ _ mv here })
+
+-- what is neither made in a seat nor opens or joins a game is a read
+pub other-reads : (a : Act) → AsksNoSeat a
+    → ((colour : Colour) (initial increment : ℕ) (fen : Option ArrayString) (period : Option (ℕ × ℕ))
+    → ¬ (a ≡ act.NewGame colour initial increment fen period))
+    → ((game : ℕ) → ¬ (a ≡ act.Join game)) → is_read a ≡ true
+other-reads (act.NewGame colour initial increment fen period) none new join =
+    absurd (new colour initial increment fen period refl)
+other-reads (act.Join game) none new join = absurd (join game refl)
+other-reads (act.Play game ply text) none new join = absurd none
+other-reads (act.Offer game) none new join = absurd none
+other-reads (act.Accept game) none new join = absurd none
+other-reads (act.Decline game) none new join = absurd none
+other-reads (act.Resign game) none new join = absurd none
+other-reads (act.Claim game ply fifty text) none new join = absurd none
+other-reads (act.Flag game) none new join = absurd none
+other-reads (act.Remove game) none new join = absurd none
+other-reads (act.Show game) none new join = refl
+other-reads (act.Fen game) none new join = refl
+other-reads (act.Pgn game) none new join = refl
+other-reads act.List none new join = refl

@@ -1,0 +1,39 @@
+use Rattle.std.proofs.Common.{Bool, refl, sym, ap, subst}
+use Rattle.chess_entry.specs.declared.commands.Act.{Act}
+use Rattle.chess_entry.specs.Verdict.{in_seat, claim_verdict}
+use Rattle.chess_table.specs.Asked.{IsAskedBy}
+use Rattle.chess_table.proofs.judging.asked_by.Goals as goal
+
+pub returns-in-Play-clause-some : goal.returns-in-Play-clause-some
+returns-in-Play-clause-some c =
+    subst (λ (a : Act). IsAskedBy a c.args.mv.now _) (sym c.in-Play.is) (λ table at name start. refl)
+
+pub returns-in-Offer-clause-some : goal.returns-in-Offer-clause-some
+returns-in-Offer-clause-some c =
+    subst (λ (a : Act). IsAskedBy a c.args.mv.now _) (sym c.in-Offer.is) (λ table at name start. refl)
+
+pub returns-in-Accept-clause-some : goal.returns-in-Accept-clause-some
+returns-in-Accept-clause-some c =
+    subst (λ (a : Act). IsAskedBy a c.args.mv.now _) (sym c.in-Accept.is) (λ table at name start. refl)
+
+pub returns-in-Decline-clause-some : goal.returns-in-Decline-clause-some
+returns-in-Decline-clause-some c =
+    subst (λ (a : Act). IsAskedBy a c.args.mv.now _) (sym c.in-Decline.is) (λ table at name start. refl)
+
+pub returns-in-Resign-clause-some : goal.returns-in-Resign-clause-some
+returns-in-Resign-clause-some c =
+    subst (λ (a : Act). IsAskedBy a c.args.mv.now _) (sym c.in-Resign.is) (λ table at name start. refl)
+
+pub returns-in-Flag-clause-some : goal.returns-in-Flag-clause-some
+returns-in-Flag-clause-some c =
+    subst (λ (a : Act). IsAskedBy a c.args.mv.now _) (sym c.in-Flag.is) (λ table at name start. refl)
+
+pub returns-in-Remove-clause-some : goal.returns-in-Remove-clause-some
+returns-in-Remove-clause-some c =
+    subst (λ (a : Act). IsAskedBy a c.args.mv.now _) (sym c.in-Remove.is) (λ table at name start. refl)
+
+pub returns-in-Claim-clause-some : goal.returns-in-Claim-clause-some
+returns-in-Claim-clause-some c =
+    subst (λ (a : Act). IsAskedBy a c.args.mv.now _) (sym c.in-Claim.is)
+    (λ table at name start. ap (λ (states : Bool). in_seat table name _
+    (claim_verdict table at c.in-Claim.ply c.in-Claim.fifty states c.args.mv.now)) (sym c.is_some.ensures))
