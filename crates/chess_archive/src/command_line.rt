@@ -1,10 +1,8 @@
 //! The words of the command line, with the texts of their help.
 use archive_text::Heading;
-use clap::builder::ValueParser;
 use clap::error::ErrorKind;
-use clap::{Arg, ArgAction, ArgMatches, Command, Error};
-use command_words::{VERSION, flag, option};
-use option_tables::{OptionText, with_options};
+use clap::{ArgMatches, Command, Error};
+use option_tables::{Kind, OptionText, WordText, command_line};
 use std::alloc::{AllocError, Global};
 use std::net::SocketAddr;
 
@@ -120,167 +118,212 @@ pub struct Living<'a> {
     pub every: Option<u32>,
 }
 
-// Which games are kept, and where.
-const KEEP: [OptionText; 2] = [
+const KEEP: [OptionText; 11] = [
     OptionText {
         name: "server",
         value: "A:P",
         help: "Where the game server listens",
+        kind: Kind::Text,
         is_required: true,
-        action: ArgAction::Set,
     },
     OptionText {
         name: "archive",
         value: "FILE",
         help: "The archive's file",
+        kind: Kind::Text,
         is_required: true,
-        action: ArgAction::Set,
     },
-];
-
-// Which games are written, and where.
-const LIVE: [OptionText; 3] = [
-    OptionText {
-        name: "server",
-        value: "A:P",
-        help: "Where the game server listens",
-        is_required: true,
-        action: ArgAction::Set,
-    },
-    OptionText {
-        name: "file",
-        value: "FILE",
-        help: "The file that is written",
-        is_required: true,
-        action: ArgAction::Set,
-    },
-    OptionText {
-        name: "archive",
-        value: "FILE",
-        help: "An archive whose games are written too; with --date those of this date",
-        is_required: false,
-        action: ArgAction::Set,
-    },
-];
-
-// Which archive's games are written.
-const EXPORT: [OptionText; 1] = [OptionText {
-    name: "archive",
-    value: "FILE",
-    help: "The archive's file",
-    is_required: true,
-    action: ArgAction::Set,
-}];
-
-// What the tags are to say, who the players are, and what the log has.
-const KNOWLEDGE: [OptionText; 6] = [
     OptionText {
         name: "players",
         value: "FILE",
         help: "The players' file, for full names",
+        kind: Kind::Text,
         is_required: false,
-        action: ArgAction::Set,
     },
     OptionText {
         name: "log",
         value: "FILE",
         help: "The lobby's log, for clocks",
+        kind: Kind::Text,
         is_required: false,
-        action: ArgAction::Set,
     },
     OptionText {
         name: "event",
         value: "TEXT",
         help: "The tag Event, ? without it",
+        kind: Kind::Text,
         is_required: false,
-        action: ArgAction::Set,
     },
     OptionText {
         name: "site",
         value: "TEXT",
         help: "The tag Site, ? without it",
+        kind: Kind::Text,
         is_required: false,
-        action: ArgAction::Set,
     },
     OptionText {
         name: "date",
         value: "DATE",
         help: "The tag Date, ????.??.?? without it",
+        kind: Kind::Text,
         is_required: false,
-        action: ArgAction::Set,
     },
     OptionText {
         name: "round",
         value: "TEXT",
         help: "The tag Round, ? without it",
+        kind: Kind::Text,
         is_required: false,
-        action: ArgAction::Set,
+    },
+    OptionText {
+        name: "drop",
+        value: "",
+        help: "Drops each game that is in the archive from the table",
+        kind: Kind::Flag,
+        is_required: false,
+    },
+    OptionText {
+        name: "lobby",
+        value: "A:P",
+        help: "Where the lobby listens: with --drop, no game is dropped that is watched there",
+        kind: Kind::Text,
+        is_required: false,
+    },
+    OptionText {
+        name: "every",
+        value: "SECONDS",
+        help: "After how many seconds it is done again, 1 to 3600; once without it",
+        kind: Kind::Number(1, 3_600),
+        is_required: false,
     },
 ];
 
-// Who is asked before a game is dropped.
-const LOBBY: [OptionText; 1] = [OptionText {
-    name: "lobby",
-    value: "A:P",
-    help: "Where the lobby listens: with --drop, no game is dropped that is watched there",
-    is_required: false,
-    action: ArgAction::Set,
-}];
+const EXPORT: [OptionText; 3] = [
+    OptionText {
+        name: "archive",
+        value: "FILE",
+        help: "The archive's file",
+        kind: Kind::Text,
+        is_required: true,
+    },
+    OptionText {
+        name: "csv",
+        value: "",
+        help: "Writes a row a game as CSV, and no PGN",
+        kind: Kind::Flag,
+        is_required: false,
+    },
+    OptionText {
+        name: "sqlite",
+        value: "",
+        help: "Writes a database for SQLite, with a row a game and its PGN there",
+        kind: Kind::Flag,
+        is_required: false,
+    },
+];
 
-fn every_option<'a>(alloc: Global, help: &'static str) -> Arg<'a> {
-    option(alloc, "every", "SECONDS", help).value_parser(ValueParser::Unsigned(1, 3_600))
-}
+const LIVE: [OptionText; 10] = [
+    OptionText {
+        name: "server",
+        value: "A:P",
+        help: "Where the game server listens",
+        kind: Kind::Text,
+        is_required: true,
+    },
+    OptionText {
+        name: "file",
+        value: "FILE",
+        help: "The file that is written",
+        kind: Kind::Text,
+        is_required: true,
+    },
+    OptionText {
+        name: "archive",
+        value: "FILE",
+        help: "An archive whose games are written too; with --date those of this date",
+        kind: Kind::Text,
+        is_required: false,
+    },
+    OptionText {
+        name: "players",
+        value: "FILE",
+        help: "The players' file, for full names",
+        kind: Kind::Text,
+        is_required: false,
+    },
+    OptionText {
+        name: "log",
+        value: "FILE",
+        help: "The lobby's log, for clocks",
+        kind: Kind::Text,
+        is_required: false,
+    },
+    OptionText {
+        name: "event",
+        value: "TEXT",
+        help: "The tag Event, ? without it",
+        kind: Kind::Text,
+        is_required: false,
+    },
+    OptionText {
+        name: "site",
+        value: "TEXT",
+        help: "The tag Site, ? without it",
+        kind: Kind::Text,
+        is_required: false,
+    },
+    OptionText {
+        name: "date",
+        value: "DATE",
+        help: "The tag Date, ????.??.?? without it",
+        kind: Kind::Text,
+        is_required: false,
+    },
+    OptionText {
+        name: "round",
+        value: "TEXT",
+        help: "The tag Round, ? without it",
+        kind: Kind::Text,
+        is_required: false,
+    },
+    OptionText {
+        name: "every",
+        value: "SECONDS",
+        help: "After how many seconds it is written again, 1 to 3600; once without it",
+        kind: Kind::Number(1, 3_600),
+        is_required: false,
+    },
+];
 
-fn keep_command<'a>(alloc: Global) -> Result<Command<'a>, AllocError> {
-    let command = Command::new(alloc, "keep")
-        .about("Keeps the games that are over")
-        .after_help(HELP_OF_KEEP);
-    let command = with_options(alloc, command, &KEEP)?;
-    let command = with_options(alloc, command, &KNOWLEDGE)?;
-    let command = command.arg(flag(
-        alloc,
-        "drop",
-        "Drops each game that is in the archive from the table",
-    ))?;
-    with_options(alloc, command, &LOBBY)?.arg(every_option(
-        alloc,
-        "After how many seconds it is done again, 1 to 3600; once without it",
-    ))
-}
-
-fn live_command<'a>(alloc: Global) -> Result<Command<'a>, AllocError> {
-    let command = Command::new(alloc, "live")
-        .about("Writes the games that are played to a file that others fetch")
-        .after_help(HELP_OF_LIVE);
-    let command = with_options(alloc, command, &LIVE)?;
-    with_options(alloc, command, &KNOWLEDGE)?.arg(every_option(
-        alloc,
-        "After how many seconds it is written again, 1 to 3600; once without it",
-    ))
-}
-
-fn export_command<'a>(alloc: Global) -> Result<Command<'a>, AllocError> {
-    let command = Command::new(alloc, "export")
-        .about("Writes the games of an archive as PGN, CSV or a database")
-        .after_help(HELP_OF_EXPORT);
-    with_options(alloc, command, &EXPORT)?
-        .arg(flag(alloc, "csv", "Writes a row a game as CSV, and no PGN"))?
-        .arg(flag(
-            alloc,
-            "sqlite",
-            "Writes a database for SQLite, with a row a game and its PGN there",
-        ))
-}
+const WORDS: [WordText; 3] = [
+    WordText {
+        name: "keep",
+        about: "Keeps the games that are over",
+        help: HELP_OF_KEEP,
+        options: &KEEP,
+    },
+    WordText {
+        name: "export",
+        about: "Writes the games of an archive as PGN, CSV or a database",
+        help: HELP_OF_EXPORT,
+        options: &EXPORT,
+    },
+    WordText {
+        name: "live",
+        about: "Writes the games that are played to a file that others fetch",
+        help: HELP_OF_LIVE,
+        options: &LIVE,
+    },
+];
 
 /// The program's command line.
 pub fn command<'a>(alloc: Global) -> Result<Command<'a>, AllocError> {
-    let command = Command::new(alloc, "chess-archive")
-        .about("The archive of a chess club's games.")
-        .version(VERSION)
-        .subcommand_required(true);
-    let command = command.subcommand(keep_command(alloc)?)?;
-    let command = command.subcommand(export_command(alloc)?)?;
-    command.subcommand(live_command(alloc)?)
+    command_line(
+        alloc,
+        "chess-archive",
+        "The archive of a chess club's games.",
+        &WORDS,
+    )
 }
 
 /// Reads the words, the program's own name first. An `Err` is a usage fault, or a request for help.

@@ -1,6 +1,6 @@
-//! The options of a word as a table.
+//! The words of a program and their options as a table.
 #![tactic(auto)]
 
 mod options;
 
-pub use options::{OptionText, with_options};
+pub use options::{Kind, OptionText, WordText, command_line};
