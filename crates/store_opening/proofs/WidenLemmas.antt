@@ -1,10 +1,10 @@
 -- Greater limits: a table under them, and two commits one after the other.
-use Rattle.std.proofs.Common.{ℕ, ◌≡◌, ◌∙◌, ◌+◌, ◌*◌, ◌-◌, ◌^◌, ◌≤◌, Bool, true, false, List, [], length, sym, ap, subst, inl, inr, refl, arith}
-use Rattle.std.specs.Prelude.{◌≢◌, ◌↔◌, Result, Ok, Err, OnOk, OnErr, IfErr, IsErrOf}
-use Rattle.std.proofs.lemmas.Bool.{false≢true}
+use Rattle.std.proofs.Common.{ℕ, ◌≡◌, ◌∙◌, ◌+◌, ◌*◌, ◌-◌, ◌^◌, ◌≤◌, true, false, List, [], length, sym, ap, subst, inl, inr, refl, arith}
+use Rattle.std.specs.Prelude.{◌≢◌, Result, Ok, Err, OnOk}
 use Rattle.std.proofs.Math.Nat.{mul-le-mul_left, mul-le-mul_right}
 use Rattle.sector_dev.specs.Image.{Sectors}
-use Rattle.sector_dev.specs.Device.{State, CountsFailure}
+use Rattle.sector_dev.specs.declared.device.Device.{Ghosts}
+use Rattle.sector_dev.specs.Device.{State}
 use Rattle.sector_dev.specs.Runs.{LeavesOnly}
 use Rattle.rec_codec.specs.declared.limits.Limits.{Limits}
 use Rattle.rec_codec.specs.declared.limits.Version.TheVariants.{Two}
@@ -13,9 +13,8 @@ use Rattle.rec_codec.specs.declared.record.Record.{Record}
 use Rattle.rec_codec.specs.declared.header.Header.{Header}
 use Rattle.sector_journal.specs.declared.compactions.Compaction.{Compaction}
 use Rattle.sector_journal.specs.declared.fault.JournalFault.{JournalFault}
-use Rattle.sector_journal.specs.declared.fault.JournalFault.TheVariants.{Exists, TooSmall, NotOurs, Damaged, Device, NoMemory, Worn, Failed}
-use Rattle.sector_journal.specs.Calls.{CountsFault}
-use Rattle.sector_journal.specs.Refusing.{IsCommitFault}
+use Rattle.sector_journal.specs.declared.journals.Journal.{Journal}
+use Rattle.sector_journal.specs.Committed.{IsCommitted}
 use Rattle.sector_journal.specs.Stands.{content}
 use Rattle.sector_journal.specs.Commits.{Keeps}
 use Rattle.sector_journal.specs.Switches.{ShowsOr, widened_header}
@@ -29,7 +28,7 @@ use Rattle.chess_table.proofs.Kept.{IsTable-widen}
 use Rattle.table_commits.specs.Means.{MeansEither, IsKept}
 use Rattle.table_commits.specs.Committing.{IsBatch, Lasts}
 use Rattle.store_opening.specs.Widening.{IsWidened}
-use Rattle.table_commits.proofs.CommitLemmas.{lasts_by, kept_idle, meaning_limits}
+use Rattle.table_commits.proofs.CommitLemmas.{lasts_by, kept_idle, meaning_limits, device_alone, fails_so, counts_so, limited_err_so}
 
 -- ---- the table
 
@@ -163,65 +162,25 @@ both_last result given old mid new between header half compaction table wider fi
 
 -- ---- what a widening does whatever the journal holds
 
--- the device's failure is the only error
-device_alone : (result : Result (Unit {0}) JournalFault) (failed : Bool) (number : ℕ) → failed ≡ false
-    → number ≢ 2 ^ 64 - 1 → (IsErrOf result Failed ↔ (failed ≡ true))
-    → (IsErrOf result Worn ↔ ((failed ≡ false) × (number ≡ 2 ^ 64 - 1))) → (IsErrOf result NoMemory → ⊥)
-    → IfErr result IsCommitFault → IfErr result (λ fault. fault ≡ Device)
-device_alone (Ok x) failed number works left is_failed worn memory fault = tt
-device_alone (Err Device) failed number works left is_failed worn memory fault = refl
-device_alone (Err NoMemory) failed number works left is_failed worn memory fault = absurd (memory refl)
-device_alone (Err Worn) failed number works left is_failed worn memory fault = absurd (left (worn.0 refl).1)
-device_alone (Err Failed) failed number works left is_failed worn memory fault =
-    absurd (false≢true (sym works ∙ is_failed.0 refl))
-device_alone (Err Exists) failed number works left is_failed worn memory fault = absurd fault
-device_alone (Err TooSmall) failed number works left is_failed worn memory fault = absurd fault
-device_alone (Err NotOurs) failed number works left is_failed worn memory fault = absurd fault
-device_alone (Err Damaged) failed number works left is_failed worn memory fault = absurd fault
-
-fails_so : (result : Result (Unit {0}) JournalFault) (P : Type 0) → IfErr result (λ fault. fault ≡ Device)
-    → (IsErrOf result Device → P) → OnErr result P
-fails_so (Ok x) P device fails = tt
-fails_so (Err e) P device fails = fails (ap (λ (f : JournalFault). Err f) device)
-
-counts_so : (result : Result (Unit {0}) JournalFault) (old new : ℕ) → IfErr result (λ fault. fault ≡ Device)
-    → CountsFault result old new → CountsFailure result old new
-counts_so (Ok x) old new device counts = counts
-counts_so (Err e) old new device counts =
-    subst (λ (f : JournalFault). CountsFault {T = Unit {0}} (Err f) old new) device counts
-
 limited_so : {T E : Type 0} (r : Result T E) (next h : Header) (limits : Limits) → h.limits ≡ limits
     → OnOk r (next ≡ h) → OnOk r (next.limits ≡ limits)
 limited_so (Ok x) next h limits same is = ap (λ (k : Header). k.limits) is ∙ same
 limited_so (Err e) next h limits same is = tt
 
-limited_err_so : {T E : Type 0} (r : Result T E) (next h : Header) → OnErr r (next ≡ h)
-    → OnErr r (next.limits ≡ h.limits)
-limited_err_so (Ok x) next h is = tt
-limited_err_so (Err e) next h is = ap (λ (k : Header). k.limits) is
-
-module _ {D : Type 0} (state : D → State) (sector_count failures : D → ℕ) (old new : D) (header next widened : Header)
-    (failed now_failed : Bool) where
-  pub widened_by : (result : Result (Unit {0}) JournalFault)
-      → ((state new).keeps_model ↔ (state old).keeps_model) → sector_count new ≡ sector_count old
-      → failed ≡ false → header.seq ≢ 2 ^ 64 - 1
-      → (IsErrOf result Failed ↔ (failed ≡ true))
-      → (IsErrOf result Worn ↔ ((failed ≡ false) × (header.seq ≡ 2 ^ 64 - 1)))
-      → (IsErrOf result NoMemory → ⊥)
-      → IfErr result IsCommitFault
-      → OnOk result (now_failed ≡ false) → (IsErrOf result Device → now_failed ≡ true)
-      → CountsFault result (failures old) (failures new)
-      → OnOk result (next ≡ widened) → OnErr result (next ≡ header)
-      → IsWidened state sector_count failures old new result header.limits widened.limits next.limits now_failed
-  widened_by result model size works number is_failed worn memory fault ok err cause is same =
-      let device = device_alone result failed header.seq works number is_failed worn memory fault in
+module _ {D : Type 0} {ghosts : Ghosts D} (old new : Journal D ghosts) (widened : Header) {IsShort : Type 0} where
+  pub widened_by : (result : Result (Unit {0}) JournalFault) → IsCommitted old new result IsShort → ¬ IsShort
+      → old.failed ≡ false → old.header.seq ≢ 2 ^ 64 - 1 → OnOk result (new.header ≡ widened)
+      → IsWidened ghosts.state ghosts.sector_count ghosts.failures old.device new.device result old.header.limits
+      widened.limits new.header.limits new.failed
+  widened_by result committed enough works number is =
+      let device = device_alone old new result committed enough works number in
       record {
-        model = model;
-        size = size;
-        limited = limited_so result next widened widened.limits refl is;
-        limited_err = limited_err_so result next header same;
+        model = committed.model;
+        size = committed.sectors;
+        limited = limited_so result new.header widened widened.limits refl is;
+        limited_err = limited_err_so result new.header old.header committed.header_err;
         fault = device;
-        works = ok;
-        fails = fails_so result (now_failed ≡ true) device err;
-        count = counts_so result (failures old) (failures new) device cause;
+        works = committed.works;
+        fails = fails_so result (new.failed ≡ true) device committed.fails;
+        count = counts_so result (ghosts.failures old.device) (ghosts.failures new.device) device committed.cause;
       }

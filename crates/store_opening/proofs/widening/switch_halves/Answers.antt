@@ -18,9 +18,6 @@ pub returns-clause-tried : goal.returns-clause-tried
 returns-clause-tried g c =
     let j = c.args.journal.now in
     let n = c.switch.new.self in
-    tried_by g.D.Device.state g.D.Device.sector_count g.D.Device.failures j.device n.device j.header n.header j.failed
-    n.failed c.switch.result c.switch.ensures.model c.switch.ensures.sectors c.requires.works c.requires.number
-    c.switch.ensures.failed c.switch.ensures.worn c.switch.ensures.memory c.switch.ensures.fault c.switch.ensures.works
-    c.switch.ensures.fails c.switch.ensures.cause
+    tried_by j n c.switch.result c.switch.ensures.committed (λ short. short) c.requires.works c.requires.number
     (limits_of c.switch.result j.header n.header (switched_header j.header (length c.args.snapshot.now) 0) refl
-    c.switch.ensures.header) c.switch.ensures.header_err
+    c.switch.ensures.header)

@@ -28,8 +28,5 @@ pub returns-clause-tried : goal.returns-clause-tried
 returns-clause-tried g c =
     let j = c.args.journal.now in
     let n = c.widen.new.self in
-    widened_by g.D.Device.state g.D.Device.sector_count g.D.Device.failures j.device n.device j.header n.header
-    (widened_header j.header c.args.limits (length c.args.snapshot.now)) j.failed n.failed c.widen.result
-    c.widen.ensures.model c.widen.ensures.sectors c.requires.works c.requires.number c.widen.ensures.failed
-    c.widen.ensures.worn c.widen.ensures.memory c.widen.ensures.fault c.widen.ensures.works c.widen.ensures.fails
-    c.widen.ensures.cause c.widen.ensures.header c.widen.ensures.header_err
+    widened_by j n (widened_header j.header c.args.limits (length c.args.snapshot.now)) c.widen.result
+    c.widen.ensures.committed (λ short. short) c.requires.works c.requires.number c.widen.ensures.header
