@@ -4,7 +4,6 @@ use Rattle.std.proofs.Common.{refl, sym, subst, arith}
 use Rattle.std.specs.Option.{MatchOption}
 use Rattle.rec_codec.specs.declared.header.Header.{Header}
 use Rattle.rec_codec.specs.declared.record.Entry.{Entry}
-use Rattle.sector_dev.specs.Image.{Sectors}
 use Rattle.sector_dev.specs.Device.{State, IsCoherent}
 use Rattle.sector_dev.specs.Runs.{LeavesOnly}
 use Rattle.sector_journal.specs.declared.compactions.Compaction.{Compaction}
@@ -18,9 +17,8 @@ use Rattle.chess_sessions.specs.Delivery.{Answered, AllAnswered, HasAnswered, ow
 use Rattle.chess_store.specs.declared.fault.StoreFault.{StoreFault}
 use Rattle.chess_store.specs.Batch.{IsAnswered}
 use Rattle.chess_store.specs.Faults as faults
-use Rattle.table_commits.specs.Means.{MeansEither, AllMean, IsKept}
-use Rattle.table_commits.proofs.MeansLemmas.{kept_means}
-use Rattle.chess_store.proofs.RunLemmas.{same_leaves, same_either}
+use Rattle.table_commits.specs.Means.{MeansEither, IsKept}
+use Rattle.chess_store.proofs.RunLemmas.{same_leaves}
 use Rattle.chess_store.proofs.CallLemmas.{ok_was}
 use Rattle.chess_hub.specs.declared.fault.HubFault.{HubFault}
 use Rattle.chess_hub.specs.declared.fault.HubFault.TheVariants.{Busy, NoMemory, LineTooLong, Store}
@@ -56,14 +54,11 @@ module _ {T : Type 0} where
   pub lasts_refused : (made : Result T HubFault) (y : HubFault) (fault : StoreFault) (old new : State) (header : Header)
       (compaction : Compaction) (before after : TableState) → made ≡ Err y → y ≡ Store fault
       → LeavesOnly old new (MeansEither before after)
-      → ((image : Sectors) → new.image image → MeansEither before after image)
       → faults.UnlessDevice fault (IsKept new header compaction after)
       → Lasts made old new header compaction before after
-  lasts_refused made y fault old new header compaction before after is same leaves either kept =
+  lasts_refused made y fault old new header compaction before after is same leaves kept =
       subst (λ (r : Result T HubFault). Lasts r old new header compaction before after) (sym is) (record {
         any_moment = leaves;
-        either = either;
-        means = tt;
         kept = tt;
         kept_err = unless_of fault y (IsKept new header compaction after) same kept;
       })
@@ -100,8 +95,6 @@ module _ {T : Type 0} where
   lasts_same made y sectors now header compaction table coherent is same kept =
       subst (λ (r : Result T HubFault). Lasts r now now header compaction table table) (sym is) (record {
         any_moment = same_leaves sectors now now header compaction table table coherent refl kept;
-        either = same_either now now header compaction table table refl kept;
-        means = tt;
         kept = tt;
         kept_err = subst (λ (f : HubFault). UnlessDevice f (IsKept now header compaction table)) (sym same) kept;
       })
@@ -111,21 +104,16 @@ module _ {T : Type 0} where
       → Lasts {T = T} (Ok x) now now header compaction table table
   lasts_idle x sectors now header compaction table coherent kept = record {
     any_moment = same_leaves sectors now now header compaction table table coherent refl kept;
-    either = same_either now now header compaction table table refl kept;
-    means = kept_means now header compaction table kept;
     kept = kept;
     kept_err = tt;
   }
 
   pub lasts_answered : (given : Result T StoreFault) (x : T) (old new : State) (header : Header) (compaction : Compaction)
       (before after : TableState) → given ≡ Ok x → LeavesOnly old new (MeansEither before after)
-      → ((image : Sectors) → new.image image → MeansEither before after image)
-      → OnOk given (AllMean new after) → OnOk given (IsKept new header compaction after)
+      → OnOk given (IsKept new header compaction after)
       → Lasts {T = T} (Ok x) old new header compaction before after
-  lasts_answered given x old new header compaction before after was leaves either means kept = record {
+  lasts_answered given x old new header compaction before after was leaves kept = record {
     any_moment = leaves;
-    either = either;
-    means = ok_was given x (AllMean new after) was means;
     kept = ok_was given x (IsKept new header compaction after) was kept;
     kept_err = tt;
   }
@@ -150,8 +138,6 @@ module _ {S T : Type 0} where
       subst (λ (r : Result S HubFault). Lasts r old new header compaction before after) was lasts in
       subst (λ (r : Result T HubFault). Lasts r old new header compaction before after) (sym is) (record {
         any_moment = l.any_moment;
-        either = l.either;
-        means = tt;
         kept = tt;
         kept_err = subst (λ (f : HubFault). UnlessDevice f (IsKept new header compaction after)) (sym same) l.kept_err;
       })
@@ -165,8 +151,6 @@ module _ {S T : Type 0} where
       subst (λ (r : Result S HubFault). Lasts r old new header compaction before after) was lasts in
       record {
         any_moment = l.any_moment;
-        either = l.either;
-        means = l.means;
         kept = l.kept;
         kept_err = tt;
       }

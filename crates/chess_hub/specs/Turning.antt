@@ -1,7 +1,6 @@
 -- What a turn does.
 use Rattle.std.specs.Prelude.{ℕ, ◌≡◌, ◌≤◌, ◌↔◌, Bool, true, false, List, [], length, map, Result, OnOk, IfErr}
 use Rattle.rec_codec.specs.declared.header.Header.{Header}
-use Rattle.sector_dev.specs.Image.{Sectors}
 use Rattle.sector_dev.specs.Device.{State}
 use Rattle.sector_dev.specs.Runs.{LeavesOnly}
 use Rattle.sector_journal.specs.declared.compactions.Compaction.{Compaction}
@@ -17,7 +16,7 @@ use Rattle.chess_sessions.specs.Answers.{name_at, commands_of, AreAnswers}
 use Rattle.chess_sessions.specs.Delivery.{Answered, AllAnswered}
 use Rattle.chess_store.specs.declared.fault.StoreFault.{StoreFault}
 use Rattle.chess_store.specs.declared.fault.StoreFault.TheVariants as store
-use Rattle.table_commits.specs.Means.{MeansEither, AllMean, IsKept}
+use Rattle.table_commits.specs.Means.{MeansEither, IsKept}
 use Rattle.chess_store.specs.Batch.{AreAnswered, AreEntered, IsWornOut, act_count}
 use Rattle.chess_hub.specs.declared.fault.HubFault.{HubFault}
 use Rattle.chess_hub.specs.declared.fault.HubFault.TheVariants.{NoMemory, Store}
@@ -80,8 +79,6 @@ IsTurnFault fault Same Refused = ⊥
 pub record Lasts {T : Type 0} (result : Result T HubFault) (old new : State) (header : Header) (compaction : Compaction)
     (before after : TableState) : Type 0 where
   pub any_moment : LeavesOnly old new (MeansEither before after)
-  pub either : (image : Sectors) → new.image image → MeansEither before after image
-  pub means : OnOk result (AllMean new after)
   pub kept : OnOk result (IsKept new header compaction after)
   pub kept_err : IfErr result (λ fault. UnlessDevice fault (IsKept new header compaction after))
 

@@ -41,15 +41,11 @@ module _ {S T : Type 0} where
       → Lasts made old new header compaction before after
   over x (Ok z) old new header compaction before after l = record {
     any_moment = l.any_moment;
-    either = l.either;
-    means = l.means;
     kept = l.kept;
     kept_err = tt;
   }
   over x (Err fault) old new header compaction before after l = record {
     any_moment = l.any_moment;
-    either = l.either;
-    means = tt;
     kept = tt;
     kept_err = unless_any fault (IsKept new header compaction after) l.kept;
   }
@@ -69,8 +65,6 @@ module _ {S T : Type 0} where
       subst (λ (r : Result S HubFault). Lasts r old new header compaction before after) was lasts in
       record {
         any_moment = l.any_moment;
-        either = l.either;
-        means = tt;
         kept = tt;
         kept_err = l.kept_err;
       }

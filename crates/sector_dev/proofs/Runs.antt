@@ -6,7 +6,7 @@ use Rattle.std.proofs.lemmas.List.{get_or-set_other, get_or_past}
 use Rattle.sector_dev.specs.declared.device.Sector.{Sector}
 use Rattle.sector_dev.specs.declared.device.Sector.TheVariants.{Bytes, Unreadable}
 use Rattle.sector_dev.specs.Image.{Sectors, sector_at, Write, IsWritten}
-use Rattle.sector_dev.specs.Device.{State, WithOrWithout, IsPending, MayBePending, Elapses, CountsFailure}
+use Rattle.sector_dev.specs.Device.{State, IsCoherent, WithOrWithout, IsPending, MayBePending, Elapses, CountsFailure}
 use Rattle.sector_dev.specs.Runs.{LeavesOnly, IsRun, WithWrites, ArePending, AgreeElsewhere, IsUntouched}
 use Rattle.sector_dev.proofs.Images.{pending_images, stable_images, applied-append}
 use Rattle.sector_dev.proofs.Moments.{elapses_same}
@@ -25,6 +25,12 @@ goes_on old mid new P during so_far time here = record {
   before = λ t c le left. ⊎_elim (so_far.before t c le) (λ now. inr (here c now))
       (time.nothing_else t c (omega (arith, le, so_far.later)) left);
 }
+
+-- what a crash may leave after a run is among what it might have left during it
+pub leaves_now : (sectors : ℕ) (old new : State) (P : Sectors → Type 0) → IsCoherent sectors new → new.keeps_model
+    → LeavesOnly old new P → (c : Sectors) → new.image c → P c
+leaves_now sectors old new P coherent model leaves c now =
+    leaves.each c (coherent.counts_now old.moment c model leaves.later now)
 
 -- what may be left during a call may be said more widely
 pub widened : (old new : State) (P Q : Sectors → Type 0) → Elapses old new P → ((c : Sectors) → P c → Q c)

@@ -1,5 +1,5 @@
 -- Greater limits: a table under them, and two commits one after the other.
-use Rattle.std.proofs.Common.{ℕ, ◌≡◌, ◌∙◌, ◌+◌, ◌*◌, ◌-◌, ◌^◌, ◌≤◌, true, false, List, [], length, sym, ap, subst, inl, inr, refl, arith}
+use Rattle.std.proofs.Common.{◌≡◌, ◌∙◌, ◌+◌, ◌*◌, ◌-◌, ◌^◌, ◌≤◌, true, false, List, [], length, sym, ap, subst, inl, inr, refl, arith}
 use Rattle.std.specs.Prelude.{◌≢◌, Result, Ok, Err, OnOk}
 use Rattle.std.proofs.Math.Nat.{mul-le-mul_left, mul-le-mul_right}
 use Rattle.sector_dev.specs.Image.{Sectors}
@@ -70,15 +70,13 @@ pub widen_lasts : (result : Result (Unit {0}) JournalFault) (old new : State) (h
     → header.limits.games ≤ limits.games → header.limits.plies ≤ limits.plies
     → ((base tail : List Record) → Keeps old (content header base tail) → LeavesOnly old new
     (ShowsOr (content header base tail) (content (widened_header header limits (length snapshot)) snapshot [])))
-    → ((base tail : List Record) → Keeps old (content header base tail) → (c : Sectors) → new.image c
-    → ShowsOr (content header base tail) (content (widened_header header limits (length snapshot)) snapshot []) c)
     → ((base tail : List Record) → Keeps old (content header base tail)
     → OnOk result (Keeps new (content next snapshot [])))
     → OnOk result (next ≡ widened_header header limits (length snapshot))
     → OnOk result (IsIdle ended)
     → (table : TableState) → IsTable table → IsSnapshotOf table snapshot → IsKept old header compaction table
     → Lasts result old new next ended table (with_limits limits table)
-widen_lasts result old new header next compaction ended limits snapshot range games plies any either ok is_next idle table sound taken kept =
+widen_lasts result old new header next compaction ended limits snapshot range games plies any ok is_next idle table sound taken kept =
     let same = meaning_limits header.limits kept.base kept.tail table kept.means in
     let widened = widened_header header limits (length snapshot) in
     let means : IsMeaning limits snapshot [] (with_limits limits table) =
@@ -87,7 +85,6 @@ widen_lasts result old new header next compaction ended limits snapshot range ga
     (subst (λ (l : Limits). l.plies ≤ limits.plies) (sym same) plies) taken in
     lasts_by result old new header next ended table (with_limits limits table) (content header kept.base kept.tail)
     (content widened snapshot []) kept.means means (any kept.base kept.tail kept.keeps)
-    (either kept.base kept.tail kept.keeps)
     (kept_idle result new next widened ended (with_limits limits table) snapshot [] means
     (ok kept.base kept.tail kept.keeps) is_next idle)
 
@@ -144,7 +141,6 @@ first_lasts result given old mid header compaction table wider failed first = re
       | inr has ↦ inr (one_of table wider c has)
     ];
   };
-  either = λ c is. one_of table wider c (first.either c is);
   kept = never result (IsKept mid header compaction wider) failed;
 }
 
@@ -156,7 +152,6 @@ pub both_last : (result given : Result (Unit {0}) JournalFault) (old mid new : S
 both_last result given old mid new between header half compaction table wider first second = record {
   any_moment = two_leaves old mid new (MeansEither table table) (MeansEither table wider) (MeansEither table wider)
       (one_of table wider) (λ c has. has) first.any_moment second.any_moment;
-  either = second.either;
   kept = second.kept;
 }
 

@@ -16,7 +16,7 @@ returns-in_err-replies-clause-lasts g c = λ kept.
     let e = err_from_is_err_and c.from_residual.result c.from_residual.ensures.1 in
     lasts_refused c.from_residual.result e.0 c.in_err-replies.field-0.0 (state s.journal.device)
     (state n.journal.device) n.journal.header n.journal.compaction s.table n.table e.1 e.2
-    (c.submit.ensures.any_moment kept) (c.submit.ensures.either kept) (c.in_err-replies.ensures.kept_err kept)
+    (c.submit.ensures.any_moment kept) (c.in_err-replies.ensures.kept_err kept)
 
 pub returns-in_err-replies-clause-tried : goal.returns-in_err-replies-clause-tried
 returns-in_err-replies-clause-tried g c =
@@ -42,4 +42,4 @@ returns-clause-lasts g c = λ kept.
     let state = g.D.Device.state in
     lasts_answered c.submit.result c.in_ok-replies.replies (state s.journal.device) (state n.journal.device)
     n.journal.header n.journal.compaction s.table n.table c.in_ok-replies.was (c.submit.ensures.any_moment kept)
-    (c.submit.ensures.either kept) (c.submit.ensures.means kept) (c.submit.ensures.kept kept)
+    (c.submit.ensures.kept kept)

@@ -1,11 +1,12 @@
 use Rattle.std.proofs.Common.{ℕ, ◌≡◌, ◌≤◌, ◌∙◌, ◌+◌, ◌-◌, ◌^◌, min, Some, Err, ap, sym, subst, List, length, map, take, true, count_by}
 use Rattle.std.proofs.lemmas.List.{take_all}
+use Rattle.sector_dev.proofs.Runs.{leaves_now}
 use Rattle.chess_entry.specs.declared.commands.Command.{Command}
 use Rattle.chess_answer.specs.declared.reads.Reply.{Reply}
 use Rattle.chess_store.specs.declared.fault.StoreFault.{StoreFault}
 use Rattle.chess_store.specs.Batch.{IsAnswered, IsWornOut, act_count}
 use Rattle.chess_store.specs.Faults.{UnlessDevice, CountsFault, MayLast}
-use Rattle.table_commits.specs.Means.{IsKept}
+use Rattle.table_commits.specs.Means.{MeansEither, IsKept}
 use Rattle.table_commits.proofs.MeansLemmas.{kept_means}
 use Rattle.chess_lives.specs.Courses.{IsSubmittable, is_unsent}
 use Rattle.chess_lives.specs.Serving.{IsTallied}
@@ -112,7 +113,12 @@ returns-in-Err-clause-tallied g c =
     (sym same.0) (inv.kept was))
     (subst (λ (commands : List Command). IsWornOut store.journal.header.seq store.table.entries (act_count commands))
     c.deref.ensures.value worn))
-    (λ was. c.submit.ensures.either (inv.kept was)))
+    (λ was.
+    let kept = inv.kept was in
+    leaves_now (g.D.Device.sector_count new.journal.device) (g.D.Device.state store.journal.device)
+    (g.D.Device.state new.journal.device) (MeansEither store.table new.table)
+    (g.met.D.Device.coherent new.journal.device) (c.submit.ensures.model.1 kept.keeps.model)
+    (c.submit.ensures.any_moment kept)))
 
 pub returns-in-Err-clause-fault : goal.returns-in-Err-clause-fault
 returns-in-Err-clause-fault g c =

@@ -10,7 +10,7 @@ returns-clause-lasts g c = λ table sound taken kept.
     let j = c.args.journal.now in
     let n = c.switch.new.self in
     switch_lasts c.switch.result (state j.device) (state n.device) j.header n.header j.compaction n.compaction
-    c.args.snapshot.now [] c.switch.ensures.any_moment c.switch.ensures.either c.switch.ensures.ok
+    c.args.snapshot.now [] c.switch.ensures.any_moment c.switch.ensures.ok
     c.switch.ensures.header c.switch.ensures.compaction table table taken
     (empty_batch (state j.device) j.header j.compaction [] table refl sound kept)
 

@@ -21,7 +21,7 @@ returns-clause-lasts g c =
     let n = c.widen.new.self in
     let can = c.requires.can in
     widen_lasts c.widen.result (state j.device) (state n.device) j.header n.header j.compaction n.compaction c.args.limits
-    c.args.snapshot.now can.range can.games can.plies c.widen.ensures.any_moment c.widen.ensures.either
+    c.args.snapshot.now can.range can.games can.plies c.widen.ensures.any_moment
     c.widen.ensures.ok c.widen.ensures.header c.widen.ensures.compaction
 
 pub returns-clause-tried : goal.returns-clause-tried
