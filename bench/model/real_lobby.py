@@ -5,7 +5,7 @@ two stands a relay, so that a test can bring about what goes wrong:
     here     it is started again, over its journal
     lose     the next act reaches the server, and the connection breaks before its answer
     drop     the connection breaks before the next act reaches the server
-    behind   the next act is answered, and the connection breaks before the lobby asks how the game stands then
+    behind   the next act is answered, and the connection breaks before it is answered how the game stands then
     slow MS  each answer of the server comes MS milliseconds late
     silent   the lobby stands still, and its connections stay open
     beside WHITE BLACK   a game is opened and joined on the server, past the lobby
@@ -120,6 +120,8 @@ class Relay:
                     self.fault = 'show'
                 elif self.fault == 'show' and line.startswith(b'show '):
                     self.fault = None
+                    # (the lines of an act come in one piece, and its answer is to be on the way)
+                    time.sleep(0.3)
                     return self.hang_up()
                 if fault == 'drop':
                     self.fault = None

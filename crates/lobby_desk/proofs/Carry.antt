@@ -15,8 +15,9 @@ use Rattle.lobby_desk.specs.declared.players.Player.{Player}
 use Rattle.lobby_desk.specs.declared.watching.Watch.{Watch}
 use Rattle.lobby_words.specs.Words.{as_line, is_link_sort, is_close_sort, is_leave_sort, is_leave_lobby_sort, or_0}
 use Rattle.lobby_words.specs.Plans.{asked, entered_plan, act_plan, named_plan, as_plan, drop_plan, arbiter_plan, order_plan, login_plan, order_of, numbered_plan, plan_of}
-use Rattle.lobby_desk.specs.Lines.{lines_of, is_said, name_line}
-use Rattle.lobby_desk.specs.Events.{Telling, ForItself, ForPositions, ForTable, ForGame, ForAct, Owed, Asker, Dropper, owed_last, plan_asker, sort_asker}
+use Rattle.lobby_desk.specs.Lines.{lines_of, is_said, name_line, notice_lines}
+use Rattle.lobby_desk.specs.Refusals.{game_named}
+use Rattle.lobby_desk.specs.Events.{Telling, ForItself, ForPositions, ForTable, ForGame, ForAct, Owed, Asker, Dropper, owed_lines, plan_asker, sort_asker}
 use Rattle.lobby_desk.specs.Watching.{risen}
 use Rattle.lobby_desk.specs.Tellings.{left_game, IsToldOrSent}
 use Rattle.lobby_desk.specs.Who.{name_of, plan_watches, plan_table, IsAnswered}
@@ -24,7 +25,7 @@ use Rattle.lobby_desk.specs.History.{IsArbiter}
 
 -- whose the answer to a plan's last line is
 abbrev pub LastIs : Plan → Option (List ℕ) → List ℕ → ℕ → Owed → Type 0
-LastIs plan said text c o = owed_last (plan_asker plan c text) (lines_of plan said text) ≡ owed_last o (lines_of plan said text)
+LastIs plan said text c o = owed_lines (plan_asker plan c text) (lines_of plan said text) ≡ owed_lines o (lines_of plan said text)
 
 asked_last : (s : Standing) (plan : Plan) (said : Option (List ℕ)) (text : List ℕ) (c : ℕ) (o : Owed) → LastIs plan said text c o →
     LastIs (asked s plan) said text c o
@@ -275,17 +276,17 @@ planned_table true sorts.Name s game c table = refl
 planned_table true sorts.Nothing s game c table = refl
 
 -- a message is answered at once where nothing goes out by its plan
-act_sent : (b : Bool) (name text : List ℕ) (c : ℕ) (tells : List Telling) → tells ≡ [] →
-    IsToldOrSent (if b then text ∷ [] else name_line name ∷ text ∷ []) c tells
-act_sent true name text c tells h = h
-act_sent false name text c tells h = h
+act_sent : (b : Bool) (name text : List ℕ) (rest : List (List ℕ)) (c : ℕ) (tells : List Telling) → tells ≡ [] →
+    IsToldOrSent (if b then text ∷ rest else name_line name ∷ text ∷ rest) c tells
+act_sent true name text rest c tells h = h
+act_sent false name text rest c tells h = h
 
 pub answered_or_sent : (is_paused : Bool) (players : List Player) (is_open : ℕ → Bool) (acts_for : ℕ → Option Identity) (plan : Plan) (said : Option (List ℕ)) (text : List ℕ) (c : ℕ) (tells : List Telling) → IsAnswered is_paused players is_open acts_for plan c tells →
     IsToldOrSent (lines_of plan said text) c tells
 answered_or_sent is_paused players is_open acts_for (plans.Refuse refusal) said text c tells h = (h.0, h.2)
 answered_or_sent is_paused players is_open acts_for plans.Read said text c tells h = h
-answered_or_sent is_paused players is_open acts_for (plans.Act who) said text c tells h = act_sent (is_said said who.name) who.name text c tells h
-answered_or_sent is_paused players is_open acts_for (plans.ActAs who name) said text c tells h = act_sent (is_said said name) name (as_line text) c tells h
+answered_or_sent is_paused players is_open acts_for (plans.Act who) said text c tells h = act_sent (is_said said who.name) who.name text (notice_lines (game_named text)) c tells h
+answered_or_sent is_paused players is_open acts_for (plans.ActAs who name) said text c tells h = act_sent (is_said said name) name (as_line text) (notice_lines (game_named text)) c tells h
 answered_or_sent is_paused players is_open acts_for (plans.Drop who game) said text c tells h = h
 answered_or_sent is_paused players is_open acts_for (plans.Login who) said text c tells h = (h.0, h.2)
 answered_or_sent is_paused players is_open acts_for plans.Players said text c tells h = (h.0, h.2)

@@ -17,12 +17,13 @@ use Rattle.lobby_desk.specs.declared.players.Player.{Player}
 use Rattle.lobby_words.specs.declared.listing.Waiting.{Waiting}
 use Rattle.lobby_desk.specs.declared.refusals.Refused.{Refused}
 use Rattle.lobby_desk.specs.declared.watching.Watch.{Watch}
-use Rattle.lobby_words.specs.Words.{word_of, rest_of, as_name, as_line, is_message, sort_of, is_act_sort, is_as_sort, is_drop_sort, is_name_sort, is_login_sort, number_in, or_0}
+use Rattle.lobby_words.specs.Words.{word_of, rest_of, as_name, as_line, line_said, is_message, sort_of, is_act_sort, is_as_sort, is_drop_sort, is_name_sort, is_login_sort, number_in, or_0}
 use Rattle.lobby_words.specs.Plans.{asked, entered_plan, act_plan, named_plan, as_plan, arbiter_plan, order_plan, drop_plan, login_plan, numbered_plan, plan_of}
 use Rattle.lobby_desk.specs.Lines.{lines_of, act_lines, said_after, name_line, game_line, is_said, notice_lines, IsNamed}
 use Rattle.lobby_words.specs.Answers.{is_accepted, first_line, act_game, is_whole, answer}
+use Rattle.lobby_desk.specs.Refusals.{game_named}
 use Rattle.lobby_desk.specs.Watching.{watch_if, sit_if}
-use Rattle.lobby_desk.specs.Events.{Event, Opened, Closed, Said, Hurried, Heard, Gone, Here, Renewed, Linked, Telling, ForItself, ForPositions, ForTable, ForGame, ForAct, Owed, Nobody, Asker, Dropper, Followers, owed_last, sort_asker, asker, followers_of, follower}
+use Rattle.lobby_desk.specs.Events.{Event, Opened, Closed, Said, Hurried, Heard, Gone, Here, Renewed, Linked, Telling, ForItself, ForPositions, ForTable, ForGame, ForAct, Owed, Nobody, Asker, Dropper, Followers, Behind, owed_last, owed_acted, owed_some, owed_lines, sort_asker, asker, followers_of, follower, Following, is_same_game, asked_after}
 use Rattle.lobby_desk.specs.Tellings.{Known, open_now, watch_heard, watch_next, watches_now, table_heard, table_next, table_now, owed_answered, owed_now, known_now, presence, lost, AreToldAll, IsTold}
 use Rattle.lobby_desk.specs.Who.{View, BeginsView, IsSaid, IsHeard, IsDropped, IsSentFor, IsSentNext, IsSentHeard, IsDone, IsRenewed, IsLinked, IsKnown, who_noted, name_of, speaker}
 use Rattle.lobby_desk.specs.Players.{player_named, renewed}
@@ -153,47 +154,62 @@ none_good asks under said = record {
   name = refl;
 }
 
--- lines of an act under a name
-record Under (text name : List ℕ) (said : Option (List ℕ)) (lines : List (List ℕ)) (then_said : Option (List ℕ)) : Type 0 where
+-- lines of an act under a name, with what is asked behind it
+record Under (text name : List ℕ) (rest : List (List ℕ)) (said : Option (List ℕ)) (lines : List (List ℕ)) (then_said : Option (List ℕ)) : Type 0 where
   acts : ActsUnder said lines name
-  of_text : IsOf (text ∷ []) lines
+  of_text : IsOf (text ∷ rest) lines
   whole : AreWhole lines
   later : then_said ≡ name_through said lines
 
 -- where this name was said last or not
-said_or_not : (text name : List ℕ) (said : Option (List ℕ)) (sort : Sort) → is_message text ≡ true → sort_of text ≡ sort →
-    is_name_sort sort ≡ false → IsName name → (b : Bool) → (b ≡ true → said ≡ Some name) →
-    Under text name said (if b then text ∷ [] else name_line name ∷ text ∷ []) (Some name)
-said_or_not text name said sort message is no_name named true same =
+said_or_not : (text name : List ℕ) (rest : List (List ℕ)) → AllRead rest → AreWhole rest → (said : Option (List ℕ)) (sort : Sort) →
+    is_message text ≡ true → sort_of text ≡ sort → is_name_sort sort ≡ false → IsName name → (b : Bool) → (b ≡ true → said ≡ Some name) →
+    Under text name rest said (if b then text ∷ rest else name_line name ∷ text ∷ rest) (Some name)
+said_or_not text name rest read rest_whole said sort message is no_name named true same =
     let stays : name_behind said text ≡ said = ap (λ (k : Sort). if is_name_sort k then Some (rest_of text) else said) is ∙ ap (λ b. if b then Some (rest_of text) else said) no_name in
     record {
-      acts = (λ _. same refl, tt);
+      acts = (λ _. same refl, acts_under (name_behind said text) rest name read);
       of_text = inr (inl refl);
-      whole = (message, tt);
-      later = sym (stays ∙ same refl);
+      whole = (message, rest_whole);
+      later = sym (names_stay (name_behind said text) rest read ∙ (stays ∙ same refl));
     }
-said_or_not text name said sort message is no_name named false same =
+said_or_not text name rest read rest_whole said sort message is no_name named false same =
     let names : sort_of (name_line name) ≡ sorts.Name = name_names name in
     let first : name_behind said (name_line name) ≡ Some name = ap (λ (k : Sort). if is_name_sort k then Some name else said) names in
     let stays : name_behind (name_behind said (name_line name)) text ≡ name_behind said (name_line name) =
     ap (λ (k : Sort). if is_name_sort k then Some (rest_of text) else name_behind said (name_line name)) is
     ∙ ap (λ b. if b then Some (rest_of text) else name_behind said (name_line name)) no_name in
     record {
-      acts = (λ act. absurd (false≢true (sym (ap is_act_sort names) ∙ act)), (λ _. first, tt));
+      acts = (
+        λ act. absurd (false≢true (sym (ap is_act_sort names) ∙ act)),
+        (λ _. first, acts_under (name_behind (name_behind said (name_line name)) text) rest name read),
+      );
       of_text = inr (inr (name, refl));
-      whole = (name_whole name named, (message, tt));
-      later = sym (stays ∙ first);
+      whole = (name_whole name named, (message, rest_whole));
+      later = sym (names_stay (name_behind (name_behind said (name_line name)) text) rest read ∙ (stays ∙ first));
     }
 
-act_under : (text name : List ℕ) (said : Option (List ℕ)) (sort : Sort) → is_message text ≡ true → sort_of text ≡ sort →
-    is_name_sort sort ≡ false → IsName name → Under text name said (act_lines said name text) (Some name)
-act_under text name said sort message is no_name named =
-    said_or_not text name said sort message is no_name named (is_said said name) (is_said_same said name)
+-- what asks how a game stands
+notice_read : (game : Option ℕ) → IfSome game (λ g. g < 2 ^ 32) → AllRead (notice_lines game) × AreWhole (notice_lines game)
+notice_read None small = (tt, tt)
+notice_read (Some game) small = ((show_reads game, (fen_reads game, tt)), (show_whole game small, (fen_whole game small, tt)))
+
+-- the game that an act names is small
+named_small : (text : List ℕ) → IfSome (game_named text) (λ g. g < 2 ^ 32)
+named_small text = number_small (word_of (rest_of (line_said text)))
+
+act_under : (text name : List ℕ) (game : Option ℕ) → IfSome game (λ g. g < 2 ^ 32) → (said : Option (List ℕ)) (sort : Sort) →
+    is_message text ≡ true → sort_of text ≡ sort → is_name_sort sort ≡ false → IsName name →
+    Under text name (notice_lines game) said (act_lines said name text game) (Some name)
+act_under text name game small said sort message is no_name named =
+    let asks = notice_read game small in
+    said_or_not text name (notice_lines game) asks.0 asks.1 said sort message is no_name named (is_said said name) (is_said_same said name)
 
 -- no drop is among the lines of another act
-act_no_drop : (text name : List ℕ) → is_drop text ≡ false → (b : Bool) → NoDrops (if b then text ∷ [] else name_line name ∷ text ∷ [])
-act_no_drop text name none true = (none, tt)
-act_no_drop text name none false = (ap is_drop_sort (name_names name), (none, tt))
+act_no_drop : (text name : List ℕ) (rest : List (List ℕ)) → AllRead rest → is_drop text ≡ false → (b : Bool) →
+    NoDrops (if b then text ∷ rest else name_line name ∷ text ∷ rest)
+act_no_drop text name rest read none true = (none, no_drops rest read)
+act_no_drop text name rest read none false = (ap is_drop_sort (name_names name), (none, no_drops rest read))
 
 -- a plan by which nothing goes out where the server is not there
 asked_good : (asks : List (List ℕ)) (text : List ℕ) (s : Standing) (under said : Option (List ℕ)) (plan : Plan) →
@@ -208,13 +224,14 @@ asked_good asks text s under said plan h =
     ]
 
 -- the lines of an act
-acts_good : (text name : List ℕ) (under said : Option (List ℕ)) → under ≡ Some name → is_message text ≡ true → sort_of text ≡ sorts.Act →
-    IsName name → Good (text ∷ []) under said (act_lines said name text) (Some name)
-acts_good text name under said own message is named =
-    let lines = act_under text name said sorts.Act message is refl named in
+acts_good : (text name : List ℕ) (game : Option ℕ) → IfSome game (λ g. g < 2 ^ 32) → (under said : Option (List ℕ)) → under ≡ Some name →
+    is_message text ≡ true → sort_of text ≡ sorts.Act → IsName name →
+    Good (text ∷ notice_lines game) under said (act_lines said name text game) (Some name)
+acts_good text name game small under said own message is named =
+    let lines = act_under text name game small said sorts.Act message is refl named in
     record {
-      acts = subst (λ (u : Option (List ℕ)). ActsRight u said (act_lines said name text)) (sym own) lines.acts;
-      drops = act_no_drop text name (ap is_drop_sort is) (is_said said name);
+      acts = subst (λ (u : Option (List ℕ)). ActsRight u said (act_lines said name text game)) (sym own) lines.acts;
+      drops = act_no_drop text name (notice_lines game) (notice_read game small).0 (ap is_drop_sort is) (is_said said name);
       of_text = lines.of_text;
       whole = lines.whole;
       name = lines.later;
@@ -239,41 +256,41 @@ entered_good asks text s under said plan h =
 -- the plan for an act
 act_good : (players : List Player) (text : List ℕ) (s : Standing) (said : Option (List ℕ)) (who : Option Identity) → is_message text ≡ true →
     sort_of text ≡ sorts.Act → IsNamed (act_plan s who) →
-    Good (text ∷ []) (name_for players who text) said (lines_of (act_plan s who) said text) (said_after (act_plan s who) said)
-act_good players text s said None message is = λ named. none_good (text ∷ []) None said
+    Good (text ∷ notice_lines (game_named text)) (name_for players who text) said (lines_of (act_plan s who) said text) (said_after (act_plan s who) said)
+act_good players text s said None message is = λ named. none_good (text ∷ notice_lines (game_named text)) None said
 act_good players text s said (Some who) message is =
     elim (s.is_paused && not who.is_arbiter) as (λ b. IsNamed (if b then plans.Refuse refusals.EntriesPaused else entered_plan s (plans.Act who)) →
-    Good (text ∷ []) (name_for players (Some who) text) said (lines_of (if b then plans.Refuse refusals.EntriesPaused else entered_plan s (plans.Act who)) said text)
+    Good (text ∷ notice_lines (game_named text)) (name_for players (Some who) text) said (lines_of (if b then plans.Refuse refusals.EntriesPaused else entered_plan s (plans.Act who)) said text)
     (said_after (if b then plans.Refuse refusals.EntriesPaused else entered_plan s (plans.Act who)) said)) [
-      | true ↦ λ _. none_good (text ∷ []) (name_for players (Some who) text) said
-      | false ↦ entered_good (text ∷ []) text s (name_for players (Some who) text) said (plans.Act who)
-          (λ named. acts_good text who.name (name_for players (Some who) text) said (own_name players who text is) message is named)
+      | true ↦ λ _. none_good (text ∷ notice_lines (game_named text)) (name_for players (Some who) text) said
+      | false ↦ entered_good (text ∷ notice_lines (game_named text)) text s (name_for players (Some who) text) said (plans.Act who)
+          (λ named. acts_good text who.name (game_named text) (named_small text) (name_for players (Some who) text) said (own_name players who text is) message is named)
     ]
 
 -- the plan for an act of an arbiter under the name of another
 named_good : (text : List ℕ) (s : Standing) (who : Identity) (named under said : Option (List ℕ)) → under ≡ named → is_message text ≡ true →
     sort_of text ≡ sorts.As → IsNamed (named_plan s who named) →
-    Good (as_line text ∷ []) under said (lines_of (named_plan s who named) said text) (said_after (named_plan s who named) said)
-named_good text s who None under said same message is = λ named. none_good (as_line text ∷ []) under said
+    Good (as_line text ∷ notice_lines (game_named text)) under said (lines_of (named_plan s who named) said text) (said_after (named_plan s who named) said)
+named_good text s who None under said same message is = λ named. none_good (as_line text ∷ notice_lines (game_named text)) under said
 named_good text s who (Some name) under said same message is =
-    entered_good (as_line text ∷ []) text s under said (plans.ActAs who name)
-    (λ named. acts_good (as_line text) name under said same (as_whole text message is) (as_acts text is) named)
+    entered_good (as_line text ∷ notice_lines (game_named text)) text s under said (plans.ActAs who name)
+    (λ named. acts_good (as_line text) name (game_named text) (named_small text) under said same (as_whole text message is) (as_acts text is) named)
 
 arbiter_good : (players : List Player) (text : List ℕ) (s : Standing) (said : Option (List ℕ)) (who : Identity) → s.named ≡ player_named players (as_name text) →
     is_message text ≡ true → sort_of text ≡ sorts.As → (b : Bool) → who.is_arbiter ≡ b →
     IsNamed (if b then named_plan s who s.named else plans.Refuse refusals.NotArbiter) →
-    Good (as_line text ∷ []) (name_for players (Some who) text) said (lines_of (if b then named_plan s who s.named else plans.Refuse refusals.NotArbiter) said text)
+    Good (as_line text ∷ notice_lines (game_named text)) (name_for players (Some who) text) said (lines_of (if b then named_plan s who s.named else plans.Refuse refusals.NotArbiter) said text)
     (said_after (if b then named_plan s who s.named else plans.Refuse refusals.NotArbiter) said)
 arbiter_good players text s said who other message is true arbiter =
     named_good text s who s.named (name_for players (Some who) text) said
     (ap (λ (sort : Sort). if is_as_sort sort then name_as players who.is_arbiter text else Some who.name) is
     ∙ (ap (λ (b : Bool). name_as players b text) arbiter ∙ sym other)) message is
-arbiter_good players text s said who other message is false arbiter = λ named. none_good (as_line text ∷ []) (name_for players (Some who) text) said
+arbiter_good players text s said who other message is false arbiter = λ named. none_good (as_line text ∷ notice_lines (game_named text)) (name_for players (Some who) text) said
 
 as_good : (players : List Player) (text : List ℕ) (s : Standing) (said : Option (List ℕ)) (who : Option Identity) → s.named ≡ player_named players (as_name text) →
     is_message text ≡ true → sort_of text ≡ sorts.As → IsNamed (as_plan s who) →
-    Good (as_line text ∷ []) (name_for players who text) said (lines_of (as_plan s who) said text) (said_after (as_plan s who) said)
-as_good players text s said None other message is = λ named. none_good (as_line text ∷ []) None said
+    Good (as_line text ∷ notice_lines (game_named text)) (name_for players who text) said (lines_of (as_plan s who) said text) (said_after (as_plan s who) said)
+as_good players text s said None other message is = λ named. none_good (as_line text ∷ notice_lines (game_named text)) None said
 as_good players text s said (Some who) other message is = arbiter_good players text s said who other message is who.is_arbiter refl
 
 -- the plan for a drop asks who is seated
@@ -392,21 +409,31 @@ said_good players old c text lines tells new h =
     subst (λ (n : Option (List ℕ)). Good (sort_asks (sort_of text) (or_0 (number_in (rest_of text))) text) (name_for players (old.who c) text) old.said lines n) (sym h.said_is) lined
 
 -- what is known is the same if each part of it is
-abbrev known_of : List Owed → ℕ → List ℕ → List ℕ → List Watch → List ℕ → List Waiting → List Refused → Known
-known_of owed left begun last watches table waiting refused =
-    record { owed = owed; left = left; begun = begun; last = last; watches = watches; table = table; waiting = waiting; refused = refused }
+abbrev known_of : List Owed → ℕ → List ℕ → List ℕ → List Watch → List ℕ → List Waiting → List Refused → Option Following → Known
+known_of owed left begun last watches table waiting refused follows = record {
+  owed = owed;
+  left = left;
+  begun = begun;
+  last = last;
+  watches = watches;
+  table = table;
+  waiting = waiting;
+  refused = refused;
+  follows = follows;
+}
 
 same_known : (a b : Known) → a.owed ≡ b.owed → a.left ≡ b.left → a.begun ≡ b.begun → a.last ≡ b.last → a.watches ≡ b.watches →
-    a.table ≡ b.table → a.waiting ≡ b.waiting → a.refused ≡ b.refused → a ≡ b
-same_known a b owed left begun last watches table waiting refused =
-    ap (λ (x : List Owed). known_of x a.left a.begun a.last a.watches a.table a.waiting a.refused) owed
-    ∙ (ap (λ (x : ℕ). known_of b.owed x a.begun a.last a.watches a.table a.waiting a.refused) left
-    ∙ (ap (λ (x : List ℕ). known_of b.owed b.left x a.last a.watches a.table a.waiting a.refused) begun
-    ∙ (ap (λ (x : List ℕ). known_of b.owed b.left b.begun x a.watches a.table a.waiting a.refused) last
-    ∙ (ap (λ (x : List Watch). known_of b.owed b.left b.begun b.last x a.table a.waiting a.refused) watches
-    ∙ (ap (λ (x : List ℕ). known_of b.owed b.left b.begun b.last b.watches x a.waiting a.refused) table
-    ∙ (ap (λ (x : List Waiting). known_of b.owed b.left b.begun b.last b.watches b.table x a.refused) waiting
-    ∙ ap (λ (x : List Refused). known_of b.owed b.left b.begun b.last b.watches b.table b.waiting x) refused))))))
+    a.table ≡ b.table → a.waiting ≡ b.waiting → a.refused ≡ b.refused → a.follows ≡ b.follows → a ≡ b
+same_known a b owed left begun last watches table waiting refused follows =
+    ap (λ (x : List Owed). known_of x a.left a.begun a.last a.watches a.table a.waiting a.refused a.follows) owed
+    ∙ (ap (λ (x : ℕ). known_of b.owed x a.begun a.last a.watches a.table a.waiting a.refused a.follows) left
+    ∙ (ap (λ (x : List ℕ). known_of b.owed b.left x a.last a.watches a.table a.waiting a.refused a.follows) begun
+    ∙ (ap (λ (x : List ℕ). known_of b.owed b.left b.begun x a.watches a.table a.waiting a.refused a.follows) last
+    ∙ (ap (λ (x : List Watch). known_of b.owed b.left b.begun b.last x a.table a.waiting a.refused a.follows) watches
+    ∙ (ap (λ (x : List ℕ). known_of b.owed b.left b.begun b.last b.watches x a.waiting a.refused a.follows) table
+    ∙ (ap (λ (x : List Waiting). known_of b.owed b.left b.begun b.last b.watches b.table x a.refused a.follows) waiting
+    ∙ (ap (λ (x : List Refused). known_of b.owed b.left b.begun b.last b.watches b.table b.waiting x a.follows) refused
+    ∙ ap (λ (x : Option Following). known_of b.owed b.left b.begun b.last b.watches b.table b.waiting b.refused x) follows)))))))
 
 -- who watches depends on who is open alone
 watch_alike : (f g : ℕ → Bool) → ((c : ℕ) → f c ≡ g c) → (before : List ℕ) (o : Owed) (watches : List Watch) →
@@ -419,6 +446,7 @@ watch_alike f g same before (Asker c (ForGame game)) watches = ap (λ (b : Bool)
 watch_alike f g same before (Asker c (ForAct by text)) watches = refl
 watch_alike f g same before (Dropper c by text) watches = refl
 watch_alike f g same before (Followers game act is_table) watches = refl
+watch_alike f g same before Behind watches = refl
 
 watch_next_alike : (f g : ℕ → Bool) → ((c : ℕ) → f c ≡ g c) → (before : List ℕ) (owed : List Owed) (watches : List Watch) →
     watch_next f before owed watches ≡ watch_next g before owed watches
@@ -447,6 +475,7 @@ table_alike f g same (Asker c (ForGame game)) table = refl
 table_alike f g same (Asker c (ForAct by text)) table = refl
 table_alike f g same (Dropper c by text) table = refl
 table_alike f g same (Followers game act is_table) table = refl
+table_alike f g same Behind table = refl
 
 table_next_alike : (f g : ℕ → Bool) → ((c : ℕ) → f c ≡ g c) → (owed : List Owed) (table : List ℕ) → table_next f owed table ≡ table_next g owed table
 table_next_alike f g same [] table = refl
@@ -467,13 +496,13 @@ tables_alike Here f g same k = refl
 known_alike : (event : Event) (by : List ℕ) (lines : List (List ℕ)) (f g : ℕ → Bool) → ((c : ℕ) → f c ≡ g c) → (k : Known) →
     known_now event by lines f k ≡ known_now event by lines g k
 known_alike event by lines f g same k =
-    same_known (known_now event by lines f k) (known_now event by lines g k) refl refl refl refl (watches_alike event f g same k) (tables_alike event f g same k) refl refl
+    same_known (known_now event by lines f k) (known_now event by lines g k) refl refl refl refl (watches_alike event f g same k) (tables_alike event f g same k) refl refl refl
 
 -- what is known of the connections and of the server then is what the past says
 known_then : (event : Event) (by : List ℕ) (lines : List (List ℕ)) (f g : ℕ → Bool) → ((c : ℕ) → f c ≡ g c) → (old new past : Known) →
     IsKnown event by lines f old new → old ≡ past → new ≡ known_now event by lines g past
 known_then event by lines f g same old new past known is =
-    same_known new (known_now event by lines f old) known.owed known.left known.begun known.last known.watches known.table known.waiting known.refused
+    same_known new (known_now event by lines f old) known.owed known.left known.begun known.last known.watches known.table known.waiting known.refused known.follows
     ∙ (known_alike event by lines f g same old ∙ ap (λ (k : Known). known_now event by lines g k) is)
 
 -- for whom a connection acts that speaks
@@ -518,6 +547,7 @@ asked_later players s past Nobody h = tt
 asked_later players s past (Asker c ask) h = tt
 asked_later players s past (Dropper c by text) h = inr h
 asked_later players s past (Followers game act is_table) h = tt
+asked_later players s past Behind h = tt
 
 are_asked_later : (players : List Player) (s : Step) (past : List Step) (owed : List Owed) → AreAsked players past owed → AreAsked players (s ∷ past) owed
 are_asked_later players s past [] h = tt
@@ -532,6 +562,31 @@ wait_last players past o h [] = tt
 wait_last players past o h (line ∷ []) = (h, tt)
 wait_last players past o h (line ∷ next ∷ lines) = (tt, wait_last players past o h (next ∷ lines))
 
+wait_acted : (players : List Player) (past : List Step) (o : Owed) → IsAsked players past o → (lines : List (List ℕ)) →
+    AreAsked players past (owed_acted o lines)
+wait_acted players past o h [] = tt
+wait_acted players past o h (act ∷ []) = (h, tt)
+wait_acted players past o h (name ∷ act ∷ []) = (tt, (h, tt))
+wait_acted players past o h (act ∷ show ∷ fen ∷ []) = (h, (tt, (tt, tt)))
+wait_acted players past o h (name ∷ act ∷ show ∷ fen ∷ lines) = (tt, wait_acted players past o h (act ∷ show ∷ fen ∷ lines))
+
+wait_some : (players : List Player) (past : List Step) (o : Owed) → IsAsked players past o → (line : List ℕ) (lines : List (List ℕ)) →
+    AreAsked players past (owed_some o line lines)
+wait_some players past Nobody h line lines = wait_last players past Nobody h (line ∷ lines)
+wait_some players past (Asker c ForItself) h line lines = wait_last players past (Asker c ForItself) h (line ∷ lines)
+wait_some players past (Asker c ForPositions) h line lines = wait_last players past (Asker c ForPositions) h (line ∷ lines)
+wait_some players past (Asker c ForTable) h line lines = wait_last players past (Asker c ForTable) h (line ∷ lines)
+wait_some players past (Asker c (ForGame game)) h line lines = wait_last players past (Asker c (ForGame game)) h (line ∷ lines)
+wait_some players past (Asker c (ForAct by text)) h line lines = wait_acted players past (Asker c (ForAct by text)) h (line ∷ lines)
+wait_some players past (Dropper c by text) h line lines = wait_last players past (Dropper c by text) h (line ∷ lines)
+wait_some players past (Followers game act is_table) h line lines = wait_last players past (Followers game act is_table) h (line ∷ lines)
+wait_some players past Behind h line lines = wait_last players past Behind h (line ∷ lines)
+
+wait_lines : (players : List Player) (past : List Step) (o : Owed) → IsAsked players past o → (lines : List (List ℕ)) →
+    AreAsked players past (owed_lines o lines)
+wait_lines players past o h [] = tt
+wait_lines players past o h (line ∷ lines) = wait_some players past o h line lines
+
 asked_followers : (players : List Player) (past : List Step) (game : Option ℕ) (by text now : List ℕ) → IsAsked players past (followers_of game by text now)
 asked_followers players past None by text now = tt
 asked_followers players past (Some game) by text now = tt
@@ -542,16 +597,17 @@ asked_follower players past (Asker c ForItself) now = tt
 asked_follower players past (Asker c ForPositions) now = tt
 asked_follower players past (Asker c ForTable) now = tt
 asked_follower players past (Asker c (ForGame game)) now = tt
-asked_follower players past (Asker c (ForAct by text)) now = asked_followers players past (act_game now) by text now
+asked_follower players past (Asker c (ForAct by text)) now = asked_followers players past (asked_after text (act_game now)) by text now
 asked_follower players past (Dropper c by text) now = tt
 asked_follower players past (Followers game act is_table) now = tt
+asked_follower players past Behind now = tt
 
 asked_answered : (players : List Player) (past : List Step) (owed : List Owed) (now : List ℕ) (lines : List (List ℕ)) → AreAsked players past owed →
     AreAsked players past (owed_answered owed now lines)
 asked_answered players past [] now lines h = tt
 asked_answered players past (o ∷ owed) now lines h =
-    are_asked_both players past owed (owed_last (follower o now) lines) h.1
-    (wait_last players past (follower o now) (asked_follower players past o now) lines)
+    are_asked_both players past owed (owed_lines (follower o now) lines) h.1
+    (wait_lines players past (follower o now) (asked_follower players past o now) lines)
 
 asked_heard : (players : List Player) (past : List Step) (owed : List Owed) (now : List ℕ) (lines : List (List ℕ)) → AreAsked players past owed →
     (b : Bool) → AreAsked players past (if b then owed_answered owed now lines else owed)
@@ -648,10 +704,10 @@ asked_by players past c text all line lines tells asks is =
 
 asker_asked : (players : List Player) (past : List Step) (c : ℕ) (by text : List ℕ) (all lines : List (List ℕ)) (tells : List Telling) →
     AsksDrop (is_drop text) lines (player_in players past c) (is_message text) →
-    AreAsked players (record { event = Said c text; lines = all; tells = tells } ∷ past) (owed_last (asker c by text) lines)
+    AreAsked players (record { event = Said c text; lines = all; tells = tells } ∷ past) (owed_lines (asker c by text) lines)
 asker_asked players past c by text all [] tells asks = tt
 asker_asked players past c by text all (line ∷ lines) tells asks =
-    wait_last players (record { event = Said c text; lines = all; tells = tells } ∷ past) (asker c by text)
+    wait_lines players (record { event = Said c text; lines = all; tells = tells } ∷ past) (asker c by text)
     (asked_if_drop players (record { event = Said c text; lines = all; tells = tells } ∷ past) c by text (sort_of text) (number_in (rest_of text))
     (asked_by players past c text all line lines tells asks)) (line ∷ lines)
 
@@ -679,10 +735,6 @@ said_who players old c text lines tells new h d =
     ∙ ap (λ (holder : Option Identity). if is_message text && is_login_sort (sort_of text) then shown_by holder (old.who d) else old.who d) h.holder) in
     h.who_is d ∙ ap (λ (one : Option Identity). if c == d then one else old.who d) plan
 
-notice_read : (game : Option ℕ) → IfSome game (λ g. g < 2 ^ 32) → AllRead (notice_lines game) × AreWhole (notice_lines game)
-notice_read None small = (tt, tt)
-notice_read (Some game) small = ((show_reads game, (fen_reads game, tt)), (show_whole game small, (fen_whole game small, tt)))
-
 -- the game that an answer names is small
 game_small : (a b : Bool) (x y : List ℕ) → IfSome (if a then number_in x else (if b then number_in y else None)) (λ g. g < 2 ^ 32)
 game_small true b x y = number_small x
@@ -693,6 +745,10 @@ act_game_small : (now : List ℕ) → IfSome (act_game now) (λ g. g < 2 ^ 32)
 act_game_small now =
     let line = first_line now in
     game_small (bytes_eq (word_of line) (codes "ok")) (bytes_eq (word_of line) (codes "fallen")) (word_of (rest_of (rest_of line))) (word_of (rest_of line))
+
+after_small : (text : List ℕ) (game : Option ℕ) → IfSome game (λ g. g < 2 ^ 32) → IfSome (asked_after text game) (λ g. g < 2 ^ 32)
+after_small text game small =
+    elim (is_same_game (game_named text) game) as (λ b. IfSome (if b then None else game) (λ g. g < 2 ^ 32)) [ true ↦ tt | false ↦ small ]
 
 -- what goes out for an answer
 record HeardGood (players : List Player) (past : List Step) (line : List ℕ) (lines : List (List ℕ)) (later : Option (List ℕ)) : Type 0 where
@@ -761,7 +817,7 @@ dropped_heard : (players : List Player) (past : List Step) (line : List ℕ) (c 
     HeardGood players past line lines later
 dropped_heard players past line c by text others waits asked lines later h =
     let was = was_asked players past c text asked in
-    let under = act_under text h.name (name_in past) (sort_of text) was.message refl (drop_names_none (sort_of text) was.drop) h.named in
+    let under = act_under text h.name (game_named text) (named_small text) (name_in past) (sort_of text) was.message refl (drop_names_none (sort_of text) was.drop) h.named in
     record {
       said = h.said_is ∙ (under.later ∙ ap (name_through (name_in past)) (sym h.lines_are));
       right = inr (inr (record {
@@ -776,7 +832,7 @@ dropped_heard players past line c by text others waits asked lines later h =
         first = h.first;
         empty = h.empty;
         acts = subst (λ (ls : List (List ℕ)). ActsUnder (name_in past) ls h.name) (sym h.lines_are) under.acts;
-        of_text = subst (λ (ls : List (List ℕ)). IsOf (text ∷ []) ls) (sym h.lines_are) under.of_text;
+        of_text = subst (λ (ls : List (List ℕ)). IsOf (text ∷ notice_lines (game_named text)) ls) (sym h.lines_are) under.of_text;
       }));
       whole = subst AreWhole (sym h.lines_are) under.whole;
     }
@@ -791,7 +847,7 @@ sent_for players past line (Asker c ForTable) others waits asked lines later h =
 sent_for players past line (Asker c (ForGame game)) others waits asked lines later h = heard_none players past line lines later h.1 h.0
 sent_for players past line (Asker c (ForAct by text)) others waits asked lines later h =
     let now = answer (known_in players past).begun line in
-    let asks = notice_read (act_game now) (act_game_small now) in
+    let asks = notice_read (asked_after text (act_game now)) (after_small text (act_game now) (act_game_small now)) in
     heard_reads players past line lines later h.1 (subst AllRead (sym h.0) asks.0) (subst AreWhole (sym h.0) asks.1)
     (inr (record { c = c; by = by; text = text; others = others; waits = waits; lines_are = h.0 }))
 sent_for players past line (Dropper c by text) others waits asked lines later h =
@@ -800,6 +856,7 @@ sent_for players past line (Dropper c by text) others waits asked lines later h 
       | inr goes ↦ dropped_heard players past line c by text others waits asked lines later goes
     ]
 sent_for players past line (Followers game act is_table) others waits asked lines later h = heard_none players past line lines later h.1 h.0
+sent_for players past line Behind others waits asked lines later h = heard_none players past line lines later h.1 h.0
 
 sent_next : (players : List Player) (past : List Step) (line : List ℕ) (owed : List Owed) → (known_in players past).owed ≡ owed →
     AreAsked players past owed → (lines : List (List ℕ)) (later : Option (List ℕ)) →
@@ -921,7 +978,7 @@ asked_then players past old (Closed c) lines tells now agrees step = are_asked_l
 asked_then players past old (Hurried c) lines tells now agrees step = are_asked_later players (record { event = Hurried c; lines = lines; tells = tells }) past old.known.owed agrees.asked
 asked_then players past old (Said c text) lines tells now agrees step =
     let asks = subst (λ (who : Option Identity). AsksDrop (is_drop text) lines who (is_message text)) (agrees.who c) (said_asks (players_in players past) old c text lines tells now step) in
-    are_asked_both players (record { event = Said c text; lines = lines; tells = tells } ∷ past) old.known.owed (owed_last (asker c (name_of (old.who c)) text) lines)
+    are_asked_both players (record { event = Said c text; lines = lines; tells = tells } ∷ past) old.known.owed (owed_lines (asker c (name_of (old.who c)) text) lines)
     (are_asked_later players (record { event = Said c text; lines = lines; tells = tells }) past old.known.owed agrees.asked)
     (asker_asked players past c (name_of (old.who c)) text lines lines tells asks)
 asked_then players past old (Heard line) lines tells now agrees step =
@@ -935,7 +992,7 @@ asked_then players past old Here lines tells now agrees step = tt
 
 begins_known : (players : List Player) (now : View) → BeginsView now → now.known ≡ known_in players []
 begins_known players now begins =
-    same_known now.known (known_in players []) begins.owed begins.left begins.begun begins.last begins.watches begins.table begins.waiting begins.refused
+    same_known now.known (known_in players []) begins.owed begins.left begins.begun begins.last begins.watches begins.table begins.waiting begins.refused begins.follows
 
 pub record RunGood (players : List Player) (steps : List Step) (now : View) : Type 0 where
   pub agrees : Agrees players steps now

@@ -1,5 +1,5 @@
 -- What comes in and what goes out.
-use Rattle.std.specs.Prelude.{ℕ, Bool, List, [], ◌∷◌, ◌++◌, codes, map, Option, None, Some}
+use Rattle.std.specs.Prelude.{ℕ, Bool, false, ◌==◌, if◌then◌else◌, List, [], ◌∷◌, ◌++◌, codes, map, Option, None, Some}
 use Rattle.std.specs.String.{string_bytes}
 use Rattle.lobby_desk.specs.declared.telling.Kind.{Kind}
 use Rattle.lobby_desk.specs.declared.telling.Kind.TheVariants as kinds
@@ -12,6 +12,8 @@ use Rattle.lobby_words.specs.declared.planning.Plan.TheVariants as plans
 use Rattle.lobby_words.specs.declared.words.Sort.{Sort}
 use Rattle.lobby_words.specs.declared.words.Sort.TheVariants as sorts
 use Rattle.lobby_words.specs.Words.{rest_of, sort_of, number_in, or_0}
+use Rattle.lobby_desk.specs.declared.server_line.Notice.{Notice}
+use Rattle.lobby_desk.specs.Refusals.{game_named}
 use Rattle.lobby_words.specs.Answers.{act_game, is_table_act}
 
 -- What comes in; of a message that comes too fast nothing is read. The players are these from now on: by themselves, or for a message
@@ -61,12 +63,13 @@ pub data Ask : Type 0 where
 
 -- For whom the server's answer to a line is: for nobody; for the connection whose message it answers; for the one whose `drop`,
 -- by this arbiter, waits for it; for those who are told of a game, with the lines that tell of the act, and whether the table is
--- told.
+-- told; for those who are told of the act right behind which the line went out, if the server accepted it.
 pub data Owed : Type 0 where
   Nobody : Owed
   Asker : (c : ℕ) → (ask : Ask) → Owed
   Dropper : (c : ℕ) → (by : List ℕ) → (text : List ℕ) → Owed
   Followers : (game : ℕ) → (act : List ℕ) → (is_table : Bool) → Owed
+  Behind : Owed
 
 -- the same, by the desk's own
 abbrev pub owed_of : Due → Owed
@@ -78,6 +81,7 @@ owed_of (dues.Act act) = Asker act.from (ForAct act.who (string_bytes act.text))
 owed_of (dues.Drop act) = Dropper act.from act.who (string_bytes act.text)
 owed_of (dues.Watch c game) = Asker c (ForGame game)
 owed_of (dues.Notice notice) = Followers notice.game (string_bytes notice.act) notice.is_table
+owed_of dues.Behind = Behind
 
 -- of lines that go out together the answer to the last is for somebody
 abbrev pub owed_last : Owed → List (List ℕ) → List Owed
@@ -85,7 +89,25 @@ owed_last who [] = []
 owed_last who (line ∷ []) = who ∷ []
 owed_last who (line ∷ next ∷ lines) = Nobody ∷ owed_last who (next ∷ lines)
 
--- Whose the answer to a message's last line is: by its sort, the number behind its word, and the name of the player for whom its
+-- Of the lines of an act, with a name before it or not, the answer to the act is for somebody; and that to `fen`, where `show` and
+-- `fen` stand behind it, for those who are told of it.
+abbrev pub owed_acted : Owed → List (List ℕ) → List Owed
+owed_acted who [] = []
+owed_acted who (act ∷ []) = who ∷ []
+owed_acted who (name ∷ act ∷ []) = Nobody ∷ who ∷ []
+owed_acted who (act ∷ show ∷ fen ∷ []) = who ∷ Nobody ∷ Behind ∷ []
+owed_acted who (name ∷ act ∷ show ∷ fen ∷ lines) = Nobody ∷ owed_acted who (act ∷ show ∷ fen ∷ lines)
+
+-- for whom the answers to lines are that go out together
+abbrev pub owed_some : Owed → List ℕ → List (List ℕ) → List Owed
+owed_some (Asker c (ForAct by text)) line lines = owed_acted (Asker c (ForAct by text)) (line ∷ lines)
+owed_some who line lines = owed_last who (line ∷ lines)
+
+abbrev pub owed_lines : Owed → List (List ℕ) → List Owed
+owed_lines who [] = []
+owed_lines who (line ∷ lines) = owed_some who line lines
+
+-- Whose the answer to a message is: by its sort, the number behind its word, and the name of the player for whom its
 -- connection acts.
 abbrev pub sort_asker : Sort → Option ℕ → ℕ → List ℕ → List ℕ → Owed
 sort_asker sorts.Drop game c by text = Dropper c by text
@@ -113,13 +135,56 @@ plan_asker _ c text = Asker c ForItself
 abbrev pub act_told : List ℕ → List ℕ → List ℕ → List ℕ
 act_told by text answer = codes "by " ++ by ++ codes " " ++ text ++ codes "\n" ++ answer
 
--- Whose the answer to the last line is that goes out for an answer: the drop's for which that was asked; or those who are told of
--- the game in which an act was done.
+-- an act of which some are told: its game, the lines that tell of it, and whether the table is told
+pub record Following : Type 0 where
+  pub game : ℕ
+  pub act : List ℕ
+  pub is_table : Bool
+
+abbrev pub following_of : Option ℕ → List ℕ → List ℕ → List ℕ → Option Following
+following_of None by text answer = None
+following_of (Some game) by text answer =
+    Some (record { game = game; act = act_told by text answer; is_table = is_table_act text })
+
+abbrev pub owed_to : Option Following → Owed
+owed_to None = Nobody
+owed_to (Some f) = Followers f.game f.act f.is_table
+
+-- the same, by the desk's own
+abbrev pub following : Option Notice → Option Following
+following None = None
+following (Some notice) = Some (record { game = notice.game; act = string_bytes notice.act; is_table = notice.is_table })
+
+-- Of the game that the answer to an act names it was asked how it stands right behind the act, where the act names that very game;
+-- else it is asked once the answer is there.
+abbrev pub is_same_game : Option ℕ → Option ℕ → Bool
+is_same_game (Some a) (Some b) = a == b
+is_same_game _ _ = false
+
+abbrev pub asked_behind : List ℕ → Option ℕ → Option ℕ
+asked_behind text game = if is_same_game (game_named text) game then game else None
+
+abbrev pub asked_after : List ℕ → Option ℕ → Option ℕ
+asked_after text game = if is_same_game (game_named text) game then None else game
+
+-- Whose the answers are to the lines that go out for an answer: the drop's for which that was asked; or those who are told of the
+-- game in which an act was done.
 abbrev pub followers_of : Option ℕ → List ℕ → List ℕ → List ℕ → Owed
-followers_of None by text answer = Nobody
-followers_of (Some game) by text answer = Followers game (act_told by text answer) (is_table_act text)
+followers_of game by text answer = owed_to (following_of game by text answer)
 
 abbrev pub follower : Owed → List ℕ → Owed
 follower (Dropper c by text) answer = Asker c (ForAct by text)
-follower (Asker c (ForAct by text)) answer = followers_of (act_game answer) by text answer
+follower (Asker c (ForAct by text)) answer = followers_of (asked_after text (act_game answer)) by text answer
 follower _ answer = Nobody
+
+-- The act of which those are told for whom the answers behind it are, after an answer, by whose that is: none where the server
+-- refused it, and none once they are told.
+abbrev pub follows_heard : Owed → List ℕ → Option Following → Option Following
+follows_heard (Asker c (ForAct by text)) answer follows = following_of (asked_behind text (act_game answer)) by text answer
+follows_heard Behind answer follows = None
+follows_heard _ answer follows = follows
+
+-- for whom an answer is, by the act before it
+abbrev pub told_as : Option Following → Owed → Owed
+told_as follows Behind = owed_to follows
+told_as follows o = o

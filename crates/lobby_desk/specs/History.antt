@@ -9,8 +9,8 @@ use Rattle.lobby_words.specs.Words.{rest_of, as_name, as_line, is_message, sort_
 use Rattle.lobby_desk.specs.Players.{holder_of, player_named, renewed, is_token_of}
 use Rattle.lobby_words.specs.Answers.{IsSeated, IsFirstSeated, has_empty_seat, act_game, is_whole, answer}
 use Rattle.lobby_desk.specs.Lines.{name_line, game_line, notice_lines}
-use Rattle.lobby_desk.specs.Events.{Event, Opened, Closed, Said, Heard, Gone, Here, Renewed, Linked, Telling, ForAct, Owed, Asker, Dropper, Followers}
-use Rattle.lobby_desk.specs.Refusals.{is_act_accepted, refused_game}
+use Rattle.lobby_desk.specs.Events.{Event, Opened, Closed, Said, Heard, Gone, Here, Renewed, Linked, Telling, ForAct, Owed, Asker, Dropper, Followers, Following, asked_after, told_as}
+use Rattle.lobby_desk.specs.Refusals.{is_act_accepted, game_named, refused_game}
 use Rattle.lobby_desk.specs.Logging.{act_logged, is_of_act, one_if, log_texts}
 use Rattle.lobby_desk.specs.Tellings.{Known, known_now, open_now, is_number, IsTold}
 use Rattle.lobby_desk.specs.Who.{View, BeginsView, IsStep, speaker, players_now}
@@ -106,12 +106,13 @@ abbrev pub ActsRight : Option (List ℕ) → Option (List ℕ) → List (List �
 ActsRight None said lines = NoActs lines
 ActsRight (Some name) said lines = ActsUnder said lines name
 
--- What a message has the desk say to the server, by its sort and by the number behind its word: itself; of `as NAME LINE` the
--- line; or for the game or the table that it names what the server is asked; for all else nothing.
+-- What a message has the desk say to the server, by its sort and by the number behind its word: itself, or of `as NAME LINE` the
+-- line, and right behind an act how the game stands that it names, if it names one; or for the game or the table that it names what
+-- the server is asked; for all else nothing.
 abbrev pub sort_asks : Sort → ℕ → List ℕ → List (List ℕ)
 sort_asks sorts.Read game text = text ∷ []
-sort_asks sorts.Act game text = text ∷ []
-sort_asks sorts.As game text = as_line text ∷ []
+sort_asks sorts.Act game text = text ∷ notice_lines (game_named text)
+sort_asks sorts.As game text = as_line text ∷ notice_lines (game_named text)
 sort_asks sorts.Drop game text = game_line (codes "show ") game ∷ []
 sort_asks sorts.Lobby game text = codes "list" ∷ []
 sort_asks sorts.Watch game text = game_line (codes "show ") game ∷ game_line (codes "fen ") game ∷ []
@@ -132,7 +133,7 @@ open_in (s ∷ past) c = open_now s.event c (open_in past c)
 
 -- what is known of the connections and of the server behind a past
 abbrev pub known_in : List Player → List Step → Known
-known_in players [] = record { owed = []; left = 0; begun = []; last = []; watches = []; table = []; waiting = []; refused = [] }
+known_in players [] = record { owed = []; left = 0; begun = []; last = []; watches = []; table = []; waiting = []; refused = []; follows = None }
 known_in players (s ∷ past) =
     known_now s.event (speaker (player_in players past) s.event) s.lines (open_in past) (known_in players past)
 
@@ -152,7 +153,8 @@ HasAsked players (s ∷ past) c text = AsksNow players past s.event c text ⊎ H
 
 -- A drop goes out behind an answer of the server. It is the message of a connection that had shown an arbiter's token when it
 -- said it; the answer is the one for which this message waits, and shows the game with an empty seat, so that it waits for its
--- second player; and the drop stands under the name of the player who, as that answer says, has the other seat.
+-- second player; and the drop stands under the name of the player who, as that answer says, has the other seat. Right behind it is
+-- asked how its game stands.
 pub record IsDropOf (players : List Player) (past : List Step) (line : List ℕ) (lines : List (List ℕ)) : Type 0 where
   pub c : ℕ
   pub by : List ℕ
@@ -165,16 +167,17 @@ pub record IsDropOf (players : List Player) (past : List Step) (line : List ℕ)
   pub first : IsFirstSeated (answer (known_in players past).begun line) name
   pub empty : has_empty_seat (answer (known_in players past).begun line) ≡ true
   pub acts : ActsUnder (name_in past) lines name
-  pub of_text : IsOf (text ∷ []) lines
+  pub of_text : IsOf (text ∷ notice_lines (game_named text)) lines
 
--- Behind the server's answer to an act it is asked how the game stands that this answer names, if it names one.
+-- Behind the server's answer to an act it is asked how the game stands that this answer names, if it names one of which that was not
+-- asked right behind the act, as that of an `open` does.
 pub record IsNoticeOf (players : List Player) (past : List Step) (line : List ℕ) (lines : List (List ℕ)) : Type 0 where
   pub c : ℕ
   pub by : List ℕ
   pub text : List ℕ
   pub others : List Owed
   pub waits : (known_in players past).owed ≡ Asker c (ForAct by text) ∷ others
-  pub lines_are : lines ≡ notice_lines (act_game (answer (known_in players past).begun line))
+  pub lines_are : lines ≡ notice_lines (asked_after text (act_game (answer (known_in players past).begun line)))
 
 -- whether a connection of this number has come
 abbrev pub comes : Event → ℕ → Bool
@@ -293,12 +296,12 @@ entries_for acts before (Asker c (ForAct by text)) now =
 entries_for acts before (Followers game act is_table) now = one_if (not (is_of_act before)) before
 entries_for acts before _ now = []
 
-abbrev pub entries_next : List Acted → List ℕ → List Owed → List ℕ → List (List ℕ)
-entries_next acts before [] now = []
-entries_next acts before (o ∷ owed) now = entries_for acts before o now
+abbrev pub entries_next : List Acted → List ℕ → Option Following → List Owed → List ℕ → List (List ℕ)
+entries_next acts before follows [] now = []
+entries_next acts before follows (o ∷ owed) now = entries_for acts before (told_as follows o) now
 
 abbrev pub entries_now : List Acted → Event → Known → List (List ℕ)
-entries_now acts (Heard line) k = if is_whole k.left line then entries_next acts k.last k.owed (answer k.begun line) else []
+entries_now acts (Heard line) k = if is_whole k.left line then entries_next acts k.last k.follows k.owed (answer k.begun line) else []
 entries_now acts _ k = []
 
 abbrev pub entries_in : List Player → List Step → List (List ℕ)

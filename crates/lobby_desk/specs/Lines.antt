@@ -5,6 +5,7 @@ use Rattle.lobby_words.specs.declared.planning.Plan.{Plan}
 use Rattle.lobby_words.specs.Words.{as_line}
 use Rattle.lobby_words.specs.declared.planning.Plan.TheVariants as plans
 use Rattle.rec_codec.specs.Name.{IsName}
+use Rattle.lobby_desk.specs.Refusals.{game_named}
 use Rattle.lobby_desk.specs.declared.server_line.ServerLine.{ServerLine}
 pub use Rattle.lobby_words.specs.Answers.{ended}
 
@@ -25,15 +26,26 @@ abbrev pub is_said : Option (List ℕ) → List ℕ → Bool
 is_said None name = false
 is_said (Some said) name = bytes_eq said name
 
--- an act under a name, where another or none was said last
-abbrev pub act_lines : Option (List ℕ) → List ℕ → List ℕ → List (List ℕ)
-act_lines said name line = if is_said said name then line ∷ [] else name_line name ∷ line ∷ []
+-- what asks how a game stands, if one is named
+abbrev pub notice_lines : Option ℕ → List (List ℕ)
+notice_lines None = []
+notice_lines (Some game) = game_line (codes "show ") game ∷ game_line (codes "fen ") game ∷ []
+
+-- what says a name, where another or none was said last
+abbrev pub name_lines : Option (List ℕ) → List ℕ → List (List ℕ)
+name_lines said name = if is_said said name then [] else name_line name ∷ []
+
+-- An act under a name, which is said before it where another or none was said last; and right behind it what asks how its game
+-- stands, if it names one.
+abbrev pub act_lines : Option (List ℕ) → List ℕ → List ℕ → Option ℕ → List (List ℕ)
+act_lines said name line game =
+    if is_said said name then line ∷ notice_lines game else name_line name ∷ line ∷ notice_lines game
 
 -- the lines that a plan sends
 abbrev pub lines_of : Plan → Option (List ℕ) → List ℕ → List (List ℕ)
 lines_of plans.Read said text = text ∷ []
-lines_of (plans.Act who) said text = act_lines said who.name text
-lines_of (plans.ActAs who name) said text = act_lines said name (as_line text)
+lines_of (plans.Act who) said text = act_lines said who.name text (game_named text)
+lines_of (plans.ActAs who name) said text = act_lines said name (as_line text) (game_named text)
 lines_of (plans.Drop who game) said text = game_line (codes "show ") game ∷ []
 lines_of plans.Lobby said text = codes "list" ∷ []
 lines_of (plans.Watch game) said text = game_line (codes "show ") game ∷ game_line (codes "fen ") game ∷ []
@@ -46,11 +58,6 @@ said_after (plans.Act who) said = Some who.name
 said_after (plans.ActAs who name) said = Some name
 said_after _ said = said
 
--- what an accepted act makes the desk ask, of the game that its answer names
-abbrev pub notice_lines : Option ℕ → List (List ℕ)
-notice_lines None = []
-notice_lines (Some game) = game_line (codes "show ") game ∷ game_line (codes "fen ") game ∷ []
-
 -- the name under which a plan acts is one
 abbrev pub IsNamed : Plan → Type 0
 IsNamed (plans.Act who) = IsName who.name
@@ -61,3 +68,4 @@ IsNamed _ = Unit {0}
 abbrev pub IsHeardSame : ServerLine → ServerLine → Type 0
 IsHeardSame old new =
     (new.coming ≡ old.coming) × (new.last ≡ old.last) × (new.waiting ≡ old.waiting) × (new.refused ≡ old.refused)
+    × (new.acted ≡ old.acted)

@@ -11,15 +11,16 @@ use Rattle.lobby_words.specs.declared.refusals.Refusal.TheVariants as refusals
 use Rattle.lobby_words.specs.Plans.{refusal_text}
 use Rattle.lobby_words.specs.Answers.{left_after, is_whole, answer, is_accepted, is_over, act_game}
 use Rattle.lobby_desk.specs.Watching.{at_table, watch_if, sit_if, unwatched, none_watched, risen, followers}
-use Rattle.lobby_desk.specs.Events.{Event, Opened, Closed, Said, Hurried, Heard, Gone, Here, Renewed, Linked, Telling, to_one, to_one_as, Ask, ForPositions, ForGame, ForTable, ForAct, Owed, Nobody, Asker, Dropper, Followers, owed_last, asker, follower}
+use Rattle.lobby_desk.specs.Events.{Event, Opened, Closed, Said, Hurried, Heard, Gone, Here, Renewed, Linked, Telling, to_one, to_one_as, Ask, ForPositions, ForGame, ForTable, ForAct, Owed, Nobody, Asker, Dropper, Followers, Behind, owed_lines, asker, follower, Following, follows_heard, told_as}
 use Rattle.lobby_desk.specs.Logging.{logged_for, logged_standing}
 use Rattle.lobby_desk.specs.Waiting.{waiting_told, waiting_listed}
 use Rattle.lobby_desk.specs.Refusals.{refused_told}
 
 -- What is known of the connections and of the server: for whom the next answers of the server are, the oldest first; how many
 -- lines of the answer that has begun are still to come, and those that came; the last whole answer; who watches which game, and
--- who is told of the table, each in the order in which they came to; which games wait for a second player; and how many acts were
--- refused in which game since one was accepted there.
+-- who is told of the table, each in the order in which they came to; which games wait for a second player; how many acts were
+-- refused in which game since one was accepted there; and the last act of which it was asked right behind it how its game stands,
+-- where the server accepted it and that is not told yet.
 pub record Known : Type 0 where
   pub owed : List Owed
   pub left : ℕ
@@ -29,6 +30,7 @@ pub record Known : Type 0 where
   pub table : List ℕ
   pub waiting : List Waiting
   pub refused : List Refused
+  pub follows : Option Following
 
 -- the front of the answer to a `watch` that is accepted, and of that to `lobby`
 abbrev pub watch_front : ℕ → List ℕ
@@ -114,14 +116,25 @@ abbrev pub refused_now : Event → Known → List Refused
 refused_now (Heard line) k = if is_whole k.left line then refused_next k.owed (answer k.begun line) k.refused else k.refused
 refused_now _ k = k.refused
 
+-- The act of which is told next, after an answer, by whose it is; none on a new connection to the server.
+abbrev pub follows_next : List Owed → List ℕ → Option Following → Option Following
+follows_next [] now follows = follows
+follows_next (o ∷ owed) now follows = follows_heard o now follows
+
+abbrev pub follows_now : Event → Known → Option Following
+follows_now (Heard line) k = if is_whole k.left line then follows_next k.owed (answer k.begun line) k.follows else k.follows
+follows_now Gone k = None
+follows_now Here k = None
+follows_now _ k = k.follows
+
 -- the first of them is answered so, and these lines go out for it
 abbrev pub owed_answered : List Owed → List ℕ → List (List ℕ) → List Owed
 owed_answered [] now lines = []
-owed_answered (o ∷ owed) now lines = owed ++ owed_last (follower o now) lines
+owed_answered (o ∷ owed) now lines = owed ++ owed_lines (follower o now) lines
 
 -- For whom the next answers are: the server answers each line, in the order in which the lines went to it.
 abbrev pub owed_now : Event → List ℕ → List (List ℕ) → Known → List Owed
-owed_now (Said c text) by lines k = k.owed ++ owed_last (asker c by text) lines
+owed_now (Said c text) by lines k = k.owed ++ owed_lines (asker c by text) lines
 owed_now (Heard line) by lines k = if is_whole k.left line then owed_answered k.owed (answer k.begun line) lines else k.owed
 owed_now Gone by lines k = []
 owed_now Here by lines k = []
@@ -155,6 +168,7 @@ known_now event by lines is_open k = record {
   table = table_now event is_open k;
   waiting = waiting_now event k;
   refused = refused_now event k;
+  follows = follows_now event k;
 }
 
 -- one message, to this connection
@@ -210,11 +224,12 @@ IsToldFor before watches table refused (Dropper c by text) now [] tells = tells 
 IsToldFor before watches table refused (Dropper c by text) now (line ∷ lines) tells = tells ≡ []
 IsToldFor before watches table refused (Followers game act is_table) now lines tells =
     (lines ≡ []) × (tells ≡ logged_standing before ++ notice watches table game act is_table before now ∷ [])
+IsToldFor before watches table refused Behind now lines tells = (lines ≡ []) × (tells ≡ [])
 
 -- the same of the first that is owed; what nobody asked for is told to nobody
 abbrev pub IsToldNext : Known → List Owed → List ℕ → List (List ℕ) → List Telling → Type 0
 IsToldNext k [] now lines tells = (lines ≡ []) × (tells ≡ [])
-IsToldNext k (o ∷ owed) now lines tells = IsToldFor k.last k.watches k.table k.refused o now lines tells
+IsToldNext k (o ∷ owed) now lines tells = IsToldFor k.last k.watches k.table k.refused (told_as k.follows o) now lines tells
 
 abbrev pub IsToldHeard : Bool → Known → List ℕ → List (List ℕ) → List Telling → Type 0
 IsToldHeard false k now lines tells = (lines ≡ []) × (tells ≡ [])

@@ -21,11 +21,12 @@ use Rattle.lobby_words.specs.Plans.{refusal_text, plan_of, order_of}
 use Rattle.lobby_desk.specs.Lines.{bytes_of, lines_of, act_lines, said_after, notice_lines, IsNamed}
 use Rattle.lobby_words.specs.Answers.{IsSeated, IsFirstSeated, IsSeatless, has_empty_seat, act_game, is_whole, answer}
 use Rattle.lobby_desk.specs.Watching.{games_of, unwatched, risen, is_full}
+use Rattle.lobby_desk.specs.Refusals.{game_named}
 use Rattle.lobby_desk.specs.Waiting.{is_crowded}
 use Rattle.lobby_desk.specs.Pace.{is_too_fast}
 pub use Rattle.lobby_desk.specs.Watching.{at_table}
-use Rattle.lobby_desk.specs.Events.{Event, Opened, Closed, Said, Hurried, Heard, Gone, Here, Renewed, Linked, Telling, to_one, ForAct, Owed, Asker, Dropper, owed_of, owed_last, plan_asker, follower}
-use Rattle.lobby_desk.specs.Tellings.{Known, open_now, watch_heard, watch_next, table_heard, table_next, watches_now, table_now, waiting_heard, waiting_next, waiting_now, refused_heard, refused_next, refused_now, owed_now, left_now, begun_now, last_now, owed_answered, owes, presence, IsTold, IsToldFor, IsToldNext}
+use Rattle.lobby_desk.specs.Events.{Event, Opened, Closed, Said, Hurried, Heard, Gone, Here, Renewed, Linked, Telling, to_one, ForAct, Owed, Asker, Dropper, owed_of, owed_lines, plan_asker, follower, following, asked_after, follows_heard, told_as}
+use Rattle.lobby_desk.specs.Tellings.{Known, open_now, watch_heard, watch_next, table_heard, table_next, watches_now, table_now, waiting_heard, waiting_next, waiting_now, refused_heard, refused_next, refused_now, follows_next, follows_now, owed_now, left_now, begun_now, last_now, owed_answered, owes, presence, IsTold, IsToldFor, IsToldNext}
 
 -- the player for whom a connection acts
 abbrev pub who_in : BTreeMap ℕ Visitor → ℕ → Option Identity
@@ -154,6 +155,7 @@ known desk = record {
   table = desk.table.items;
   waiting = desk.line.waiting.items;
   refused = desk.line.refused.items;
+  follows = following desk.line.acted;
 }
 
 -- the connection is open, and no answer is owed to it
@@ -189,6 +191,7 @@ pub record BeginsView (now : View) : Type 0 where
   pub table : now.known.table ≡ []
   pub waiting : now.known.waiting ≡ []
   pub refused : now.known.refused ≡ []
+  pub follows : now.known.follows ≡ None
 
 abbrev pub Begins : Desk → Type 0
 Begins desk = BeginsView (view desk)
@@ -252,7 +255,7 @@ pub record IsDropped (said : Option (List ℕ)) (now text : List ℕ) (lines : L
   pub seated : IsSeated now (rest_of text) name
   pub first : IsFirstSeated now name
   pub empty : has_empty_seat now ≡ true
-  pub lines_are : lines ≡ act_lines said name text
+  pub lines_are : lines ≡ act_lines said name text (game_named text)
   pub said_is : later ≡ Some name
 
 -- Nothing goes out for a drop that waited: nobody has a seat in its game, or no seat of it is empty.
@@ -262,9 +265,9 @@ pub record IsNotDropped (said : Option (List ℕ)) (now text : List ℕ) (lines 
   pub not_waiting : IsSeatless now (rest_of text) ⊎ (has_empty_seat now ≡ false)
 
 -- What goes out for an answer, by whose it is, and the name that was said last then. For the answer to an act it is asked how the
--- game stands that it names; a drop goes out for the answer that it waits for, where a seat is empty; else nothing does.
+-- game stands that it names, if that was not asked right behind the act; a drop goes out for the answer that it waits for, where a seat is empty; else nothing does.
 abbrev pub IsSentFor : Owed → Option (List ℕ) → List ℕ → List (List ℕ) → Option (List ℕ) → Type 0
-IsSentFor (Asker c (ForAct by text)) said now lines later = (lines ≡ notice_lines (act_game now)) × (later ≡ said)
+IsSentFor (Asker c (ForAct by text)) said now lines later = (lines ≡ notice_lines (asked_after text (act_game now))) × (later ≡ said)
 IsSentFor (Dropper c by text) said now lines later = IsNotDropped said now text lines later ⊎ IsDropped said now text lines later
 IsSentFor _ said now lines later = (lines ≡ []) × (later ≡ said)
 
@@ -364,6 +367,7 @@ pub record IsKnown (event : Event) (by : List ℕ) (lines : List (List ℕ)) (is
   pub table : new.table ≡ table_now event is_open old
   pub waiting : new.waiting ≡ waiting_now event old
   pub refused : new.refused ≡ refused_now event old
+  pub follows : new.follows ≡ follows_now event old
 
 -- a step: what comes in, the lines that go to the server, and what connections are told
 pub record IsStep (players : List Player) (old : View) (event : Event) (lines : List (List ℕ)) (tells : List Telling) (new : View) : Type 0 where
@@ -394,13 +398,14 @@ pub record Carried (old : Desk) (from : ℕ) (text : List ℕ) (plan : Plan) (un
   pub here_is : new.line.is_here ≡ old.line.is_here
   pub paused_is : new.is_paused ≡ paused_after plan old.is_paused
   pub who_is : (c : ℕ) → who_of new c ≡ (if from == c then who_noted plan (who_of old c) else who_of old c)
-  pub owed : (known new).owed ≡ (known old).owed ++ owed_last (plan_asker plan from text) (lines_of plan old.line.said text)
+  pub owed : (known new).owed ≡ (known old).owed ++ owed_lines (plan_asker plan from text) (lines_of plan old.line.said text)
   pub opens : (c : ℕ) → open_of new c ≡ (from == c || open_of old c)
   pub untils : (c : ℕ) → until_of new c ≡ (if from == c then until else until_of old c)
   pub watches : new.watches.items ≡ plan_watches plan from old.watches.items
   pub table : new.table.items ≡ plan_table plan from old.table.items
   pub waiting : new.line.waiting ≡ old.line.waiting
   pub refused : new.line.refused ≡ old.line.refused
+  pub follows : new.line.acted ≡ old.line.acted
   pub coming : new.line.coming ≡ old.line.coming
   pub last : new.line.last ≡ old.line.last
   pub players : new.players ≡ old.players
@@ -413,12 +418,13 @@ pub record AnswersTo (o : Owed) (now : List ℕ) (old : Desk) (before after : Li
   pub sent : after ≡ before ++ bytes_of lines
   pub told : told_after ≡ told_before ++ tells
   pub for_whom : IsSentFor o old.line.said now lines new.line.said
-  pub told_whom : IsToldFor (string_bytes old.line.last) old.watches.items old.table.items old.line.refused.items o now lines tells
-  pub owed : (known new).owed ≡ (known old).owed ++ owed_last (follower o now) lines
+  pub told_whom : IsToldFor (string_bytes old.line.last) old.watches.items old.table.items old.line.refused.items (told_as (following old.line.acted) o) now lines tells
+  pub owed : (known new).owed ≡ (known old).owed ++ owed_lines (follower o now) lines
   pub watches : new.watches.items ≡ watch_heard (open_of old) (string_bytes old.line.last) o old.watches.items
   pub table : new.table.items ≡ table_heard (open_of old) o old.table.items
   pub waiting : new.line.waiting.items ≡ waiting_heard o now old.line.waiting.items
   pub refused : new.line.refused.items ≡ refused_heard o now old.line.refused.items
+  pub follows : following new.line.acted ≡ follows_heard o now (following old.line.acted)
   pub here_is : new.line.is_here ≡ old.line.is_here
   pub paused_is : new.is_paused ≡ old.is_paused
   pub visitors : new.visitors ≡ old.visitors
@@ -440,6 +446,7 @@ pub record Answered (now : List ℕ) (old : Desk) (before after : List ℕ) (tol
   pub table : new.table.items ≡ table_next (open_of old) (known old).owed old.table.items
   pub waiting : new.line.waiting.items ≡ waiting_next (known old).owed now old.line.waiting.items
   pub refused : new.line.refused.items ≡ refused_next (known old).owed now old.line.refused.items
+  pub follows : following new.line.acted ≡ follows_next (known old).owed now (following old.line.acted)
   pub here_is : new.line.is_here ≡ old.line.is_here
   pub paused_is : new.is_paused ≡ old.is_paused
   pub visitors : new.visitors ≡ old.visitors

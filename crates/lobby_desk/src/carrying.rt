@@ -2,12 +2,13 @@
 ghost use Rattle.std.specs.Prelude.{ℕ, List, codes, ◌≡◌, ◌++◌, ◌==◌, ◌||◌, IfOk, IfSome, OnOk, map, is_some, if◌then◌else◌};
 ghost use Rattle.std.specs.String.{string_bytes};
 ghost use Rattle.lobby_desk.specs.Lines.{bytes_of, lines_of, said_after, IsNamed, IsHeardSame};
-ghost use Rattle.lobby_desk.specs.Events.{Telling, tellings, owed_of, owed_last, plan_asker};
+ghost use Rattle.lobby_desk.specs.Events.{Telling, tellings, owed_of, owed_lines, plan_asker};
 ghost use Rattle.lobby_desk.specs.Tellings.{token_told};
 ghost use Rattle.lobby_desk.specs.Who.{who_in, open_in_map, until_in, who_noted, plan_watches, plan_table, paused_after, is_own, IsOwnText, IsAnswered};
 
 use crate::players::{Player, Visitor};
 use crate::present::present_rows;
+use crate::refusals::game_named;
 use crate::rows::{login_line, player_rows};
 use crate::server_line::{Acting, Due, ServerLine};
 use crate::telling::{Kind, Told, headed, tell};
@@ -94,7 +95,7 @@ pub fn send(
     wire: &mut Vec<u8>,
 ) -> Result<(), AllocError>
     ensures sent { OnOk result (wire.new.items ≡ wire.old.items ++ bytes_of (lines_of plan.now line.old.said text.now)) }
-    ensures owed { OnOk result (map owed_of line.new.queue.items ≡ map owed_of line.old.queue.items ++ owed_last (plan_asker plan.now from text.now) (lines_of plan.now line.old.said text.now)) }
+    ensures owed { OnOk result (map owed_of line.new.queue.items ≡ map owed_of line.old.queue.items ++ owed_lines (plan_asker plan.now from text.now) (lines_of plan.now line.old.said text.now)) }
     ensures said { OnOk result (line.new.said ≡ said_after plan.now line.old.said) }
     ensures here { line.new.is_here ≡ line.old.is_here }
     ensures heard { IsHeardSame line.old line.new }
@@ -104,11 +105,11 @@ pub fn send(
         Plan::Read => line.pass(text, Due::Reply(from), wire),
         Plan::Act(who) => {
             let act = acting(alloc, from, who, text)?;
-            line.act(who.name, text, Due::Act(act), wire)
+            line.act(who.name, text, game_named(text), act, wire)
         }
         Plan::ActAs(who, name) => {
             let act = acting(alloc, from, who, text)?;
-            line.act(*name, as_line(text), Due::Act(act), wire)
+            line.act(*name, as_line(text), game_named(text), act, wire)
         }
         Plan::Drop(who, game) => {
             let act = acting(alloc, from, who, text)?;

@@ -71,8 +71,8 @@ fn line_said(text: &str) -> &str
     if word == "as" { as_line(text) } else { text }
 }
 
-// The game that the line of an act names.
-fn game_named(text: &str) -> Option<u32>
+/// The game that the line of an act names.
+pub fn game_named(text: &str) -> Option<u32>
     ensures { result ≡ spec.game_named text.now }
 {
     let (_, rest) = cut(line_said(text));

@@ -3,11 +3,12 @@
 ghost use Rattle.std.specs.Prelude.{◌≡◌, ◌++◌, [], ◌∷◌, map, false, Some, None, OnOk};
 ghost use Rattle.rec_codec.specs.Name.{IsName};
 ghost use Rattle.std.specs.String.{string_bytes};
-ghost use Rattle.lobby_desk.specs.Events.{owed_of, owed_last, Asker, ForAct};
+ghost use Rattle.lobby_desk.specs.Events.{owed_of, owed_last, owed_lines, Nobody, Behind, Asker, ForAct};
+ghost use Rattle.lobby_desk.specs.Refusals.{game_named};
 ghost use Rattle.lobby_desk.specs.Lines as lines;
-ghost use Rattle.lobby_desk.specs.Lines.{ended, bytes_of, act_lines, game_line, IsHeardSame};
+ghost use Rattle.lobby_desk.specs.Lines.{ended, bytes_of, name_lines, act_lines, notice_lines, game_line, IsHeardSame};
 
-use crate::refusals::Refused;
+use crate::refusals::{Refused, game_named};
 use itoa::Buffer;
 use lobby_words::{Coming, Waiting};
 use rec_codec::Name;
@@ -49,9 +50,11 @@ pub enum Due {
     Watch(u64, u32),
     /// The `fen G`, behind `show G`, for those who are told of a game.
     Notice(Notice),
+    /// The `fen G`, behind `show G`, right behind an act: for those who are told of it, where the server accepted it.
+    Behind,
 }
 
-/// The lobby's line to the server. The first four are of the connection that stands, and begin anew with the next one; what the
+/// The lobby's line to the server. The first five are of the connection that stands, and begin anew with the next one; what the
 /// server has told stays.
 #[derive(Drop)]
 pub struct ServerLine {
@@ -62,6 +65,8 @@ pub struct ServerLine {
     pub queue: VecDeque<Due>,
     /// The answer of which not every line has come.
     pub coming: Coming,
+    /// The act of which is told with the answers behind it, once they are there.
+    pub acted: Option<Notice>,
     /// The last whole answer.
     pub last: String,
     /// The games that wait for a second player, as far as the answers have told.
@@ -103,12 +108,14 @@ impl ServerLine {
         ensures last { string_bytes result.last ≡ [] }
         ensures waiting { result.waiting.items ≡ [] }
         ensures refused { result.refused.items ≡ [] }
+        ensures acted { result.acted ≡ None }
     {
         ServerLine {
             is_here: false,
             said: None,
             queue: VecDeque::new(alloc),
             coming: Coming::new(alloc),
+            acted: None,
             last: String::new(alloc),
             waiting: Vec::new(alloc),
             refused: Vec::new(alloc),
@@ -126,11 +133,13 @@ impl ServerLine {
         ensures last { self.new.last ≡ self.old.last }
         ensures waiting { self.new.waiting ≡ self.old.waiting }
         ensures refused { self.new.refused ≡ self.old.refused }
+        ensures acted { self.new.acted ≡ None }
     {
         self.is_here = is_here;
         self.said = None;
         self.queue.clear();
         self.coming.clear();
+        self.acted = None;
     }
 
     // Sends a line of two parts, whose answer is due.
@@ -162,48 +171,6 @@ impl ServerLine {
         self.send("", line, due, wire)
     }
 
-    #[tactic(auto, using(crate::proofs::Sent::one_line, crate::proofs::Sent::two_lines, crate::proofs::Sent::is_said_same))]
-    /// Passes an act on under a name, which is said first where another was said last.
-    pub fn act(
-        &mut self,
-        name: Name,
-        line: &str,
-        due: Due,
-        wire: &mut Vec<u8>,
-    ) -> Result<(), AllocError>
-        ensures sent { OnOk result (wire.new.items ≡ wire.old.items ++ bytes_of (act_lines self.old.said name line.now)) }
-        ensures owed { OnOk result (map owed_of self.new.queue.items ≡ map owed_of self.old.queue.items ++ owed_last (owed_of due) (act_lines self.old.said name line.now)) }
-        ensures said { OnOk result (self.new.said ≡ Some name) }
-        ensures here { self.new.is_here ≡ self.old.is_here }
-        ensures heard { IsHeardSame self.old self.new }
-        ensures named { OnOk result (IsName name) }
-    {
-        if is_said(&self.said, &name) {
-            return self.pass(line, due, wire);
-        }
-        self.send("name ", name.as_str(), Due::Own, wire)?;
-        self.said = Some(name);
-        self.pass(line, due, wire)
-    }
-
-    /// Sends the drop that waited under a name.
-    pub fn drop_under(
-        &mut self,
-        alloc: Global,
-        name: Name,
-        act: Acting,
-        wire: &mut Vec<u8>,
-    ) -> Result<(), AllocError>
-        ensures sent { OnOk result (wire.new.items ≡ wire.old.items ++ bytes_of (act_lines self.old.said name (string_bytes act.text))) }
-        ensures owed { OnOk result (map owed_of self.new.queue.items ≡ map owed_of self.old.queue.items ++ owed_last (Asker act.from (ForAct act.who (string_bytes act.text))) (act_lines self.old.said name (string_bytes act.text))) }
-        ensures said { OnOk result (self.new.said ≡ Some name) }
-        ensures here { OnOk result (self.new.is_here ≡ self.old.is_here) }
-        ensures heard { OnOk result (IsHeardSame self.old self.new) }
-    {
-        let text = String::from_str(alloc, act.text.as_str())?;
-        self.act(name, text.as_str(), Due::Act(act), wire)
-    }
-
     /// Asks something of a game; the word ends with a space.
     pub fn ask(
         &mut self,
@@ -220,5 +187,87 @@ impl ServerLine {
     {
         let mut buffer = Buffer::new();
         self.send(word, buffer.format(game), due, wire)
+    }
+
+    #[tactic(auto, using(crate::proofs::Sent::one_line, crate::proofs::Sent::is_said_same))]
+    // Says a name, where another was said last.
+    fn say_name(&mut self, name: Name, wire: &mut Vec<u8>) -> Result<(), AllocError>
+        ensures sent { OnOk result (wire.new.items ≡ wire.old.items ++ bytes_of (name_lines self.old.said name)) }
+        ensures owed { OnOk result (map owed_of self.new.queue.items ≡ map owed_of self.old.queue.items ++ owed_last Nobody (name_lines self.old.said name)) }
+        ensures said { OnOk result (self.new.said ≡ Some name) }
+        ensures here { self.new.is_here ≡ self.old.is_here }
+        ensures heard { IsHeardSame self.old self.new }
+        ensures named { OnOk result (IsName name) }
+    {
+        if is_said(&self.said, &name) {
+            return Ok(());
+        }
+        self.send("name ", name.as_str(), Due::Own, wire)?;
+        self.said = Some(name);
+        Ok(())
+    }
+
+    #[tactic(auto, using(crate::proofs::Sent::two_lines))]
+    // Asks right behind an act how its game stands, if it names one.
+    fn ask_behind(&mut self, game: Option<u32>, wire: &mut Vec<u8>) -> Result<(), AllocError>
+        ensures sent { OnOk result (wire.new.items ≡ wire.old.items ++ bytes_of (notice_lines game)) }
+        ensures owed { OnOk result (map owed_of self.new.queue.items ≡ map owed_of self.old.queue.items ++ owed_last Behind (notice_lines game)) }
+        ensures said { self.new.said ≡ self.old.said }
+        ensures here { self.new.is_here ≡ self.old.is_here }
+        ensures heard { IsHeardSame self.old self.new }
+    {
+        match game {
+            None => Ok(()),
+            Some(game) => {
+                self.ask("show ", game, Due::Own, wire)?;
+                self.ask("fen ", game, Due::Behind, wire)
+            }
+        }
+    }
+
+    /// Passes an act on under a name, which is said first where another was said last, and asks right behind it how its game stands,
+    /// if it names one.
+    pub fn act(
+        &mut self,
+        name: Name,
+        line: &str,
+        game: Option<u32>,
+        act: Acting,
+        wire: &mut Vec<u8>,
+    ) -> Result<(), AllocError>
+        ensures sent { OnOk result (wire.new.items ≡ wire.old.items ++ bytes_of (act_lines self.old.said name line.now game)) }
+        ensures owed { OnOk result (map owed_of self.new.queue.items ≡ map owed_of self.old.queue.items
+            ++ owed_lines (Asker act.from (ForAct act.who (string_bytes act.text))) (act_lines self.old.said name line.now game)) }
+        ensures said { OnOk result (self.new.said ≡ Some name) }
+        ensures here { self.new.is_here ≡ self.old.is_here }
+        ensures heard { IsHeardSame self.old self.new }
+        ensures named { OnOk result (IsName name) }
+    {
+        self.say_name(name, wire)?;
+        self.pass(line, Due::Act(act), wire)?;
+        self.ask_behind(game, wire)?;
+        Ok(())
+    }
+
+    /// Sends the drop that waited under a name, and asks right behind it how its game stands.
+    pub fn drop_under(
+        &mut self,
+        alloc: Global,
+        name: Name,
+        act: Acting,
+        wire: &mut Vec<u8>,
+    ) -> Result<(), AllocError>
+        ensures sent { OnOk result (wire.new.items ≡ wire.old.items
+            ++ bytes_of (act_lines self.old.said name (string_bytes act.text) (game_named (string_bytes act.text)))) }
+        ensures owed { OnOk result (map owed_of self.new.queue.items ≡ map owed_of self.old.queue.items
+            ++ owed_lines (Asker act.from (ForAct act.who (string_bytes act.text)))
+            (act_lines self.old.said name (string_bytes act.text) (game_named (string_bytes act.text)))) }
+        ensures said { OnOk result (self.new.said ≡ Some name) }
+        ensures here { OnOk result (self.new.is_here ≡ self.old.is_here) }
+        ensures heard { OnOk result (IsHeardSame self.old self.new) }
+    {
+        let text = String::from_str(alloc, act.text.as_str())?;
+        let game = game_named(text.as_str());
+        self.act(name, text.as_str(), game, act, wire)
     }
 }
