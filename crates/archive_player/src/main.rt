@@ -5,14 +5,14 @@
 #![tactic(auto)]
 
 mod input;
-mod told;
+mod tags;
 
 use anyhow::Result;
 use archive_text::archived;
 use input::lines_behind;
 use std::io::{self, BufRead, BufReader, Write};
 use std::process::ExitCode;
-use told::Told;
+use tags::Tags;
 
 fn main(rt: HostRuntime) -> ExitCode {
     match run(&rt) {
@@ -25,7 +25,7 @@ fn main(rt: HostRuntime) -> ExitCode {
 }
 
 fn run(rt: &HostRuntime) -> Result<()> {
-    let mut told = Told::new(rt.alloc());
+    let mut tags = Tags::new(rt.alloc());
     let mut pgn = String::new(rt.alloc());
     let mut behind: u32 = 0;
     for line in BufReader::new(rt.alloc(), rt.reader())?.lines(rt.alloc()) {
@@ -33,7 +33,7 @@ fn run(rt: &HostRuntime) -> Result<()> {
         if behind == 0 {
             match lines_behind(line.as_str()) {
                 Some(lines) => behind = lines,
-                None => told.set(line.as_str())?,
+                None => tags.set(line.as_str())?,
             }
             continue;
         }
@@ -41,17 +41,17 @@ fn run(rt: &HostRuntime) -> Result<()> {
         pgn.push('\n')?;
         behind -= 1;
         if behind == 0 {
-            write_game(rt, &told, pgn.as_str())?;
+            write_game(rt, &tags, pgn.as_str())?;
             pgn.clear();
-            told.forget_clocks();
+            tags.forget_clocks();
         }
     }
     Ok(())
 }
 
 // Writes a game's PGN of the archive.
-fn write_game(rt: &HostRuntime, told: &Told, pgn: &str) -> Result<()> {
-    let text = archived(rt.alloc(), &told.heading(), pgn, told.clocks())?;
+fn write_game(rt: &HostRuntime, tags: &Tags, pgn: &str) -> Result<()> {
+    let text = archived(rt.alloc(), &tags.heading(), pgn, tags.clocks())?;
     io::writer(rt).write_all(text.as_slice())?;
     Ok(())
 }

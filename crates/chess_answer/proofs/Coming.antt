@@ -20,8 +20,8 @@ use Rattle.chess_entry.specs.declared.refusals.Refusal.TheVariants.{NoName, BadM
 use Rattle.chess_entry.specs.declared.verdicts.Verdict.{Verdict}
 use Rattle.chess_entry.specs.declared.verdicts.Verdict.TheVariants.{Refuse, Enter, Read}
 use Rattle.chess_entry.specs.State.{GameState, TableState, ply_of, seat_of, is_joined, is_over, find_game}
-use Rattle.chess_entry.specs.Told.{Told, IsMoveTold, bytes_of}
-use Rattle.chess_entry.specs.Verdict.{Check, refuse, first_of, are_times, is_start, is_finished, is_full, is_long, is_read, has_offer, in_game, by_side, while_running, in_turn, for_move, for_stated, opened_from, move_entered, join_verdict, move_verdict, offer_verdict, accept_verdict, decline_verdict, resign_verdict, claim_verdict, flag_verdict, drop_verdict, in_seat, side_of, player_verdict, name_or_none, effective, verdict, IsTold}
+use Rattle.chess_entry.specs.Parsed.{Parsed, IsMoveParsed, bytes_of}
+use Rattle.chess_entry.specs.Verdict.{Check, refuse, first_of, are_times, is_start, is_finished, is_full, is_long, is_read, has_offer, in_game, by_side, while_running, in_turn, for_move, for_stated, opened_from, move_entered, join_verdict, move_verdict, offer_verdict, accept_verdict, decline_verdict, resign_verdict, claim_verdict, flag_verdict, drop_verdict, in_seat, side_of, player_verdict, name_or_none, effective, verdict, IsParsed}
 use Rattle.chess_entry.specs.Table.{IsTable, IsOnTable}
 use Rattle.chess_entry.proofs.Entering.{find_game-number}
 use Rattle.chess_game.specs.Turn.{IsPlayable}
@@ -110,14 +110,14 @@ running table number at game checks v found each last =
 -- ---- moves
 
 playable : (table : TableState) (game : GameState) (text : List ℕ) (m : Move) → IsTable table
-    → IsMoveTold (Some game) (Some text) (Some m) → is_long table game ≡ false → IsPlayable game m
+    → IsMoveParsed (Some game) (Some text) (Some m) → is_long table game ≡ false → IsPlayable game m
 playable table game text m is names short =
     let few : table.limits.plies ≤ 20000 = is.limits.few_plies in
     let below = leb-false table.limits.plies (ply_of game) short in
     record { legal = names.legal; room = omega arith }
 
 moved-comes : (table : TableState) (number at : ℕ) (game : GameState) (text : List ℕ) (move : Option Move)
-    → IsTable table → find_game number table.games ≡ Some game → IsMoveTold (Some game) (Some text) move
+    → IsTable table → find_game number table.games ≡ Some game → IsMoveParsed (Some game) (Some text) move
     → is_long table game ≡ false → Enters (Comes table) (move_entered game at move)
 moved-comes table number at game text None is found names short = tt
 moved-comes table number at game text (Some m) is found names short =
@@ -126,21 +126,21 @@ moved-comes table number at game text (Some m) is found names short =
 
 move-comes : (table : TableState) (number at ply : ℕ) (text : List ℕ) (move : Option Move) (game : GameState)
     (side : Colour) → IsTable table → find_game number table.games ≡ Some game
-    → IsMoveTold (find_game number table.games) (Some text) move
+    → IsMoveParsed (find_game number table.games) (Some text) move
     → Enters (Comes table) (move_verdict table at ply move game side)
 move-comes table number at ply text move game side is found told =
-    let P : Option GameState → Type 0 = λ o. IsMoveTold o (Some text) move in
+    let P : Option GameState → Type 0 = λ o. IsMoveParsed o (Some text) move in
     running table number at game (in_turn game side ply ++ for_move table game move) (move_entered game at move) found
     (tt, (tt, (tt, (tt, tt))))
     (λ none. moved-comes table number at game text move is found (subst P found told) none.1.1.0)
 
 -- a claim's stated move
 claimed-plays : (table : TableState) (game : GameState) (text : Option (List ℕ)) (move : Option Move) (m : Move)
-    → IsTable table → IsMoveTold (Some game) text move → NoneApplies (for_stated table game (is_some text) move)
+    → IsTable table → IsMoveParsed (Some game) text move → NoneApplies (for_stated table game (is_some text) move)
     → move ≡ Some m → IsPlayable game m
 claimed-plays table game None move m is told none same = absurd (cc)
 claimed-plays table game (Some text) move m is told none same =
-    let P : Option Move → Type 0 = λ o. IsMoveTold (Some game) (Some text) o in
+    let P : Option Move → Type 0 = λ o. IsMoveParsed (Some game) (Some text) o in
     playable table game text m is (subst P same told) none.0
 
 each-stated : (P : Entry → Type 0) (table : TableState) (game : GameState) (states : Bool) (move : Option Move)
@@ -150,10 +150,10 @@ each-stated P table game false move = tt
 
 claim-comes : (table : TableState) (number at ply : ℕ) (fifty : Bool) (text : Option (List ℕ)) (move : Option Move)
     (game : GameState) (side : Colour) → IsTable table → find_game number table.games ≡ Some game
-    → IsMoveTold (find_game number table.games) text move
+    → IsMoveParsed (find_game number table.games) text move
     → Enters (Comes table) (claim_verdict table at ply fifty (is_some text) move game side)
 claim-comes table number at ply fifty text move game side is found told =
-    let P : Option GameState → Type 0 = λ o. IsMoveTold o text move in
+    let P : Option GameState → Type 0 = λ o. IsMoveParsed o text move in
     let ev : Event = event.Claim (record { by = side; fifty = fifty; mv = move; ply = ply_of game }) in
     let last = for_stated table game (is_some text) move in
     running table number at game (in_turn game side ply ++ (refuse game.claimed AlreadyClaimed ∷ last))
@@ -164,7 +164,7 @@ claim-comes table number at ply fifty text move game side is found told =
 
 claim-given : (table : TableState) (number at ply : ℕ) (fifty : Bool) (text : Option ArrayString) (move : Option Move)
     (game : GameState) (side : Colour) → IsTable table → find_game number table.games ≡ Some game
-    → IsMoveTold (find_game number table.games) (bytes_of text) move
+    → IsMoveParsed (find_game number table.games) (bytes_of text) move
     → Enters (Comes table) (claim_verdict table at ply fifty (is_some text) move game side)
 claim-given table number at ply fifty None move game side is found told =
     claim-comes table number at ply fifty None move game side is found told
@@ -180,9 +180,9 @@ opened-comes table at opening (Some p) is =
     let P : Option GameState → Type 0 = λ o. MayComeOn o (event.Open (opening p)) in
     subst P (sym (beyond table table.games is.games)) tt
 
-player-comes : (table : TableState) (at : ℕ) (name : List ℕ) (told : Told) (a : Act) → IsTable table
-    → IsTold table a told → Enters (Comes table) (player_verdict table at name told a)
-player-comes table at name told (act.NewGame colour initial increment fen period) is says =
+player-comes : (table : TableState) (at : ℕ) (name : List ℕ) (parsed : Parsed) (a : Act) → IsTable table
+    → IsParsed table a parsed → Enters (Comes table) (player_verdict table at name parsed a)
+player-comes table at name parsed (act.Open colour initial increment fen period) is says =
     let opening = λ (start : Position). let o : Opening = record {
       colour = colour;
       initial = initial;
@@ -193,69 +193,69 @@ player-comes table at name told (act.NewGame colour initial increment fen period
     } in o in
     Enters-first_of (Comes table)
     (refuse (not (are_times initial increment period)) BadTime ∷
-    refuse (not (is_start told.start)) BadFen ∷
-    refuse (is_finished told.start) Finished ∷
+    refuse (not (is_start parsed.start)) BadFen ∷
+    refuse (is_finished parsed.start) Finished ∷
     refuse (is_full table) TooManyGames ∷ [])
-    (opened_from table at opening told.start)
-    (tt, (tt, (tt, (tt, tt)))) (λ none. opened-comes table at opening told.start is)
-player-comes table at name told (act.Join game) is says =
+    (opened_from table at opening parsed.start)
+    (tt, (tt, (tt, (tt, tt)))) (λ none. opened-comes table at opening parsed.start is)
+player-comes table at name parsed (act.Join game) is says =
     Enters-in_game (Comes table) (join_verdict at name) (find_game game table.games) (λ g found.
     Enters-first_of (Comes table)
     (refuse (is_joined g) Taken ∷ refuse (is_some (side_of name g)) SamePlayer ∷ [])
     (Enter (entry g.number at (event.Join name)))
     (tt, (tt, tt)) (λ none. comes table game at g (event.Join name) found tt))
-player-comes table at name told (act.Play game ply text) is says =
-    Enters-in_seat (Comes table) table name game (move_verdict table at ply told.move)
-    (λ g side found. move-comes table game at ply text.bytes told.move g side is found says.1)
-player-comes table at name told (act.Offer game) is says =
+player-comes table at name parsed (act.Move game ply text) is says =
+    Enters-in_seat (Comes table) table name game (move_verdict table at ply parsed.move)
+    (λ g side found. move-comes table game at ply text.bytes parsed.move g side is found says.1)
+player-comes table at name parsed (act.Offer game) is says =
     Enters-in_seat (Comes table) table name game (offer_verdict at) (λ g side found.
     running table game at g (refuse (has_offer g) OfferStands ∷ []) (Enter (entry g.number at (event.Offer side)))
     found (tt, tt) (λ none. comes table game at g (event.Offer side) found tt))
-player-comes table at name told (act.Accept game) is says =
+player-comes table at name parsed (act.Accept game) is says =
     Enters-in_seat (Comes table) table name game (accept_verdict at) (λ g side found.
     running table game at g
     (refuse (not (seat_of (other side) g).offers) NoOffer ∷ refuse (nat_lt (ply_of g) 2) TooEarly ∷ [])
     (Enter (entry g.number at (event.Accept side)))
     found (tt, (tt, tt)) (λ none. comes table game at g (event.Accept side) found tt))
-player-comes table at name told (act.Decline game) is says =
+player-comes table at name parsed (act.Decline game) is says =
     Enters-in_seat (Comes table) table name game (decline_verdict at) (λ g side found.
     running table game at g (refuse (not (seat_of (other side) g).offers) NoOffer ∷ [])
     (Enter (entry g.number at (event.Decline side)))
     found (tt, tt) (λ none. comes table game at g (event.Decline side) found tt))
-player-comes table at name told (act.Resign game) is says =
+player-comes table at name parsed (act.Resign game) is says =
     Enters-in_seat (Comes table) table name game (resign_verdict at) (λ g side found.
     running table game at g [] (Enter (entry g.number at (event.Resign side)))
     found tt (λ none. comes table game at g (event.Resign side) found tt))
-player-comes table at name told (act.Claim game ply fifty text) is says =
-    Enters-in_seat (Comes table) table name game (claim_verdict table at ply fifty (is_some text) told.move)
-    (λ g side found. claim-given table game at ply fifty text told.move g side is found says.1)
-player-comes table at name told (act.Flag game) is says =
+player-comes table at name parsed (act.Claim game ply fifty text) is says =
+    Enters-in_seat (Comes table) table name game (claim_verdict table at ply fifty (is_some text) parsed.move)
+    (λ g side found. claim-given table game at ply fifty text parsed.move g side is found says.1)
+player-comes table at name parsed (act.Flag game) is says =
     Enters-in_seat (Comes table) table name game (flag_verdict at) (λ g side found.
     running table game at g [] (Refuse FlagUp) found tt (λ none. tt))
-player-comes table at name told (act.Remove game) is says =
+player-comes table at name parsed (act.Drop game) is says =
     Enters-in_seat (Comes table) table name game (drop_verdict at) (λ g side found.
     Enters-first_of (Comes table) (refuse (is_joined g && not (is_over g)) NotOver ∷ [])
     (Enter (entry g.number at event.Drop)) (tt, tt) (λ none. comes table game at g event.Drop found tt))
-player-comes table at name told (act.Show game) is says =
+player-comes table at name parsed (act.Show game) is says =
     Enters-in_game (Comes table) (λ _. Read) (find_game game table.games) (λ g found. tt)
-player-comes table at name told (act.Fen game) is says =
+player-comes table at name parsed (act.Fen game) is says =
     Enters-in_game (Comes table) (λ _. Read) (find_game game table.games) (λ g found. tt)
-player-comes table at name told (act.Pgn game) is says =
+player-comes table at name parsed (act.Pgn game) is says =
     Enters-in_game (Comes table) (λ _. Read) (find_game game table.games) (λ g found. tt)
-player-comes table at name told act.List is says = tt
+player-comes table at name parsed act.List is says = tt
 
-verdict-comes : (table : TableState) (command : Command) (told : Told) → IsTable table
-    → IsTold table command.act told → Enters (Comes table) (verdict table command told)
-verdict-comes table command told is says =
+verdict-comes : (table : TableState) (command : Command) (parsed : Parsed) → IsTable table
+    → IsParsed table command.act parsed → Enters (Comes table) (verdict table command parsed)
+verdict-comes table command parsed is says =
     Enters-first_of (Comes table)
-    (refuse (nat_lt 4611686018427387903 command.at) BadMoment ∷
+    (refuse (nat_lt 4611686018427387903 command.moment) BadMoment ∷
     refuse (not (is_read command.act) && is_none command.who) NoName ∷ [])
-    (player_verdict table (effective table command.at) (name_or_none command.who) told command.act)
+    (player_verdict table (effective table command.moment) (name_or_none command.who) parsed command.act)
     (tt, (tt, tt))
-    (λ none. player-comes table (effective table command.at) (name_or_none command.who) told command.act is says)
+    (λ none. player-comes table (effective table command.moment) (name_or_none command.who) parsed command.act is says)
 
 pub law : LawOfComing
 law = λ table e is may.
     let P : Verdict → Type 0 = λ v. Enters (Comes table) v in
     let given = may.entered in
-    subst P (sym given.is) (verdict-comes table may.command given.told is given.is_told)
+    subst P (sym given.is) (verdict-comes table may.command given.parsed is given.is_parsed)

@@ -93,7 +93,7 @@ fn push_made(text: &mut AnswerLine, before: &Board, mv: &Move, game: &Game)
 
 /// Makes a move in a game, and gives the answer to it that `act_line` gives before it: the position after the move, and
 /// its ending, are found once. It fails where memory is refused, and then the game is as it was.
-pub fn play_told(game: &mut Game, at: u64, mv: Move) -> Result<AnswerLine, AllocError>
+pub fn play_answered(game: &mut Game, at: u64, mv: Move) -> Result<AnswerLine, AllocError>
     requires in_time { IsInTime game.old at }
     requires playable { IsPlayable game.old mv }
     ensures told { IfOk result (λ line.

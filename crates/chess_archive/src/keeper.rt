@@ -62,7 +62,7 @@ pub struct Keeper<'a, R> {
 
 /// A game's PGN, as it is made of what the table told.
 #[derive(Drop)]
-pub struct Told {
+pub struct TablePgn {
     game: u32,
     pgn: Vec<u8>,
 }
@@ -234,7 +234,7 @@ impl<R> Night for Keeper<'_, R>
 where
     R: Net<Stream = TcpStream> + AllocGlobal + Clock,
 {
-    type Pgn = Told;
+    type Pgn = TablePgn;
 
     type Fault = anyhow::Error;
 
@@ -263,7 +263,7 @@ where
         self.drops
     }
 
-    fn ask(&mut self, game: u32) -> Result<Option<Told>> {
+    fn ask(&mut self, game: u32) -> Result<Option<TablePgn>> {
         self.done.unwatched = None;
         self.done.told = None;
         take_off(&mut self.done.matched, game);
@@ -274,10 +274,10 @@ where
             return Ok(None);
         };
         self.done.told = Some(game);
-        Ok(Some(Told { game, pgn }))
+        Ok(Some(TablePgn { game, pgn }))
     }
 
-    fn is_same(&mut self, game: u32, told: &Told) -> Result<bool> {
+    fn is_same(&mut self, game: u32, told: &TablePgn) -> Result<bool> {
         self.done.unwatched = None;
         take_off(&mut self.done.matched, game);
         let alloc = self.rt.alloc();
@@ -294,7 +294,7 @@ where
         Ok(is_same)
     }
 
-    fn put(&mut self, game: u32, told: Told) -> Result<()> {
+    fn put(&mut self, game: u32, told: TablePgn) -> Result<()> {
         self.done.unwatched = None;
         take_off(&mut self.done.matched, game);
         take_off(&mut self.done.settled, game);

@@ -8,7 +8,7 @@ use Rattle.chess_clock.specs.declared.events.ClockEvent.{ClockEvent}
 use Rattle.chess_clock.specs.TimeControl.{TimeControl}
 use Rattle.chess_clock.specs.Events.{completed_moves, wrong_claims, time_used, turn_length_of}
 use Rattle.chess_clock.specs.SideTimes.{SideTime, second_within, given_further}
-use Rattle.chess_clock.specs.ClockState.{ClockState, after, on_move_after}
+use Rattle.chess_clock.specs.ClockState.{ClockState, clock_after, on_move_after}
 use Rattle.chess_clock.specs.Replay.{IsWithinTime}
 
 -- counts and sums of joined lists
@@ -92,7 +92,7 @@ counted clock w b = record {
 }
 
 after_counted : (clock : ClockState) (es : List ClockEvent)
-    → after clock es ≡ counted clock (counts White es) (counts Black es)
+    → clock_after clock es ≡ counted clock (counts White es) (counts Black es)
 unfolding counted counts
 after_counted clock es = refl
 
@@ -111,15 +111,15 @@ counted-more clock w b x y white_within black_within =
     cc
 
 -- The clock after these events and then more of them is the clock after all of them.
-pub after-append : (clock : ClockState) (es fs : List ClockEvent)
-    → IsWithinTime clock es → after (after clock es) fs ≡ after clock (es ++ fs)
+pub clock_after-append : (clock : ClockState) (es fs : List ClockEvent)
+    → IsWithinTime clock es → clock_after (clock_after clock es) fs ≡ clock_after clock (es ++ fs)
 unfolding counts
-after-append clock es fs within =
+clock_after-append clock es fs within =
     let w = counts White es in
     let b = counts Black es in
     let x = counts White fs in
     let y = counts Black fs in
-    after_counted (after clock es) fs
+    after_counted (clock_after clock es) fs
     ∙ ap (λ c. counted c x y) (after_counted clock es)
     ∙ counted-more clock w b x y within.white_within within.black_within
     ∙ sym (ap (λ n. counted clock n (both b y)) (counts-append White es fs))

@@ -10,7 +10,7 @@ use Rattle.chess_clock.specs.TimeControl.{TimeControl, IsTimeControl, IsPeriod, 
 use Rattle.chess_clock.specs.Events.{completed_moves, wrong_claims, time_used}
 use Rattle.chess_clock.specs.Held.{given_for}
 use Rattle.chess_clock.specs.SideTimes.{SideTime, second_within, given_further}
-use Rattle.chess_clock.specs.ClockState.{ClockState, after, started, time_of, TimesFit}
+use Rattle.chess_clock.specs.ClockState.{ClockState, clock_after, started, time_of, TimesFit}
 
 second_period-at_most : (period : Option (ℕ × ℕ)) (moves : ℕ)
     → ForSome period IsPeriod → second_period period moves ≤ 86400000
@@ -73,7 +73,7 @@ at_most_after control time n m c d used at_most to_go =
 -- after these events
 pub IsAccounted-after : (side : Colour) (clock : ClockState) (events : List ClockEvent) (moves claims : ℕ)
     → IsAccounted side clock moves claims
-    → IsAccounted side (after clock events)
+    → IsAccounted side (clock_after clock events)
     (moves + completed_moves side events) (claims + wrong_claims (other side) events)
 IsAccounted-after White clock events moves claims so_far =
     let n = completed_moves White events in

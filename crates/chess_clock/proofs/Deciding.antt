@@ -9,7 +9,7 @@ use Rattle.chess_bits.specs.declared.men.Colour.TheVariants.{White, Black}
 use Rattle.chess_bits.specs.Man.{is_colour}
 use Rattle.chess_clock.specs.declared.events.ClockEvent.{ClockEvent}
 use Rattle.chess_clock.specs.declared.events.ClockEvent.TheVariants.{Turn, WrongClaim}
-use Rattle.chess_clock.specs.ClockState.{ClockState, after, time_of, TimesFit}
+use Rattle.chess_clock.specs.ClockState.{ClockState, clock_after, time_of, TimesFit}
 use Rattle.chess_clock.specs.Replay.{EndsInTime, TurnsEndInTime, TimesAlwaysFit}
 
 -- whether an event is no turn, or one of the side on move that ends before its flag falls
@@ -24,11 +24,11 @@ times_fit clock = nat_lt clock.white.held 4294967296 && nat_lt clock.black.held 
 abbrev pub all_may_come : ClockState → List ClockEvent → List ClockEvent → Bool
 all_may_come start before [] = true
 all_may_come start before (event ∷ rest) =
-    may_come (after start before) event && all_may_come start (before ++ event ∷ []) rest
+    may_come (clock_after start before) event && all_may_come start (before ++ event ∷ []) rest
 
 abbrev pub all_fit : ClockState → List ClockEvent → List ClockEvent → Bool
-all_fit start before [] = times_fit (after start before)
-all_fit start before (event ∷ rest) = times_fit (after start before) && all_fit start (before ++ event ∷ []) rest
+all_fit start before [] = times_fit (clock_after start before)
+all_fit start before (event ∷ rest) = times_fit (clock_after start before) && all_fit start (before ++ event ∷ []) rest
 
 both_true : (a b : Bool) → (a && b) ≡ true → (a ≡ true) × (b ≡ true)
 both_true true b h = (refl, h)
@@ -68,31 +68,31 @@ moved_on before event x more same = append_assoc before (event ∷ []) more ∙ 
 
 turns_at : (start : ClockState) (before rest : List ClockEvent) → all_may_come start before rest ≡ true
     → (more : List ClockEvent) (side : Colour) (length : ℕ) (end : List ClockEvent) → rest ≡ more ++ Turn side length ∷ end
-    → EndsInTime (after start (before ++ more)) side length
+    → EndsInTime (clock_after start (before ++ more)) side length
 turns_at start before [] h [] side length end e = absurd cc
 turns_at start before [] h (x ∷ more) side length end e = absurd cc
 turns_at start before (event ∷ rest) h [] side length end e =
-    let parts = both_true (may_come (after start before) event) (all_may_come start (before ++ event ∷ []) rest) h in
-    let this = subst (λ x. may_come (after start before) x ≡ true) (same_head e) parts.0 in
-    subst (λ es. EndsInTime (after start es) side length) (sym (append-nil before))
-    (EndsInTime-from_test (after start before) side length this)
+    let parts = both_true (may_come (clock_after start before) event) (all_may_come start (before ++ event ∷ []) rest) h in
+    let this = subst (λ x. may_come (clock_after start before) x ≡ true) (same_head e) parts.0 in
+    subst (λ es. EndsInTime (clock_after start es) side length) (sym (append-nil before))
+    (EndsInTime-from_test (clock_after start before) side length this)
 turns_at start before (event ∷ rest) h (x ∷ more) side length end e =
-    let parts = both_true (may_come (after start before) event) (all_may_come start (before ++ event ∷ []) rest) h in
-    subst (λ es. EndsInTime (after start es) side length) (moved_on before event x more (same_head e))
+    let parts = both_true (may_come (clock_after start before) event) (all_may_come start (before ++ event ∷ []) rest) h in
+    subst (λ es. EndsInTime (clock_after start es) side length) (moved_on before event x more (same_head e))
     (turns_at start (before ++ event ∷ []) rest parts.1 more side length end (same_tail e))
 
 fits_at : (start : ClockState) (before rest : List ClockEvent) → all_fit start before rest ≡ true
-    → (more end : List ClockEvent) → rest ≡ more ++ end → TimesFit (after start (before ++ more))
+    → (more end : List ClockEvent) → rest ≡ more ++ end → TimesFit (clock_after start (before ++ more))
 fits_at start before [] h [] end e =
-    subst (λ es. TimesFit (after start es)) (sym (append-nil before)) (TimesFit-from_test (after start before) h)
+    subst (λ es. TimesFit (clock_after start es)) (sym (append-nil before)) (TimesFit-from_test (clock_after start before) h)
 fits_at start before [] h (x ∷ more) end e = absurd cc
 fits_at start before (event ∷ rest) h [] end e =
-    let parts = both_true (times_fit (after start before)) (all_fit start (before ++ event ∷ []) rest) h in
-    subst (λ es. TimesFit (after start es)) (sym (append-nil before))
-    (TimesFit-from_test (after start before) parts.0)
+    let parts = both_true (times_fit (clock_after start before)) (all_fit start (before ++ event ∷ []) rest) h in
+    subst (λ es. TimesFit (clock_after start es)) (sym (append-nil before))
+    (TimesFit-from_test (clock_after start before) parts.0)
 fits_at start before (event ∷ rest) h (x ∷ more) end e =
-    let parts = both_true (times_fit (after start before)) (all_fit start (before ++ event ∷ []) rest) h in
-    subst (λ es. TimesFit (after start es)) (moved_on before event x more (same_head e))
+    let parts = both_true (times_fit (clock_after start before)) (all_fit start (before ++ event ∷ []) rest) h in
+    subst (λ es. TimesFit (clock_after start es)) (moved_on before event x more (same_head e))
     (fits_at start (before ++ event ∷ []) rest parts.1 more end (same_tail e))
 
 pub TurnsEndInTime-from_test : (start : ClockState) (events : List ClockEvent)

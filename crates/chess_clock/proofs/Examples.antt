@@ -5,7 +5,7 @@ use Rattle.chess_clock.specs.declared.events.ClockEvent.{ClockEvent}
 use Rattle.chess_clock.specs.declared.events.ClockEvent.TheVariants.{Turn, WrongClaim}
 use Rattle.chess_clock.specs.TimeControl.{time_control}
 use Rattle.chess_clock.specs.Held.{held}
-use Rattle.chess_clock.specs.ClockState.{started, after, left, stopped_at, clock_of, HasFallen}
+use Rattle.chess_clock.specs.ClockState.{started, clock_after, left, stopped_at, clock_of, HasFallen}
 
 -- 60 s and 2 s a move: a move with the last millisecond but one leaves 1 ms and the increment.
 one_move : held White (time_control 60 2 None) (Turn White 59999 ∷ []) ≡ 2001
@@ -74,7 +74,7 @@ with_the_second_move = refl
 
 -- a clock that goes on from what it showed after the first move gives the period with the second
 goes_on :
-    after (after (started (time_control 60 0 (Some (2, 30))) White 0) (Turn White 0 ∷ Turn Black 0 ∷ []))
+    clock_after (clock_after (started (time_control 60 0 (Some (2, 30))) White 0) (Turn White 0 ∷ Turn Black 0 ∷ []))
     (Turn White 7 ∷ [])
     ≡ clock_of (time_control 60 0 (Some (2, 30))) White 0 (Turn White 0 ∷ Turn Black 0 ∷ Turn White 7 ∷ [])
 goes_on = refl

@@ -9,7 +9,7 @@ use Rattle.chess_clock.specs.declared.events.ClockEvent.{ClockEvent}
 use Rattle.chess_clock.specs.declared.events.ClockEvent.TheVariants.{Turn, WrongClaim}
 use Rattle.chess_clock.specs.Events.{completed_moves, wrong_claims}
 use Rattle.chess_clock.specs.SideTimes.{given_further}
-use Rattle.chess_clock.specs.ClockState.{ClockState, after, time_of, given_within}
+use Rattle.chess_clock.specs.ClockState.{ClockState, clock_after, time_of, given_within}
 use Rattle.chess_clock.specs.Replay.{EndsInTime, IsWithinTime, TurnsEndInTime}
 use Rattle.chess_clock.proofs.AfterLemmas.{completed_moves-append, wrong_claims-append, time_used-append, given_further-more}
 
@@ -39,7 +39,7 @@ given_within-more side clock es fs =
 
 -- one event more
 pub IsWithinTime-push : (clock : ClockState) (es : List ClockEvent) (event : ClockEvent)
-    → IsWithinTime clock es → MayCome (after clock es) event → IsWithinTime clock (es ++ event ∷ [])
+    → IsWithinTime clock es → MayCome (clock_after clock es) event → IsWithinTime clock (es ++ event ∷ [])
 IsWithinTime-push clock es (Turn White length) within may_come =
     let u = time_used-append White es (Turn White length ∷ []) in
     let v = time_used-append Black es (Turn White length ∷ []) in
@@ -65,7 +65,7 @@ IsWithinTime-none clock = record { white_within = omega arith; black_within = om
 
 -- the event that comes after others of such a list
 pub may_come_at : (clock : ClockState) (before : List ClockEvent) (event : ClockEvent) (rest : List ClockEvent)
-    → TurnsEndInTime clock (before ++ event ∷ rest) → MayCome (after clock before) event
+    → TurnsEndInTime clock (before ++ event ∷ rest) → MayCome (clock_after clock before) event
 may_come_at clock before (Turn side length) rest in_time = in_time before side length rest refl
 may_come_at clock before (WrongClaim side) rest in_time = tt
 

@@ -7,9 +7,9 @@ use Rattle.chess_bits.specs.declared.men.Colour.TheVariants.{White, Black}
 use Rattle.chess_bits.specs.Man.{other}
 use Rattle.chess_clock.specs.declared.events.ClockEvent.{ClockEvent}
 use Rattle.chess_clock.specs.declared.events.ClockEvent.TheVariants.{Turn}
-use Rattle.chess_clock.specs.ClockState.{ClockState, after, time_of, turn_ended, TimesFit}
+use Rattle.chess_clock.specs.ClockState.{ClockState, clock_after, time_of, turn_ended, TimesFit}
 use Rattle.chess_clock.specs.Replay.{EndsInTime, IsWithinTime, TurnsEndInTime, TimesAlwaysFit}
-use Rattle.chess_clock.proofs.AfterLemmas.{after-append}
+use Rattle.chess_clock.proofs.AfterLemmas.{clock_after-append}
 use Rattle.chess_clock.proofs.InTime.{IsWithinTime-push, may_come_at}
 
 -- the opponent of the opponent
@@ -19,7 +19,7 @@ other-other Black = refl
 
 -- A clock has gone through the events before this place, and neither side has used more than it had.
 pub record HasReplayed (start clock : ClockState) (events : List ClockEvent) (i : ℕ) : Type 0 where
-  pub clock_is : clock ≡ after start (take i events)
+  pub clock_is : clock ≡ clock_after start (take i events)
   pub within : IsWithinTime start (take i events)
 
 -- the event at a place of a list
@@ -43,14 +43,14 @@ module _ {events : List ClockEvent} {i : ℕ} {event : ClockEvent} (at : IsAt ev
 
 module _ {start clock : ClockState} {events : List ClockEvent} {i : ℕ} (so_far : HasReplayed start clock events i) where
   -- what the event does is what the sums say
-  pub after_this : {event : ClockEvent} → IsAt events i event → after clock (event ∷ []) ≡ after start (take (i + 1) events)
+  pub after_this : {event : ClockEvent} → IsAt events i event → clock_after clock (event ∷ []) ≡ clock_after start (take (i + 1) events)
   after_this {event} at =
-      ap (λ c. after c (event ∷ [])) so_far.clock_is
-      ∙ after-append start (take i events) (event ∷ []) so_far.within
-      ∙ ap (after start) (sym (take_this at))
+      ap (λ c. clock_after c (event ∷ [])) so_far.clock_is
+      ∙ clock_after-append start (take i events) (event ∷ []) so_far.within
+      ∙ ap (clock_after start) (sym (take_this at))
 
   pub fits_after_this : {event : ClockEvent} → IsAt events i event
-      → TimesAlwaysFit start events → TimesFit (after clock (event ∷ []))
+      → TimesAlwaysFit start events → TimesFit (clock_after clock (event ∷ []))
   fits_after_this at fits =
       subst TimesFit (sym (after_this at)) (fits (take (i + 1) events) (drop (suc i) events) (split_after at))
 
@@ -63,7 +63,7 @@ module _ {start clock : ClockState} {events : List ClockEvent} {i : ℕ} (so_far
       (IsWithinTime-push start (take i events) event so_far.within may_come)
 
   pub replayed_this : {event : ClockEvent} {new : ClockState} → IsAt events i event → TurnsEndInTime start events
-      → new ≡ after clock (event ∷ []) → HasReplayed start new events (i + 1)
+      → new ≡ clock_after clock (event ∷ []) → HasReplayed start new events (i + 1)
   replayed_this at in_time new_is =
       record { clock_is = new_is ∙ after_this at; within = within_this at in_time }
 

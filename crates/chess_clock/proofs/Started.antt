@@ -9,9 +9,9 @@ use Rattle.chess_clock.specs.TimeControl.{TimeControl, IsTimeControl, IsPeriod, 
 use Rattle.chess_clock.specs.Events.{completed_moves, wrong_claims, time_used}
 use Rattle.chess_clock.specs.Held.{given_for}
 use Rattle.chess_clock.specs.SideTimes.{second_within, given_further}
-use Rattle.chess_clock.specs.ClockState.{after, started, clock_of}
+use Rattle.chess_clock.specs.ClockState.{clock_after, started, clock_of}
 use Rattle.chess_clock.specs.Replay.{IsWithinTime}
-use Rattle.chess_clock.proofs.AfterLemmas.{after-append}
+use Rattle.chess_clock.proofs.AfterLemmas.{clock_after-append}
 
 -- from the start of the game on, the second period begins with the last move before it
 second_within-from_start : (initial increment : ℕ) (period : Option (ℕ × ℕ)) (n : ℕ) → ForSome period IsPeriod
@@ -34,7 +34,7 @@ given_further-from_start control n c ranges =
 
 -- A clock that started with the game shows, after these events, the sums over them.
 pub after_started : (control : TimeControl) (side : Colour) (at : ℕ) (events : List ClockEvent) → IsTimeControl control
-    → after (started control side at) events ≡ clock_of control side at events
+    → clock_after (started control side at) events ≡ clock_of control side at events
 after_started control side at events ranges =
     let n = completed_moves White events in
     let m = completed_moves Black events in
@@ -49,8 +49,8 @@ after_started control side at events ranges =
 -- One event more, or several: what the clock of a game shows goes on as the sums do.
 pub clock_of-append : (control : TimeControl) (side : Colour) (at : ℕ) (es fs : List ClockEvent) → IsTimeControl control
     → IsWithinTime (started control side at) es
-    → after (clock_of control side at es) fs ≡ clock_of control side at (es ++ fs)
+    → clock_after (clock_of control side at es) fs ≡ clock_of control side at (es ++ fs)
 clock_of-append control side at es fs ranges within =
-    ap (λ c. after c fs) (sym (after_started control side at es ranges))
-    ∙ after-append (started control side at) es fs within
+    ap (λ c. clock_after c fs) (sym (after_started control side at es ranges))
+    ∙ clock_after-append (started control side at) es fs within
     ∙ after_started control side at (es ++ fs) ranges

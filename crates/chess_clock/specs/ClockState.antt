@@ -40,14 +40,14 @@ abbrev pub HasFallen : ClockState → ℕ → Type 0
 HasFallen clock at = (time_of clock.side clock).held ≤ running_turn clock at
 
 -- whether the side's time runs
-abbrev pub runs : Colour → ClockState → Bool
-runs side clock = is_colour side clock.side && not clock.is_stopped
+abbrev pub clock_runs : Colour → ClockState → Bool
+clock_runs side clock = is_colour side clock.side && not clock.is_stopped
 
 -- The time that a side has left: what it holds, less the running turn where its time runs, never below 0.
 abbrev pub left : Colour → ClockState → ℕ → ℕ
 left side clock at =
     let time = time_of side clock in
-    if runs side clock then time.held - running_turn clock at else time.held
+    if clock_runs side clock then time.held - running_turn clock at else time.held
 
 -- what a side is given while these events happen
 abbrev pub given_within : Colour → ClockState → List ClockEvent → ℕ
@@ -67,8 +67,8 @@ abbrev pub on_move_after : Colour → ℕ → Colour
 on_move_after side turns = if turns % 2 == 0 then side else other side
 
 -- the clock after these events
-abbrev pub after : ClockState → List ClockEvent → ClockState
-after clock events = record {
+abbrev pub clock_after : ClockState → List ClockEvent → ClockState
+clock_after clock events = record {
   control = clock.control;
   side = on_move_after clock.side (completed_moves White events + completed_moves Black events);
   since = clock.since + (time_used White events + time_used Black events);

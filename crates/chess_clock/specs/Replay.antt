@@ -5,7 +5,7 @@ use Rattle.chess_bits.specs.declared.men.Colour.TheVariants.{White, Black}
 use Rattle.chess_clock.specs.declared.events.ClockEvent.{ClockEvent}
 use Rattle.chess_clock.specs.declared.events.ClockEvent.TheVariants.{Turn}
 use Rattle.chess_clock.specs.Events.{time_used}
-use Rattle.chess_clock.specs.ClockState.{ClockState, after, time_of, given_within, TimesFit}
+use Rattle.chess_clock.specs.ClockState.{ClockState, clock_after, time_of, given_within, TimesFit}
 
 -- The side is on move, and a turn of so many milliseconds ends before its flag falls.
 pub record EndsInTime (clock : ClockState) (side : Colour) (length : ℕ) : Type 0 where
@@ -16,11 +16,11 @@ pub record EndsInTime (clock : ClockState) (side : Colour) (length : ℕ) : Type
 abbrev pub TurnsEndInTime : ClockState → List ClockEvent → Type 0
 TurnsEndInTime clock events =
     (before : List ClockEvent) (side : Colour) (length : ℕ) (rest : List ClockEvent)
-    → events ≡ before ++ Turn side length ∷ rest → EndsInTime (after clock before) side length
+    → events ≡ before ++ Turn side length ∷ rest → EndsInTime (clock_after clock before) side length
 
 -- At the start and after each event the times held fit.
 abbrev pub TimesAlwaysFit : ClockState → List ClockEvent → Type 0
-TimesAlwaysFit clock events = (before rest : List ClockEvent) → events ≡ before ++ rest → TimesFit (after clock before)
+TimesAlwaysFit clock events = (before rest : List ClockEvent) → events ≡ before ++ rest → TimesFit (clock_after clock before)
 
 -- Neither side has used more time than it held and was given, so that no subtraction was cut at 0.
 pub record IsWithinTime (clock : ClockState) (events : List ClockEvent) : Type 0 where

@@ -1,7 +1,7 @@
 ghost use Rattle.std.specs.Prelude.{◌≡◌, ◌^◌, ◌<◌, ◌≤◌, ◌↔◌, IsTrue, false, [], ◌∷◌};
 ghost use Rattle.chess_bits.specs.Man.{other};
 ghost use Rattle.chess_clock.specs.TimeControl.{time_control, IsTimeControl, moves_to_go};
-ghost use Rattle.chess_clock.specs.ClockState.{started, time_of, left, HasFallen, after, turn_ended, stopped_at, with_time, IsNotBefore, TimesFit};
+ghost use Rattle.chess_clock.specs.ClockState.{started, time_of, left, HasFallen, clock_after, turn_ended, stopped_at, with_time, IsNotBefore, TimesFit};
 
 use crate::events::ClockEvent;
 use crate::side_times::SideTime;
@@ -118,8 +118,8 @@ impl Clock {
         requires running { self.old.is_stopped ≡ false }
         requires from_start { self.old.since ≤ at }
         requires in_time { ¬ HasFallen self.old at }
-        requires fits { TimesFit (after self.old (turn_ended self.old at)) }
-        ensures { self.new ≡ after self.old (turn_ended self.old at) }
+        requires fits { TimesFit (clock_after self.old (turn_ended self.old at)) }
+        ensures { self.new ≡ clock_after self.old (turn_ended self.old at) }
     {
         let time = self
             .time(self.side)
@@ -132,8 +132,8 @@ impl Clock {
     /// Adds 120,000 ms to the colour's time, for a wrong claim of its opponent (FIDE article 9.5.3).
     pub fn penalty(&mut self, colour: Colour)
         requires running { self.old.is_stopped ≡ false }
-        requires fits { TimesFit (after self.old (ClockEvent.WrongClaim (other colour) ∷ [])) }
-        ensures { self.new ≡ after self.old (ClockEvent.WrongClaim (other colour) ∷ []) }
+        requires fits { TimesFit (clock_after self.old (ClockEvent.WrongClaim (other colour) ∷ [])) }
+        ensures { self.new ≡ clock_after self.old (ClockEvent.WrongClaim (other colour) ∷ []) }
     {
         self.set_time(colour, self.time(colour).with_penalty());
     }
@@ -183,7 +183,7 @@ impl Clock {
 impl Clock {
     ghost use Rattle.std.specs.Prelude.{◌≡◌, ◌^◌, ◌<◌, false};
     ghost use Rattle.chess_clock.specs.TimeControl.{time_control, IsTimeControl};
-    ghost use Rattle.chess_clock.specs.ClockState.{started, after, clock_of};
+    ghost use Rattle.chess_clock.specs.ClockState.{started, clock_after, clock_of};
     ghost use Rattle.chess_clock.specs.Replay.{TurnsEndInTime, TimesAlwaysFit, IsWithinTime};
 
     /// Takes the clock through turns and wrong claims: its times are then the sums over all of them, going on from what
@@ -193,8 +193,8 @@ impl Clock {
         requires running { self.old.is_stopped ≡ false }
         requires in_time { TurnsEndInTime self.old events.now }
         requires fits { TimesAlwaysFit self.old events.now }
-        requires moments { (after self.old events.now).since < 2 ^ 64 }
-        ensures sums { self.new ≡ after self.old events.now }
+        requires moments { (clock_after self.old events.now).since < 2 ^ 64 }
+        ensures sums { self.new ≡ clock_after self.old events.now }
         ensures within { IsWithinTime self.old events.now }
     {
         for event in events {

@@ -20,7 +20,7 @@ use Rattle.chess_entry.specs.declared.verdicts.Verdict.{Verdict}
 use Rattle.chess_entry.specs.declared.verdicts.Verdict.TheVariants.{Refuse, Enter, Read}
 use Rattle.chess_entry.specs.declared.refusals.Refusal.TheVariants.{OfferStands, NoOffer, TooEarly, AlreadyClaimed, FlagUp}
 use Rattle.chess_entry.specs.State.{GameState, TableState, position_of, ply_of, seat_of, is_joined, is_over, find_game}
-use Rattle.chess_entry.specs.Told.{Told}
+use Rattle.chess_entry.specs.Parsed.{Parsed}
 use Rattle.chess_entry.specs.Verdict.{Check, refuse, first_of, is_period, are_times, is_start, is_finished, is_full, is_long, is_on_move, has_offer, has_fallen, in_game, by_side, while_running, in_turn, for_move, for_stated, opened_from, move_entered, open_verdict, join_verdict, move_verdict, offer_verdict, accept_verdict, decline_verdict, resign_verdict, claim_verdict, flag_verdict, drop_verdict, in_seat, side_of, player_verdict, name_or_none, is_read, effective, verdict}
 use Rattle.chess_entry.proofs.Allowed.{IsPlaying, IsInTime, IsAllowed}
 
@@ -291,38 +291,38 @@ open-enters table at colour initial increment period name start e h =
     (not-false (are_times initial increment period) times.0)).1
     room.1
 
-player-enters : (table : TableState) (at : ℕ) (name : List ℕ) (told : Told) (a : Act) (e : Entry) →
-    player_verdict table at name told a ≡ Enter e → Opens table e ⊎ Acts table e
-player-enters table at name told (act.NewGame colour initial increment fen period) e h =
-    inl (open-enters table at colour initial increment period name told.start e h)
-player-enters table at name told (act.Join game) e h = inr (join-enters table game at name e h)
-player-enters table at name told (act.Play game ply text) e h =
-    inr (in_seat-entered table name game at (λ at. move_verdict table at ply told.move) e
-    (move-enters table ply told.move) h)
-player-enters table at name told (act.Offer game) e h =
+player-enters : (table : TableState) (at : ℕ) (name : List ℕ) (parsed : Parsed) (a : Act) (e : Entry) →
+    player_verdict table at name parsed a ≡ Enter e → Opens table e ⊎ Acts table e
+player-enters table at name parsed (act.Open colour initial increment fen period) e h =
+    inl (open-enters table at colour initial increment period name parsed.start e h)
+player-enters table at name parsed (act.Join game) e h = inr (join-enters table game at name e h)
+player-enters table at name parsed (act.Move game ply text) e h =
+    inr (in_seat-entered table name game at (λ at. move_verdict table at ply parsed.move) e
+    (move-enters table ply parsed.move) h)
+player-enters table at name parsed (act.Offer game) e h =
     inr (in_seat-entered table name game at offer_verdict e (offer-enters table) h)
-player-enters table at name told (act.Accept game) e h =
+player-enters table at name parsed (act.Accept game) e h =
     inr (in_seat-entered table name game at accept_verdict e (accept-enters table) h)
-player-enters table at name told (act.Decline game) e h =
+player-enters table at name parsed (act.Decline game) e h =
     inr (in_seat-entered table name game at decline_verdict e (decline-enters table) h)
-player-enters table at name told (act.Resign game) e h =
+player-enters table at name parsed (act.Resign game) e h =
     inr (in_seat-entered table name game at resign_verdict e (resign-enters table) h)
-player-enters table at name told (act.Claim game ply fifty text) e h =
-    inr (in_seat-entered table name game at (λ at. claim_verdict table at ply fifty (is_some text) told.move) e
-    (claim-enters table ply fifty (is_some text) told.move) h)
-player-enters table at name told (act.Flag game) e h =
+player-enters table at name parsed (act.Claim game ply fifty text) e h =
+    inr (in_seat-entered table name game at (λ at. claim_verdict table at ply fifty (is_some text) parsed.move) e
+    (claim-enters table ply fifty (is_some text) parsed.move) h)
+player-enters table at name parsed (act.Flag game) e h =
     inr (in_seat-entered table name game at flag_verdict e (flag-enters table) h)
-player-enters table at name told (act.Remove game) e h =
+player-enters table at name parsed (act.Drop game) e h =
     inr (in_seat-entered table name game at drop_verdict e (drop-enters table) h)
-player-enters table at name told (act.Show game) e h = absurd (no_read (find_game game table.games) e h)
-player-enters table at name told (act.Fen game) e h = absurd (no_read (find_game game table.games) e h)
-player-enters table at name told (act.Pgn game) e h = absurd (no_read (find_game game table.games) e h)
-player-enters table at name told act.List e h = absurd (cc)
+player-enters table at name parsed (act.Show game) e h = absurd (no_read (find_game game table.games) e h)
+player-enters table at name parsed (act.Fen game) e h = absurd (no_read (find_game game table.games) e h)
+player-enters table at name parsed (act.Pgn game) e h = absurd (no_read (find_game game table.games) e h)
+player-enters table at name parsed act.List e h = absurd (cc)
 
 -- an entry that is the verdict on a command opens a game, or is of one on the table
-pub verdict-enters : (table : TableState) (command : Command) (told : Told) (e : Entry) →
-    verdict table command told ≡ Enter e → Opens table e ⊎ Acts table e
-verdict-enters table command told e h =
-    let in_range = passed (nat_lt 4611686018427387903 command.at) _ _ e h in
+pub verdict-enters : (table : TableState) (command : Command) (parsed : Parsed) (e : Entry) →
+    verdict table command parsed ≡ Enter e → Opens table e ⊎ Acts table e
+verdict-enters table command parsed e h =
+    let in_range = passed (nat_lt 4611686018427387903 command.moment) _ _ e h in
     let named = passed (not (is_read command.act) && is_none command.who) _ _ e in_range.1 in
-    player-enters table (effective table command.at) (name_or_none command.who) told command.act e named.1
+    player-enters table (effective table command.moment) (name_or_none command.who) parsed command.act e named.1

@@ -19,7 +19,7 @@ use Rattle.rec_codec.specs.Records.{entry}
 use Rattle.chess_entry.specs.declared.commands.Act.{Act}
 use Rattle.chess_entry.specs.declared.commands.Act.TheVariants as act
 use Rattle.chess_entry.specs.declared.commands.Command.{Command}
-use Rattle.chess_entry.specs.Told.{told}
+use Rattle.chess_entry.specs.Parsed.{parsed}
 use Rattle.chess_entry.specs.Lawful.{IsWithin, IsEntered, IsLawful}
 use Rattle.chess_entry.proofs.LawfulLists.{IsLawful-none, IsLawful-more}
 
@@ -41,10 +41,10 @@ e2e4 = record { from = record { file = 5; rank = 2 }; to = record { file = 5; ra
 
 -- an act by "A", or by "B"
 by_a : ℕ → Act → Command
-by_a moment wanted = record { at = moment; who = Some (65 ∷ []); act = wanted }
+by_a moment wanted = record { moment = moment; who = Some (65 ∷ []); act = wanted }
 
 by_b : ℕ → Act → Command
-by_b moment wanted = record { at = moment; who = Some (66 ∷ []); act = wanted }
+by_b moment wanted = record { moment = moment; who = Some (66 ∷ []); act = wanted }
 
 a-named : IsName (65 ∷ [])
 a-named = record { some = omega arith; short = omega arith; bytes = refl }
@@ -92,9 +92,9 @@ unfolding board_opens
 open-entered = record {
   earlier = limits;
   within = within;
-  command = by_a 0 (act.NewGame White 60 2 None None);
+  command = by_a 0 (act.Open White 60 2 None None);
   named = a-named;
-  entered = record { told = told (Some initial) None; is_told = (refl, refl); is = refl };
+  entered = record { parsed = parsed (Some initial) None; is_parsed = (refl, refl); is = refl };
 }
 
 join-entered : IsEntered limits opened (entry 1 1000 (event.Join (66 ∷ [])))
@@ -104,7 +104,7 @@ join-entered = record {
   within = within;
   command = by_b 1000 (act.Join 1);
   named = b-named;
-  entered = record { told = told None None; is_told = (refl, refl); is = refl };
+  entered = record { parsed = parsed None None; is_parsed = (refl, refl); is = refl };
 }
 
 offer-entered : IsEntered limits joined (entry 1 2000 (event.Offer White))
@@ -114,7 +114,7 @@ offer-entered = record {
   within = within;
   command = by_a 2000 (act.Offer 1);
   named = a-named;
-  entered = record { told = told None None; is_told = (refl, refl); is = refl };
+  entered = record { parsed = parsed None None; is_parsed = (refl, refl); is = refl };
 }
 
 claim-entered : IsEntered limits offered
@@ -125,7 +125,7 @@ claim-entered = record {
   within = within;
   command = by_a 3000 (act.Claim 1 0 true None);
   named = a-named;
-  entered = record { told = told None None; is_told = (refl, refl); is = refl };
+  entered = record { parsed = parsed None None; is_parsed = (refl, refl); is = refl };
 }
 
 resign-entered : IsEntered limits claimed (entry 1 9000 (event.Resign Black))
@@ -135,7 +135,7 @@ resign-entered = record {
   within = within;
   command = by_b 9000 (act.Resign 1);
   named = b-named;
-  entered = record { told = told None None; is_told = (refl, refl); is = refl };
+  entered = record { parsed = parsed None None; is_parsed = (refl, refl); is = refl };
 }
 
 opened-lawful : IsLawful limits opened
@@ -183,9 +183,9 @@ unfolding opens e2e4-text
 move-entered = record {
   earlier = limits;
   within = within;
-  command = by_a 500 (act.Play 1 0 e2e4-text);
+  command = by_a 500 (act.Move 1 0 e2e4-text);
   named = a-named;
-  entered = record { told = told None (Some e2e4); is_told = (refl, e2e4-named); is = refl };
+  entered = record { parsed = parsed None (Some e2e4); is_parsed = (refl, e2e4-named); is = refl };
 }
 
 moved-lawful : IsLawful limits (joined ++ entry 1 1000 (event.Move (record { mv = e2e4; ply = 0 })) ∷ [])

@@ -136,7 +136,7 @@ sound-more limits es x sound (inr acts) =
 entered-by : (limits : Limits) (es : List Entry) (x : Entry) → IsEntered limits es x →
     Opens (table_of limits es) x ⊎ Acts (table_of limits es) x
 entered-by limits es x entered =
-    elim (verdict-enters (table_of entered.earlier es) entered.command entered.entered.told x (sym entered.entered.is)) [
+    elim (verdict-enters (table_of entered.earlier es) entered.command entered.entered.parsed x (sym entered.entered.is)) [
       | inl opens ↦ inl (record {
         opening = opens.opening;
         opens = opens.opens;

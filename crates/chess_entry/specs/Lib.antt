@@ -4,7 +4,7 @@ pub mod Outcome
 pub mod GameTimes
 pub mod Standing
 pub mod Games
-pub mod Told
+pub mod Parsed
 pub mod Verdict
 pub mod Follow
 pub mod Lawful

@@ -18,7 +18,7 @@ use Rattle.chess_entry.specs.declared.refusals.Refusal.TheVariants.{NoName, NoGa
 use Rattle.chess_entry.specs.declared.verdicts.Verdict.{Verdict}
 use Rattle.chess_entry.specs.declared.verdicts.Verdict.TheVariants.{Refuse, Enter, Read}
 use Rattle.chess_entry.specs.State.{GameState, TableState, position_of, ply_of, seat_of, is_joined, is_over, find_game}
-use Rattle.chess_entry.specs.Told.{Told, IsStartTold, IsMoveTold, bytes_of}
+use Rattle.chess_entry.specs.Parsed.{Parsed, IsStartParsed, IsMoveParsed, bytes_of}
 
 -- a check: whether it applies, and the verdict where it does
 pub record Check : Type 0 where
@@ -199,8 +199,8 @@ in_seat table name number verdict =
     in_game (λ game. by_side (verdict game) (side_of name game)) (find_game number table.games)
 
 -- what a player's act meets
-abbrev pub player_verdict : TableState → ℕ → List ℕ → Told → Act → Verdict
-player_verdict table at name told (act.NewGame colour initial increment fen period) =
+abbrev pub player_verdict : TableState → ℕ → List ℕ → Parsed → Act → Verdict
+player_verdict table at name parsed (act.Open colour initial increment fen period) =
     open_verdict table at
     (λ start. record {
       colour = colour;
@@ -209,22 +209,22 @@ player_verdict table at name told (act.NewGame colour initial increment fen peri
       period = period;
       name = name;
       start = start;
-    }) (are_times initial increment period) told.start
-player_verdict table at name told (act.Join game) = in_game (join_verdict at name) (find_game game table.games)
-player_verdict table at name told (act.Play game ply text) =
-    in_seat table name game (move_verdict table at ply told.move)
-player_verdict table at name told (act.Offer game) = in_seat table name game (offer_verdict at)
-player_verdict table at name told (act.Accept game) = in_seat table name game (accept_verdict at)
-player_verdict table at name told (act.Decline game) = in_seat table name game (decline_verdict at)
-player_verdict table at name told (act.Resign game) = in_seat table name game (resign_verdict at)
-player_verdict table at name told (act.Claim game ply fifty text) =
-    in_seat table name game (claim_verdict table at ply fifty (is_some text) told.move)
-player_verdict table at name told (act.Flag game) = in_seat table name game (flag_verdict at)
-player_verdict table at name told (act.Remove game) = in_seat table name game (drop_verdict at)
-player_verdict table at name told (act.Show game) = in_game (λ _. Read) (find_game game table.games)
-player_verdict table at name told (act.Fen game) = in_game (λ _. Read) (find_game game table.games)
-player_verdict table at name told (act.Pgn game) = in_game (λ _. Read) (find_game game table.games)
-player_verdict table at name told act.List = Read
+    }) (are_times initial increment period) parsed.start
+player_verdict table at name parsed (act.Join game) = in_game (join_verdict at name) (find_game game table.games)
+player_verdict table at name parsed (act.Move game ply text) =
+    in_seat table name game (move_verdict table at ply parsed.move)
+player_verdict table at name parsed (act.Offer game) = in_seat table name game (offer_verdict at)
+player_verdict table at name parsed (act.Accept game) = in_seat table name game (accept_verdict at)
+player_verdict table at name parsed (act.Decline game) = in_seat table name game (decline_verdict at)
+player_verdict table at name parsed (act.Resign game) = in_seat table name game (resign_verdict at)
+player_verdict table at name parsed (act.Claim game ply fifty text) =
+    in_seat table name game (claim_verdict table at ply fifty (is_some text) parsed.move)
+player_verdict table at name parsed (act.Flag game) = in_seat table name game (flag_verdict at)
+player_verdict table at name parsed (act.Drop game) = in_seat table name game (drop_verdict at)
+player_verdict table at name parsed (act.Show game) = in_game (λ _. Read) (find_game game table.games)
+player_verdict table at name parsed (act.Fen game) = in_game (λ _. Read) (find_game game table.games)
+player_verdict table at name parsed (act.Pgn game) = in_game (λ _. Read) (find_game game table.games)
+player_verdict table at name parsed act.List = Read
 
 -- Reads are anybody's; the other acts are those of a player with a name.
 abbrev pub is_read : Act → Bool
@@ -239,24 +239,24 @@ name_or_none None = []
 name_or_none (Some name) = name
 
 -- 23 and 2 come first
-abbrev pub verdict : TableState → Command → Told → Verdict
-verdict table command told = first_of
-    (refuse (nat_lt 4611686018427387903 command.at) BadMoment ∷
+abbrev pub verdict : TableState → Command → Parsed → Verdict
+verdict table command parsed = first_of
+    (refuse (nat_lt 4611686018427387903 command.moment) BadMoment ∷
     refuse (not (is_read command.act) && is_none command.who) NoName ∷ [])
-    (player_verdict table (effective table command.at) (name_or_none command.who) told command.act)
+    (player_verdict table (effective table command.moment) (name_or_none command.who) parsed command.act)
 
 -- What the command's text tells on this table.
-abbrev pub IsTold : TableState → Act → Told → Type 0
-IsTold table (act.NewGame colour initial increment fen period) told =
-    IsStartTold (bytes_of fen) told.start × (told.move ≡ None)
-IsTold table (act.Play game ply text) told =
-    (told.start ≡ None) × IsMoveTold (find_game game table.games) (Some text.bytes) told.move
-IsTold table (act.Claim game ply fifty text) told =
-    (told.start ≡ None) × IsMoveTold (find_game game table.games) (bytes_of text) told.move
-IsTold table _ told = (told.start ≡ None) × (told.move ≡ None)
+abbrev pub IsParsed : TableState → Act → Parsed → Type 0
+IsParsed table (act.Open colour initial increment fen period) parsed =
+    IsStartParsed (bytes_of fen) parsed.start × (parsed.move ≡ None)
+IsParsed table (act.Move game ply text) parsed =
+    (parsed.start ≡ None) × IsMoveParsed (find_game game table.games) (Some text.bytes) parsed.move
+IsParsed table (act.Claim game ply fifty text) parsed =
+    (parsed.start ≡ None) × IsMoveParsed (find_game game table.games) (bytes_of text) parsed.move
+IsParsed table _ parsed = (parsed.start ≡ None) × (parsed.move ≡ None)
 
 -- the verdict on a command
 pub record IsVerdict (table : TableState) (command : Command) (verdict_given : Verdict) : Type 0 where
-  pub told : Told
-  pub is_told : IsTold table command.act told
-  pub is : verdict_given ≡ verdict table command told
+  pub parsed : Parsed
+  pub is_parsed : IsParsed table command.act parsed
+  pub is : verdict_given ≡ verdict table command parsed

@@ -13,7 +13,7 @@ pub type Text = ArrayString<255>;
 pub enum Act {
     /// A new game, in which who asks has the colour. Times are in seconds; a second period is the moves before it and
     /// its seconds. Without a FEN the game starts from the initial position.
-    NewGame {
+    Open {
         colour: Colour,
         initial: u32,
         increment: u32,
@@ -25,7 +25,7 @@ pub enum Act {
         game: u32,
     },
     /// A move, named by a text, in a game of so many moves.
-    Play {
+    Move {
         game: u32,
         ply: u32,
         text: Text,
@@ -59,7 +59,7 @@ pub enum Act {
         game: u32,
     },
     /// A game that is over, or not joined, is taken off the table.
-    Remove {
+    Drop {
         game: u32,
     },
     /// How a game stands.
@@ -81,7 +81,7 @@ pub enum Act {
 /// An act, the moment at which it came in milliseconds, and who asks, if that is known.
 #[derive(Clone, Copy)]
 pub struct Command {
-    pub at: u64,
+    pub moment: u64,
     pub who: Option<Name>,
     pub act: Act,
 }

@@ -6,7 +6,7 @@ use Rattle.std.proofs.lemmas.Fmt.{decimal_nonempty}
 use Rattle.chess_bits.specs.Square.{Square}
 use Rattle.chess_board.specs.Position.{Position}
 use Rattle.chess_notation.specs.Fen.{IsPlacementText, IsFenOf, rank_of, row_text, side_letter, or_dash, rights_text, target_text}
-use Rattle.chess_fen.specs.Reading.{IsField, FenFields, fields_of, HasFields}
+use Rattle.chess_fen.specs.Reading.{IsFenField, FenFields, fields_of, HasFields}
 use Rattle.chess_fen.proofs.Joined.{AllAbove, SameParts}
 use Rattle.chess_fen.proofs.Positions.{IsPlacementText-placement_text}
 use Rattle.chess_fen.proofs.Ranks.{ranks_below, placement_text-ranks_below, ranks_below-next}
@@ -29,7 +29,7 @@ same_parts (c ∷ a) (d ∷ b) x y ha hb e =
     record { front = ap (λ h. h ∷ a) same ∙ ap (λ t. d ∷ t) parts.front; rest = parts.rest }
 
 -- the first field of a text, and the rest after it
-pub first_field : (text a x b y : List ℕ) → IsField a → IsField b → text ≡ a ++ (32 ∷ x) → text ≡ b ++ (32 ∷ y) →
+pub first_field : (text a x b y : List ℕ) → IsFenField a → IsFenField b → text ≡ a ++ (32 ∷ x) → text ≡ b ++ (32 ∷ y) →
     SameParts a b x y
 first_field text a x b y in_a in_b e k = same_parts a b x y in_a.unspaced in_b.unspaced (sym e ∙ k)
 
@@ -53,7 +53,7 @@ AllAbove-unspaced [] h i below = absurd (omega arith)
 AllAbove-unspaced (c ∷ text) h zero below = λ e. absurd (omega (arith, h.0))
 AllAbove-unspaced (c ∷ text) h (suc i) below = AllAbove-unspaced text h.1 i (omega arith)
 
-above_field : (text : List ℕ) → 0 < length text → AllAbove 32 text → IsField text
+above_field : (text : List ℕ) → 0 < length text → AllAbove 32 text → IsFenField text
 above_field text filled above = record {
   filled = λ e. let none : length text ≡ 0 = ap length e in absurd (omega arith);
   unspaced = AllAbove-unspaced text above;

@@ -9,7 +9,7 @@ use Rattle.chess_fen.specs.declared.fields.FenError.TheVariants as faults
 use Rattle.chess_notation.specs.Fen.{IsPlacementText, IsFenOf, side_letter, rights_text, target_text}
 
 -- a text that is not empty and has no space
-pub record IsField (text : List ℕ) : Type 0 where
+pub record IsFenField (text : List ℕ) : Type 0 where
   pub filled : text ≢ []
   pub unspaced : EachIndex text (λ i. slice_index text i ≢ 32)
 
@@ -34,12 +34,12 @@ fields_of placement side castling target halfmove fullmove = record {
 
 -- A text is six fields that are not empty, with one space between each two.
 pub record HasFields (text : List ℕ) (f : FenFields) : Type 0 where
-  pub placement : IsField f.placement
-  pub side : IsField f.side
-  pub castling : IsField f.castling
-  pub target : IsField f.target
-  pub halfmove : IsField f.halfmove
-  pub fullmove : IsField f.fullmove
+  pub placement : IsFenField f.placement
+  pub side : IsFenField f.side
+  pub castling : IsFenField f.castling
+  pub target : IsFenField f.target
+  pub halfmove : IsFenField f.halfmove
+  pub fullmove : IsFenField f.fullmove
   pub joined : text ≡ join_with_byte 32 (f.placement ∷ f.side ∷ f.castling ∷ f.target ∷ f.halfmove ∷ f.fullmove ∷ [])
 
 -- What a field may say. The placement of the men on the 64 squares:

@@ -4,7 +4,7 @@ ghost use Rattle.chess_bits.specs.Square.{Square};
 ghost use Rattle.chess_board.specs.Position.{Rights};
 ghost use Rattle.chess_board.specs.RightsOf.{rights_of};
 ghost use Rattle.chess_fen.specs.declared.fields.FenError.TheVariants as faults;
-ghost use Rattle.chess_fen.specs.Reading.{IsField, FenFields, fields_of, HasFields, TellsSide, TellsRights, TellsTarget, TellsNumber};
+ghost use Rattle.chess_fen.specs.Reading.{IsFenField, FenFields, fields_of, HasFields, TellsSide, TellsRights, TellsTarget, TellsNumber};
 
 use crate::fen::push_rights;
 use arrayvec::ArrayString;
@@ -45,10 +45,10 @@ pub struct Fields<'a> {
 
 // The first field, and what follows the space after it.
 fn take_field(text: &str) -> Result<(&str, &str), FenError>
-    ensures field { IfOk result (λ parts. IsField parts.0.now) }
+    ensures field { IfOk result (λ parts. IsFenField parts.0.now) }
     ensures parts { IfOk result (λ parts. text.now ≡ parts.0.now ++ (32 ∷ parts.1.now)) }
     ensures fault { IfErr result (λ fault. fault ≡ faults.Shape) }
-    ensures none { IfErr result (λ _. (field rest : List ℕ) → IsField field → text.now ≢ field ++ (32 ∷ rest)) }
+    ensures none { IfErr result (λ _. (field rest : List ℕ) → IsFenField field → text.now ≢ field ++ (32 ∷ rest)) }
 {
     match text.split_once(' ') {
         Some((field, rest)) if !field.is_empty() => Ok((field, rest)),
@@ -58,10 +58,10 @@ fn take_field(text: &str) -> Result<(&str, &str), FenError>
 
 // The text, if it is one field.
 fn whole_field(text: &str) -> Result<&str, FenError>
-    ensures field { IfOk result (λ field. IsField field.now) }
+    ensures field { IfOk result (λ field. IsFenField field.now) }
     ensures same { IfOk result (λ field. field.now ≡ text.now) }
     ensures fault { IfErr result (λ fault. fault ≡ faults.Shape) }
-    ensures none { IfErr result (λ _. ¬ IsField text.now) }
+    ensures none { IfErr result (λ _. ¬ IsFenField text.now) }
 {
     if text.is_empty() || text.as_bytes().contains(&b' ') {
         Err(FenError::Shape)

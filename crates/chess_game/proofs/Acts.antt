@@ -13,7 +13,7 @@ use Rattle.chess_board.specs.declared.moves.Move.{Move}
 use Rattle.chess_board.specs.Position.{Position}
 use Rattle.chess_clock.specs.declared.events.ClockEvent.TheVariants.{WrongClaim}
 use Rattle.chess_clock.specs.TimeControl.{moves_to_go}
-use Rattle.chess_clock.specs.ClockState.{ClockState, time_of, left, started, after, turn_ended as turn_event, HasFallen, TimesFit}
+use Rattle.chess_clock.specs.ClockState.{ClockState, time_of, left, started, clock_after, turn_ended as turn_event, HasFallen, TimesFit}
 use Rattle.chess_end.specs.declared.ending.Ending.{Ending}
 use Rattle.rec_codec.specs.declared.record.Opening.{Opening}
 use Rattle.chess_entry.specs.State.{GameState, position_of, ply_of, is_joined, is_over}
@@ -27,7 +27,7 @@ use Rattle.chess_entry.specs.Bounds.{IsGame}
 use Rattle.chess_game.specs.declared.games.Game.TheInside.{Inside}
 use Rattle.chess_game.specs.declared.sides.Seat.{Seat}
 use Rattle.chess_game.specs.declared.sides.Sides.{Sides}
-use Rattle.chess_game.specs.Line.{LineState, last_of, HasRoom, with_move}
+use Rattle.chess_game.specs.Scoresheet.{ScoresheetState, last_of, HasRoom, with_move}
 use Rattle.chess_game.specs.Sides.{turn_over, stopped_if, with_wrong_claim}
 use Rattle.chess_game.specs.ClockFor.{clock_for, sides_for, line_for, seat_for}
 use Rattle.chess_game.specs.GameInside.{state_of, IsSound}
@@ -70,7 +70,7 @@ left-answered g game side at n same sound so is =
 pub HasRoom-playable : (g : Inside) (game : GameState) → Shows g game → IsGame 20000 game → ply_of game < 20000
     → HasRoom g.line
 HasRoom-playable g game shows is room =
-    let P : LineState → Type 0 = λ line. HasRoom line in
+    let P : ScoresheetState → Type 0 = λ line. HasRoom line in
     subst P (sym shows.line) (HasRoom-start game.start game.moves is.start room)
 
 -- ---- a move
@@ -87,7 +87,7 @@ Shows-sides g game next sides shows same number control line = record {
 }
 
 -- after a move that may end the game
-pub Shows-moved : (g : Inside) (game : GameState) (at : ℕ) (m : Move) (by_line : Option Ending) (line : LineState) (sides : Sides)
+pub Shows-moved : (g : Inside) (game : GameState) (at : ℕ) (m : Move) (by_line : Option Ending) (line : ScoresheetState) (sides : Sides)
     → Shows g game → game.moment ≤ at → is_over game ≡ false
     → line ≡ with_move g.line m
     → sides ≡ stopped_if (turn_over g.sides (position_of game).side at) at by_line
@@ -100,7 +100,7 @@ Shows-moved g game at m by_line line sides shows from running made is ends =
     ∙ stopped_if-shown (turn_ended game at m) at by_line running
     ∙ ap (λ (e : Option Ending). sides_for (ended_if (turn_ended game at m) at e)) ends in
     let line_shown : line ≡ line_for (turn_ended game at m) =
-    made ∙ ap (λ (l : LineState). with_move l m) shows.line in
+    made ∙ ap (λ (l : ScoresheetState). with_move l m) shows.line in
     kept (ending_after game.start (game.moves ++ m ∷ [])) sides_shown line_shown
   where
     kept : (by : Option Ending) → sides ≡ sides_for (ended_if (turn_ended game at m) at by)
@@ -120,22 +120,22 @@ Shows-moved g game at m by_line line sides shows from running made is ends =
     }
 
 -- the ending of the line with the move
-line_ending : (g : Inside) (game : GameState) (m : Move) (by_line : Option Ending) (line : LineState) → Shows g game
+line_ending : (g : Inside) (game : GameState) (m : Move) (by_line : Option Ending) (line : ScoresheetState) → Shows g game
     → line ≡ with_move g.line m → by_line ≡ ending_after line.start line.moves
     → by_line ≡ ending_after game.start (game.moves ++ m ∷ [])
 line_ending g game m by_line line shows made ends =
-    ends ∙ ap (λ (l : LineState). ending_after l.start l.moves) (made ∙ ap (λ (l : LineState). with_move l m) shows.line)
+    ends ∙ ap (λ (l : ScoresheetState). ending_after l.start l.moves) (made ∙ ap (λ (l : ScoresheetState). with_move l m) shows.line)
 
 -- the calls that make a move
 pub play-shows : (g : Inside) (game : GameState) (at : ℕ) (m : Move) (mover : Colour) (board : Position)
-    (by_line : Option Ending) (line : LineState) (sides : Sides) → state_of g ≡ game → IsSound g → IsInTime game at
+    (by_line : Option Ending) (line : ScoresheetState) (sides : Sides) → state_of g ≡ game → IsSound g → IsInTime game at
     → mover ≡ board.side → board ≡ last_of g.line → line ≡ with_move g.line m
     → by_line ≡ ending_after line.start line.moves → sides ≡ stopped_if (turn_over g.sides mover at) at by_line
     → Shows (record g { line = line; sides = sides }) (moved game at m)
 play-shows g game at m mover board by_line line sides same sound in_time moves stands made ends is =
     let shows = Shows-kept g game same sound in
     let on_move : mover ≡ (position_of game).side =
-    moves ∙ ap (λ (p : Position). p.side) stands ∙ ap (λ (l : LineState). (last_of l).side) shows.line in
+    moves ∙ ap (λ (p : Position). p.side) stands ∙ ap (λ (l : ScoresheetState). (last_of l).side) shows.line in
     Shows-moved g game at m by_line line sides shows in_time.running.from_start in_time.running.goes_on made
     (is ∙ ap (λ (c : Colour). stopped_if (turn_over g.sides c at) at by_line) on_move)
     (line_ending g game m by_line line shows made ends)
@@ -143,23 +143,23 @@ play-shows g game at m mover board by_line line sides same sound in_time moves s
 -- the times held fit at the end of the turn
 pub TimesFit-turn : (game : GameState) (at : ℕ) (m : Move) (sides : Sides) → sides ≡ sides_for game
     → IsGame 20000 game → IsRunningAt game at → IsPlayable game m
-    → TimesFit (after sides.clock (turn_event sides.clock at))
+    → TimesFit (clock_after sides.clock (turn_event sides.clock at))
 TimesFit-turn game at m sides same is running playable =
     let way = IsOnWay-turn game at m (IsOnWay-of game is running.joined running.goes_on)
     (line_goes_on game is running.goes_on) playable in
-    let shown : after sides.clock (turn_event sides.clock at) ≡ clock_for (turn_ended game at m) =
-    ap (λ (s : Sides). after s.clock (turn_event s.clock at)) same
-    ∙ clock_after (turn_over-shown game at m running.from_start) in
+    let shown : clock_after sides.clock (turn_event sides.clock at) ≡ clock_for (turn_ended game at m) =
+    ap (λ (s : Sides). clock_after s.clock (turn_event s.clock at)) same
+    ∙ clock_turned (turn_over-shown game at m running.from_start) in
     let P : ClockState → Type 0 = λ clock. TimesFit clock in
     subst P (sym shown) (TimesFit-on_way (turn_ended game at m) way)
   where
-    same_clock : (mover : Colour) (s : Sides) → (turn_over s mover at).clock ≡ after s.clock (turn_event s.clock at)
+    same_clock : (mover : Colour) (s : Sides) → (turn_over s mover at).clock ≡ clock_after s.clock (turn_event s.clock at)
     same_clock White s = refl
     same_clock Black s = refl
 
-    clock_after : turn_over (sides_for game) (position_of game).side at ≡ sides_for (turn_ended game at m)
-        → after (clock_for game) (turn_event (clock_for game) at) ≡ clock_for (turn_ended game at m)
-    clock_after e = sym (same_clock (position_of game).side (sides_for game)) ∙ ap (λ (s : Sides). s.clock) e
+    clock_turned : turn_over (sides_for game) (position_of game).side at ≡ sides_for (turn_ended game at m)
+        → clock_after (clock_for game) (turn_event (clock_for game) at) ≡ clock_for (turn_ended game at m)
+    clock_turned e = sym (same_clock (position_of game).side (sides_for game)) ∙ ap (λ (s : Sides). s.clock) e
 
 pub NotFallen-turn : (game : GameState) (at : ℕ) (sides : Sides) → sides ≡ sides_for game → has_fallen game at ≡ false
     → ¬ HasFallen sides.clock at
@@ -175,13 +175,13 @@ claimed-shown g game by shows =
     ap (with_wrong_claim by) shows.sides ∙ with_wrong_claim-shown game by
 
 pub TimesFit-claim : (g : Inside) (game : GameState) (by : Colour) → Shows g game
-    → IsOnWay (claimed_wrongly game by) → TimesFit (after g.sides.clock (WrongClaim by ∷ []))
+    → IsOnWay (claimed_wrongly game by) → TimesFit (clock_after g.sides.clock (WrongClaim by ∷ []))
 TimesFit-claim g game by shows way =
     let P : ClockState → Type 0 = λ clock. TimesFit clock in
     subst P (sym (sym (same_clock by) ∙ ap (λ (s : Sides). s.clock) (claimed-shown g game by shows)))
     (TimesFit-on_way (claimed_wrongly game by) way)
   where
-    same_clock : (side : Colour) → (with_wrong_claim side g.sides).clock ≡ after g.sides.clock (WrongClaim side ∷ [])
+    same_clock : (side : Colour) → (with_wrong_claim side g.sides).clock ≡ clock_after g.sides.clock (WrongClaim side ∷ [])
     same_clock White = refl
     same_clock Black = refl
 
@@ -228,7 +228,7 @@ IsPlayable-judged game claim m judgeable states = record {
 }
 
 pub claim-shows : (g : Inside) (game : GameState) (at : ℕ) (claim : Claim) (m : Move) (claimed : Sides)
-    (by_line : Option Ending) (line : LineState) (sides : Sides) → state_of g ≡ game → IsSound g → IsInTime game at
+    (by_line : Option Ending) (line : ScoresheetState) (sides : Sides) → state_of g ≡ game → IsSound g → IsInTime game at
     → IsJudgeable game claim → claimed ≡ with_wrong_claim claim.by g.sides → line ≡ with_move g.line m
     → by_line ≡ ending_after line.start line.moves → sides ≡ stopped_if (turn_over claimed claim.by at) at by_line
     → Shows (record g { line = line; sides = sides }) (moved (claimed_wrongly game claim.by) at m)

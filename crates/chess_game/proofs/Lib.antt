@@ -2,7 +2,7 @@ pub mod LineLemmas
 pub mod EndingLemmas
 pub mod TimeLemmas
 pub mod KeptLine
-pub mod LineKept
+pub mod ScoresheetKept
 pub mod SidesLemmas
 pub mod KeptGame
 pub mod Shown

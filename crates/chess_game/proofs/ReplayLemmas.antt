@@ -16,8 +16,8 @@ use Rattle.chess_entry.specs.State.{position_after}
 use Rattle.chess_entry.specs.Outcome.{ending_after}
 use Rattle.chess_entry.specs.Verdict.{is_finished_at}
 use Rattle.chess_entry.specs.Bounds.{IsStart, GoesOnUntilLast, ending_by_last}
-use Rattle.chess_game.specs.Line.{LineState, last_of, with_move, HasRoom}
-use Rattle.chess_game.specs.Restored.{IsLine, IsReplayed}
+use Rattle.chess_game.specs.Scoresheet.{ScoresheetState, last_of, with_move, HasRoom}
+use Rattle.chess_game.specs.Restored.{IsScoresheet, IsReplayed}
 use Rattle.chess_game.proofs.LineLemmas.{IsLegalLine-push, halfmove-at_most, fullmove-at_most}
 use Rattle.chess_game.proofs.KeptLine.{last_split, GoesOnUntilLast-push, ending_by_last-pushed}
 
@@ -27,35 +27,35 @@ pub GoesOnUntilLast-none : (start : Position) → GoesOnUntilLast start []
 GoesOnUntilLast-none start [] m last rest same = absurd cc
 GoesOnUntilLast-none start (n ∷ before) m last rest same = absurd cc
 
-pub IsReplayed-none : (start : Position) (line : LineState) → line ≡ record { start = start; moves = [] }
+pub IsReplayed-none : (start : Position) (line : ScoresheetState) → line ≡ record { start = start; moves = [] }
     → IsReplayed start [] line None
 IsReplayed-none start line is = record {
-  is_line = record { legal = tt; goes_on = GoesOnUntilLast-none start };
-  start = ap (λ (l : LineState). l.start) is;
-  moves = ap (λ (l : LineState). l.moves) is;
+  is_scoresheet = record { legal = tt; goes_on = GoesOnUntilLast-none start };
+  start = ap (λ (l : ScoresheetState). l.start) is;
+  moves = ap (λ (l : ScoresheetState). l.moves) is;
   ends = refl;
 }
 
 -- the position that the line leads to
-last_is : (start : Position) (moves : List Move) (line : LineState) (by_line : Option Ending)
+last_is : (start : Position) (moves : List Move) (line : ScoresheetState) (by_line : Option Ending)
     → IsReplayed start moves line by_line → last_of line ≡ position_after start moves
 last_is start moves line by_line so_far =
     ap (λ (p : Position). position_after p line.moves) so_far.start ∙ ap (position_after start) so_far.moves
 
-pub IsReplayed-push : (start : Position) (moves : List Move) (m : Move) (line after : LineState)
+pub IsReplayed-push : (start : Position) (moves : List Move) (m : Move) (line after : ScoresheetState)
     (by_line ends : Option Ending) → IsReplayed start moves line by_line → by_line ≡ None → IsLegal (last_of line) m
     → after ≡ with_move line m → ends ≡ ending_after after.start after.moves
     → IsReplayed start (moves ++ m ∷ []) after ends
 IsReplayed-push start moves m line after by_line ends so_far goes_on legal pushed is =
-    let same_start : after.start ≡ start = ap (λ (l : LineState). l.start) pushed ∙ so_far.start in
+    let same_start : after.start ≡ start = ap (λ (l : ScoresheetState). l.start) pushed ∙ so_far.start in
     let same_moves : after.moves ≡ moves ++ m ∷ [] =
-    ap (λ (l : LineState). l.moves) pushed ∙ ap (λ (ms : List Move). ms ++ m ∷ []) so_far.moves in
+    ap (λ (l : ScoresheetState). l.moves) pushed ∙ ap (λ (ms : List Move). ms ++ m ∷ []) so_far.moves in
     let P : Position → Type 0 = λ p. IsLegal p m in
     record {
-      is_line = record {
-        legal = IsLegalLine-push start moves m so_far.is_line.legal
+      is_scoresheet = record {
+        legal = IsLegalLine-push start moves m so_far.is_scoresheet.legal
             (subst P (last_is start moves line by_line so_far) legal);
-        goes_on = GoesOnUntilLast-push start moves m so_far.is_line.goes_on (sym so_far.ends ∙ goes_on);
+        goes_on = GoesOnUntilLast-push start moves m so_far.is_scoresheet.goes_on (sym so_far.ends ∙ goes_on);
       };
       start = same_start;
       moves = same_moves;
@@ -103,13 +103,13 @@ HasRoom-start start moves is room =
       short = short_most room;
     }
 
-pub HasRoom-replayed : (start : Position) (moves : List Move) (line : LineState) (by_line : Option Ending)
+pub HasRoom-replayed : (start : Position) (moves : List Move) (line : ScoresheetState) (by_line : Option Ending)
     → IsReplayed start moves line by_line → IsStart start → length moves < 20000 → HasRoom line
 HasRoom-replayed start moves line by_line so_far is room =
     let same : line ≡ record { start = start; moves = moves } =
-    ap (λ (p : Position). let l : LineState = record { start = p; moves = line.moves } in l) so_far.start
-    ∙ ap (λ (ms : List Move). let l : LineState = record { start = start; moves = ms } in l) so_far.moves in
-    let P : LineState → Type 0 = λ l. HasRoom l in
+    ap (λ (p : Position). let l : ScoresheetState = record { start = p; moves = line.moves } in l) so_far.start
+    ∙ ap (λ (ms : List Move). let l : ScoresheetState = record { start = start; moves = ms } in l) so_far.moves in
+    let P : ScoresheetState → Type 0 = λ l. HasRoom l in
     subst P (sym same) (HasRoom-start start moves is room)
 
 -- ---- moves that are no line
@@ -136,20 +136,20 @@ goes_on_before start (n ∷ before) rest m goes_on =
     (ap (λ (ms : List Move). ms ++ m ∷ rest) split.2 ∙ append_assoc split.0 (split.1 ∷ []) (m ∷ rest))
 
 -- one of them is not legal
-pub IsLine-not_legal : (start : Position) (moves : List Move) (i : ℕ) (m : Move) (line : LineState)
+pub IsScoresheet-not_legal : (start : Position) (moves : List Move) (i : ℕ) (m : Move) (line : ScoresheetState)
     (by_line : Option Ending) → IsReplayed start (take i moves) line by_line → i < length moves
-    → m ≡ get_or moves i m → ¬ IsLegal (last_of line) m → ¬ IsLine start moves
-IsLine-not_legal start moves i m line by_line so_far below here illegal is =
+    → m ≡ get_or moves i m → ¬ IsLegal (last_of line) m → ¬ IsScoresheet start moves
+IsScoresheet-not_legal start moves i m line by_line so_far below here illegal is =
     let P : List Move → Type 0 = λ ms. IsLegalLine start ms in
     let Q : Position → Type 0 = λ p. IsLegal p m in
     illegal (subst Q (sym (last_is start (take i moves) line by_line so_far))
     (IsLegal-at start (take i moves) (drop (suc i) moves) m (subst P (split_at moves i m below here) is.legal)))
 
 -- one of them comes after the end
-pub IsLine-ended : (start : Position) (moves : List Move) (i : ℕ) (m : Move) (line : LineState)
+pub IsScoresheet-ended : (start : Position) (moves : List Move) (i : ℕ) (m : Move) (line : ScoresheetState)
     (by_line : Option Ending) → IsReplayed start (take i moves) line by_line → i < length moves
-    → m ≡ get_or moves i m → is_some by_line ≡ true → ¬ IsLine start moves
-IsLine-ended start moves i m line by_line so_far below here ended is =
+    → m ≡ get_or moves i m → is_some by_line ≡ true → ¬ IsScoresheet start moves
+IsScoresheet-ended start moves i m line by_line so_far below here ended is =
     let P : List Move → Type 0 = λ ms. GoesOnUntilLast start ms in
     let none : by_line ≡ None =
     so_far.ends ∙ goes_on_before start (take i moves) (drop (suc i) moves) m

@@ -11,10 +11,10 @@ use Rattle.chess_entry.specs.State.{SeatState, GameState}
 use Rattle.chess_entry.specs.Bounds.{IsGame}
 use Rattle.chess_entry.specs.Snapshot.{IsSeatOf, IsHeadOf}
 use Rattle.chess_game.specs.declared.games.Game.TheInside.{Inside}
-use Rattle.chess_game.specs.Line.{LineState}
+use Rattle.chess_game.specs.Scoresheet.{ScoresheetState}
 use Rattle.chess_game.specs.ClockFor.{sides_for}
 use Rattle.chess_game.specs.GameInside.{state_of}
-use Rattle.chess_game.specs.Restored.{seat_named, game_named, MayBeOpened, IsLine, IsReplayed, MayStand, IsRestored, NamesNoGame}
+use Rattle.chess_game.specs.Restored.{seat_named, game_named, MayBeOpened, IsScoresheet, IsReplayed, MayStand, IsRestored, NamesNoGame}
 use Rattle.chess_game.proofs.Shown.{Shows, state_of-shown}
 
 -- ---- no other game has the head and the moves
@@ -78,8 +78,8 @@ MayBeOpened-game game is = record {
   short = is.short;
 }
 
-pub IsLine-game : (game : GameState) → IsGame 20000 game → IsLine game.start game.moves
-IsLine-game game is = record { legal = is.played.legal; goes_on = is.played.goes_on }
+pub IsScoresheet-game : (game : GameState) → IsGame 20000 game → IsScoresheet game.start game.moves
+IsScoresheet-game game is = record { legal = is.played.legal; goes_on = is.played.goes_on }
 
 pub MayStand-game : (game : GameState) → IsGame 20000 game → MayStand game
 MayStand-game game is = record {
@@ -89,7 +89,7 @@ MayStand-game game is = record {
 }
 
 pub IsGame-asked : (game : GameState) → 1 ≤ game.number → game.number < 2 ^ 32 → MayBeOpened game
-    → IsLine game.start game.moves → MayStand game → IsGame 20000 game
+    → IsScoresheet game.start game.moves → MayStand game → IsGame 20000 game
 IsGame-asked game numbered number opened line stand = record {
   numbered = numbered;
   number = number;
@@ -120,8 +120,8 @@ pub Shows-named : (g : Inside) (head : Head) (moves : List Move) (by_line : Opti
 Shows-named g head moves by_line number control replayed sides = record {
   number = number;
   control = control;
-  line = ap (λ (p : Position). let l : LineState = record { start = p; moves = g.line.moves } in l) replayed.start
-      ∙ ap (λ (ms : List Move). let l : LineState = record { start = head.start; moves = ms } in l) replayed.moves;
+  line = ap (λ (p : Position). let l : ScoresheetState = record { start = p; moves = g.line.moves } in l) replayed.start
+      ∙ ap (λ (ms : List Move). let l : ScoresheetState = record { start = head.start; moves = ms } in l) replayed.moves;
   sides = sides;
 }
 

@@ -7,7 +7,7 @@ use Rattle.chess_entry.specs.State.{GameState}
 use Rattle.chess_entry.specs.Bounds.{IsGame}
 use Rattle.chess_game.specs.declared.games.Game.TheInside.{Inside}
 use Rattle.chess_game.specs.declared.sides.Sides.{Sides}
-use Rattle.chess_game.specs.Line.{LineState}
+use Rattle.chess_game.specs.Scoresheet.{ScoresheetState}
 use Rattle.chess_game.specs.ClockFor.{clock_for, sides_for, line_for}
 use Rattle.chess_game.specs.GameInside.{seat_state, state_of, IsSound}
 
@@ -19,7 +19,7 @@ pub record Shows (g : Inside) (game : GameState) : Type 0 where
   pub sides : g.sides ≡ sides_for game
 
 -- what parts show
-abbrev built : ℕ → TimeControl → LineState → Sides → GameState
+abbrev built : ℕ → TimeControl → ScoresheetState → Sides → GameState
 built number control line sides = record {
   number = number;
   start = line.start;
@@ -36,7 +36,7 @@ pub state_of-shown : (g : Inside) (game : GameState) → Shows g game → state_
 state_of-shown g game shows =
     ap (λ (n : ℕ). built n (time_control g.times.initial g.times.increment g.times.period) g.line g.sides) shows.number
     ∙ ap (λ (control : TimeControl). built game.number control g.line g.sides) shows.control
-    ∙ ap (λ (line : LineState). built game.number game.control line g.sides) shows.line
+    ∙ ap (λ (line : ScoresheetState). built game.number game.control line g.sides) shows.line
     ∙ ap (λ (sides : Sides). built game.number game.control (line_for game) sides) shows.sides
 
 pub IsSound-shown : (g : Inside) (game : GameState) → Shows g game → IsGame 20000 game → IsSound g

@@ -15,7 +15,7 @@ use Rattle.chess_end.specs.declared.ending.Article.TheVariants as articles
 use Rattle.chess_end.specs.declared.ending.Ending.{Ending}
 use Rattle.chess_end.specs.Ending.{won_by}
 use Rattle.chess_end.specs.Computing.{is_checkmate, is_stalemate, is_listed_dead}
-use Rattle.rec_codec.specs.declared.record.Ending.{Ending as StoredEnding}
+use Rattle.rec_codec.specs.declared.record.StoredEnding.{StoredEnding}
 use Rattle.rec_codec.specs.declared.record.Seat.{Seat as StoredSeat}
 use Rattle.chess_entry.specs.State.{SeatState, GameState, position_after}
 use Rattle.chess_entry.specs.Outcome.{times, ending}

@@ -8,7 +8,7 @@ use Rattle.chess_entry.specs.State.{GameState, SeatState, position_of, ply_of, i
 use Rattle.chess_entry.specs.Follow.{completed}
 use Rattle.chess_game.specs.declared.sides.Seat.{Seat}
 use Rattle.chess_game.specs.declared.sides.Sides.{Sides}
-use Rattle.chess_game.specs.Line.{LineState}
+use Rattle.chess_game.specs.Scoresheet.{ScoresheetState}
 
 -- the moves that a side has to complete before its second period
 abbrev pub to_go_for : GameState → Colour → ℕ
@@ -37,5 +37,5 @@ sides_for game = record {
   ending = game.ending;
 }
 
-abbrev pub line_for : GameState → LineState
+abbrev pub line_for : GameState → ScoresheetState
 line_for game = record { start = game.start; moves = game.moves }

@@ -1,5 +1,5 @@
-pub mod Line
-pub mod LineInside
+pub mod Scoresheet
+pub mod ScoresheetInside
 pub mod Sides
 pub mod ClockFor
 pub mod GameInside

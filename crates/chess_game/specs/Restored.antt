@@ -12,7 +12,7 @@ use Rattle.rec_codec.specs.Name.{IsName}
 use Rattle.chess_entry.specs.State.{SeatState, GameState, ply_of, is_joined, is_over}
 use Rattle.chess_entry.specs.Bounds.{IsStart, GoesOnUntilLast, ending_by_last, Agrees, IsHeldWithin, IsQuiet, IsWaiting, AreDifferent, IsGame}
 use Rattle.chess_entry.specs.Snapshot.{ending_told, IsHeadOf}
-use Rattle.chess_game.specs.Line.{LineState}
+use Rattle.chess_game.specs.Scoresheet.{ScoresheetState}
 
 abbrev pub seat_named : StoredSeat → SeatState
 seat_named seat = record { name = seat.name; held = seat.held; offers = seat.offers }
@@ -41,13 +41,13 @@ pub record MayBeOpened (game : GameState) : Type 0 where
   pub short : ply_of game ≤ 20000
 
 -- The moves are legal, one after the other, and none but the last ends the game.
-pub record IsLine (start : Position) (moves : List Move) : Type 0 where
+pub record IsScoresheet (start : Position) (moves : List Move) : Type 0 where
   pub legal : IsLegalLine start moves
   pub goes_on : GoesOnUntilLast start moves
 
 -- the line of some moves, and the ending that the last of them gives
-pub record IsReplayed (first : Position) (made : List Move) (line : LineState) (by_line : Option Ending) : Type 0 where
-  pub is_line : IsLine first made
+pub record IsReplayed (first : Position) (made : List Move) (line : ScoresheetState) (by_line : Option Ending) : Type 0 where
+  pub is_scoresheet : IsScoresheet first made
   pub start : line.start ≡ first
   pub moves : line.moves ≡ made
   pub ends : by_line ≡ ending_by_last first made

@@ -4,7 +4,7 @@ use Rattle.chess_bits.specs.declared.men.Colour.{Colour}
 use Rattle.chess_bits.specs.declared.men.Colour.TheVariants.{White, Black}
 use Rattle.chess_bits.specs.Man.{other}
 use Rattle.chess_clock.specs.declared.events.ClockEvent.TheVariants.{WrongClaim}
-use Rattle.chess_clock.specs.ClockState.{after, turn_ended, stopped_at}
+use Rattle.chess_clock.specs.ClockState.{clock_after, turn_ended, stopped_at}
 use Rattle.chess_end.specs.declared.ending.Ending.{Ending}
 use Rattle.chess_entry.specs.Follow.{seated}
 use Rattle.chess_game.specs.declared.sides.Seat.{Seat}
@@ -22,7 +22,7 @@ offering Black offers sides = record sides { black = record sides.black { offers
 -- The mover's turn is over: the opponent's offer is answered, and who moves next has not claimed.
 abbrev pub turn_over : Sides → Colour → ℕ → Sides
 turn_over sides mover at =
-    record (offering (other mover) false (record sides { clock = after sides.clock (turn_ended sides.clock at) })) {
+    record (offering (other mover) false (record sides { clock = clock_after sides.clock (turn_ended sides.clock at) })) {
       claimed = false;
     }
 
@@ -42,11 +42,11 @@ stopped_if sides at (Some ending) = stopped sides at ending
 
 abbrev pub with_wrong_claim : Colour → Sides → Sides
 with_wrong_claim by sides =
-    record (offering by true (record sides { clock = after sides.clock (WrongClaim by ∷ []) })) { claimed = true }
+    record (offering by true (record sides { clock = clock_after sides.clock (WrongClaim by ∷ []) })) { claimed = true }
 
 -- A player takes each empty seat.
-abbrev pub with_player : List ℕ → Sides → Sides
-with_player name sides = record sides {
+abbrev pub sides_with_player : List ℕ → Sides → Sides
+sides_with_player name sides = record sides {
   white = record sides.white { name = seated sides.white.name name };
   black = record sides.black { name = seated sides.black.name name };
 }

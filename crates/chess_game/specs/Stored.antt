@@ -4,8 +4,8 @@ use Rattle.chess_end.specs.declared.ending.GameResult.{GameResult}
 use Rattle.chess_end.specs.declared.ending.GameResult.TheVariants as results
 use Rattle.chess_end.specs.declared.ending.Article.{Article}
 use Rattle.chess_end.specs.declared.ending.Article.TheVariants as articles
-use Rattle.rec_codec.specs.declared.record.Ending.{Ending as StoredEnding}
-use Rattle.rec_codec.specs.declared.record.Ending.TheVariants as stored
+use Rattle.rec_codec.specs.declared.record.StoredEnding.{StoredEnding}
+use Rattle.rec_codec.specs.declared.record.StoredEnding.TheVariants as stored
 use Rattle.rec_codec.specs.declared.record.Seat.{Seat as StoredSeat}
 use Rattle.chess_game.specs.declared.sides.Seat.{Seat}
 

@@ -32,9 +32,9 @@ pub record IsJudgeable (game : GameState) (claim : Claim) : Type 0 where
   pub stated : ForSome claim.mv (IsPlayable game)
 
 -- The time of a side runs where the game runs and the side is on move.
-abbrev pub runs : GameState → Colour → Bool
-runs game side = is_joined game && (is_on_move side game && not (is_over game))
+abbrev pub time_runs : GameState → Colour → Bool
+time_runs game side = is_joined game && (is_on_move side game && not (is_over game))
 
 -- the milliseconds that a side has left at a moment
 abbrev pub left_in : GameState → Colour → ℕ → ℕ
-left_in game side at = left_at (runs game side) (seat_of side game).held (at - game.moment)
+left_in game side at = left_at (time_runs game side) (seat_of side game).held (at - game.moment)

@@ -15,8 +15,8 @@ ghost use Rattle.chess_game.specs.ClockFor.{seat_for};
 ghost use Rattle.chess_game.specs.Restored.{IsRestored, NamesNoGame};
 ghost use Rattle.chess_game.specs.Turn.{IsRunningAt, IsInTime, IsPlayable, IsJudgeable, left_in};
 
-use crate::lines::Line;
 use crate::restored::{is_counted, may_be_opened, may_stand, sides_named};
+use crate::scoresheet::Scoresheet;
 use crate::sides::{Seat, Sides};
 use crate::stored::{stored_ending, stored_seat};
 use chess_bits::Colour;
@@ -40,7 +40,7 @@ pub struct Times {
 pub struct Game {
     number: GameNumber,
     times: Times,
-    line: Line,
+    line: Scoresheet,
     sides: Sides,
 }
 
@@ -132,7 +132,7 @@ impl Game {
                 increment: opening.increment,
                 period: opening.period,
             },
-            line: Line::new(alloc, &opening.start)?,
+            line: Scoresheet::new(alloc, &opening.start)?,
             sides: Sides {
                 clock,
                 white: fresh_seat(opening, Colour::White),
@@ -153,7 +153,7 @@ impl Game {
         if !is_counted(head, moves) || !may_be_opened(head, moves) {
             return Ok(None);
         }
-        let Some(replayed) = Line::replay(alloc, &head.start, moves)? else {
+        let Some(replayed) = Scoresheet::replay(alloc, &head.start, moves)? else {
             return Ok(None);
         };
         let mover = replayed.line.board().side();

@@ -3,10 +3,10 @@
 #![tactic(auto)]
 
 mod games;
-mod lines;
 mod restored;
+mod scoresheet;
 mod sides;
 mod stored;
 
 pub use games::{Game, Times};
-pub use lines::is_finished;
+pub use scoresheet::is_finished;

@@ -11,7 +11,7 @@ ghost use Rattle.chess_entry.specs.Snapshot.{ending_told, IsHeadOf};
 ghost use Rattle.chess_game.specs.ClockFor.{clock_for, sides_for};
 ghost use Rattle.chess_game.specs.Restored.{game_named, MayBeOpened, EndsRightly, MayStand};
 
-use crate::lines::is_finished;
+use crate::scoresheet::is_finished;
 use crate::sides::{Seat, Sides};
 use crate::stored::told_ending;
 use chess_bits::Colour;

@@ -1,8 +1,8 @@
 ghost use Rattle.std.specs.Prelude.{◌≡◌, ◌≤◌, [], ◌∷◌, false};
 ghost use Rattle.chess_bits.specs.Man.{other};
 ghost use Rattle.chess_clock.specs.declared.events.ClockEvent.TheVariants.{WrongClaim};
-ghost use Rattle.chess_clock.specs.ClockState.{after, turn_ended, HasFallen, TimesFit};
-ghost use Rattle.chess_game.specs.Sides.{offering, turn_over, stopped, stopped_if, with_wrong_claim, with_player, seat_kept};
+ghost use Rattle.chess_clock.specs.ClockState.{clock_after, turn_ended, HasFallen, TimesFit};
+ghost use Rattle.chess_game.specs.Sides.{offering, turn_over, stopped, stopped_if, with_wrong_claim, sides_with_player, seat_kept};
 
 use chess_bits::Colour;
 use chess_clock::Clock;
@@ -39,7 +39,7 @@ impl Sides {
 
     /// Gives the empty seats to a player.
     pub fn seat_player(&mut self, name: Name)
-        ensures { self.new ≡ with_player name self.old }
+        ensures { self.new ≡ sides_with_player name self.old }
     {
         self.white.name = Some(self.white.name.unwrap_or(name));
         self.black.name = Some(self.black.name.unwrap_or(name));
@@ -60,7 +60,7 @@ impl Sides {
         requires running { self.old.clock.is_stopped ≡ false }
         requires from_start { self.old.clock.since ≤ at }
         requires in_time { ¬ HasFallen self.old.clock at }
-        requires fits { TimesFit (after self.old.clock (turn_ended self.old.clock at)) }
+        requires fits { TimesFit (clock_after self.old.clock (turn_ended self.old.clock at)) }
         ensures { self.new ≡ stopped_if (turn_over self.old mover at) at ending }
     {
         self.clock.finish_turn(at);
@@ -88,7 +88,7 @@ impl Sides {
     /// A wrong claim of the side: its opponent gets 120,000 ms (FIDE article 9.5.3), and it counts as an offer (9.1).
     pub fn claim_wrongly(&mut self, by: Colour)
         requires running { self.old.clock.is_stopped ≡ false }
-        requires fits { TimesFit (after self.old.clock (WrongClaim by ∷ [])) }
+        requires fits { TimesFit (clock_after self.old.clock (WrongClaim by ∷ [])) }
         ensures { self.new ≡ with_wrong_claim by self.old }
     {
         self.clock.penalty(by.other());

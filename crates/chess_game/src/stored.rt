@@ -4,7 +4,7 @@ ghost use Rattle.chess_game.specs.Stored.{stored_by, seat_stored};
 
 use crate::sides::Seat;
 use chess_end::{Article, Ending, GameResult};
-use rec_codec::{Ending as StoredEnding, Seat as StoredSeat};
+use rec_codec::{Seat as StoredSeat, StoredEnding};
 
 /// The ending as a snapshot keeps it. An article that gives no draw is kept as a win of Black where White has not won,
 /// and one that gives draws alone as a draw.

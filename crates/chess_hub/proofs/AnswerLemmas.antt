@@ -101,7 +101,7 @@ first-answered at session sid (Some (Act act)) name commands taken before merged
       (
         reply,
         h.first,
-        subst (λ who. IsOutcome table (record { at = at; who = who; act = act }) reply h.first h.between) is h.outcome,
+        subst (λ who. IsOutcome table (record { moment = at; who = who; act = act }) reply h.first h.between) is h.outcome,
         sym first,
       ),
       later h.between replies h.others k.2 h.rest (subst (λ rs. AreAnswers at taken rs k.2) (sym others) k.5),

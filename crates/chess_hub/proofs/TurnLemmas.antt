@@ -23,7 +23,7 @@ use Rattle.chess_store.proofs.CallLemmas.{ok_was}
 use Rattle.chess_hub.specs.declared.fault.HubFault.{HubFault}
 use Rattle.chess_hub.specs.declared.fault.HubFault.TheVariants.{Busy, NoMemory, LineTooLong, Store}
 use Rattle.chess_hub.specs.Faults.{UnlessDevice, IsDevice, CountsFault}
-use Rattle.chess_hub.specs.Turning.{IsTurnFault, Lasts, IsTried}
+use Rattle.chess_hub.specs.Turning.{IsTurnFault, TurnLasts, TurnTried}
 
 -- ---- the replies of a batch
 
@@ -55,9 +55,9 @@ module _ {T : Type 0} where
       (compaction : Compaction) (before after : TableState) → made ≡ Err y → y ≡ Store fault
       → LeavesOnly old new (MeansEither before after)
       → faults.UnlessDevice fault (IsKept new header compaction after)
-      → Lasts made old new header compaction before after
+      → TurnLasts made old new header compaction before after
   lasts_refused made y fault old new header compaction before after is same leaves kept =
-      subst (λ (r : Result T HubFault). Lasts r old new header compaction before after) (sym is) (record {
+      subst (λ (r : Result T HubFault). TurnLasts r old new header compaction before after) (sym is) (record {
         any_moment = leaves;
         kept = tt;
         kept_err = unless_of fault y (IsKept new header compaction after) same kept;
@@ -71,10 +71,10 @@ module _ {T : Type 0} where
       → (faults.IsDevice fault → new_failed ≡ true)
       → faults.UnlessDevice fault ((new ≡ old) × (after ≡ before) × (new_failed ≡ failed))
       → faults.CountsFault fault (failures old) (failures new)
-      → IsTried state sector_count failures old new made before after failed new_failed
+      → TurnTried state sector_count failures old new made before after failed new_failed
   tried_refused state sector_count failures old new made y fault before after failed new_failed is same model size limits
       bounds idle fails unchanged counts =
-      subst (λ (r : Result T HubFault). IsTried state sector_count failures old new r before after failed new_failed)
+      subst (λ (r : Result T HubFault). TurnTried state sector_count failures old new r before after failed new_failed)
       (sym is) (record {
         model = model;
         size = size;
@@ -91,9 +91,9 @@ module _ {T : Type 0} where
   -- nothing was asked of the store
   pub lasts_same : (made : Result T HubFault) (y : HubFault) (sectors : ℕ) (now : State) (header : Header)
       (compaction : Compaction) (table : TableState) → IsCoherent sectors now → made ≡ Err y → y ≡ NoMemory
-      → IsKept now header compaction table → Lasts made now now header compaction table table
+      → IsKept now header compaction table → TurnLasts made now now header compaction table table
   lasts_same made y sectors now header compaction table coherent is same kept =
-      subst (λ (r : Result T HubFault). Lasts r now now header compaction table table) (sym is) (record {
+      subst (λ (r : Result T HubFault). TurnLasts r now now header compaction table table) (sym is) (record {
         any_moment = same_leaves sectors now now header compaction table table coherent refl kept;
         kept = tt;
         kept_err = subst (λ (f : HubFault). UnlessDevice f (IsKept now header compaction table)) (sym same) kept;
@@ -101,7 +101,7 @@ module _ {T : Type 0} where
 
   pub lasts_idle : (x : T) (sectors : ℕ) (now : State) (header : Header) (compaction : Compaction) (table : TableState)
       → IsCoherent sectors now → IsKept now header compaction table
-      → Lasts {T = T} (Ok x) now now header compaction table table
+      → TurnLasts {T = T} (Ok x) now now header compaction table table
   lasts_idle x sectors now header compaction table coherent kept = record {
     any_moment = same_leaves sectors now now header compaction table table coherent refl kept;
     kept = kept;
@@ -111,7 +111,7 @@ module _ {T : Type 0} where
   pub lasts_answered : (given : Result T StoreFault) (x : T) (old new : State) (header : Header) (compaction : Compaction)
       (before after : TableState) → given ≡ Ok x → LeavesOnly old new (MeansEither before after)
       → OnOk given (IsKept new header compaction after)
-      → Lasts {T = T} (Ok x) old new header compaction before after
+      → TurnLasts {T = T} (Ok x) old new header compaction before after
   lasts_answered given x old new header compaction before after was leaves kept = record {
     any_moment = leaves;
     kept = ok_was given x (IsKept new header compaction after) was kept;
@@ -131,12 +131,12 @@ turn_fault (Store refused) Same P Q more is = more refused is
 module _ {S T : Type 0} where
   pub lasts_passed : (given : Result S HubFault) (made : Result T HubFault) (fault y : HubFault) (old new : State)
       (header : Header) (compaction : Compaction) (before after : TableState) → given ≡ Err fault → made ≡ Err y
-      → y ≡ fault → Lasts given old new header compaction before after
-      → Lasts made old new header compaction before after
+      → y ≡ fault → TurnLasts given old new header compaction before after
+      → TurnLasts made old new header compaction before after
   lasts_passed given made fault y old new header compaction before after was is same lasts =
-      let l : Lasts {T = S} (Err fault) old new header compaction before after =
-      subst (λ (r : Result S HubFault). Lasts r old new header compaction before after) was lasts in
-      subst (λ (r : Result T HubFault). Lasts r old new header compaction before after) (sym is) (record {
+      let l : TurnLasts {T = S} (Err fault) old new header compaction before after =
+      subst (λ (r : Result S HubFault). TurnLasts r old new header compaction before after) was lasts in
+      subst (λ (r : Result T HubFault). TurnLasts r old new header compaction before after) (sym is) (record {
         any_moment = l.any_moment;
         kept = tt;
         kept_err = subst (λ (f : HubFault). UnlessDevice f (IsKept new header compaction after)) (sym same) l.kept_err;
@@ -144,11 +144,11 @@ module _ {S T : Type 0} where
 
   pub lasts_done : (given : Result S HubFault) (x : S) (z : T) (old new : State) (header : Header)
       (compaction : Compaction) (before after : TableState) → given ≡ Ok x
-      → Lasts given old new header compaction before after
-      → Lasts {T = T} (Ok z) old new header compaction before after
+      → TurnLasts given old new header compaction before after
+      → TurnLasts {T = T} (Ok z) old new header compaction before after
   lasts_done given x z old new header compaction before after was lasts =
-      let l : Lasts {T = S} (Ok x) old new header compaction before after =
-      subst (λ (r : Result S HubFault). Lasts r old new header compaction before after) was lasts in
+      let l : TurnLasts {T = S} (Ok x) old new header compaction before after =
+      subst (λ (r : Result S HubFault). TurnLasts r old new header compaction before after) was lasts in
       record {
         any_moment = l.any_moment;
         kept = l.kept;

@@ -79,7 +79,7 @@ name_from session name (m ∷ merged) =
 abbrev pub IsLineAnswered : TableState → Option (List ℕ) → ℕ → Option Request → Said → TableState → Type 0
 IsLineAnswered table name at (Some (Act act)) answer after =
     (reply : Reply) × (entries : List Entry)
-    × IsOutcome table (record { at = at; who = name; act = act }) reply entries after × (answer ≡ said reply)
+    × IsOutcome table (record { moment = at; who = name; act = act }) reply entries after × (answer ≡ said reply)
 IsLineAnswered table name at (Some (Called given)) answer after =
     (own_answer at (Some (Called given)) ≡ Some answer.line) × (answer.body ≡ []) × (after ≡ table)
 IsLineAnswered table name at None answer after =

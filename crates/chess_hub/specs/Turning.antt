@@ -76,7 +76,7 @@ IsTurnFault fault Same Refused = ⊥
 
 -- What a turn leaves where the store was kept: a crash at any moment of it means the table from before or that with the
 -- whole batch, and at `Ok` the latter; the store is kept on, unless the device failed.
-pub record Lasts {T : Type 0} (result : Result T HubFault) (old new : State) (header : Header) (compaction : Compaction)
+pub record TurnLasts {T : Type 0} (result : Result T HubFault) (old new : State) (header : Header) (compaction : Compaction)
     (before after : TableState) : Type 0 where
   pub any_moment : LeavesOnly old new (MeansEither before after)
   pub kept : OnOk result (IsKept new header compaction after)
@@ -85,7 +85,7 @@ pub record Lasts {T : Type 0} (result : Result T HubFault) (old new : State) (he
 -- ---- the device
 
 -- what a turn does to the store and its device, whatever the device holds
-pub record IsTried {D T : Type 0} (state : D → State) (sector_count failures : D → ℕ) (old new : D)
+pub record TurnTried {D T : Type 0} (state : D → State) (sector_count failures : D → ℕ) (old new : D)
     (result : Result T HubFault) (before after : TableState) (failed new_failed : Bool) : Type 0 where
   pub model : (state new).keeps_model ↔ (state old).keeps_model
   pub size : sector_count new ≡ sector_count old

@@ -5,7 +5,7 @@ ghost use Rattle.chess_sessions.specs.Session.{said, fresh, session_at, session_
 ghost use Rattle.chess_store.specs.Batch.{AreAnswered};
 ghost use Rattle.chess_store.specs.Kept.{IsStoreKept};
 ghost use Rattle.chess_hub.specs.Faults.{IsConnectFault, IsFeedFault, refusals_after};
-ghost use Rattle.chess_hub.specs.Turning.{HasTurned, AsksFor, MayBeAsked, AreRefused, IsTurnFault, Lasts, IsTried};
+ghost use Rattle.chess_hub.specs.Turning.{HasTurned, AsksFor, MayBeAsked, AreRefused, IsTurnFault, TurnLasts, TurnTried};
 
 use crate::fault::HubFault;
 use chess_answer::Reply;
@@ -52,9 +52,9 @@ fn ask<D: Device>(
         store.old.table.entries commands.now) }
     ensures fault { IfErr result (λ fault. IsTurnFault fault ⊥ (λ refused. AreRefused refused
         store.old.journal.header.seq store.old.failed store.old.table store.new.table commands.now)) }
-    ensures lasts { IsStoreKept store.old → Lasts result (D.state store.old.journal.device) (D.state store.new.journal.device)
+    ensures lasts { IsStoreKept store.old → TurnLasts result (D.state store.old.journal.device) (D.state store.new.journal.device)
         store.new.journal.header store.new.journal.compaction store.old.table store.new.table }
-    ensures tried { IsTried D.state D.sector_count D.failures store.old.journal.device store.new.journal.device result
+    ensures tried { TurnTried D.state D.sector_count D.failures store.old.journal.device store.new.journal.device result
         store.old.table store.new.table store.old.failed store.new.failed }
 {
     // With it, the table's bounds are known.
@@ -148,10 +148,10 @@ impl<D: Device> Hub<D> {
             (λ refused. AsksFor at most self.old.sessions (AreRefused refused self.old.store.journal.header.seq
             self.old.store.failed self.old.store.table self.new.store.table))) }
         ensures lasts { IsStoreKept self.old.store
-            → Lasts result (D.state self.old.store.journal.device) (D.state self.new.store.journal.device)
+            → TurnLasts result (D.state self.old.store.journal.device) (D.state self.new.store.journal.device)
             self.new.store.journal.header self.new.store.journal.compaction self.old.store.table self.new.store.table }
         ensures refusals { self.new.refusals ≡ self.old.refusals }
-        ensures tried { IsTried D.state D.sector_count D.failures self.old.store.journal.device
+        ensures tried { TurnTried D.state D.sector_count D.failures self.old.store.journal.device
             self.new.store.journal.device result self.old.store.table self.new.store.table self.old.store.failed
             self.new.store.failed }
     {
@@ -190,10 +190,10 @@ impl<D: Device> Hub<D> {
             (λ refused. AsksFor at most self.old.sessions (AreRefused refused self.old.store.journal.header.seq
             self.old.store.failed self.old.store.table self.new.store.table))) }
         ensures lasts { IsStoreKept self.old.store
-            → Lasts result (D.state self.old.store.journal.device) (D.state self.new.store.journal.device)
+            → TurnLasts result (D.state self.old.store.journal.device) (D.state self.new.store.journal.device)
             self.new.store.journal.header self.new.store.journal.compaction self.old.store.table self.new.store.table }
         ensures counts { self.new.refusals ≡ refusals_after result self.old.refusals }
-        ensures tried { IsTried D.state D.sector_count D.failures self.old.store.journal.device
+        ensures tried { TurnTried D.state D.sector_count D.failures self.old.store.journal.device
             self.new.store.journal.device result self.old.store.table self.new.store.table self.old.store.failed
             self.new.store.failed }
     {

@@ -97,9 +97,9 @@ name_ascii_by (c ∷ name) e =
     head_and false b e = cc
 
 act_ascii : (act : Act) → IsSayable act → AreAscii (act_fields act)
-act_ascii (acts.NewGame colour initial increment fen period) h =
+act_ascii (acts.Open colour initial increment fen period) h =
     (plain (codes "open") refl, (colour_ascii colour, (times_ascii initial period h.0, (number_ascii increment h.1, rest_fields fen h.2))))
-act_ascii (acts.Play game ply text) h =
+act_ascii (acts.Move game ply text) h =
     (plain (codes "move") refl, (number_ascii game h.0, (number_ascii ply h.1, (field_ascii text.bytes h.2, tt))))
 act_ascii (acts.Claim game ply fifty text) h =
     (plain (codes "claim") refl, (number_ascii game h.0, (number_ascii ply h.1, (claim_ascii fifty, text_fields text h.2))))
@@ -110,7 +110,7 @@ act_ascii (acts.Accept game) h = (plain (codes "accept") refl, (number_ascii gam
 act_ascii (acts.Decline game) h = (plain (codes "decline") refl, (number_ascii game h, tt))
 act_ascii (acts.Resign game) h = (plain (codes "resign") refl, (number_ascii game h, tt))
 act_ascii (acts.Flag game) h = (plain (codes "flag") refl, (number_ascii game h, tt))
-act_ascii (acts.Remove game) h = (plain (codes "drop") refl, (number_ascii game h, tt))
+act_ascii (acts.Drop game) h = (plain (codes "drop") refl, (number_ascii game h, tt))
 act_ascii (acts.Show game) h = (plain (codes "show") refl, (number_ascii game h, tt))
 act_ascii (acts.Fen game) h = (plain (codes "fen") refl, (number_ascii game h, tt))
 act_ascii (acts.Pgn game) h = (plain (codes "pgn") refl, (number_ascii game h, tt))

@@ -7,7 +7,7 @@ use Rattle.std.proofs.lemmas.Bool.{false≢true}
 use Rattle.chess_bits.specs.declared.men.Colour.{Colour}
 use Rattle.chess_bits.specs.declared.men.Colour.TheVariants.{White, Black}
 use Rattle.arrayvec.specs.ArrayString.{ArrayString}
-use Rattle.chess_entry.specs.Told.{bytes_of}
+use Rattle.chess_entry.specs.Parsed.{bytes_of}
 use Rattle.chess_entry.specs.declared.commands.Act.{Act}
 use Rattle.chess_entry.specs.declared.commands.Act.TheVariants as acts
 use Rattle.chess_line.specs.declared.lines.Request.{Request}
@@ -50,8 +50,8 @@ pub is_flag : (act : Act) (game : ℕ) → IsSayable act → IsNumber game → a
 is_flag (acts.Flag g) game s small e = let same : decimal game ≡ decimal g = cc in ap acts.Flag (same_number game g small s same)
 is_flag act game s small e = absurd (false≢true (ap (is_called (codes "flag")) e))
 
-pub is_drop : (act : Act) (game : ℕ) → IsSayable act → IsNumber game → act_fields act ≡ codes "drop" ∷ decimal game ∷ [] → acts.Remove game ≡ act
-is_drop (acts.Remove g) game s small e = let same : decimal game ≡ decimal g = cc in ap acts.Remove (same_number game g small s same)
+pub is_drop : (act : Act) (game : ℕ) → IsSayable act → IsNumber game → act_fields act ≡ codes "drop" ∷ decimal game ∷ [] → acts.Drop game ≡ act
+is_drop (acts.Drop g) game s small e = let same : decimal game ≡ decimal g = cc in ap acts.Drop (same_number game g small s same)
 is_drop act game s small e = absurd (false≢true (ap (is_called (codes "drop")) e))
 
 pub is_show : (act : Act) (game : ℕ) → IsSayable act → IsNumber game → act_fields act ≡ codes "show" ∷ decimal game ∷ [] → acts.Show game ≡ act
@@ -73,14 +73,14 @@ pub record Opening (rest : List ℕ) (act : Act) : Type 0 where
   pub increment : ℕ
   pub fen : Option ArrayString
   pub period : Option (ℕ × ℕ)
-  pub is : act ≡ acts.NewGame colour initial increment fen period
+  pub is : act ≡ acts.Open colour initial increment fen period
   pub times : AreTimes initial period
   pub number : IsNumber increment
   pub text : IfSome fen (λ text. IsRest text.bytes)
   pub spelled : rest ≡ join_with_byte 32 (colour_word colour ∷ times_text initial period ∷ decimal increment ∷ optional fen)
 
 pub opening_after : (rest : List ℕ) (act : Act) → IsLineAfter (codes "open") rest (lines.Act act) → Opening rest act
-opening_after rest (acts.NewGame colour initial increment fen period) h =
+opening_after rest (acts.Open colour initial increment fen period) h =
     let e = h.spelled in
     record {
       colour = colour;
@@ -149,9 +149,9 @@ unspaced text e = clear_without 32 text e
 
 pub game_after : (word rest : List ℕ) (act : Act) → Unspaced word → word ≢ codes "open" → word ≢ codes "move" → word ≢ codes "claim" →
     IsLineAfter word rest (lines.Act act) → OfGame word rest act
-game_after word rest (acts.NewGame colour initial increment fen period) h o m k is =
+game_after word rest (acts.Open colour initial increment fen period) h o m k is =
     absurd (o (same_parts 32 word (codes "open") rest _ h (unspaced (codes "open") refl) is.spelled).front)
-game_after word rest (acts.Play game ply text) h o m k is =
+game_after word rest (acts.Move game ply text) h o m k is =
     absurd (m (same_parts 32 word (codes "move") rest _ h (unspaced (codes "move") refl) is.spelled).front)
 game_after word rest (acts.Claim game ply fifty text) h o m k is =
     absurd (k (same_parts 32 word (codes "claim") rest _ h (unspaced (codes "claim") refl) is.spelled).front)
@@ -169,8 +169,8 @@ game_after word rest (acts.Resign g) h o m k is =
     of_game word rest (codes "resign") g (acts.Resign g) h (unspaced (codes "resign") refl) is.sayable is.sayable refl is.spelled
 game_after word rest (acts.Flag g) h o m k is =
     of_game word rest (codes "flag") g (acts.Flag g) h (unspaced (codes "flag") refl) is.sayable is.sayable refl is.spelled
-game_after word rest (acts.Remove g) h o m k is =
-    of_game word rest (codes "drop") g (acts.Remove g) h (unspaced (codes "drop") refl) is.sayable is.sayable refl is.spelled
+game_after word rest (acts.Drop g) h o m k is =
+    of_game word rest (codes "drop") g (acts.Drop g) h (unspaced (codes "drop") refl) is.sayable is.sayable refl is.spelled
 game_after word rest (acts.Show g) h o m k is =
     of_game word rest (codes "show") g (acts.Show g) h (unspaced (codes "show") refl) is.sayable is.sayable refl is.spelled
 game_after word rest (acts.Fen g) h o m k is =
@@ -182,16 +182,16 @@ game_after word rest (acts.Pgn g) h o m k is =
 pub is_list : (word : List ℕ) (line : Request) → Unspaced word → HasForm word line → word ≡ codes "list"
 is_list word (lines.Called name) h is = absurd (no_parts 32 word (codes "name") name h is.spelled)
 is_list word (lines.Act acts.List) h is = is.spelled
-is_list word (lines.Act (acts.NewGame colour initial increment fen period)) h is = absurd (no_parts 32 word (codes "open") _ h is.spelled)
+is_list word (lines.Act (acts.Open colour initial increment fen period)) h is = absurd (no_parts 32 word (codes "open") _ h is.spelled)
 is_list word (lines.Act (acts.Join g)) h is = absurd (no_parts 32 word (codes "join") _ h is.spelled)
-is_list word (lines.Act (acts.Play g p t)) h is = absurd (no_parts 32 word (codes "move") _ h is.spelled)
+is_list word (lines.Act (acts.Move g p t)) h is = absurd (no_parts 32 word (codes "move") _ h is.spelled)
 is_list word (lines.Act (acts.Offer g)) h is = absurd (no_parts 32 word (codes "offer") _ h is.spelled)
 is_list word (lines.Act (acts.Accept g)) h is = absurd (no_parts 32 word (codes "accept") _ h is.spelled)
 is_list word (lines.Act (acts.Decline g)) h is = absurd (no_parts 32 word (codes "decline") _ h is.spelled)
 is_list word (lines.Act (acts.Resign g)) h is = absurd (no_parts 32 word (codes "resign") _ h is.spelled)
 is_list word (lines.Act (acts.Claim g p f t)) h is = absurd (no_parts 32 word (codes "claim") _ h is.spelled)
 is_list word (lines.Act (acts.Flag g)) h is = absurd (no_parts 32 word (codes "flag") _ h is.spelled)
-is_list word (lines.Act (acts.Remove g)) h is = absurd (no_parts 32 word (codes "drop") _ h is.spelled)
+is_list word (lines.Act (acts.Drop g)) h is = absurd (no_parts 32 word (codes "drop") _ h is.spelled)
 is_list word (lines.Act (acts.Show g)) h is = absurd (no_parts 32 word (codes "show") _ h is.spelled)
 is_list word (lines.Act (acts.Fen g)) h is = absurd (no_parts 32 word (codes "fen") _ h is.spelled)
 is_list word (lines.Act (acts.Pgn g)) h is = absurd (no_parts 32 word (codes "pgn") _ h is.spelled)

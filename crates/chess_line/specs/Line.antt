@@ -11,10 +11,10 @@ use Rattle.chess_line.specs.Fields.{IsNumber, IsField, IsRest, colour_word, clai
 
 -- the fields of an act's line; only a FEN, which stands last, may have spaces
 abbrev pub act_fields : Act → List (List ℕ)
-act_fields (acts.NewGame colour initial increment fen period) =
+act_fields (acts.Open colour initial increment fen period) =
     codes "open" ∷ colour_word colour ∷ times_text initial period ∷ decimal increment ∷ optional fen
 act_fields (acts.Join game) = codes "join" ∷ decimal game ∷ []
-act_fields (acts.Play game ply text) = codes "move" ∷ decimal game ∷ decimal ply ∷ text.bytes ∷ []
+act_fields (acts.Move game ply text) = codes "move" ∷ decimal game ∷ decimal ply ∷ text.bytes ∷ []
 act_fields (acts.Offer game) = codes "offer" ∷ decimal game ∷ []
 act_fields (acts.Accept game) = codes "accept" ∷ decimal game ∷ []
 act_fields (acts.Decline game) = codes "decline" ∷ decimal game ∷ []
@@ -22,7 +22,7 @@ act_fields (acts.Resign game) = codes "resign" ∷ decimal game ∷ []
 act_fields (acts.Claim game ply fifty text) =
     codes "claim" ∷ decimal game ∷ decimal ply ∷ claim_word fifty ∷ optional text
 act_fields (acts.Flag game) = codes "flag" ∷ decimal game ∷ []
-act_fields (acts.Remove game) = codes "drop" ∷ decimal game ∷ []
+act_fields (acts.Drop game) = codes "drop" ∷ decimal game ∷ []
 act_fields (acts.Show game) = codes "show" ∷ decimal game ∷ []
 act_fields (acts.Fen game) = codes "fen" ∷ decimal game ∷ []
 act_fields (acts.Pgn game) = codes "pgn" ∷ decimal game ∷ []
@@ -34,10 +34,10 @@ line_fields (lines.Act act) = act_fields act
 
 -- its numbers and texts are such as a line can have
 abbrev pub IsSayable : Act → Type 0
-IsSayable (acts.NewGame colour initial increment fen period) =
+IsSayable (acts.Open colour initial increment fen period) =
     AreTimes initial period × IsNumber increment × IfSome fen (λ text. IsRest text.bytes)
 IsSayable (acts.Join game) = IsNumber game
-IsSayable (acts.Play game ply text) = IsNumber game × IsNumber ply × IsField text.bytes
+IsSayable (acts.Move game ply text) = IsNumber game × IsNumber ply × IsField text.bytes
 IsSayable (acts.Offer game) = IsNumber game
 IsSayable (acts.Accept game) = IsNumber game
 IsSayable (acts.Decline game) = IsNumber game
@@ -45,7 +45,7 @@ IsSayable (acts.Resign game) = IsNumber game
 IsSayable (acts.Claim game ply fifty text) =
     IsNumber game × IsNumber ply × IfSome text (λ text. IsField text.bytes)
 IsSayable (acts.Flag game) = IsNumber game
-IsSayable (acts.Remove game) = IsNumber game
+IsSayable (acts.Drop game) = IsNumber game
 IsSayable (acts.Show game) = IsNumber game
 IsSayable (acts.Fen game) = IsNumber game
 IsSayable (acts.Pgn game) = IsNumber game
@@ -68,9 +68,9 @@ pub record IsLineOf (text : List ℕ) (line : Request) : Type 0 where
 
 -- an act and a line without the room that their texts leave unused
 abbrev pub shown_act : Act → Act
-shown_act (acts.NewGame colour initial increment fen period) =
-    acts.NewGame colour initial increment (option_map shown fen) period
-shown_act (acts.Play game ply text) = acts.Play game ply (shown text)
+shown_act (acts.Open colour initial increment fen period) =
+    acts.Open colour initial increment (option_map shown fen) period
+shown_act (acts.Move game ply text) = acts.Move game ply (shown text)
 shown_act (acts.Claim game ply fifty text) = acts.Claim game ply fifty (option_map shown text)
 shown_act act = act
 

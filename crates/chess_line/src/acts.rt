@@ -25,7 +25,7 @@ fn game_act(word: &str, game: u32) -> Option<Act>
         "decline" => Some(Act::Decline { game }),
         "resign" => Some(Act::Resign { game }),
         "flag" => Some(Act::Flag { game }),
-        "drop" => Some(Act::Remove { game }),
+        "drop" => Some(Act::Drop { game }),
         "show" => Some(Act::Show { game }),
         "fen" => Some(Act::Fen { game }),
         "pgn" => Some(Act::Pgn { game }),
@@ -45,7 +45,7 @@ fn opening(rest: &str) -> Option<Act>
     let (increment, fen) = cut(rest);
     let increment = number_named(increment)?;
     let fen = optional_rest(fen)?;
-    Some(Act::NewGame {
+    Some(Act::Open {
         colour,
         initial,
         increment,
@@ -62,7 +62,7 @@ fn play(rest: &str) -> Option<Act>
     let (game, rest) = take_number(rest)?;
     let (ply, text) = take_number(rest)?;
     let text = field_text(text)?;
-    Some(Act::Play { game, ply, text })
+    Some(Act::Move { game, ply, text })
 }
 
 // What `claim` asks for.

@@ -4,7 +4,7 @@ ghost use Rattle.std.specs.Option.{MatchOption};
 ghost use Rattle.chess_bits.specs.declared.men.Colour.{Colour};
 ghost use Rattle.chess_line.specs.Fields.{IsNumber, IsField, IsRest, colour_word, claim_word, times_text, AreTimes};
 ghost use Rattle.arrayvec.specs.ArrayString.{ArrayString};
-ghost use Rattle.chess_entry.specs.Told.{bytes_of};
+ghost use Rattle.chess_entry.specs.Parsed.{bytes_of};
 ghost use Rattle.chess_line.specs.Text.{shown};
 ghost use Rattle.chess_line.specs.Cut.{Unspaced, joined, rest_of};
 

@@ -21,7 +21,7 @@ use Rattle.chess_store.specs.declared.fault.StoreFault.TheVariants.{Exists, TooS
 use Rattle.chess_store.specs.Faults.{IsSubmitFault, IsOpenFault, IsDevice, IsOfTheCall, CountsFault, MayLast}
 use Rattle.table_commits.specs.Means.{MeansEither, AllMean, IsKept}
 use Rattle.chess_lives.specs.declared.plan.LifeReport.{LifeReport}
-use Rattle.chess_lives.specs.declared.serving.Tally.{Tally}
+use Rattle.chess_lives.specs.declared.serving.Submitted.{Submitted}
 use Rattle.chess_lives.specs.Courses.{Batch, entries_of, list_of, is_unsent, unsent_in}
 use Rattle.chess_lives.specs.Serving.{AreJudgedOn, ArePending, EndsWith, EndsUnopened, CountsEnd, IsTallied, HasRoomFor, pending_of, IsServed}
 use Rattle.chess_lives.specs.Stops.{IsFirstWorn, IsWornBefore, IsLivesFault}
@@ -276,15 +276,15 @@ pending-ends (Some TooSmall) failed left failures after ends = absurd ends
 pending-ends (Some NotOurs) failed left failures after ends = absurd ends
 pending-ends (Some Damaged) failed left failures after ends = absurd ends
 
-pub served-opened : (table : TableState) (batches : List (List Command)) (tally : Tally) (failures : ℕ)
+pub served-opened : (table : TableState) (batches : List (List Command)) (submitted : Submitted) (failures : ℕ)
     (WasKept : Type 0) (now : State) (after begun : ℕ) (report : LifeReport)
-    → IsTallied table batches tally failures WasKept now after → WasKept → IsTable table → begun ≡ table.entries
-    → report.opened ≡ Some begun → report.acknowledged ≡ tally.shown - begun
-    → report.accepted ≡ tally.shown - begun + pending_of tally.fault → report.unsent ≡ tally.unsent
-    → report.failures ≡ after → IsServed table batches failures report tally.fault now after
-served-opened table batches tally failures WasKept now after begun report t was is_table count opened acknowledged accepted unsent counted =
+    → IsTallied table batches submitted failures WasKept now after → WasKept → IsTable table → begun ≡ table.entries
+    → report.opened ≡ Some begun → report.acknowledged ≡ submitted.shown - begun
+    → report.accepted ≡ submitted.shown - begun + pending_of submitted.fault → report.unsent ≡ submitted.unsent
+    → report.failures ≡ after → IsServed table batches failures report submitted.fault now after
+served-opened table batches submitted failures WasKept now after begun report t was is_table count opened acknowledged accepted unsent counted =
     let shown = judged-entries table t.course.answered t.kept t.is_course.answered in
-    let pending = pending-ends tally.fault t.course.failed t.left failures after t.ends in
+    let pending = pending-ends submitted.fault t.course.failed t.left failures after t.ends in
     record {
       course = t.course;
       left = t.left;

@@ -11,7 +11,7 @@ use Rattle.chess_store.specs.Batch.{IsAnswered}
 use Rattle.chess_store.specs.Faults.{CountsFault}
 use Rattle.table_commits.specs.Means.{MeansEither}
 use Rattle.chess_lives.specs.declared.plan.LifeReport.{LifeReport}
-use Rattle.chess_lives.specs.declared.serving.Tally.{Tally}
+use Rattle.chess_lives.specs.declared.serving.Submitted.{Submitted}
 use Rattle.chess_lives.specs.Courses.{Batch, Course, entries_of, list_of, unsent_in}
 use Rattle.chess_lives.specs.Stops.{IsFirstWorn}
 
@@ -51,17 +51,17 @@ EndsWith (Some fault) failed left failures after = ⊥
 
 -- What came of batches that were submitted to a store that works: the table that it showed last, and what the images are,
 -- where every one was kept.
-pub record IsTallied (before : TableState) (batches : List (List Command)) (tally : Tally) (failures : ℕ) (WasKept : Type 0)
+pub record IsTallied (before : TableState) (batches : List (List Command)) (submitted : Submitted) (failures : ℕ) (WasKept : Type 0)
     (now : State) (after : ℕ) : Type 0 where
   pub course : Course
   pub left : List (List Command)
   pub kept : TableState
   pub accepted : TableState
   pub is_course : IsCourseOn before batches course left kept accepted
-  pub ends : EndsWith tally.fault course.failed left failures after
-  pub shown : tally.shown ≡ kept.entries
-  pub unsent : tally.unsent ≡ min (unsent_in course.answered) (2 ^ 64 - 1)
-  pub worn : WasKept → tally.fault ≡ Some Worn → IsFirstWorn now kept.entries left
+  pub ends : EndsWith submitted.fault course.failed left failures after
+  pub shown : submitted.shown ≡ kept.entries
+  pub unsent : submitted.unsent ≡ min (unsent_in course.answered) (2 ^ 64 - 1)
+  pub worn : WasKept → submitted.fault ≡ Some Worn → IsFirstWorn now kept.entries left
   pub each : WasKept → (image : Sectors) → now.image image → MeansEither kept accepted image
 
 -- the count with the entries that are pending still fits
@@ -69,8 +69,8 @@ abbrev pub HasRoomFor : ℕ → Option StoreFault → Type 0
 HasRoomFor shown (Some (Device pending)) = shown + pending < 2 ^ 64
 HasRoomFor shown _ = Unit {0}
 
-abbrev pub HasRoomForPending : Tally → Type 0
-HasRoomForPending tally = HasRoomFor tally.shown tally.fault
+abbrev pub HasRoomForPending : Submitted → Type 0
+HasRoomForPending submitted = HasRoomFor submitted.shown submitted.fault
 
 -- so many entries are pending
 abbrev pub pending_of : Option StoreFault → ℕ

@@ -66,7 +66,7 @@ fn command(who: &str, act: Act) -> Command
     ensures { IsName who.now → result ≡ asked who.now act }
 {
     Command {
-        at: MOMENT,
+        moment: MOMENT,
         who: Name::try_new(who),
         act,
     }
@@ -79,13 +79,13 @@ fn play(who: &str, ply: u32, text: &str) -> Command
         Ok(text) => text,
         Err(_) => Text::new(),
     };
-    command(who, Act::Play { game: 1, ply, text })
+    command(who, Act::Move { game: 1, ply, text })
 }
 
 fn opening(alloc: Global) -> Result<Vec<Command>, AllocError>
     ensures { IfOk result (λ batch. batch.items ≡ opening_batch) }
 {
-    let game = Act::NewGame {
+    let game = Act::Open {
         colour: Colour::White,
         initial: 300,
         increment: 0,

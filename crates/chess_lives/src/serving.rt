@@ -18,7 +18,7 @@ use std::alloc::Global;
 // What came of the batches of a life: the number of entries that the store has shown last, for how many commands memory
 // was refused, and why they came to an end before the last, if they did.
 #[derive(Drop)]
-struct Tally {
+struct Submitted {
     shown: u64,
     unsent: u64,
     fault: Option<StoreFault>,
@@ -47,7 +47,7 @@ fn unsent(replies: &[Reply]) -> usize
 }
 
 // Submits the batches in their order, until one is not answered.
-fn submit_all<D: Device>(store: &mut Store<D>, batches: &[Vec<Command>]) -> Tally
+fn submit_all<D: Device>(store: &mut Store<D>, batches: &[Vec<Command>]) -> Submitted
     requires works { store.old.failed ≡ false }
     requires batches { EachOf IsSubmittable (map (λ b. b.items) batches.now) }
     ensures tallied { IsTallied store.old.table (map (λ b. b.items) batches.now) result
@@ -69,7 +69,7 @@ fn submit_all<D: Device>(store: &mut Store<D>, batches: &[Vec<Command>]) -> Tall
                 count = shown(store);
             }
             Err(fault) => {
-                return Tally {
+                return Submitted {
                     shown: count,
                     unsent: refused,
                     fault: Some(fault),
@@ -77,7 +77,7 @@ fn submit_all<D: Device>(store: &mut Store<D>, batches: &[Vec<Command>]) -> Tall
             }
         }
     }
-    Tally {
+    Submitted {
         shown: count,
         unsent: refused,
         fault: None,
@@ -95,21 +95,21 @@ fn pending(fault: &Option<StoreFault>) -> u64
 }
 
 // The report of a life that opened with so many entries, and after which the device has so many failures.
-fn report_of(begun: u64, tally: &Tally, failures: u64) -> LifeReport
-    requires begun { begun ≤ tally.now.shown }
-    requires room { HasRoomForPending tally.now }
+fn report_of(begun: u64, submitted: &Submitted, failures: u64) -> LifeReport
+    requires begun { begun ≤ submitted.now.shown }
+    requires room { HasRoomForPending submitted.now }
     ensures opened { result.opened ≡ Some begun }
-    ensures acknowledged { result.acknowledged ≡ tally.now.shown - begun }
-    ensures accepted { result.accepted ≡ tally.now.shown - begun + pending_of tally.now.fault }
-    ensures unsent { result.unsent ≡ tally.now.unsent }
+    ensures acknowledged { result.acknowledged ≡ submitted.now.shown - begun }
+    ensures accepted { result.accepted ≡ submitted.now.shown - begun + pending_of submitted.now.fault }
+    ensures unsent { result.unsent ≡ submitted.now.unsent }
     ensures failures { result.failures ≡ failures }
 {
-    let acknowledged = tally.shown - begun;
+    let acknowledged = submitted.shown - begun;
     LifeReport {
         opened: Some(begun),
         acknowledged,
-        accepted: acknowledged + pending(&tally.fault),
-        unsent: tally.unsent,
+        accepted: acknowledged + pending(&submitted.fault),
+        unsent: submitted.unsent,
         failures,
     }
 }
@@ -139,12 +139,12 @@ pub(crate) fn serve<D: CrashDevice>(alloc: Global, device: D, batches: &[Vec<Com
             // With it, the table is known to be one that there may be.
             let _limits = store.limits();
             let begun = shown(&store);
-            let tally = submit_all(&mut store, batches);
+            let submitted = submit_all(&mut store, batches);
             let left = store.into_device();
             Served {
-                report: report_of(begun, &tally, left.failure_count()),
+                report: report_of(begun, &submitted, left.failure_count()),
                 device: left,
-                fault: tally.fault,
+                fault: submitted.fault,
             }
         }
         Err(refused) => Served {

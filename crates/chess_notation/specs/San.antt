@@ -37,11 +37,11 @@ HasRival p m along = (rival : Move) × IsRival p m rival × IsOn along m.from ri
 
 -- What tells a piece's move from those of its rivals: nothing where there is none; else the file, if no rival stands on
 -- it; else the rank, if no rival stands on it; else both.
-abbrev pub Tells : Position → Move → Origin → Type 0
-Tells p m origin.Nothing = ¬ HasRival p m among.Board
-Tells p m origin.File = HasRival p m among.Board × ¬ HasRival p m among.File
-Tells p m origin.Rank = HasRival p m among.File × ¬ HasRival p m among.Rank
-Tells p m origin.Square = HasRival p m among.File × HasRival p m among.Rank
+abbrev pub Disambiguates : Position → Move → Origin → Type 0
+Disambiguates p m origin.Nothing = ¬ HasRival p m among.Board
+Disambiguates p m origin.File = HasRival p m among.Board × ¬ HasRival p m among.File
+Disambiguates p m origin.Rank = HasRival p m among.File × ¬ HasRival p m among.Rank
+Disambiguates p m origin.Square = HasRival p m among.File × HasRival p m among.Rank
 
 abbrev pub origin_text : Origin → Square → List ℕ
 origin_text origin.Nothing from = []
@@ -84,7 +84,7 @@ castled_wing p m =
 
 pub record IsPieceText (p : Position) (m : Move) (kind : Kind) (text : List ℕ) : Type 0 where
   pub origin : Origin
-  pub tells : Tells p m origin
+  pub tells : Disambiguates p m origin
   pub joined : text ≡ piece_text p m kind origin
 
 abbrev pub IsKingText : Position → Move → Option Wing → List ℕ → Type 0

@@ -12,7 +12,7 @@ use std::alloc::{AllocError, Global};
 use std::io::{self, Write};
 use std::net::{Net, TcpStream};
 use std::rt::Files;
-use trf_texts::{Event, Meeting, Play, Score, report};
+use trf_texts::{Meeting, Play, Score, Tournament, report};
 
 // The starting number of a player: the place among those of the report.
 fn number_of(players: &[&Player], name: &Name) -> Result<u32> {
@@ -174,20 +174,20 @@ where
 // The text of a report of these rounds.
 fn text_of(
     alloc: Global,
-    event: &Event<'_>,
+    tournament: &Tournament<'_>,
     players: &[&Player],
     rounds: &[Vec<Meeting>],
 ) -> Result<Vec<u8>> {
     let names = names_of(alloc, players)?;
-    Ok(report(alloc, event, names.as_slice(), rounds)?)
+    Ok(report(alloc, tournament, names.as_slice(), rounds)?)
 }
 
 // Writes the report of what was met.
-fn write_met<R>(rt: &R, event: &Event<'_>, players: &[&Player], met: &Met) -> Result<()>
+fn write_met<R>(rt: &R, tournament: &Tournament<'_>, players: &[&Player], met: &Met) -> Result<()>
 where
     R: AllocGlobal + Print,
 {
-    let text = text_of(rt.alloc(), event, players, met.rounds.as_slice())?;
+    let text = text_of(rt.alloc(), tournament, players, met.rounds.as_slice())?;
     Ok(io::writer(rt).write_all(text.as_slice())?)
 }
 
@@ -198,7 +198,7 @@ where
 {
     let players = playing(rt.alloc(), all)?;
     let met = met_in(rt, reporting, all, players.as_slice())?;
-    write_met(rt, &reporting.event, players.as_slice(), &met)?;
+    write_met(rt, &reporting.tournament, players.as_slice(), &met)?;
     check_halves(met.has_halves)
 }
 

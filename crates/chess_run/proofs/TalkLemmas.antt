@@ -31,7 +31,7 @@ use Rattle.chess_hub.specs.Turning.{MayBeAsked, HasTurned, AsksFor, IsTurnFault}
 use Rattle.chess_store.specs.declared.fault.StoreFault.{StoreFault}
 use Rattle.sector_dev.specs.Device.{State}
 use Rattle.table_commits.specs.Means.{IsKept}
-use Rattle.chess_hub.specs.Turning.{AreRefused, Lasts, IsTried}
+use Rattle.chess_hub.specs.Turning.{AreRefused, TurnLasts, TurnTried}
 use Rattle.chess_hub.specs.Sessions.{IsLineAnswered}
 use Rattle.chess_run.specs.Running.{Kept, written, stands, Serves, AnswersLine, RefusesLine, IsAlone, waits, IsTalking, asks, IsTold, LineAsksFor}
 
@@ -215,7 +215,7 @@ line-answered t at name (Some (Act act)) before after (reply ∷ []) entries ans
     let (r, others, rest, first, second, none) = found in (
       reply,
       h.first,
-      subst (λ (x : TableState). IsOutcome before (record { at = at; who = name; act = act }) reply h.first x)
+      subst (λ (x : TableState). IsOutcome before (record { moment = at; who = name; act = act }) reply h.first x)
           (sym h.rest.same) h.outcome,
       head-same answer r [] rest second ∙ sym (head-same (said reply) r [] others first),
     )
@@ -420,8 +420,8 @@ told-some at sid name text before after mid turned given =
 module _ {D : Type 0} (state : D → State) (sector_count failures : D → ℕ) (old new : Kept D)
     (given : Result (Unit {0}) HubFault)
     (lasts : IsKept (state old.device) old.header old.compaction old.table
-    → Lasts given (state old.device) (state new.device) new.header new.compaction old.table new.table)
-    (tried : IsTried state sector_count failures old.device new.device given old.table new.table old.failed new.failed)
+    → TurnLasts given (state old.device) (state new.device) new.header new.compaction old.table new.table)
+    (tried : TurnTried state sector_count failures old.device new.device given old.table new.table old.failed new.failed)
   where
     pub serves-as : (made : Result (Unit {0}) HubFault) → given ≡ made →
         Serves state sector_count failures old new made

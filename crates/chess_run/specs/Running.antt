@@ -23,7 +23,7 @@ use Rattle.chess_hub.specs.declared.fault.HubFault.TheVariants.{NoMemory, Store 
 use Rattle.chess_run.specs.declared.running.RunFault.{RunFault}
 use Rattle.chess_run.specs.declared.running.RunFault.TheVariants as faults
 use Rattle.chess_hub.specs.Sessions.{IsLineAnswered}
-use Rattle.chess_hub.specs.Turning.{Lasts, IsTried, MayBeAsked, AreRefused}
+use Rattle.chess_hub.specs.Turning.{TurnLasts, TurnTried, MayBeAsked, AreRefused}
 
 -- ---- one line
 
@@ -56,8 +56,8 @@ stands store name moments = record { store = store; name = name; moments = momen
 pub record Serves {D : Type 0} (state : D → State) (sector_count failures : D → ℕ) (old new : Kept D)
     (result : Result (Unit {0}) HubFault) : Type 0 where
   pub lasts : IsKept (state old.device) old.header old.compaction old.table
-      → Lasts result (state old.device) (state new.device) new.header new.compaction old.table new.table
-  pub tried : IsTried state sector_count failures old.device new.device result old.table new.table old.failed new.failed
+      → TurnLasts result (state old.device) (state new.device) new.header new.compaction old.table new.table
+  pub tried : TurnTried state sector_count failures old.device new.device result old.table new.table old.failed new.failed
 
 -- what holds of the commands that a line asks for
 pub record LineAsksFor (at : ℕ) (name : Option (List ℕ)) (line : List ℕ) (P : List Command → Type 0) : Type 0 where

@@ -21,7 +21,7 @@ use Rattle.chess_board.proofs.LegalMoves.{legal_moves_of-legal, legal_moves_of-e
 use Rattle.chess_moves.specs.Moves.{HasLegal}
 use Rattle.chess_notation.specs.declared.telling.Among.{Among}
 use Rattle.chess_notation.specs.declared.telling.Among.TheVariants as among
-use Rattle.chess_notation.specs.San.{IsOn, HasRival, Tells, IsKingText, IsManText, GivesCheck, Threatens, IsSan, threat_text, castled_wing}
+use Rattle.chess_notation.specs.San.{IsOn, HasRival, Disambiguates, IsKingText, IsManText, GivesCheck, Threatens, IsSan, threat_text, castled_wing}
 use Rattle.chess_san.specs.Computing.{is_on, is_rival, has_rival, origin_by, origin_told, king_text, man_text, body_of, has_some, threat_by, threat_told, san_of}
 
 Decides-is_on : (along : Among) (a b : Square) → Decides (is_on along a b) (IsOn along a b)
@@ -69,15 +69,15 @@ no_decided : {P : Type 0} → Decides false P → P → ⊥
 no_decided decides p = false≢true (decides.1 p)
 
 tells_by : (p : Position) (m : Move) (a b c : Bool) → Decides a (HasRival p m among.Board) →
-    Decides b (HasRival p m among.File) → Decides c (HasRival p m among.Rank) → Tells p m (origin_by a b c)
+    Decides b (HasRival p m among.File) → Decides c (HasRival p m among.Rank) → Disambiguates p m (origin_by a b c)
 tells_by p m false b c x y z = no_decided x
 tells_by p m true false c x y z = (x.0 refl, no_decided y)
 tells_by p m true true false x y z = (y.0 refl, no_decided z)
 tells_by p m true true true x y z = (y.0 refl, z.0 refl)
 
-pub Tells-origin_told : (p : Position) (m : Move) (man : Man) → man_at p.placement m.from ≡ Some man →
-    Tells p m (origin_told p m man)
-Tells-origin_told p m man own =
+pub Disambiguates-origin_told : (p : Position) (m : Move) (man : Man) → man_at p.placement m.from ≡ Some man →
+    Disambiguates p m (origin_told p m man)
+Disambiguates-origin_told p m man own =
     tells_by p m (has_rival p m man among.Board) (has_rival p m man among.File) (has_rival p m man among.Rank)
     (Decides-has_rival p m man among.Board own) (Decides-has_rival p m man among.File own)
     (Decides-has_rival p m man among.Rank own)
@@ -86,19 +86,19 @@ king_told : (p : Position) (m : Move) (man : Man) (castled : Option Wing) → ma
     IsKingText p m castled (king_text p m man castled)
 king_told p m man (Some to) own = refl
 king_told p m man None own =
-    record { origin = origin_told p m man; tells = Tells-origin_told p m man own; joined = refl }
+    record { origin = origin_told p m man; tells = Disambiguates-origin_told p m man own; joined = refl }
 
 man_told : (p : Position) (m : Move) (man : Man) (kind : Kind) → man_at p.placement m.from ≡ Some man →
     IsManText p m kind (man_text p m man kind)
 man_told p m man Pawn own = refl
 man_told p m man Knight own =
-    record { origin = origin_told p m man; tells = Tells-origin_told p m man own; joined = refl }
+    record { origin = origin_told p m man; tells = Disambiguates-origin_told p m man own; joined = refl }
 man_told p m man Bishop own =
-    record { origin = origin_told p m man; tells = Tells-origin_told p m man own; joined = refl }
+    record { origin = origin_told p m man; tells = Disambiguates-origin_told p m man own; joined = refl }
 man_told p m man Rook own =
-    record { origin = origin_told p m man; tells = Tells-origin_told p m man own; joined = refl }
+    record { origin = origin_told p m man; tells = Disambiguates-origin_told p m man own; joined = refl }
 man_told p m man Queen own =
-    record { origin = origin_told p m man; tells = Tells-origin_told p m man own; joined = refl }
+    record { origin = origin_told p m man; tells = Disambiguates-origin_told p m man own; joined = refl }
 man_told p m man King own = king_told p m man (castled_wing p m) own
 
 some_first : (ms : List Move) → has_some ms ≡ true → (m : Move) × Contains ms m

@@ -26,7 +26,7 @@ use Rattle.chess_san.specs.declared.parsing.Asked.{Asked}
 use Rattle.chess_notation.specs.declared.telling.Threat.{Threat}
 use Rattle.chess_notation.specs.declared.telling.Threat.TheVariants as threat
 use Rattle.chess_notation.specs.Name.{square_name, capital_of, promotion_text}
-use Rattle.chess_notation.specs.San.{IsRival, Tells, origin_text, is_capture, pawn_origin, castling_text, threat_text}
+use Rattle.chess_notation.specs.San.{IsRival, Disambiguates, origin_text, is_capture, pawn_origin, castling_text, threat_text}
 use Rattle.chess_notation.specs.Coordinate.{IsPromotionText, IsCoordinateOf}
 use Rattle.chess_notation.specs.Naming.{IsSanOrBody, Names}
 use Rattle.chess_san.proofs.SourceLemmas.{same_move}
@@ -37,7 +37,7 @@ use Rattle.chess_san.proofs.Arrivals.{capital_no_stroke, asked_for, kind_of, ask
 
 -- two men of a kind that go to the same square are told apart
 apart : (p : Position) (a b : Move) (x y : Origin) (letter_a letter_b : ℕ) (rest_a rest_b : List ℕ) → IsOnBoard a.from →
-    IsOnBoard b.from → Tells p a x → Tells p b y → IsRival p a b → IsRival p b a →
+    IsOnBoard b.from → Disambiguates p a x → Disambiguates p b y → IsRival p a b → IsRival p b a →
     letter_a ∷ (origin_text x a.from ++ rest_a) ≡ letter_b ∷ (origin_text y b.from ++ rest_b) → ⊥
 apart p a b origin.Nothing y la lb ra rb on_a on_b of_a of_b ab ba e = of_a (b, ab, tt)
 apart p a b x origin.Nothing la lb ra rb on_a on_b of_a of_b ab ba e = of_b (a, ba, tt)

@@ -11,33 +11,33 @@ use Rattle.chess_notation.specs.declared.telling.Origin.{Origin}
 use Rattle.chess_notation.specs.declared.telling.Origin.TheVariants as origin
 use Rattle.chess_notation.specs.declared.telling.Threat.{Threat}
 use Rattle.chess_notation.specs.declared.telling.Threat.TheVariants as threat
-use Rattle.chess_notation.specs.San.{HasRival, Tells, IsPieceText, IsKingText, IsManText, IsBody, Threatens, threat_text, IsSan, piece_text, castled_wing}
+use Rattle.chess_notation.specs.San.{HasRival, Disambiguates, IsPieceText, IsKingText, IsManText, IsBody, Threatens, threat_text, IsSan, piece_text, castled_wing}
 
 somewhere : (p : Position) (m : Move) → HasRival p m among.File → HasRival p m among.Board
 somewhere p m (rival, is, on) = (rival, is, tt)
 
-pub Tells-one : (p : Position) (m : Move) (a b : Origin) → Tells p m a → Tells p m b → a ≡ b
-Tells-one p m origin.Nothing origin.Nothing x y = refl
-Tells-one p m origin.Nothing origin.File x y = absurd (x y.0)
-Tells-one p m origin.Nothing origin.Rank x y = absurd (x (somewhere p m y.0))
-Tells-one p m origin.Nothing origin.Square x y = absurd (x (somewhere p m y.0))
-Tells-one p m origin.File origin.Nothing x y = absurd (y x.0)
-Tells-one p m origin.File origin.File x y = refl
-Tells-one p m origin.File origin.Rank x y = absurd (x.1 y.0)
-Tells-one p m origin.File origin.Square x y = absurd (x.1 y.0)
-Tells-one p m origin.Rank origin.Nothing x y = absurd (y (somewhere p m x.0))
-Tells-one p m origin.Rank origin.File x y = absurd (y.1 x.0)
-Tells-one p m origin.Rank origin.Rank x y = refl
-Tells-one p m origin.Rank origin.Square x y = absurd (x.1 y.1)
-Tells-one p m origin.Square origin.Nothing x y = absurd (y (somewhere p m x.0))
-Tells-one p m origin.Square origin.File x y = absurd (y.1 x.0)
-Tells-one p m origin.Square origin.Rank x y = absurd (y.1 x.1)
-Tells-one p m origin.Square origin.Square x y = refl
+pub Disambiguates-one : (p : Position) (m : Move) (a b : Origin) → Disambiguates p m a → Disambiguates p m b → a ≡ b
+Disambiguates-one p m origin.Nothing origin.Nothing x y = refl
+Disambiguates-one p m origin.Nothing origin.File x y = absurd (x y.0)
+Disambiguates-one p m origin.Nothing origin.Rank x y = absurd (x (somewhere p m y.0))
+Disambiguates-one p m origin.Nothing origin.Square x y = absurd (x (somewhere p m y.0))
+Disambiguates-one p m origin.File origin.Nothing x y = absurd (y x.0)
+Disambiguates-one p m origin.File origin.File x y = refl
+Disambiguates-one p m origin.File origin.Rank x y = absurd (x.1 y.0)
+Disambiguates-one p m origin.File origin.Square x y = absurd (x.1 y.0)
+Disambiguates-one p m origin.Rank origin.Nothing x y = absurd (y (somewhere p m x.0))
+Disambiguates-one p m origin.Rank origin.File x y = absurd (y.1 x.0)
+Disambiguates-one p m origin.Rank origin.Rank x y = refl
+Disambiguates-one p m origin.Rank origin.Square x y = absurd (x.1 y.1)
+Disambiguates-one p m origin.Square origin.Nothing x y = absurd (y (somewhere p m x.0))
+Disambiguates-one p m origin.Square origin.File x y = absurd (y.1 x.0)
+Disambiguates-one p m origin.Square origin.Rank x y = absurd (y.1 x.1)
+Disambiguates-one p m origin.Square origin.Square x y = refl
 
 piece_one : (p : Position) (m : Move) (kind : Kind) (a b : List ℕ) → IsPieceText p m kind a → IsPieceText p m kind b →
     a ≡ b
 piece_one p m kind a b x y =
-    x.joined ∙ ap (piece_text p m kind) (Tells-one p m x.origin y.origin x.tells y.tells) ∙ sym y.joined
+    x.joined ∙ ap (piece_text p m kind) (Disambiguates-one p m x.origin y.origin x.tells y.tells) ∙ sym y.joined
 
 king_one : (p : Position) (m : Move) (castled : Option Wing) (a b : List ℕ) → IsKingText p m castled a →
     IsKingText p m castled b → a ≡ b

@@ -14,7 +14,7 @@ use Rattle.chess_notation.specs.declared.telling.Origin.{Origin}
 use Rattle.chess_notation.specs.declared.telling.Threat.{Threat}
 use Rattle.chess_notation.specs.declared.telling.Threat.TheVariants as threat
 use Rattle.chess_notation.specs.Name.{square_name, capital_of, promotion_text}
-use Rattle.chess_notation.specs.San.{Tells, IsPieceText, IsKingText, IsManText, IsBody, IsSan, threat_text, origin_text, capture_text, is_capture, pawn_origin, castling_text, castled_wing}
+use Rattle.chess_notation.specs.San.{Disambiguates, IsPieceText, IsKingText, IsManText, IsBody, IsSan, threat_text, origin_text, capture_text, is_capture, pawn_origin, castling_text, castled_wing}
 
 -- a legal move's text, with some suffix or none
 pub record IsSpelled (p : Position) (m : Move) (text : List ℕ) : Type 0 where
@@ -43,7 +43,7 @@ pub record IsPieceShape (p : Position) (m : Move) (text : List ℕ) : Type 0 whe
   pub piece : kind ≢ Pawn
   pub own : man_at p.placement m.from ≡ Some (p.side, kind)
   pub origin : Origin
-  pub tells : Tells p m origin
+  pub tells : Disambiguates p m origin
   pub threat : Threat
   pub joined : text ≡ capital_of kind ∷ (origin_text origin m.from ++
       (capture_text (is_capture p m) ++ (square_name m.to ++ threat_text threat)))

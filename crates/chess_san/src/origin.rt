@@ -6,7 +6,7 @@ ghost use Rattle.chess_board.specs.declared.moves.Move.{Move};
 ghost use Rattle.chess_board.specs.Position.{man_at};
 ghost use Rattle.chess_board.specs.Legal.{IsLegal};
 ghost use Rattle.chess_moves.specs.Targets.{plain};
-ghost use Rattle.chess_notation.specs.San.{IsRival, IsOn, HasRival, Tells};
+ghost use Rattle.chess_notation.specs.San.{IsRival, IsOn, HasRival, Disambiguates};
 
 use chess_attacks::{bishop, knight, queen, rook};
 use chess_bits::{Bits, Kind, Square};
@@ -79,7 +79,7 @@ fn has_rival(board: &Board, mv: &Move, kind: Kind, among: Among) -> bool
 pub fn origin_of(board: &Board, mv: &Move, kind: Kind) -> Origin
     requires piece { kind ≢ kinds.Pawn }
     requires own { man_at board.now.placement mv.now.from ≡ Some (board.now.side, kind) }
-    ensures { Tells board.now mv.now result }
+    ensures { Disambiguates board.now mv.now result }
 {
     if !has_rival(board, mv, kind, Among::Board) {
         Origin::Nothing

@@ -40,7 +40,7 @@ names_over at names (t ∷ taken) = names_over at (names_after at names t) taken
 
 -- what a line asks of the table: an act by the session's name
 abbrev pub asked : ℕ → Option (List ℕ) → Option Request → List Command
-asked at who (Some (Act act)) = record { at = at; who = who; act = act } ∷ []
+asked at who (Some (Act act)) = record { moment = at; who = who; act = act } ∷ []
 asked at who (Some (Called name)) = []
 asked at who None = []
 

@@ -92,7 +92,11 @@ fn ask(
         + (if is_none (own_answer at line.now) then 1 else 0)) }
 {
     if let Some(Request::Act(act)) = line {
-        commands.push(Command { at, who, act: *act })?;
+        commands.push(Command {
+            moment: at,
+            who,
+            act: *act,
+        })?;
     }
     Ok(())
 }

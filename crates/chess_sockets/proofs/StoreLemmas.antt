@@ -15,7 +15,7 @@ use Rattle.table_commits.specs.Means.{IsKept}
 use Rattle.chess_hub.specs.declared.fault.HubFault.{HubFault}
 use Rattle.chess_hub.specs.declared.fault.HubFault.TheVariants as hub
 use Rattle.chess_hub.specs.Faults.{UnlessDevice, refusals_after}
-use Rattle.chess_hub.specs.Turning.{AsksFor, IsBatchFault, AreRefused, IsTurnFault, Lasts}
+use Rattle.chess_hub.specs.Turning.{AsksFor, IsBatchFault, AreRefused, IsTurnFault, TurnLasts}
 use Rattle.chess_hub.specs.Law.{HubState}
 use Rattle.client_streams.specs.declared.client.Client.{Client}
 use Rattle.chess_sockets.specs.Serving.{state_of, AreRead}
@@ -37,8 +37,8 @@ unless_any (hub.Store Failed) P p = p
 module _ {S T : Type 0} where
   -- The hub's turn was done, and nothing was asked of the store after it.
   over : (x : S) (made : Result T HubFault) (old new : State) (header : Header) (compaction : Compaction)
-      (before after : TableState) → Lasts {T = S} (Ok x) old new header compaction before after
-      → Lasts made old new header compaction before after
+      (before after : TableState) → TurnLasts {T = S} (Ok x) old new header compaction before after
+      → TurnLasts made old new header compaction before after
   over x (Ok z) old new header compaction before after l = record {
     any_moment = l.any_moment;
     kept = l.kept;
@@ -52,17 +52,17 @@ module _ {S T : Type 0} where
 
   pub lasts_over : (given : Result S HubFault) (x : S) (made : Result T HubFault) (old new : State) (header : Header)
       (compaction : Compaction) (before after : TableState) → given ≡ Ok x
-      → Lasts given old new header compaction before after → Lasts made old new header compaction before after
+      → TurnLasts given old new header compaction before after → TurnLasts made old new header compaction before after
   lasts_over given x made old new header compaction before after was l = over x made old new header compaction before
-      after (subst (λ (r : Result S HubFault). Lasts r old new header compaction before after) was l)
+      after (subst (λ (r : Result S HubFault). TurnLasts r old new header compaction before after) was l)
 
   pub lasts_refused : (given : Result S HubFault) (fault : HubFault) (old new : State) (header : Header)
       (compaction : Compaction) (before after : TableState) → given ≡ Err fault
-      → Lasts given old new header compaction before after
-      → Lasts {T = T} (Err fault) old new header compaction before after
+      → TurnLasts given old new header compaction before after
+      → TurnLasts {T = T} (Err fault) old new header compaction before after
   lasts_refused given fault old new header compaction before after was lasts =
-      let l : Lasts {T = S} (Err fault) old new header compaction before after =
-      subst (λ (r : Result S HubFault). Lasts r old new header compaction before after) was lasts in
+      let l : TurnLasts {T = S} (Err fault) old new header compaction before after =
+      subst (λ (r : Result S HubFault). TurnLasts r old new header compaction before after) was lasts in
       record {
         any_moment = l.any_moment;
         kept = tt;
@@ -72,11 +72,11 @@ module _ {S T : Type 0} where
   -- The fault of a call inside is handed on.
   pub lasts_handed : (made : Result T HubFault) (y fault : HubFault) (old new : State) (header : Header)
       (compaction : Compaction) (before after : TableState) → made ≡ Err y → y ≡ fault
-      → Lasts {T = S} (Err fault) old new header compaction before after
-      → Lasts made old new header compaction before after
+      → TurnLasts {T = S} (Err fault) old new header compaction before after
+      → TurnLasts made old new header compaction before after
   lasts_handed made y fault old new header compaction before after is same l =
-      subst (λ (r : Result T HubFault). Lasts r old new header compaction before after) (sym is)
-      (subst (λ (f : HubFault). Lasts {T = T} (Err f) old new header compaction before after) (sym same)
+      subst (λ (r : Result T HubFault). TurnLasts r old new header compaction before after) (sym is)
+      (subst (λ (f : HubFault). TurnLasts {T = T} (Err f) old new header compaction before after) (sym same)
       (lasts_refused (Err fault) fault old new header compaction before after refl l))
 
 -- what holds where a call is answered holds of this call, which was

@@ -3,7 +3,7 @@ ghost use Rattle.std.specs.Prelude.{ℕ, ◌≡◌, ◌<◌, ◌+◌, ◌↔◌,
 ghost use Rattle.std.specs.Bool.{OnTrue, OnFalse};
 ghost use Rattle.chess_store.specs.Kept.{IsStoreKept};
 ghost use Rattle.chess_hub.specs.Faults.{CountsFault, refusals_after};
-ghost use Rattle.chess_hub.specs.Turning.{MayBeAsked, Lasts, IsTried};
+ghost use Rattle.chess_hub.specs.Turning.{MayBeAsked, TurnLasts, TurnTried};
 ghost use Rattle.chess_sockets.specs.Serving.{state_of, Welcomes, IsWelcomed, IsAskedFor, HasServed, HasGoneRound, open_in};
 ghost use Rattle.chess_sockets.specs.Turns.{EndsServing, IsRefusal, IsTurnRefusal};
 
@@ -96,13 +96,13 @@ pub fn serve_clients<S: Read + Write, D: Device>(
     ensures served { OnOk result (HasServed S.remaining S.contents reading.silence (MayBeAsked hub.old.store.failed
         hub.old.store.journal.header.seq hub.old.store.table.entries) reading.at clients.old.items clients.new.items
         (state_of hub.old.sessions hub.old.store.table) (state_of hub.new.sessions hub.new.store.table)) }
-    ensures tried { OnOk result (IsTried D.state D.sector_count D.failures hub.old.store.journal.device
+    ensures tried { OnOk result (TurnTried D.state D.sector_count D.failures hub.old.store.journal.device
         hub.new.store.journal.device (Ok (tt {0})) hub.old.store.table hub.new.store.table hub.old.store.failed
         hub.new.store.failed) }
     ensures cause_err { IfErr result (λ fault. CountsFault fault (D.failures hub.old.store.journal.device)
         (D.failures hub.new.store.journal.device)) }
     ensures lasts { IsStoreKept hub.old.store
-        → Lasts result (D.state hub.old.store.journal.device) (D.state hub.new.store.journal.device)
+        → TurnLasts result (D.state hub.old.store.journal.device) (D.state hub.new.store.journal.device)
         hub.new.store.journal.header hub.new.store.journal.compaction hub.old.store.table hub.new.store.table }
 {
     let has_read = take_in_all(clients, &mut hub.sessions, reading);
@@ -286,7 +286,7 @@ impl<D: Device, S: Read + Write + From<TcpStream> + Drop> Server<D, S> {
             self.old.clients.items self.new.clients.items
             (state_of self.old.hub.sessions self.old.hub.store.table)
             (state_of self.new.hub.sessions self.new.hub.store.table)) }
-        ensures tried { OnOk result (IsTried D.state D.sector_count D.failures self.old.hub.store.journal.device
+        ensures tried { OnOk result (TurnTried D.state D.sector_count D.failures self.old.hub.store.journal.device
             self.new.hub.store.journal.device (Ok (tt {0})) self.old.hub.store.table self.new.hub.store.table
             self.old.hub.store.failed self.new.hub.store.failed) }
         ensures cause_err { IfErr result (λ fault. CountsFault fault
@@ -312,7 +312,7 @@ impl<D: Device, S: Read + Write + From<TcpStream> + Drop> Server<D, S> {
         ensures waits { self.new.watch.calm_waits ≡ self.old.watch.calm_waits }
         ensures blind { self.old.watch.is_blind ≡ true → self.new.watch.is_blind ≡ true }
         ensures lasts { IsStoreKept self.old.hub.store
-            → Lasts result (D.state self.old.hub.store.journal.device) (D.state self.new.hub.store.journal.device)
+            → TurnLasts result (D.state self.old.hub.store.journal.device) (D.state self.new.hub.store.journal.device)
             self.new.hub.store.journal.header self.new.hub.store.journal.compaction self.old.hub.store.table
             self.new.hub.store.table }
     {

@@ -15,7 +15,7 @@ use Rattle.chess_entry.specs.declared.commands.Command.{Command}
 use Rattle.chess_entry.specs.declared.verdicts.Verdict.{Verdict}
 use Rattle.chess_entry.specs.declared.verdicts.Verdict.TheVariants.{Refuse, Enter, Read}
 use Rattle.chess_entry.specs.State.{GameState, TableState, find_game}
-use Rattle.chess_entry.specs.Told.{Told}
+use Rattle.chess_entry.specs.Parsed.{Parsed}
 use Rattle.chess_entry.specs.Follow.{follow}
 use Rattle.chess_entry.specs.Verdict.{IsVerdict, is_read, in_game, player_verdict, effective, name_or_none}
 use Rattle.chess_entry.specs.Table.{IsEnteredOn, AreEnteredOn, followed}
@@ -104,22 +104,22 @@ of_game : (o : Option GameState) → IsNoEntry (in_game (λ _. Read) o)
 of_game None = tt
 of_game (Some game) = tt
 
-read_none : (table : TableState) (at : ℕ) (name : List ℕ) (told : Told) (a : Act) → is_read a ≡ true
-    → IsNoEntry (player_verdict table at name told a)
-read_none table at name told (act.Show game) is = of_game (find_game game table.games)
-read_none table at name told (act.Fen game) is = of_game (find_game game table.games)
-read_none table at name told (act.Pgn game) is = of_game (find_game game table.games)
-read_none table at name told act.List is = tt
-read_none table at name told (act.NewGame colour initial increment fen period) is = absurd (false≢true is)
-read_none table at name told (act.Join game) is = absurd (false≢true is)
-read_none table at name told (act.Play game ply text) is = absurd (false≢true is)
-read_none table at name told (act.Offer game) is = absurd (false≢true is)
-read_none table at name told (act.Accept game) is = absurd (false≢true is)
-read_none table at name told (act.Decline game) is = absurd (false≢true is)
-read_none table at name told (act.Resign game) is = absurd (false≢true is)
-read_none table at name told (act.Claim game ply fifty text) is = absurd (false≢true is)
-read_none table at name told (act.Flag game) is = absurd (false≢true is)
-read_none table at name told (act.Remove game) is = absurd (false≢true is)
+read_none : (table : TableState) (at : ℕ) (name : List ℕ) (parsed : Parsed) (a : Act) → is_read a ≡ true
+    → IsNoEntry (player_verdict table at name parsed a)
+read_none table at name parsed (act.Show game) is = of_game (find_game game table.games)
+read_none table at name parsed (act.Fen game) is = of_game (find_game game table.games)
+read_none table at name parsed (act.Pgn game) is = of_game (find_game game table.games)
+read_none table at name parsed act.List is = tt
+read_none table at name parsed (act.Open colour initial increment fen period) is = absurd (false≢true is)
+read_none table at name parsed (act.Join game) is = absurd (false≢true is)
+read_none table at name parsed (act.Move game ply text) is = absurd (false≢true is)
+read_none table at name parsed (act.Offer game) is = absurd (false≢true is)
+read_none table at name parsed (act.Accept game) is = absurd (false≢true is)
+read_none table at name parsed (act.Decline game) is = absurd (false≢true is)
+read_none table at name parsed (act.Resign game) is = absurd (false≢true is)
+read_none table at name parsed (act.Claim game ply fifty text) is = absurd (false≢true is)
+read_none table at name parsed (act.Flag game) is = absurd (false≢true is)
+read_none table at name parsed (act.Drop game) is = absurd (false≢true is)
 
 -- A read becomes no entry.
 pub read_enters_none : (table : TableState) (command : Command) (e : Entry) → IsVerdict table command (Enter e)
@@ -127,12 +127,12 @@ pub read_enters_none : (table : TableState) (command : Command) (e : Entry) → 
 read_enters_none table command e is =
     let no_entry : is_read command.act ≡ true → ⊥ = λ read.
     subst IsNoEntry (sym is.is)
-    (refused_or (nat_lt 4611686018427387903 command.at) BadMoment
+    (refused_or (nat_lt 4611686018427387903 command.moment) BadMoment
     (if not (is_read command.act) && is_none command.who then Refuse NoName
-    else player_verdict table (effective table command.at) (name_or_none command.who) is.told command.act)
+    else player_verdict table (effective table command.moment) (name_or_none command.who) is.parsed command.act)
     (refused_or (not (is_read command.act) && is_none command.who) NoName
-    (player_verdict table (effective table command.at) (name_or_none command.who) is.told command.act)
-    (read_none table (effective table command.at) (name_or_none command.who) is.told command.act read))) in
+    (player_verdict table (effective table command.moment) (name_or_none command.who) is.parsed command.act)
+    (read_none table (effective table command.moment) (name_or_none command.who) is.parsed command.act read))) in
     false_of (is_read command.act) no_entry
 
 -- The entries of a command are one at most, and none of a read.

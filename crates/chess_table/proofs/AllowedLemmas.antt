@@ -21,7 +21,7 @@ use Rattle.chess_entry.specs.Table.{IsTable, IsEnteredOn}
 use Rattle.chess_game.specs.Turn.{IsRunningAt, IsInTime}
 use Rattle.chess_table.specs.Coming.{IsReadyFor, OpensGame, ActsInGame}
 use Rattle.chess_table.specs.Allowing.{is_running_at, is_in_time, is_allowed, StatesLegal, opens_well, NamesPlayer}
-use Rattle.chess_table.proofs.Tellings.{IsTimeControl-of}
+use Rattle.chess_table.proofs.ParsingLemmas.{IsTimeControl-of}
 use Rattle.chess_table.proofs.Comings.{both_so, are_times-of, not_full, IsEnteredOn-comes}
 use Rattle.chess_table.proofs.WhatEnters.{Comes-entered}
 

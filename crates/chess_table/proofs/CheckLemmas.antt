@@ -14,10 +14,10 @@ use Rattle.chess_notation.specs.Naming.{Names}
 use Rattle.rec_codec.specs.Moves.{CanBecome}
 use Rattle.chess_entry.specs.declared.verdicts.Verdict.{Verdict}
 use Rattle.chess_entry.specs.State.{GameState, position_of}
-use Rattle.chess_entry.specs.Told.{IsMoveTold}
+use Rattle.chess_entry.specs.Parsed.{IsMoveParsed}
 use Rattle.chess_entry.specs.Verdict.{Check, first_of}
 use Rattle.chess_table.specs.Checks.{stopped_by}
-use Rattle.chess_table.specs.Telling.{IsTheMove}
+use Rattle.chess_table.specs.Parsing.{IsTheMove}
 
 -- ---- groups of checks
 
@@ -116,7 +116,7 @@ move-named (Some h) g text p m is stands names one =
       one = λ other told. only other told here;
     }
   where
-    only : (other : Option Move) → IsMoveTold (Some h) (Some text) other → p ≡ position_of h → other ≡ Some m
+    only : (other : Option Move) → IsMoveParsed (Some h) (Some text) other → p ≡ position_of h → other ≡ Some m
     only None none here = absurd (none m (subst (λ (q : Position). Names q text m) here names))
     only (Some n) told here =
         ap (λ (x : Move). Some x) (one n (subst (λ (q : Position). Names q text n) (sym here) told))
@@ -132,6 +132,6 @@ move-unnamed (Some h) g text p is stands none =
     record { told = never; one = λ other told. only never other told }
   where
     only : ((m : Move) → ¬ Names (position_of h) text m) → (other : Option Move)
-        → IsMoveTold (Some h) (Some text) other → other ≡ None
+        → IsMoveParsed (Some h) (Some text) other → other ≡ None
     only never None told = refl
     only never (Some n) told = absurd (never n told)

@@ -36,8 +36,8 @@ use Rattle.chess_entry.specs.declared.verdicts.Verdict.{Verdict}
 use Rattle.chess_entry.specs.declared.verdicts.Verdict.TheVariants.{Refuse, Enter}
 use Rattle.chess_entry.specs.declared.refusals.Refusal.TheVariants.{OfferStands, NoOffer, TooEarly, AlreadyClaimed, FlagUp}
 use Rattle.chess_entry.specs.State.{GameState, TableState, position_of, ply_of, seat_of, is_joined, is_over, find_game}
-use Rattle.chess_entry.specs.Told.{Told, told, IsMoveTold}
-use Rattle.chess_entry.specs.Verdict.{Check, refuse, first_of, is_period, are_times, is_start, is_full, is_long, is_on_move, has_offer, has_fallen, in_game, by_side, while_running, in_turn, for_move, move_entered, join_verdict, move_verdict, offer_verdict, accept_verdict, decline_verdict, resign_verdict, claim_verdict, flag_verdict, drop_verdict, in_seat, side_of, is_named, player_verdict, is_read, verdict, IsTold}
+use Rattle.chess_entry.specs.Parsed.{Parsed, parsed, IsMoveParsed}
+use Rattle.chess_entry.specs.Verdict.{Check, refuse, first_of, is_period, are_times, is_start, is_full, is_long, is_on_move, has_offer, has_fallen, in_game, by_side, while_running, in_turn, for_move, move_entered, join_verdict, move_verdict, offer_verdict, accept_verdict, decline_verdict, resign_verdict, claim_verdict, flag_verdict, drop_verdict, in_seat, side_of, is_named, player_verdict, is_read, verdict, IsParsed}
 use Rattle.chess_entry.specs.Bounds.{AreDifferent}
 use Rattle.chess_entry.specs.Table.{IsTable, IsOnTable, IsEnteredOn}
 use Rattle.chess_game.specs.Turn.{IsRunningAt}
@@ -187,9 +187,9 @@ colour-itself : (c : Colour) → is_colour c c ≡ true
 colour-itself White = refl
 colour-itself Black = refl
 
-untold : (game : Option GameState) → IsMoveTold game None None
-untold None = refl
-untold (Some g) = refl
+unparsed : (game : Option GameState) → IsMoveParsed game None None
+unparsed None = refl
+unparsed (Some g) = refl
 
 pub both_so : (a b : Bool) → a ≡ true → b ≡ true → (a && b) ≡ true
 both_so true b p q = q
@@ -228,10 +228,10 @@ not_full table e next fits room =
 -- ---- a command that enters
 
 module _ (table : TableState) (e : Entry) (from : table.moment ≤ e.moment) (to : e.moment ≤ 4611686018427387903) where
-  enters : (name : List ℕ) (a : Act) (t : Told) → IsName name → is_read a ≡ false → IsTold table a t
+  enters : (name : List ℕ) (a : Act) (t : Parsed) → IsName name → is_read a ≡ false → IsParsed table a t
       → player_verdict table e.moment name t a ≡ Enter e → IsEnteredOn table e
   enters name a t named acts tells h =
-      let command : Command = record { at = e.moment; who = Some name; act = a } in
+      let command : Command = record { moment = e.moment; who = Some name; act = a } in
       let early : nat_lt 4611686018427387903 e.moment ≡ false = grind (arith, nat_tests) in
       let known : (not (is_read a) && false) ≡ false = ap (λ (b : Bool). not b && false) acts in
       let same : max table.moment e.moment ≡ e.moment = omega arith in
@@ -241,7 +241,7 @@ module _ (table : TableState) (e : Entry) (from : table.moment ≤ e.moment) (to
       record {
         command = command;
         named = named;
-        entered = record { told = t; is_told = tells; is = sym here };
+        entered = record { parsed = t; is_parsed = tells; is = sym here };
       }
 
   at_seat : (name : List ℕ) (game : GameState) (side : Colour) (v : GameState → Colour → Verdict)
@@ -279,12 +279,12 @@ module _ (table : TableState) (e : Entry) (from : table.moment ≤ e.moment) (to
 
     -- who makes an act of a running game
     acts : (side : Colour) (a : Act) (v : GameState → Colour → Verdict) → is_read a ≡ false
-        → IsTold table a (told None None)
-        → ((name : List ℕ) → player_verdict table e.moment name (told None None) a ≡ in_seat table name e.game v)
+        → IsParsed table a (parsed None None)
+        → ((name : List ℕ) → player_verdict table e.moment name (parsed None None) a ≡ in_seat table name e.game v)
         → is_joined game ≡ true → v game side ≡ Enter e → IsEnteredOn table e
     acts side a v shut tells same joined h =
         let p = seated joined side in
-        enters p.name a (told None None) p.named shut tells
+        enters p.name a (parsed None None) p.named shut tells
         (same p.name ∙ at_seat p.name game side v found p.sits h)
 
     offer-comes : (by : Colour) → e.event ≡ event.Offer by → IsReadyFor table.limits.plies game e.moment (event.Offer by)
@@ -329,21 +329,21 @@ module _ (table : TableState) (e : Entry) (from : table.moment ≤ e.moment) (to
     drop-comes : e.event ≡ event.Drop → IsReadyFor table.limits.plies game e.moment event.Drop → IsEnteredOn table e
     drop-comes so r =
         let p = somebody game on.game.white on.game.black on.game.players in
-        enters p.1.name (act.Remove e.game) (told None None) p.1.named refl (refl, refl)
+        enters p.1.name (act.Drop e.game) (parsed None None) p.1.named refl (refl, refl)
         (at_seat p.1.name game p.0 (drop_verdict e.moment) found p.1.sits
         (skipped _ _ _ r.exact ∙ entry-is game event.Drop number so))
 
     join-comes : (name : List ℕ) → e.event ≡ event.Join name → IsReadyFor table.limits.plies game e.moment (event.Join name)
         → IsEnteredOn table e
     join-comes name so r =
-        enters name (act.Join e.game) (told None None) r.ready.2 refl (refl, refl)
+        enters name (act.Join e.game) (parsed None None) r.ready.2 refl (refl, refl)
         (ap (in_game (join_verdict e.moment name)) found ∙ skipped _ _ _ r.ready.0
         ∙ skipped _ _ _ (ap (λ (o : Option Colour). is_some o) r.ready.1) ∙ entry-is game (event.Join name) number so)
 
-    move_told : (m : Move) → IsLegal (position_of game) m
-        → IsMoveTold (find_game e.game table.games) (Some (text_of m)) (Some m)
-    move_told m legal =
-        subst (λ (o : Option GameState). IsMoveTold o (Some (text_of m)) (Some m)) (sym found)
+    move_parsed : (m : Move) → IsLegal (position_of game) m
+        → IsMoveParsed (find_game e.game table.games) (Some (text_of m)) (Some m)
+    move_parsed m legal =
+        subst (λ (o : Option GameState). IsMoveParsed o (Some (text_of m)) (Some m)) (sym found)
         (text-names (position_of game) m legal)
 
     move-comes : (made : Made) → e.event ≡ event.Move made → IsReadyFor table.limits.plies game e.moment (event.Move made)
@@ -352,8 +352,8 @@ module _ (table : TableState) (e : Entry) (from : table.moment ≤ e.moment) (to
         let side = (position_of game).side in
         let p = seated r.ready.0.running.joined side in
         let v = move_entered game e.moment (Some made.mv) in
-        enters p.name (act.Play e.game made.ply (as_text (text_of made.mv))) (told None (Some made.mv)) p.named refl
-        (refl, move_told made.mv r.ready.1.legal)
+        enters p.name (act.Move e.game made.ply (as_text (text_of made.mv))) (parsed None (Some made.mv)) p.named refl
+        (refl, move_parsed made.mv r.ready.1.legal)
         (at_seat p.name game side (move_verdict table e.moment made.ply (Some made.mv)) found p.sits
         (in_time-passes game e.moment (in_turn game side made.ply ++ for_move table game (Some made.mv)) v
         r.ready.0.running r.ready.0.in_time
@@ -380,8 +380,8 @@ module _ (table : TableState) (e : Entry) (from : table.moment ≤ e.moment) (to
             let p = seated r.ready.0.running.joined claim.by in
             let v = Enter (entry game.number e.moment
             (event.Claim (record { by = claim.by; fifty = claim.fifty; mv = None; ply = ply_of game }))) in
-            enters p.name (act.Claim e.game claim.ply claim.fifty None) (told None None) p.named refl
-            (refl, untold (find_game e.game table.games))
+            enters p.name (act.Claim e.game claim.ply claim.fifty None) (parsed None None) p.named refl
+            (refl, unparsed (find_game e.game table.games))
             (at_seat p.name game claim.by (claim_verdict table e.moment claim.ply claim.fifty false None) found p.sits
             (in_time-passes game e.moment (in_turn game claim.by claim.ply ++ (refuse game.claimed AlreadyClaimed ∷ [])) v
             r.ready.0.running r.ready.0.in_time
@@ -392,8 +392,8 @@ module _ (table : TableState) (e : Entry) (from : table.moment ≤ e.moment) (to
             let v = Enter (entry game.number e.moment
             (event.Claim (record { by = claim.by; fifty = claim.fifty; mv = Some m; ply = ply_of game }))) in
             let checks = refuse game.claimed AlreadyClaimed ∷ for_move table game (Some m) in
-            enters p.name (act.Claim e.game claim.ply claim.fifty (Some (as_text (text_of m)))) (told None (Some m)) p.named refl
-            (refl, move_told m (r.ready.1.stated m states).legal)
+            enters p.name (act.Claim e.game claim.ply claim.fifty (Some (as_text (text_of m)))) (parsed None (Some m)) p.named refl
+            (refl, move_parsed m (r.ready.1.stated m states).legal)
             (at_seat p.name game claim.by (claim_verdict table e.moment claim.ply claim.fifty true (Some m)) found p.sits
             (in_time-passes game e.moment (in_turn game claim.by claim.ply ++ checks) v
             r.ready.0.running r.ready.0.in_time
@@ -421,8 +421,8 @@ module _ (table : TableState) (e : Entry) (from : table.moment ≤ e.moment) (to
       let times = are_times-of o.initial o.increment o.period opens.control in
       let low : is_start (Some start) ≡ true = grind (arith, nat_tests, opens.start.number) in
       let full : is_full table ≡ false = not_full table e opens.next opens.number opens.room in
-      enters o.name (act.NewGame o.colour o.initial o.increment (Some (as_text (fen_of start))) o.period)
-      (told (Some start) None) opens.named refl
+      enters o.name (act.Open o.colour o.initial o.increment (Some (as_text (fen_of start))) o.period)
+      (parsed (Some start) None) opens.named refl
       ((opens.start.valid, fen_of-IsFenOf (fen_of start) start refl), refl)
       (skipped _ _ _ (ap not times) ∙ skipped _ _ _ (ap not low) ∙ skipped _ _ _ opens.start.goes_on
       ∙ skipped _ _ _ full

@@ -1,7 +1,7 @@
 pub mod Rising
 pub mod PlaceLemmas
 pub mod Kept
-pub mod Tellings
+pub mod ParsingLemmas
 pub mod WhatEnters
 pub mod GameKept
 pub mod TableKept

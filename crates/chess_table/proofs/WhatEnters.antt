@@ -23,14 +23,14 @@ use Rattle.chess_entry.specs.declared.verdicts.Verdict.{Verdict}
 use Rattle.chess_entry.specs.declared.verdicts.Verdict.TheVariants.{Refuse, Enter, Read}
 use Rattle.chess_entry.specs.declared.refusals.Refusal.TheVariants.{OfferStands, NoOffer, TooEarly, AlreadyClaimed, FlagUp}
 use Rattle.chess_entry.specs.State.{GameState, TableState, position_of, ply_of, seat_of, is_joined, is_over, find_game}
-use Rattle.chess_entry.specs.Told.{Told, IsStartTold, IsMoveTold, bytes_of}
-use Rattle.chess_entry.specs.Verdict.{Check, refuse, first_of, are_times, is_start, is_finished, is_full, is_long, is_on_move, has_offer, has_fallen, in_game, by_side, while_running, in_turn, for_move, for_stated, opened_from, move_entered, open_verdict, join_verdict, move_verdict, offer_verdict, accept_verdict, decline_verdict, resign_verdict, claim_verdict, flag_verdict, drop_verdict, in_seat, side_of, player_verdict, name_or_none, is_read, effective, verdict, IsTold}
+use Rattle.chess_entry.specs.Parsed.{Parsed, IsStartParsed, IsMoveParsed, bytes_of}
+use Rattle.chess_entry.specs.Verdict.{Check, refuse, first_of, are_times, is_start, is_finished, is_full, is_long, is_on_move, has_offer, has_fallen, in_game, by_side, while_running, in_turn, for_move, for_stated, opened_from, move_entered, open_verdict, join_verdict, move_verdict, offer_verdict, accept_verdict, decline_verdict, resign_verdict, claim_verdict, flag_verdict, drop_verdict, in_seat, side_of, player_verdict, name_or_none, is_read, effective, verdict, IsParsed}
 use Rattle.chess_entry.specs.Games.{control_of}
 use Rattle.chess_entry.specs.Bounds.{IsStart}
 use Rattle.chess_entry.specs.Table.{IsTable, IsOnTable, IsEnteredOn}
 use Rattle.chess_entry.proofs.Entering.{passed, entered, in_game-entered, by_side-entered, find_game-number}
 use Rattle.chess_entry.proofs.InPlay.{none-not_some}
-use Rattle.chess_table.proofs.Tellings.{legal_told, start_valid, IsTimeControl-of}
+use Rattle.chess_table.proofs.ParsingLemmas.{legal_parsed, start_valid, IsTimeControl-of}
 use Rattle.chess_table.specs.Coming.{IsReadyFor, OpensGame, ActsInGame, Comes}
 use Rattle.chess_game.specs.Turn.{IsRunningAt, IsInTime, IsPlayable}
 
@@ -144,15 +144,15 @@ module _ (table : TableState) (is : IsTable table) (at : ℕ) (from : table.mome
   )
 
   move-enters : (number ply : ℕ) (text : List ℕ) (move : Option Move)
-      → IsMoveTold (find_game number table.games) (Some text) move
+      → IsMoveParsed (find_game number table.games) (Some text) move
       → EntersIn (move_verdict table at ply move) number
   move-enters number ply text move tells game side e found h =
-      let here = subst (λ (o : Option GameState). IsMoveTold o (Some text) move) found tells in
+      let here = subst (λ (o : Option GameState). IsMoveParsed o (Some text) move) found tells in
       runs number game (in_turn game side ply ++ for_move table game move) (move_entered game at move) e found h
       (λ up rest.
       let turn = in_turn-passes game side ply (for_move table game move) (move_entered game at move) e rest in
       let last = for_move-passes game move (move_entered game at move) e turn.1 in
-      moved-follows game move e up (λ m states. legal_told game (Some text) move m here states) last.0 last.1)
+      moved-follows game move e up (λ m states. legal_parsed game (Some text) move m here states) last.0 last.1)
 
   -- ---- offers, and the end
 
@@ -219,17 +219,17 @@ module _ (table : TableState) (is : IsTable table) (at : ℕ) (from : table.mome
   -- ---- a claim
 
   for_stated-passes : (game : GameState) (text : Option (List ℕ)) (move : Option Move) (v : Verdict) (e : Entry)
-      → IsMoveTold (Some game) text move → first_of (for_stated table game (is_some text) move) v ≡ Enter e
+      → IsMoveParsed (Some game) text move → first_of (for_stated table game (is_some text) move) v ≡ Enter e
       → ForSome move (λ _. ply_of game < table.limits.plies) × (v ≡ Enter e)
   for_stated-passes game None move v e tells h = (λ m states. absurd (cc), h)
   for_stated-passes game (Some text) move v e tells h =
       let last = for_move-passes game move v e h in (λ m states. last.0, last.1)
 
   claim-enters : (number ply : ℕ) (fifty : Bool) (text : Option (List ℕ)) (move : Option Move)
-      → IsMoveTold (find_game number table.games) text move
+      → IsMoveParsed (find_game number table.games) text move
       → EntersIn (claim_verdict table at ply fifty (is_some text) move) number
   claim-enters number ply fifty text move tells game side e found h =
-      let here = subst (λ (o : Option GameState). IsMoveTold o text move) found tells in
+      let here = subst (λ (o : Option GameState). IsMoveParsed o text move) found tells in
       let claim : Event = event.Claim (record { by = side; fifty = fifty; mv = move; ply = ply_of game }) in
       let v : Verdict = Enter (entry game.number at claim) in
       let last = for_stated table game (is_some text) move in
@@ -245,7 +245,7 @@ module _ (table : TableState) (is : IsTable table) (at : ℕ) (from : table.mome
             record {
               on_move = turn.0;
               unclaimed = first.0;
-              stated = λ m states. playable game m (legal_told game text move m here states) (short.0 m states);
+              stated = λ m states. playable game m (legal_parsed game text move m here states) (short.0 m states);
             },
           );
           short = short.0;
@@ -302,7 +302,7 @@ module _ (table : TableState) (is : IsTable table) (at : ℕ) (from : table.mome
   }
 
   open-enters : (colour : Colour) (initial increment : ℕ) (period : Option (ℕ × ℕ)) (name : List ℕ)
-      (fen : Option (List ℕ)) (start : Option Position) (e : Entry) → IsName name → IsStartTold fen start
+      (fen : Option (List ℕ)) (start : Option Position) (e : Entry) → IsName name → IsStartParsed fen start
       → open_verdict table at (opening_with colour initial increment period name) (are_times initial increment period) start
       ≡ Enter e → (e.moment ≡ at) × OpensGame table e
   open-enters colour initial increment period name fen start e named tells h =
@@ -333,40 +333,40 @@ module _ (table : TableState) (is : IsTable table) (at : ℕ) (from : table.mome
   no_read None e h = absurd (cc)
   no_read (Some game) e h = absurd (cc)
 
-  player-enters : (name : List ℕ) (told : Told) (a : Act) (e : Entry) → (is_read a ≡ false → IsName name)
-      → IsTold table a told → player_verdict table at name told a ≡ Enter e → Entered e
-  player-enters name told (act.NewGame colour initial increment fen period) e named tells h =
-      let opened = open-enters colour initial increment period name (bytes_of fen) told.start e (named refl) tells.0 h in
+  player-enters : (name : List ℕ) (parsed : Parsed) (a : Act) (e : Entry) → (is_read a ≡ false → IsName name)
+      → IsParsed table a parsed → player_verdict table at name parsed a ≡ Enter e → Entered e
+  player-enters name parsed (act.Open colour initial increment fen period) e named tells h =
+      let opened = open-enters colour initial increment period name (bytes_of fen) parsed.start e (named refl) tells.0 h in
       (opened.0, inl opened.1)
-  player-enters name told (act.Join game) e named tells h = by_act e (join-enters game name e (named refl) h)
-  player-enters name told (act.Play game ply text) e named tells h =
-      by_act e (in_seat-enters name game (move_verdict table at ply told.move) e
-      (move-enters game ply text.bytes told.move tells.1) h)
-  player-enters name told (act.Offer game) e named tells h =
+  player-enters name parsed (act.Join game) e named tells h = by_act e (join-enters game name e (named refl) h)
+  player-enters name parsed (act.Move game ply text) e named tells h =
+      by_act e (in_seat-enters name game (move_verdict table at ply parsed.move) e
+      (move-enters game ply text.bytes parsed.move tells.1) h)
+  player-enters name parsed (act.Offer game) e named tells h =
       by_act e (in_seat-enters name game (offer_verdict at) e (offer-enters game) h)
-  player-enters name told (act.Accept game) e named tells h =
+  player-enters name parsed (act.Accept game) e named tells h =
       by_act e (in_seat-enters name game (accept_verdict at) e (accept-enters game) h)
-  player-enters name told (act.Decline game) e named tells h =
+  player-enters name parsed (act.Decline game) e named tells h =
       by_act e (in_seat-enters name game (decline_verdict at) e (decline-enters game) h)
-  player-enters name told (act.Resign game) e named tells h =
+  player-enters name parsed (act.Resign game) e named tells h =
       by_act e (in_seat-enters name game (resign_verdict at) e (resign-enters game) h)
-  player-enters name told (act.Claim game ply fifty text) e named tells h =
-      by_act e (in_seat-enters name game (claim_verdict table at ply fifty (is_some text) told.move) e
+  player-enters name parsed (act.Claim game ply fifty text) e named tells h =
+      by_act e (in_seat-enters name game (claim_verdict table at ply fifty (is_some text) parsed.move) e
       (claim_text game ply fifty text tells.1) h)
     where
       claim_text : (game ply : ℕ) (fifty : Bool) (text : Option ArrayString)
-          → IsMoveTold (find_game game table.games) (bytes_of text) told.move
-          → EntersIn (claim_verdict table at ply fifty (is_some text) told.move) game
-      claim_text game ply fifty None tells = claim-enters game ply fifty None told.move tells
-      claim_text game ply fifty (Some text) tells = claim-enters game ply fifty (Some text.bytes) told.move tells
-  player-enters name told (act.Flag game) e named tells h =
+          → IsMoveParsed (find_game game table.games) (bytes_of text) parsed.move
+          → EntersIn (claim_verdict table at ply fifty (is_some text) parsed.move) game
+      claim_text game ply fifty None tells = claim-enters game ply fifty None parsed.move tells
+      claim_text game ply fifty (Some text) tells = claim-enters game ply fifty (Some text.bytes) parsed.move tells
+  player-enters name parsed (act.Flag game) e named tells h =
       by_act e (in_seat-enters name game (flag_verdict at) e (flag-enters game) h)
-  player-enters name told (act.Remove game) e named tells h =
+  player-enters name parsed (act.Drop game) e named tells h =
       by_act e (in_seat-enters name game (drop_verdict at) e (drop-enters game) h)
-  player-enters name told (act.Show game) e named tells h = no_read (find_game game table.games) e h
-  player-enters name told (act.Fen game) e named tells h = no_read (find_game game table.games) e h
-  player-enters name told (act.Pgn game) e named tells h = no_read (find_game game table.games) e h
-  player-enters name told act.List e named tells h = absurd (cc)
+  player-enters name parsed (act.Show game) e named tells h = no_read (find_game game table.games) e h
+  player-enters name parsed (act.Fen game) e named tells h = no_read (find_game game table.games) e h
+  player-enters name parsed (act.Pgn game) e named tells h = no_read (find_game game table.games) e h
+  player-enters name parsed act.List e named tells h = absurd (cc)
 
 -- ---- the verdict
 
@@ -386,17 +386,17 @@ in_range-at at h = grind (arith, nat_tests)
 pub Comes-entered : (table : TableState) (e : Entry) → IsTable table → IsEnteredOn table e → Comes table e
 Comes-entered table e is on =
     let command = on.command in
-    let told = on.entered.told in
-    let h : verdict table command told ≡ Enter e = sym on.entered.is in
-    let early = passed (nat_lt 4611686018427387903 command.at) _ _ e h in
+    let parsed = on.entered.parsed in
+    let h : verdict table command parsed ≡ Enter e = sym on.entered.is in
+    let early = passed (nat_lt 4611686018427387903 command.moment) _ _ e h in
     let named = passed (not (is_read command.act) && is_none command.who) _ _ e early.1 in
-    let at = effective table command.at in
+    let at = effective table command.moment in
     let from : table.moment ≤ at = omega arith in
-    let asked : command.at ≤ 4611686018427387903 = in_range-at command.at early.0 in
+    let asked : command.moment ≤ 4611686018427387903 = in_range-at command.moment early.0 in
     let to : at ≤ 4611686018427387903 = omega (arith, is.moment) in
-    let all = player-enters table is at from (name_or_none command.who) told command.act e
+    let all = player-enters table is at from (name_or_none command.who) parsed command.act e
     (λ acts. name_of command.who on.named (known (is_read command.act) (is_none command.who) named.0 acts))
-    on.entered.is_told named.1 in
+    on.entered.is_parsed named.1 in
     record {
       from = subst (λ (n : ℕ). table.moment ≤ n) (sym all.0) from;
       to = subst (λ (n : ℕ). n ≤ 4611686018427387903) (sym all.0) to;

@@ -15,7 +15,7 @@ use Rattle.chess_entry.specs.declared.refusals.Refusal.TheVariants.{NoName, BadM
 use Rattle.chess_entry.specs.declared.verdicts.Verdict.{Verdict}
 use Rattle.chess_entry.specs.declared.verdicts.Verdict.TheVariants.{Refuse, Enter, Read}
 use Rattle.chess_entry.specs.State.{GameState, TableState, ply_of, seat_of, is_joined, is_over, find_game}
-use Rattle.chess_entry.specs.Told.{Told}
+use Rattle.chess_entry.specs.Parsed.{Parsed}
 use Rattle.chess_entry.specs.Verdict.{Check, refuse, first_of, are_times, is_start, is_finished, is_full, has_offer, is_read, in_game, by_side, while_running, in_turn, for_move, for_stated, opened_from, move_entered, in_seat, side_of, player_verdict, name_or_none, effective, move_verdict, offer_verdict, accept_verdict, decline_verdict, resign_verdict, claim_verdict, flag_verdict, drop_verdict, join_verdict}
 use Rattle.chess_table.specs.Reading.{IsRead}
 
@@ -98,72 +98,72 @@ IsAnswered table _ = ⊥
 there : (o : Option GameState) (game : GameState) → o ≡ Some game → is_some o ≡ true
 there o game found = ap (λ (x : Option GameState). is_some x) found
 
-player-reads : (table : TableState) (at : ℕ) (name : List ℕ) (told : Told) (a : Act)
-    → OnRead (IsAnswered table a) (player_verdict table at name told a)
-player-reads table at name told (act.NewGame colour initial increment fen period) =
+player-reads : (table : TableState) (at : ℕ) (name : List ℕ) (parsed : Parsed) (a : Act)
+    → OnRead (IsAnswered table a) (player_verdict table at name parsed a)
+player-reads table at name parsed (act.Open colour initial increment fen period) =
     first_of-reads ⊥
     (refuse (not (are_times initial increment period)) BadTime ∷
-    refuse (not (is_start told.start)) BadFen ∷
-    refuse (is_finished told.start) Finished ∷
+    refuse (not (is_start parsed.start)) BadFen ∷
+    refuse (is_finished parsed.start) Finished ∷
     refuse (is_full table) TooManyGames ∷ [])
-    (opened_from table at (opening_of colour initial increment period name) told.start) (tt, (tt, (tt, (tt, tt))))
-    (opened-reads table at (opening_of colour initial increment period name) told.start)
-player-reads table at name told (act.Join game) =
+    (opened_from table at (opening_of colour initial increment period name) parsed.start) (tt, (tt, (tt, (tt, tt))))
+    (opened-reads table at (opening_of colour initial increment period name) parsed.start)
+player-reads table at name parsed (act.Join game) =
     in_game-reads ⊥ (join_verdict at name) (find_game game table.games)
     (λ g found. first_of-reads ⊥
     (refuse (is_joined g) Taken ∷ refuse (is_some (side_of name g)) SamePlayer ∷ [])
     (Enter (entry g.number at (event.Join name))) (tt, (tt, tt)) tt)
-player-reads table at name told (act.Play game ply text) =
-    in_seat-reads table name game (move_verdict table at ply told.move)
+player-reads table at name parsed (act.Move game ply text) =
+    in_seat-reads table name game (move_verdict table at ply parsed.move)
     (λ g side. first_of-reads ⊥
-    (while_running g at ++ (in_turn g side ply ++ for_move table g told.move)) (move_entered g at told.move)
-    (tt, (tt, (tt, (tt, (tt, (tt, (tt, tt))))))) (moved-reads g at told.move))
-player-reads table at name told (act.Offer game) =
+    (while_running g at ++ (in_turn g side ply ++ for_move table g parsed.move)) (move_entered g at parsed.move)
+    (tt, (tt, (tt, (tt, (tt, (tt, (tt, tt))))))) (moved-reads g at parsed.move))
+player-reads table at name parsed (act.Offer game) =
     in_seat-reads table name game (offer_verdict at)
     (λ g side. first_of-reads ⊥ (while_running g at ++ (refuse (has_offer g) OfferStands ∷ []))
     (Enter (entry g.number at (event.Offer side))) (tt, (tt, (tt, (tt, tt)))) tt)
-player-reads table at name told (act.Accept game) =
+player-reads table at name parsed (act.Accept game) =
     in_seat-reads table name game (accept_verdict at)
     (λ g side. first_of-reads ⊥
     (while_running g at ++ (refuse (not (seat_of (other side) g).offers) NoOffer ∷ refuse (nat_lt (ply_of g) 2) TooEarly ∷ []))
     (Enter (entry g.number at (event.Accept side))) (tt, (tt, (tt, (tt, (tt, tt))))) tt)
-player-reads table at name told (act.Decline game) =
+player-reads table at name parsed (act.Decline game) =
     in_seat-reads table name game (decline_verdict at)
     (λ g side. first_of-reads ⊥ (while_running g at ++ (refuse (not (seat_of (other side) g).offers) NoOffer ∷ []))
     (Enter (entry g.number at (event.Decline side))) (tt, (tt, (tt, (tt, tt)))) tt)
-player-reads table at name told (act.Resign game) =
+player-reads table at name parsed (act.Resign game) =
     in_seat-reads table name game (resign_verdict at) (λ g side. first_of-reads ⊥ (while_running g at)
     (Enter (entry g.number at (event.Resign side))) (tt, (tt, (tt, tt))) tt)
-player-reads table at name told (act.Claim game ply fifty text) =
-    in_seat-reads table name game (claim_verdict table at ply fifty (is_some text) told.move)
+player-reads table at name parsed (act.Claim game ply fifty text) =
+    in_seat-reads table name game (claim_verdict table at ply fifty (is_some text) parsed.move)
     (λ g side. first_of-reads ⊥
     (while_running g at
-    ++ (in_turn g side ply ++ (refuse g.claimed AlreadyClaimed ∷ for_stated table g (is_some text) told.move)))
-    (Enter (entry g.number at (event.Claim (record { by = side; fifty = fifty; mv = told.move; ply = ply_of g }))))
-    (tt, (tt, (tt, (tt, (tt, (tt, for_stated-none table g (is_some text) told.move)))))) tt)
-player-reads table at name told (act.Flag game) =
+    ++ (in_turn g side ply ++ (refuse g.claimed AlreadyClaimed ∷ for_stated table g (is_some text) parsed.move)))
+    (Enter (entry g.number at (event.Claim (record { by = side; fifty = fifty; mv = parsed.move; ply = ply_of g }))))
+    (tt, (tt, (tt, (tt, (tt, (tt, for_stated-none table g (is_some text) parsed.move)))))) tt)
+player-reads table at name parsed (act.Flag game) =
     in_seat-reads table name game (flag_verdict at) (λ g side. first_of-reads ⊥ (while_running g at) (Refuse FlagUp)
     (tt, (tt, (tt, tt))) tt)
-player-reads table at name told (act.Remove game) =
+player-reads table at name parsed (act.Drop game) =
     in_seat-reads table name game (drop_verdict at)
     (λ g side. first_of-reads ⊥ (refuse (is_joined g && not (is_over g)) NotOver ∷ [])
     (Enter (entry g.number at event.Drop)) (tt, tt) tt)
-player-reads table at name told (act.Show game) =
+player-reads table at name parsed (act.Show game) =
     in_game-reads _ (λ _. Read) (find_game game table.games) (λ g found. there (find_game game table.games) g found)
-player-reads table at name told (act.Fen game) =
+player-reads table at name parsed (act.Fen game) =
     in_game-reads _ (λ _. Read) (find_game game table.games) (λ g found. there (find_game game table.games) g found)
-player-reads table at name told (act.Pgn game) =
+player-reads table at name parsed (act.Pgn game) =
     in_game-reads _ (λ _. Read) (find_game game table.games) (λ g found. there (find_game game table.games) g found)
-player-reads table at name told act.List = tt
+player-reads table at name parsed act.List = tt
 
 pub answered : (table : TableState) (command : Command) → IsRead table command → IsAnswered table command.act
 answered table command read =
     subst (OnRead (IsAnswered table command.act)) (sym read.is)
     (first_of-reads (IsAnswered table command.act)
-    (refuse (nat_lt 4611686018427387903 command.at) BadMoment ∷
+    (refuse (nat_lt 4611686018427387903 command.moment) BadMoment ∷
     refuse (not (is_read command.act) && is_none command.who) NoName ∷ [])
-    (player_verdict table (effective table command.at) (name_or_none command.who) read.told command.act) (tt, (tt, tt))
-    (player-reads table (effective table command.at) (name_or_none command.who) read.told command.act))
+    (player_verdict table (effective table command.moment) (name_or_none command.who) read.parsed command.act) (tt, (tt, tt))
+    (player-reads table (effective table command.moment) (name_or_none command.who) read.parsed command.act))
 
 -- An act that is answered is one of these.
 pub no_other : (table : TableState) (a : Act) → IsAnswered table a → ((x : ℕ) → a ≡ act.Show x → ⊥)
@@ -172,13 +172,13 @@ no_other table (act.Show g) is show fen pgn list = show g refl
 no_other table (act.Fen g) is show fen pgn list = fen g refl
 no_other table (act.Pgn g) is show fen pgn list = pgn g refl
 no_other table act.List is show fen pgn list = list refl
-no_other table (act.NewGame colour initial increment start period) is show fen pgn list = is
+no_other table (act.Open colour initial increment start period) is show fen pgn list = is
 no_other table (act.Join g) is show fen pgn list = is
-no_other table (act.Play g ply text) is show fen pgn list = is
+no_other table (act.Move g ply text) is show fen pgn list = is
 no_other table (act.Offer g) is show fen pgn list = is
 no_other table (act.Accept g) is show fen pgn list = is
 no_other table (act.Decline g) is show fen pgn list = is
 no_other table (act.Resign g) is show fen pgn list = is
 no_other table (act.Claim g ply fifty text) is show fen pgn list = is
 no_other table (act.Flag g) is show fen pgn list = is
-no_other table (act.Remove g) is show fen pgn list = is
+no_other table (act.Drop g) is show fen pgn list = is

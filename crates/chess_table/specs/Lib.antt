@@ -2,7 +2,7 @@ pub mod Places
 pub mod Widened
 pub mod TableInside
 pub mod Checks
-pub mod Telling
+pub mod Parsing
 pub mod Ready
 pub mod Memory
 pub mod Reading

@@ -4,8 +4,8 @@ use Rattle.chess_entry.specs.Table.{IsTable}
 use Rattle.chess_table.specs.declared.table.Table.TheInside.{Inside}
 
 -- what the players see of it
-abbrev pub table_of : Inside → TableState
-table_of t = record {
+abbrev pub table_seen : Inside → TableState
+table_seen t = record {
   limits = t.limits;
   games = t.games.items;
   moment = t.moment;
@@ -14,4 +14,4 @@ table_of t = record {
 }
 
 abbrev pub IsSound : Inside → Type 0
-IsSound t = IsTable (table_of t)
+IsSound t = IsTable (table_seen t)

@@ -37,7 +37,7 @@ impl Table {
             IsReply self.now command.now reply.line.bytes (string_bytes reply.body)) }
         ensures growing { OnErr result (HasBody command.now.act) }
     {
-        let at = self.moment().max(command.at);
+        let at = self.moment().max(command.moment);
         match &command.act {
             Act::Show { game } => Ok(self.alone(show_line(self.standing(*game), at))),
             Act::Fen { game } => Ok(self.alone(fen_line(self.standing(*game)))),

@@ -8,12 +8,12 @@ ghost use Rattle.rec_codec.specs.Records.{entry};
 ghost use Rattle.chess_entry.specs.declared.verdicts.Verdict.{Verdict};
 ghost use Rattle.chess_entry.specs.declared.verdicts.Verdict.TheVariants.{Refuse, Enter};
 ghost use Rattle.chess_entry.specs.State.{GameState, find_game, seat_of};
-ghost use Rattle.chess_entry.specs.Told.{Told, told, bytes_of};
+ghost use Rattle.chess_entry.specs.Parsed.{Parsed, parsed, bytes_of};
 ghost use Rattle.chess_entry.specs.Verdict.{Check, first_of, while_running, in_turn, for_move, for_stated, are_times, in_seat, is_full, has_offer, open_verdict, join_verdict, move_verdict, offer_verdict, accept_verdict, decline_verdict, resign_verdict, claim_verdict, flag_verdict, drop_verdict, player_verdict, verdict, is_read, IsVerdict};
 ghost use Rattle.chess_entry.specs.Table.{IsEnteredOn};
 ghost use Rattle.chess_table.specs.Entered.{OnEnter};
 ghost use Rattle.chess_table.specs.Checks.{stopped_by, opening_from};
-ghost use Rattle.chess_table.specs.Telling.{IsTheStart, IsTheMove, IsTheTold};
+ghost use Rattle.chess_table.specs.Parsing.{IsTheStart, IsTheMove, IsTheParsed};
 
 use crate::table::Table;
 use chess_bits::Colour;
@@ -33,7 +33,7 @@ pub(crate) const GREATEST_MOMENT: u64 = 4_611_686_018_427_387_903;
 
 // What the text of a command tells: the start of a game, or a move.
 #[derive(Clone, Copy)]
-struct Tells {
+struct ParsedText {
     start: Option<Board>,
     mv: Option<StoredMove>,
 }
@@ -48,7 +48,7 @@ struct Asked {
 }
 
 // The position that a game is to start from, where the text is the FEN of a valid one.
-fn start_told(fen: &Option<Text>) -> Option<Board>
+fn start_parsed(fen: &Option<Text>) -> Option<Board>
     ensures { IsTheStart (bytes_of fen.now) result }
 {
     match fen {
@@ -58,7 +58,7 @@ fn start_told(fen: &Option<Text>) -> Option<Board>
 }
 
 // The legal move that a text names in the position of a game, where the game is there.
-fn move_told(table: &Table, number: u32, text: &Text) -> Option<StoredMove>
+fn move_parsed(table: &Table, number: u32, text: &Text) -> Option<StoredMove>
     ensures { IsTheMove (find_game number table.now.games) (Some text.now.bytes) result }
 {
     let Some(game) = table.find(number) else {
@@ -71,33 +71,33 @@ fn move_told(table: &Table, number: u32, text: &Text) -> Option<StoredMove>
 }
 
 // The same of a text that may be missing.
-fn stated_told(table: &Table, number: u32, text: &Option<Text>) -> Option<StoredMove>
+fn stated_parsed(table: &Table, number: u32, text: &Option<Text>) -> Option<StoredMove>
     ensures { IsTheMove (find_game number table.now.games) (bytes_of text.now) result }
 {
     match text {
         None => None,
-        Some(text) => move_told(table, number, text),
+        Some(text) => move_parsed(table, number, text),
     }
 }
 
 // What the text of an act tells on the table.
-fn told_by(table: &Table, act: &Act) -> Tells
-    ensures { IsTheTold table.now act.now (told result.start result.mv) }
+fn parsed_by(table: &Table, act: &Act) -> ParsedText
+    ensures { IsTheParsed table.now act.now (parsed result.start result.mv) }
 {
     match act {
-        Act::NewGame { fen, .. } => Tells {
-            start: start_told(fen),
+        Act::Open { fen, .. } => ParsedText {
+            start: start_parsed(fen),
             mv: None,
         },
-        Act::Play { game, text, .. } => Tells {
+        Act::Move { game, text, .. } => ParsedText {
             start: None,
-            mv: move_told(table, *game, text),
+            mv: move_parsed(table, *game, text),
         },
-        Act::Claim { game, text, .. } => Tells {
+        Act::Claim { game, text, .. } => ParsedText {
             start: None,
-            mv: stated_told(table, *game, text),
+            mv: stated_parsed(table, *game, text),
         },
-        _ => Tells {
+        _ => ParsedText {
             start: None,
             mv: None,
         },
@@ -105,7 +105,7 @@ fn told_by(table: &Table, act: &Act) -> Tells
 }
 
 // An entry of a game becomes of the command.
-fn entered(game: &Game, at: u64, event: Event) -> Verdict
+fn entry_verdict(game: &Game, at: u64, event: Event) -> Verdict
     ensures { result ≡ Enter (entry game.now.number at event) }
 {
     Verdict::Enter(Entry {
@@ -125,7 +125,7 @@ fn while_running(game: &Game, at: u64) -> Option<Verdict>
     } else if game.is_over() {
         Some(Verdict::Refuse(Refusal::Over))
     } else if game.has_fallen(at) {
-        Some(entered(game, at, Event::Fallen))
+        Some(entry_verdict(game, at, Event::Fallen))
     } else {
         None
     }
@@ -264,7 +264,7 @@ fn join_verdict(at: u64, name: &Name, game: &Game) -> Verdict
     } else if game.side_of(name).is_some() {
         Verdict::Refuse(Refusal::SamePlayer)
     } else {
-        entered(game, at, Event::Join(*name))
+        entry_verdict(game, at, Event::Join(*name))
     }
 }
 
@@ -291,7 +291,7 @@ fn move_verdict(
     }
     match mv {
         None => Verdict::Refuse(Refusal::BadMove),
-        Some(mv) => entered(
+        Some(mv) => entry_verdict(
             game,
             at,
             Event::Move(Made {
@@ -327,7 +327,7 @@ fn offer_verdict(table: &Table, at: u64, name: &Name, number: u32) -> Verdict
     if has_offer(game) {
         return Verdict::Refuse(Refusal::OfferStands);
     }
-    entered(game, at, Event::Offer(side))
+    entry_verdict(game, at, Event::Offer(side))
 }
 
 fn accept_verdict(table: &Table, at: u64, name: &Name, number: u32) -> Verdict
@@ -344,7 +344,7 @@ fn accept_verdict(table: &Table, at: u64, name: &Name, number: u32) -> Verdict
     if game.ply() < 2 {
         return Verdict::Refuse(Refusal::TooEarly);
     }
-    entered(game, at, Event::Accept(side))
+    entry_verdict(game, at, Event::Accept(side))
 }
 
 fn decline_verdict(table: &Table, at: u64, name: &Name, number: u32) -> Verdict
@@ -358,7 +358,7 @@ fn decline_verdict(table: &Table, at: u64, name: &Name, number: u32) -> Verdict
     if !is_offered(game, side) {
         return Verdict::Refuse(Refusal::NoOffer);
     }
-    entered(game, at, Event::Decline(side))
+    entry_verdict(game, at, Event::Decline(side))
 }
 
 fn resign_verdict(table: &Table, at: u64, name: &Name, number: u32) -> Verdict
@@ -366,7 +366,7 @@ fn resign_verdict(table: &Table, at: u64, name: &Name, number: u32) -> Verdict
     ensures { result ≡ in_seat table.now name.now number (resign_verdict at) }
 {
     match running_seat(table, name, number, at) {
-        Ok((game, side)) => entered(game, at, Event::Resign(side)),
+        Ok((game, side)) => entry_verdict(game, at, Event::Resign(side)),
         Err(stop) => stop,
     }
 }
@@ -389,7 +389,7 @@ fn drop_verdict(table: &Table, at: u64, name: &Name, number: u32) -> Verdict
             if game.is_joined() && !game.is_over() {
                 Verdict::Refuse(Refusal::NotOver)
             } else {
-                entered(game, at, Event::Drop)
+                entry_verdict(game, at, Event::Drop)
             }
         }
         Err(stop) => stop,
@@ -414,7 +414,7 @@ fn claim_verdict(table: &Table, at: u64, name: &Name, number: u32, asked: &Asked
     if let Some(stop) = for_stated(table, game, asked) {
         return stop;
     }
-    entered(
+    entry_verdict(
         game,
         at,
         Event::Claim(Claim {
@@ -439,7 +439,7 @@ fn is_read(act: &Act) -> bool
 // The verdict on a read.
 fn read_verdict(table: &Table, act: &Act) -> Verdict
     requires { is_read act.now ≡ true }
-    ensures { (at : ℕ) (name : List ℕ) (told : Told) → result ≡ player_verdict table.now at name told act.now }
+    ensures { (at : ℕ) (name : List ℕ) (parsed : Parsed) → result ≡ player_verdict table.now at name parsed act.now }
 {
     match act {
         Act::Show { game } | Act::Fen { game } | Act::Pgn { game } => match table.find(*game) {
@@ -451,12 +451,12 @@ fn read_verdict(table: &Table, act: &Act) -> Verdict
 }
 
 // The verdict on an act that a player may make.
-fn player_verdict(table: &Table, at: u64, name: &Name, tells: &Tells, act: &Act) -> Verdict
+fn player_verdict(table: &Table, at: u64, name: &Name, named: &ParsedText, act: &Act) -> Verdict
     requires { table.now.moment ≤ at }
-    ensures { result ≡ player_verdict table.now at name.now (told tells.now.start tells.now.mv) act.now }
+    ensures { result ≡ player_verdict table.now at name.now (parsed named.now.start named.now.mv) act.now }
 {
     match act {
-        Act::NewGame {
+        Act::Open {
             colour,
             initial,
             increment,
@@ -468,13 +468,13 @@ fn player_verdict(table: &Table, at: u64, name: &Name, tells: &Tells, act: &Act)
                 increment: *increment,
                 period: *period,
             };
-            open_verdict(table, at, *name, *colour, times, &tells.start)
+            open_verdict(table, at, *name, *colour, times, &named.start)
         }
         Act::Join { game } => match table.find(*game) {
             Some(game) => join_verdict(at, name, game),
             None => Verdict::Refuse(Refusal::NoGame),
         },
-        Act::Play { game, ply, .. } => move_verdict(table, at, name, *game, *ply, &tells.mv),
+        Act::Move { game, ply, .. } => move_verdict(table, at, name, *game, *ply, &named.mv),
         Act::Offer { game } => offer_verdict(table, at, name, *game),
         Act::Accept { game } => accept_verdict(table, at, name, *game),
         Act::Decline { game } => decline_verdict(table, at, name, *game),
@@ -489,12 +489,12 @@ fn player_verdict(table: &Table, at: u64, name: &Name, tells: &Tells, act: &Act)
                 ply: *ply,
                 fifty: *fifty,
                 states: text.is_some(),
-                mv: tells.mv,
+                mv: named.mv,
             };
             claim_verdict(table, at, name, *game, &asked)
         }
         Act::Flag { game } => flag_verdict(table, at, name, *game),
-        Act::Remove { game } => drop_verdict(table, at, name, *game),
+        Act::Drop { game } => drop_verdict(table, at, name, *game),
         Act::Show { .. } | Act::Fen { .. } | Act::Pgn { .. } | Act::List => read_verdict(
             table, act,
         ),
@@ -502,20 +502,20 @@ fn player_verdict(table: &Table, at: u64, name: &Name, tells: &Tells, act: &Act)
 }
 
 // The verdict on a command, by what its text tells.
-fn checked(table: &Table, command: &Command, tells: &Tells) -> Verdict
-    ensures { result ≡ verdict table.now command.now (told tells.now.start tells.now.mv) }
+fn checked(table: &Table, command: &Command, named: &ParsedText) -> Verdict
+    ensures { result ≡ verdict table.now command.now (parsed named.now.start named.now.mv) }
 {
-    if command.at > GREATEST_MOMENT {
+    if command.moment > GREATEST_MOMENT {
         return Verdict::Refuse(Refusal::BadMoment);
     }
-    let at = table.moment().max(command.at);
+    let at = table.moment().max(command.moment);
     let Some(name) = command.who else {
         if is_read(&command.act) {
             return read_verdict(table, &command.act);
         }
         return Verdict::Refuse(Refusal::NoName);
     };
-    player_verdict(table, at, &name, tells, &command.act)
+    player_verdict(table, at, &name, named, &command.act)
 }
 
 /// What a command meets on a table: the first check that applies refuses it, or makes it the entry that a flag has fallen;
@@ -527,6 +527,6 @@ pub fn judge(table: &Table, command: &Command) -> Verdict
     ensures coming { OnEnter result (IsEnteredOn table.now) }
 {
     know_name(&command.who);
-    let tells = told_by(table, &command.act);
-    checked(table, command, &tells)
+    let named = parsed_by(table, &command.act);
+    checked(table, command, &named)
 }

@@ -24,11 +24,11 @@ pub struct Table {
 
 impl Model for Table {
     ghost use Rattle.chess_entry.specs.State.{TableState};
-    ghost use Rattle.chess_table.specs.TableInside.{table_of, IsSound};
+    ghost use Rattle.chess_table.specs.TableInside.{table_seen, IsSound};
 
     ghost Value = { TableState };
 
-    ghost view = { table_of };
+    ghost view = { table_seen };
 
     ghost invariant = { IsSound };
 }

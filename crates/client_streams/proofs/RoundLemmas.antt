@@ -16,7 +16,7 @@ use Rattle.client_streams.specs.declared.client.Client.{Client}
 use Rattle.client_streams.specs.Clients.{OthersStay, IsSilent, IsHeardAt, IsEndSeen, IsHeldUp, HasWaitedOn, TakesIn, HandsOut, bytes_of_all, to_go}
 use Rattle.client_streams.specs.declared.closing.Closing.{Closing}
 use Rattle.client_streams.specs.declared.closing.Closing.TheVariants.{Fault, NoMemory, Silence, End, Farewell}
-use Rattle.client_streams.specs.Closings.{HasFailed, WasRefused, Tells, IsReason, IsOver}
+use Rattle.client_streams.specs.Closings.{HasFailed, WasRefused, ByReason, IsReason, IsOver}
 use Rattle.client_streams.specs.Incoming.{held}
 use Rattle.client_streams.specs.Sending.{waiting, HandsOn}
 use Rattle.client_streams.specs.Portions.{is_dear, IsDearLine, AreMost}
@@ -208,7 +208,7 @@ pub silent_reason : {S : Type 0} (silence : Option ℕ) (client after : Client S
     IsReason after (IsSomeAnd silence (IsSilent after sessions at)) ⊥ ⊥
 silent_reason None client after sessions at told heard sid holds waits silent = absurd silent
 silent_reason (Some most) client after sessions at told heard sid holds waits silent =
-    subst (λ (c : Option Closing). Tells c (HasFailed after) (WasRefused after) (IsSilent after sessions at most) ⊥ ⊥)
+    subst (λ (c : Option Closing). ByReason c (HasFailed after) (WasRefused after) (IsSilent after sessions at most) ⊥ ⊥)
     (sym told) (record {
       long = subst (λ (n : ℕ). n + most ≤ at) (sym heard) silent.long;
       written = waits ∙ silent.written;
@@ -220,8 +220,8 @@ silent_reason (Some most) client after sessions at told heard sid holds waits si
 -- said of sessions that are as they were
 reason_again : {S : Type 0} (silence : Option ℕ) (client : Client S) (a b : Sessions) (at : ℕ) (failed refused : Type 0)
     (closing : Option Closing) → IsUnchanged a b →
-    Tells closing failed refused (IsSomeAnd silence (IsSilent client b at)) ⊥ ⊥ →
-    Tells closing failed refused (IsSomeAnd silence (IsSilent client a at)) ⊥ ⊥
+    ByReason closing failed refused (IsSomeAnd silence (IsSilent client b at)) ⊥ ⊥ →
+    ByReason closing failed refused (IsSomeAnd silence (IsSilent client a at)) ⊥ ⊥
 reason_again silence client a b at failed refused None h is = is
 reason_again silence client a b at failed refused (Some Fault) h is = is
 reason_again silence client a b at failed refused (Some NoMemory) h is = is
@@ -230,8 +230,8 @@ reason_again silence client a b at failed refused (Some End) h is = is
 reason_again silence client a b at failed refused (Some Farewell) h is = is
 
 -- the connection has failed, or memory was refused
-pub reason_of_trouble : (failed refused silent : Type 0) (closing : Option Closing) → Tells closing failed refused ⊥ ⊥ ⊥ →
-    Tells closing failed refused silent ⊥ ⊥
+pub reason_of_trouble : (failed refused silent : Type 0) (closing : Option Closing) → ByReason closing failed refused ⊥ ⊥ ⊥ →
+    ByReason closing failed refused silent ⊥ ⊥
 reason_of_trouble failed refused silent None is = is
 reason_of_trouble failed refused silent (Some Fault) is = is
 reason_of_trouble failed refused silent (Some NoMemory) is = is

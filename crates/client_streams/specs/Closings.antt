@@ -21,18 +21,18 @@ IsSound client = (client.wire.has_failed ≡ false) × (client.memory.was_refuse
     × (client.outgoing.was_refused ≡ false)
 
 -- A reason is told, and it holds.
-abbrev pub Tells : Option Closing → Type 0 → Type 0 → Type 0 → Type 0 → Type 0 → Type 0
-Tells None failed refused silent ended left = ⊥
-Tells (Some Fault) failed refused silent ended left = failed
-Tells (Some NoMemory) failed refused silent ended left = refused
-Tells (Some Silence) failed refused silent ended left = silent
-Tells (Some End) failed refused silent ended left = ended
-Tells (Some Farewell) failed refused silent ended left = left
+abbrev pub ByReason : Option Closing → Type 0 → Type 0 → Type 0 → Type 0 → Type 0 → Type 0
+ByReason None failed refused silent ended left = ⊥
+ByReason (Some Fault) failed refused silent ended left = failed
+ByReason (Some NoMemory) failed refused silent ended left = refused
+ByReason (Some Silence) failed refused silent ended left = silent
+ByReason (Some End) failed refused silent ended left = ended
+ByReason (Some Farewell) failed refused silent ended left = left
 
 -- A client's reason is that its connection has failed, or that memory was refused for it; or it is silent, or has ended, or
 -- has left, where this means that.
 abbrev pub IsReason : {S : Type 0} → Client S → Type 0 → Type 0 → Type 0 → Type 0
-IsReason client silent ended left = Tells client.closing (HasFailed client) (WasRefused client) silent ended left
+IsReason client silent ended left = ByReason client.closing (HasFailed client) (WasRefused client) silent ended left
 
 -- The connection has failed, or memory was refused.
 abbrev pub IsTrouble : {S : Type 0} → Client S → Type 0

@@ -1,7 +1,7 @@
 //! One line after another, and what comes of it.
 use crate::club::{Member, give_token, members_of, players_of};
 use anyhow::{Context, Result, bail};
-use lobby_desk::{Desk, Kind, Linked, Told};
+use lobby_desk::{Desk, Kind, Linked, Message};
 use std::alloc::Global;
 
 // The players of the desk at first: two, and an arbiter. The token of each is the name.
@@ -33,7 +33,7 @@ fn push_marked(to: &mut String, mark: &str, text: &str) -> Result<()> {
 }
 
 // A message, behind the numbers of those who are told it, or behind `log`.
-fn push_told(alloc: Global, to: &mut String, one: &Told) -> Result<()> {
+fn push_told(alloc: Global, to: &mut String, one: &Message) -> Result<()> {
     let mut mark = String::new(alloc);
     if one.kind == Kind::Log {
         mark.push_str("log ")?;
@@ -80,7 +80,7 @@ impl Play {
     }
 
     // A browser says a text that asks for a link, which is made with this token.
-    fn link(&mut self, given: &str, told: &mut Vec<Told>) -> Result<()> {
+    fn link(&mut self, given: &str, told: &mut Vec<Message>) -> Result<()> {
         let (from, rest) = number_in(given)?;
         let (token, text) = rest.split_once(' ').context("nothing is said")?;
         if !self.desk.is_ready(from) {
@@ -103,7 +103,7 @@ impl Play {
     }
 
     // A browser says a text, where nothing of it is waited for.
-    fn say(&mut self, given: &str, wire: &mut Vec<u8>, told: &mut Vec<Told>) -> Result<()> {
+    fn say(&mut self, given: &str, wire: &mut Vec<u8>, told: &mut Vec<Message>) -> Result<()> {
         let (from, text) = number_in(given)?;
         let text = with_feeds(self.alloc, text)?;
         if !self.desk.is_ready(from) {
@@ -114,7 +114,7 @@ impl Play {
     }
 
     // Does what a line says.
-    fn take(&mut self, line: &str, wire: &mut Vec<u8>, told: &mut Vec<Told>) -> Result<()> {
+    fn take(&mut self, line: &str, wire: &mut Vec<u8>, told: &mut Vec<Message>) -> Result<()> {
         let (word, given) = line.split_once(' ').unwrap_or((line, ""));
         match word {
             "browser" => {

@@ -26,7 +26,7 @@ const PIECE_ROOM: usize = 4096;
 
 /// Who answers, what has come of the next line, and the answers that are ready.
 #[derive(Drop)]
-struct Session<A> {
+struct LoopState<A> {
     answerer: A,
     line: ArrayVec<u8, LINE_ROOM>,
     ready: Ready,
@@ -34,22 +34,22 @@ struct Session<A> {
 
 // Takes bytes of a line that does not end with them.
 fn take_part<A: Answerer, W: Write>(
-    session: &mut Session<A>,
+    state: &mut LoopState<A>,
     part: &[u8],
     writer: &mut W,
 ) -> Result<Flow<A::Fault>, WriteFault>
-    requires asked { A.is_ready session.old.answerer }
-    requires unfinished { IsUnfinished session.old.line.items }
+    requires asked { A.is_ready state.old.answerer }
+    requires unfinished { IsUnfinished state.old.line.items }
     requires no_feed { HasNoFeed part.now }
-    ensures { Takes A.is_ready A.answers A.breaks (W.contents writer.old) session.old.ready.bytes
-        session.old.answerer session.old.line.items part.now result (W.contents writer.new) session.new.ready.bytes
-        session.new.answerer session.new.line.items }
+    ensures { Takes A.is_ready A.answers A.breaks (W.contents writer.old) state.old.ready.bytes
+        state.old.answerer state.old.line.items part.now result (W.contents writer.new) state.new.ready.bytes
+        state.new.answerer state.new.line.items }
 {
-    if session.line.remaining_capacity() < part.len() {
-        say(&mut session.ready, "bye LineTooLong\n", writer)?;
+    if state.line.remaining_capacity() < part.len() {
+        say(&mut state.ready, "bye LineTooLong\n", writer)?;
         return Ok(Flow::TooLong);
     }
-    session.line.try_extend_from_slice(part).unwrap();
+    state.line.try_extend_from_slice(part).unwrap();
     Ok(Flow::Open)
 }
 
@@ -80,44 +80,44 @@ fn answer_line<A: Answerer, W: Write>(
 
 // Takes a line feed, and answers the line that it ends.
 fn end_line<A: Answerer, W: Write>(
-    session: &mut Session<A>,
+    state: &mut LoopState<A>,
     writer: &mut W,
 ) -> Result<Flow<A::Fault>, WriteFault>
-    requires asked { A.is_ready session.old.answerer }
-    requires unfinished { IsUnfinished session.old.line.items }
-    ensures { Takes A.is_ready A.answers A.breaks (W.contents writer.old) session.old.ready.bytes
-        session.old.answerer session.old.line.items (10 ∷ []) result (W.contents writer.new) session.new.ready.bytes
-        session.new.answerer session.new.line.items }
+    requires asked { A.is_ready state.old.answerer }
+    requires unfinished { IsUnfinished state.old.line.items }
+    ensures { Takes A.is_ready A.answers A.breaks (W.contents writer.old) state.old.ready.bytes
+        state.old.answerer state.old.line.items (10 ∷ []) result (W.contents writer.new) state.new.ready.bytes
+        state.new.answerer state.new.line.items }
 {
     let flow = answer_line(
-        &mut session.answerer,
-        session.line.as_slice(),
-        &mut session.ready,
+        &mut state.answerer,
+        state.line.as_slice(),
+        &mut state.ready,
         writer,
     )?;
-    session.line.clear();
+    state.line.clear();
     Ok(flow)
 }
 
 // Takes the rest of a line, and its line feed.
 fn take_line<A: Answerer, W: Write>(
-    session: &mut Session<A>,
+    state: &mut LoopState<A>,
     part: &[u8],
     writer: &mut W,
 ) -> Result<Flow<A::Fault>, WriteFault>
-    requires asked { A.is_ready session.old.answerer }
-    requires unfinished { IsUnfinished session.old.line.items }
+    requires asked { A.is_ready state.old.answerer }
+    requires unfinished { IsUnfinished state.old.line.items }
     requires no_feed { HasNoFeed part.now }
-    ensures { Takes A.is_ready A.answers A.breaks (W.contents writer.old) session.old.ready.bytes
-        session.old.answerer session.old.line.items (part.now ++ 10 ∷ []) result (W.contents writer.new)
-        session.new.ready.bytes session.new.answerer session.new.line.items }
+    ensures { Takes A.is_ready A.answers A.breaks (W.contents writer.old) state.old.ready.bytes
+        state.old.answerer state.old.line.items (part.now ++ 10 ∷ []) result (W.contents writer.new)
+        state.new.ready.bytes state.new.answerer state.new.line.items }
 {
     // A line that came whole, as nearly all do, is answered where it lies.
-    if session.line.is_empty() && part.len() <= LINE_ROOM {
-        return answer_line(&mut session.answerer, part, &mut session.ready, writer);
+    if state.line.is_empty() && part.len() <= LINE_ROOM {
+        return answer_line(&mut state.answerer, part, &mut state.ready, writer);
     }
-    match take_part(session, part, writer)? {
-        Flow::Open => end_line(session, writer),
+    match take_part(state, part, writer)? {
+        Flow::Open => end_line(state, writer),
         Flow::TooLong => Ok(Flow::TooLong),
         Flow::Broken(fault) => Ok(Flow::Broken(fault)),
     }
@@ -125,56 +125,56 @@ fn take_line<A: Answerer, W: Write>(
 
 // Takes the next bytes, in order, until a line is too long or finds no answer.
 fn take_piece<A: Answerer, W: Write>(
-    session: &mut Session<A>,
+    state: &mut LoopState<A>,
     piece: &[u8],
     writer: &mut W,
 ) -> Result<Flow<A::Fault>, WriteFault>
-    requires asked { A.is_ready session.old.answerer }
-    requires unfinished { IsUnfinished session.old.line.items }
-    ensures { Takes A.is_ready A.answers A.breaks (W.contents writer.old) session.old.ready.bytes
-        session.old.answerer session.old.line.items piece.now result (W.contents writer.new) session.new.ready.bytes
-        session.new.answerer session.new.line.items }
+    requires asked { A.is_ready state.old.answerer }
+    requires unfinished { IsUnfinished state.old.line.items }
+    ensures { Takes A.is_ready A.answers A.breaks (W.contents writer.old) state.old.ready.bytes
+        state.old.answerer state.old.line.items piece.now result (W.contents writer.new) state.new.ready.bytes
+        state.new.answerer state.new.line.items }
 {
     let mut rest = piece;
     while let Some(end) = first_feed(rest) {
-        match take_line(session, &rest[..end], writer)? {
+        match take_line(state, &rest[..end], writer)? {
             Flow::Open => rest = &rest[end + 1..],
             Flow::TooLong => return Ok(Flow::TooLong),
             Flow::Broken(fault) => return Ok(Flow::Broken(fault)),
         }
     }
-    take_part(session, rest, writer)
+    take_part(state, rest, writer)
 }
 
 // Takes the next bytes, and writes all answers to their lines.
 fn answer_piece<A: Answerer, W: Write>(
-    session: &mut Session<A>,
+    state: &mut LoopState<A>,
     piece: &[u8],
     writer: &mut W,
 ) -> Result<Flow<A::Fault>, WriteFault>
-    requires asked { A.is_ready session.old.answerer }
-    requires unfinished { IsUnfinished session.old.line.items }
-    ensures taken { Takes A.is_ready A.answers A.breaks (W.contents writer.old) session.old.ready.bytes
-        session.old.answerer session.old.line.items piece.now result (W.contents writer.new) session.new.ready.bytes
-        session.new.answerer session.new.line.items }
-    ensures empty { OnOk result (session.new.ready.bytes ≡ []) }
+    requires asked { A.is_ready state.old.answerer }
+    requires unfinished { IsUnfinished state.old.line.items }
+    ensures taken { Takes A.is_ready A.answers A.breaks (W.contents writer.old) state.old.ready.bytes
+        state.old.answerer state.old.line.items piece.now result (W.contents writer.new) state.new.ready.bytes
+        state.new.answerer state.new.line.items }
+    ensures empty { OnOk result (state.new.ready.bytes ≡ []) }
 {
-    let flow = take_piece(session, piece, writer)?;
-    hand_out(&mut session.ready, writer)?;
+    let flow = take_piece(state, piece, writer)?;
+    hand_out(&mut state.ready, writer)?;
     Ok(flow)
 }
 
 // Takes all that comes, until a line is too long or finds no answer.
 fn answer_all<A: Answerer, S: LineSource, W: Write>(
-    session: &mut Session<A>,
+    state: &mut LoopState<A>,
     source: &mut S,
     writer: &mut W,
 ) -> Result<(), LoopFault<A::Fault>>
-    requires asked { A.is_ready session.old.answerer }
-    requires empty { session.old.line.items ≡ [] }
-    requires nothing { session.old.ready.bytes ≡ [] }
+    requires asked { A.is_ready state.old.answerer }
+    requires empty { state.old.line.items ≡ [] }
+    requires nothing { state.old.ready.bytes ≡ [] }
     ensures ended { Ended A.answers A.breaks result (S.remaining source.old) (S.remaining source.new)
-        (W.contents writer.old) (W.contents writer.new) session.old.answerer session.new.answerer }
+        (W.contents writer.old) (W.contents writer.new) state.old.answerer state.new.answerer }
     ensures end { OnOk result (IsAtEnd (S.remaining source.new)) }
     ensures cause { IsOfSource result (S.has_failed source.old) (S.has_failed source.new) }
 {
@@ -182,7 +182,7 @@ fn answer_all<A: Answerer, S: LineSource, W: Write>(
     loop {
         match source.next_piece(&mut piece) {
             Ok(0) => return Ok(()),
-            Ok(count) => match answer_piece(session, &piece[..count], writer) {
+            Ok(count) => match answer_piece(state, &piece[..count], writer) {
                 Ok(Flow::Open) => {}
                 Ok(Flow::TooLong) => return Err(LoopFault::LineTooLong),
                 Ok(Flow::Broken(fault)) => return Err(LoopFault::Unanswered(fault)),
@@ -216,11 +216,11 @@ pub fn answer_lines<A: Answerer + Drop, S: LineSource, W: Write>(
     ensures end { OnOk result.1 (IsAtEnd (S.remaining source.new)) }
     ensures cause { IsOfSource result.1 (S.has_failed source.old) (S.has_failed source.new) }
 {
-    let mut session = Session {
+    let mut state = LoopState {
         answerer,
         line: ArrayVec::new(),
         ready: Ready::new(),
     };
-    let ended = answer_all(&mut session, source, writer);
-    (session.answerer, ended)
+    let ended = answer_all(&mut state, source, writer);
+    (state.answerer, ended)
 }

@@ -17,7 +17,7 @@ use Rattle.lobby_words.specs.Words.{as_line, is_link_sort, is_close_sort, is_lea
 use Rattle.lobby_words.specs.Plans.{asked, entered_plan, act_plan, named_plan, as_plan, drop_plan, arbiter_plan, order_plan, login_plan, order_of, numbered_plan, plan_of}
 use Rattle.lobby_desk.specs.Lines.{lines_of, is_said, name_line, notice_lines}
 use Rattle.lobby_desk.specs.Refusals.{game_named}
-use Rattle.lobby_desk.specs.Events.{Telling, ForItself, ForPositions, ForTable, ForGame, ForAct, Owed, Asker, Dropper, owed_lines, plan_asker, sort_asker}
+use Rattle.lobby_desk.specs.Events.{MessageValue, ForItself, ForPositions, ForTable, ForGame, ForAct, Owed, Asker, Dropper, owed_lines, plan_asker, sort_asker}
 use Rattle.lobby_desk.specs.Watching.{risen}
 use Rattle.lobby_desk.specs.Tellings.{left_game, IsToldOrSent}
 use Rattle.lobby_desk.specs.Who.{name_of, plan_watches, plan_table, IsAnswered}
@@ -276,12 +276,12 @@ planned_table true sorts.Name s game c table = refl
 planned_table true sorts.Nothing s game c table = refl
 
 -- a message is answered at once where nothing goes out by its plan
-act_sent : (b : Bool) (name text : List ℕ) (rest : List (List ℕ)) (c : ℕ) (tells : List Telling) → tells ≡ [] →
+act_sent : (b : Bool) (name text : List ℕ) (rest : List (List ℕ)) (c : ℕ) (tells : List MessageValue) → tells ≡ [] →
     IsToldOrSent (if b then text ∷ rest else name_line name ∷ text ∷ rest) c tells
 act_sent true name text rest c tells h = h
 act_sent false name text rest c tells h = h
 
-pub answered_or_sent : (is_paused : Bool) (players : List Player) (is_open : ℕ → Bool) (acts_for : ℕ → Option Identity) (plan : Plan) (said : Option (List ℕ)) (text : List ℕ) (c : ℕ) (tells : List Telling) → IsAnswered is_paused players is_open acts_for plan c tells →
+pub answered_or_sent : (is_paused : Bool) (players : List Player) (is_open : ℕ → Bool) (acts_for : ℕ → Option Identity) (plan : Plan) (said : Option (List ℕ)) (text : List ℕ) (c : ℕ) (tells : List MessageValue) → IsAnswered is_paused players is_open acts_for plan c tells →
     IsToldOrSent (lines_of plan said text) c tells
 answered_or_sent is_paused players is_open acts_for (plans.Refuse refusal) said text c tells h = (h.0, h.2)
 answered_or_sent is_paused players is_open acts_for plans.Read said text c tells h = h

@@ -6,7 +6,7 @@ use Rattle.std.proofs.lemmas.Bool.Decides.{Decides-eqb}
 use Rattle.lobby_words.specs.Answers.{act_game, is_whole, is_table_act, answer}
 use Rattle.lobby_desk.specs.declared.players.Player.{Player}
 use Rattle.lobby_desk.specs.declared.refusals.Refused.{Refused}
-use Rattle.lobby_desk.specs.Events.{Event, Opened, Closed, Said, Hurried, Heard, Gone, Here, Renewed, Linked, ForItself, ForPositions, ForTable, ForGame, ForAct, Owed, Nobody, Asker, Dropper, Followers, Behind}
+use Rattle.lobby_desk.specs.Events.{DeskInput, Opened, Closed, Said, Hurried, Heard, Gone, Here, Renewed, Linked, ForItself, ForPositions, ForTable, ForGame, ForAct, Owed, Nobody, Asker, Dropper, Followers, Behind}
 use Rattle.lobby_desk.specs.Refusals.{is_act_accepted, is_refusal, game_named, refused_game, count_in, count_of, without, cleared, one_more}
 use Rattle.lobby_desk.specs.Tellings.{Known, is_number, refused_heard, refused_next, refused_now}
 use Rattle.lobby_desk.specs.History.{Step, known_in, Acted, acted_for, acted_next, acted_now, acted_in, refuses, since, refused_since}
@@ -141,7 +141,7 @@ next_counted : (owed : List Owed) (now : List ℕ) (refused : List Refused) (act
 next_counted [] now refused acts h = h
 next_counted (o ∷ owed) now refused acts h = heard_counted o now refused acts h
 
-now_counted : (event : Event) (k : Known) (acts : List Acted) → AreCounted k.refused acts →
+now_counted : (event : DeskInput) (k : Known) (acts : List Acted) → AreCounted k.refused acts →
     AreCounted (refused_now event k) (acted_now event k ++ acts)
 now_counted (Opened c) k acts h = h
 now_counted (Closed c) k acts h = h

@@ -23,7 +23,7 @@ use Rattle.lobby_desk.specs.Lines.{lines_of, act_lines, said_after, name_line, g
 use Rattle.lobby_words.specs.Answers.{is_accepted, first_line, act_game, is_whole, answer}
 use Rattle.lobby_desk.specs.Refusals.{game_named}
 use Rattle.lobby_desk.specs.Watching.{watch_if, sit_if}
-use Rattle.lobby_desk.specs.Events.{Event, Opened, Closed, Said, Hurried, Heard, Gone, Here, Renewed, Linked, Telling, ForItself, ForPositions, ForTable, ForGame, ForAct, Owed, Nobody, Asker, Dropper, Followers, Behind, owed_last, owed_acted, owed_some, owed_lines, sort_asker, asker, followers_of, follower, Following, is_same_game, asked_after}
+use Rattle.lobby_desk.specs.Events.{DeskInput, Opened, Closed, Said, Hurried, Heard, Gone, Here, Renewed, Linked, MessageValue, ForItself, ForPositions, ForTable, ForGame, ForAct, Owed, Nobody, Asker, Dropper, Followers, Behind, owed_last, owed_acted, owed_some, owed_lines, sort_asker, asker, followers_of, follower, Following, is_same_game, asked_after}
 use Rattle.lobby_desk.specs.Tellings.{Known, open_now, watch_heard, watch_next, watches_now, table_heard, table_next, table_now, owed_answered, owed_now, known_now, presence, lost, AreToldAll, IsTold}
 use Rattle.lobby_desk.specs.Who.{View, BeginsView, IsSaid, IsHeard, IsDropped, IsSentFor, IsSentNext, IsSentHeard, IsDone, IsRenewed, IsLinked, IsKnown, who_noted, name_of, speaker}
 use Rattle.lobby_desk.specs.Players.{player_named, renewed}
@@ -396,7 +396,7 @@ plan_good players text s said game true sorts.Name other message is small named 
 plan_good players text s said game true sorts.Nothing other message is small named = none_good [] (name_for players s.who text) said
 
 -- a message
-said_good : (players : List Player) (old : View) (c : ℕ) (text : List ℕ) (lines : List (List ℕ)) (tells : List Telling) (new : View) →
+said_good : (players : List Player) (old : View) (c : ℕ) (text : List ℕ) (lines : List (List ℕ)) (tells : List MessageValue) (new : View) →
     IsSaid players old c text lines tells new →
     Good (sort_asks (sort_of text) (or_0 (number_in (rest_of text))) text) (name_for players (old.who c) text) old.said lines new.said
 said_good players old c text lines tells new h =
@@ -453,7 +453,7 @@ watch_next_alike : (f g : ℕ → Bool) → ((c : ℕ) → f c ≡ g c) → (bef
 watch_next_alike f g same before [] watches = refl
 watch_next_alike f g same before (o ∷ owed) watches = watch_alike f g same before o watches
 
-watches_alike : (event : Event) (f g : ℕ → Bool) → ((c : ℕ) → f c ≡ g c) → (k : Known) → watches_now event f k ≡ watches_now event g k
+watches_alike : (event : DeskInput) (f g : ℕ → Bool) → ((c : ℕ) → f c ≡ g c) → (k : Known) → watches_now event f k ≡ watches_now event g k
 watches_alike (Opened c) f g same k = refl
 watches_alike (Closed c) f g same k = refl
 watches_alike (Said c text) f g same k = refl
@@ -481,7 +481,7 @@ table_next_alike : (f g : ℕ → Bool) → ((c : ℕ) → f c ≡ g c) → (owe
 table_next_alike f g same [] table = refl
 table_next_alike f g same (o ∷ owed) table = table_alike f g same o table
 
-tables_alike : (event : Event) (f g : ℕ → Bool) → ((c : ℕ) → f c ≡ g c) → (k : Known) → table_now event f k ≡ table_now event g k
+tables_alike : (event : DeskInput) (f g : ℕ → Bool) → ((c : ℕ) → f c ≡ g c) → (k : Known) → table_now event f k ≡ table_now event g k
 tables_alike (Opened c) f g same k = refl
 tables_alike (Closed c) f g same k = refl
 tables_alike (Said c text) f g same k = refl
@@ -493,20 +493,20 @@ tables_alike (Linked c text later token) f g same k = refl
 tables_alike Gone f g same k = refl
 tables_alike Here f g same k = refl
 
-known_alike : (event : Event) (by : List ℕ) (lines : List (List ℕ)) (f g : ℕ → Bool) → ((c : ℕ) → f c ≡ g c) → (k : Known) →
+known_alike : (event : DeskInput) (by : List ℕ) (lines : List (List ℕ)) (f g : ℕ → Bool) → ((c : ℕ) → f c ≡ g c) → (k : Known) →
     known_now event by lines f k ≡ known_now event by lines g k
 known_alike event by lines f g same k =
     same_known (known_now event by lines f k) (known_now event by lines g k) refl refl refl refl (watches_alike event f g same k) (tables_alike event f g same k) refl refl refl
 
 -- what is known of the connections and of the server then is what the past says
-known_then : (event : Event) (by : List ℕ) (lines : List (List ℕ)) (f g : ℕ → Bool) → ((c : ℕ) → f c ≡ g c) → (old new past : Known) →
+known_then : (event : DeskInput) (by : List ℕ) (lines : List (List ℕ)) (f g : ℕ → Bool) → ((c : ℕ) → f c ≡ g c) → (old new past : Known) →
     IsKnown event by lines f old new → old ≡ past → new ≡ known_now event by lines g past
 known_then event by lines f g same old new past known is =
     same_known new (known_now event by lines f old) known.owed known.left known.begun known.last known.watches known.table known.waiting known.refused known.follows
     ∙ (known_alike event by lines f g same old ∙ ap (λ (k : Known). known_now event by lines g k) is)
 
 -- for whom a connection acts that speaks
-speaker_alike : (f g : ℕ → Option Identity) → ((c : ℕ) → f c ≡ g c) → (event : Event) → speaker f event ≡ speaker g event
+speaker_alike : (f g : ℕ → Option Identity) → ((c : ℕ) → f c ≡ g c) → (event : DeskInput) → speaker f event ≡ speaker g event
 speaker_alike f g same (Opened c) = refl
 speaker_alike f g same (Closed c) = refl
 speaker_alike f g same (Said c text) = ap name_of (same c)
@@ -518,11 +518,11 @@ speaker_alike f g same Gone = refl
 speaker_alike f g same Here = refl
 
 -- what connections are told is right by what the past says
-all_alike : (f g : ℕ → Bool) → ((c : ℕ) → f c ≡ g c) → (first : List Telling) (text : List ℕ) (tells : List Telling) →
+all_alike : (f g : ℕ → Bool) → ((c : ℕ) → f c ≡ g c) → (first : List MessageValue) (text : List ℕ) (tells : List MessageValue) →
     AreToldAll f first text tells → AreToldAll g first text tells
 all_alike f g same first text tells h = (h.0, λ c. h.1 c ∙ same c, h.2)
 
-told_alike : (event : Event) (lines : List (List ℕ)) (tells : List Telling) (f g : ℕ → Bool) → ((c : ℕ) → f c ≡ g c) → (k : Known) →
+told_alike : (event : DeskInput) (lines : List (List ℕ)) (tells : List MessageValue) (f g : ℕ → Bool) → ((c : ℕ) → f c ≡ g c) → (k : Known) →
     IsTold event lines tells f k → IsTold event lines tells g k
 told_alike (Opened c) lines tells f g same k h = h
 told_alike (Closed c) lines tells f g same k h = h
@@ -665,7 +665,7 @@ asks_at true sorts.Line s game said text = tt
 asks_at true sorts.Name s game said text = tt
 asks_at true sorts.Nothing s game said text = tt
 
-said_asks : (players : List Player) (old : View) (c : ℕ) (text : List ℕ) (lines : List (List ℕ)) (tells : List Telling) (new : View) →
+said_asks : (players : List Player) (old : View) (c : ℕ) (text : List ℕ) (lines : List (List ℕ)) (tells : List MessageValue) (new : View) →
     IsSaid players old c text lines tells new → AsksDrop (is_drop text) lines (old.who c) (is_message text)
 said_asks players old c text lines tells new h =
     let planned = asks_at (is_message text) (sort_of text) h.standing (number_in (rest_of text)) old.said text in
@@ -695,14 +695,14 @@ asked_if_drop players past c by text sorts.Line game h = tt
 asked_if_drop players past c by text sorts.Name game h = tt
 asked_if_drop players past c by text sorts.Nothing game h = tt
 
-asked_by : (players : List Player) (past : List Step) (c : ℕ) (text : List ℕ) (all : List (List ℕ)) (line : List ℕ) (lines : List (List ℕ)) (tells : List Telling) →
+asked_by : (players : List Player) (past : List Step) (c : ℕ) (text : List ℕ) (all : List (List ℕ)) (line : List ℕ) (lines : List (List ℕ)) (tells : List MessageValue) →
     AsksDrop (is_drop text) (line ∷ lines) (player_in players past c) (is_message text) → is_drop text ≡ true →
     HasAsked players (record { event = Said c text; lines = all; tells = tells } ∷ past) c text
 asked_by players past c text all line lines tells asks is =
     let by = subst (λ (b : Bool). AsksDrop b (line ∷ lines) (player_in players past c) (is_message text)) is asks in
     inl (refl, refl, by.0, by.1, is)
 
-asker_asked : (players : List Player) (past : List Step) (c : ℕ) (by text : List ℕ) (all lines : List (List ℕ)) (tells : List Telling) →
+asker_asked : (players : List Player) (past : List Step) (c : ℕ) (by text : List ℕ) (all lines : List (List ℕ)) (tells : List MessageValue) →
     AsksDrop (is_drop text) lines (player_in players past c) (is_message text) →
     AreAsked players (record { event = Said c text; lines = all; tells = tells } ∷ past) (owed_lines (asker c by text) lines)
 asker_asked players past c by text all [] tells asks = tt
@@ -720,13 +720,13 @@ pub record Agrees (players : List Player) (past : List Step) (now : View) : Type
   pub asked : AreAsked players past now.known.owed
   pub came : (c : ℕ) → has_come past c ≡ true → c < now.next
 
-record DoneGood (players : List Player) (past : List Step) (event : Event) (lines : List (List ℕ)) (now : View) : Type 0 where
+record DoneGood (players : List Player) (past : List Step) (event : DeskInput) (lines : List (List ℕ)) (now : View) : Type 0 where
   who : (c : ℕ) → now.who c ≡ player_after (players_in players past) event c (player_in players past c)
   said : now.said ≡ name_through (name_before event (name_in past)) lines
   right : IsRight players past event lines
   whole : AreWhole lines
 
-said_who : (players : List Player) (old : View) (c : ℕ) (text : List ℕ) (lines : List (List ℕ)) (tells : List Telling) (new : View) →
+said_who : (players : List Player) (old : View) (c : ℕ) (text : List ℕ) (lines : List (List ℕ)) (tells : List MessageValue) (new : View) →
     IsSaid players old c text lines tells new → (d : ℕ) → new.who d ≡ player_after players (Said c text) d (old.who d)
 said_who players old c text lines tells new h d =
     let plan : who_noted h.plan (old.who d) ≡ player_said players text (old.who d) =
@@ -774,7 +774,7 @@ record WasAsked (text : List ℕ) : Type 0 where
   message : is_message text ≡ true
   drop : is_drop text ≡ true
 
-asked_now : (players : List Player) (past : List Step) (event : Event) (c : ℕ) (text : List ℕ) → AsksNow players past event c text → WasAsked text
+asked_now : (players : List Player) (past : List Step) (event : DeskInput) (c : ℕ) (text : List ℕ) → AsksNow players past event c text → WasAsked text
 asked_now players past (Opened d) c text h = absurd h
 asked_now players past (Closed d) c text h = absurd h
 asked_now players past (Said d said) c text h = record { message = h.3; drop = h.4 }
@@ -888,7 +888,7 @@ came_more : (a b : Bool) (d c old now : ℕ) → d ≡ old → now ≡ d + 1 →
 came_more true b d c old now is next same before h = let one : d ≡ c = same refl in omega (arith, is, next, one)
 came_more false b d c old now is next same before h = let less : c < old = before h in omega (arith, is, next, less)
 
-came_then : (players : List Player) (past : List Step) (old : View) (event : Event) (lines : List (List ℕ)) (tells : List Telling) (now : View) →
+came_then : (players : List Player) (past : List Step) (old : View) (event : DeskInput) (lines : List (List ℕ)) (tells : List MessageValue) (now : View) →
     Agrees players past old → IsDone (players_in players past) old event lines tells now →
     (c : ℕ) → (comes event c || has_come past c) ≡ true → c < now.next
 came_then players past old (Opened d) lines tells now agrees step c h =
@@ -902,7 +902,7 @@ came_then players past old (Linked d text later token) lines tells now agrees st
 came_then players past old Gone lines tells now agrees step c h = subst (λ (n : ℕ). c < n) (sym step.next_is) (agrees.came c h)
 came_then players past old Here lines tells now agrees step c h = subst (λ (n : ℕ). c < n) (sym step.next_is) (agrees.came c h)
 
-none_done : (players : List Player) (past : List Step) (event : Event) (lines : List (List ℕ)) (now : View) →
+none_done : (players : List Player) (past : List Step) (event : DeskInput) (lines : List (List ℕ)) (now : View) →
     (lines ≡ [] → IsRight players past event lines) → lines ≡ [] → now.said ≡ name_before event (name_in past) →
     ((c : ℕ) → now.who c ≡ player_after (players_in players past) event c (player_in players past c)) → DoneGood players past event lines now
 none_done players past event lines now right none said who = record {
@@ -926,7 +926,7 @@ linked_orders players old c text later token lines new step =
     subst (OfOrder (Orders (is_message text) (sort_of text) step.standing)) step.planned
     (planned_orders (is_message text) (sort_of text) step.standing (number_in (rest_of text)))
 
-done_good : (players : List Player) (past : List Step) (old : View) (event : Event) (lines : List (List ℕ)) (tells : List Telling) (now : View) →
+done_good : (players : List Player) (past : List Step) (old : View) (event : DeskInput) (lines : List (List ℕ)) (tells : List MessageValue) (now : View) →
     Agrees players past old → IsDone (players_in players past) old event lines tells now → DoneGood players past event lines now
 done_good players past old (Opened c) lines tells now agrees step =
     none_done players past (Opened c) lines now
@@ -970,7 +970,7 @@ done_good players past old Here lines tells now agrees step =
     none_done players past Here lines now (λ none. none) step.none step.said_is (λ d. step.who_is d ∙ agrees.who d)
 
 -- each drop that waits then was asked for
-asked_then : (players : List Player) (past : List Step) (old : View) (event : Event) (lines : List (List ℕ)) (tells : List Telling) (now : View) →
+asked_then : (players : List Player) (past : List Step) (old : View) (event : DeskInput) (lines : List (List ℕ)) (tells : List MessageValue) (now : View) →
     Agrees players past old → IsDone (players_in players past) old event lines tells now →
     AreAsked players (record { event = event; lines = lines; tells = tells } ∷ past) (owed_now event (speaker old.who event) lines old.known)
 asked_then players past old (Opened c) lines tells now agrees step = are_asked_later players (record { event = Opened c; lines = lines; tells = tells }) past old.known.owed agrees.asked

@@ -7,7 +7,7 @@ use Rattle.std.proofs.lemmas.List.Elements.{filter_more}
 use Rattle.std.proofs.lemmas.List.Folds.{list_any-append}
 use Rattle.lobby_desk.specs.declared.watching.Watch.{Watch}
 use Rattle.lobby_desk.specs.declared.server_line.Due.{Due}
-use Rattle.lobby_desk.specs.Events.{Telling, owed_of}
+use Rattle.lobby_desk.specs.Events.{MessageValue, owed_of}
 use Rattle.lobby_desk.specs.Tellings.{is_number, owes, waiter, lost_of, lost}
 
 pub or_first : (a b : Bool) → a ≡ true → (a || b) ≡ true
@@ -44,9 +44,9 @@ owes_both dues first second c is =
     ∙ list_any-append (λ (due : Due). is_number c (waiter (owed_of due))) first second)
 
 -- answers are lost one by one
-pub lose_more : (dues rest : List Due) (r : Option Due) (due : Due) (told now : List Telling) → dues ≡ option_to_list r ++ rest → r ≡ Some due →
+pub lose_more : (dues rest : List Due) (r : Option Due) (due : Due) (told now : List MessageValue) → dues ≡ option_to_list r ++ rest → r ≡ Some due →
     now ≡ told ++ lost_of (waiter (owed_of due)) → now ++ lost (map owed_of rest) ≡ told ++ lost (map owed_of dues)
 lose_more dues rest r due told now items is more =
-    ap (λ (ts : List Telling). ts ++ lost (map owed_of rest)) more
+    ap (λ (ts : List MessageValue). ts ++ lost (map owed_of rest)) more
     ∙ (append_assoc told (lost_of (waiter (owed_of due))) (lost (map owed_of rest))
     ∙ ap (λ (ds : List Due). told ++ lost (map owed_of ds)) (sym (items ∙ ap (λ (o : Option Due). option_to_list o ++ rest) is)))

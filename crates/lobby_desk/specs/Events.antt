@@ -3,7 +3,7 @@ use Rattle.std.specs.Prelude.{ℕ, Bool, false, ◌==◌, if◌then◌else◌, L
 use Rattle.std.specs.String.{string_bytes}
 use Rattle.lobby_desk.specs.declared.telling.Kind.{Kind}
 use Rattle.lobby_desk.specs.declared.telling.Kind.TheVariants as kinds
-use Rattle.lobby_desk.specs.declared.telling.Told.{Told}
+use Rattle.lobby_desk.specs.declared.telling.Message.{Message}
 use Rattle.lobby_desk.specs.declared.players.Player.{Player}
 use Rattle.lobby_desk.specs.declared.server_line.Due.{Due}
 use Rattle.lobby_desk.specs.declared.server_line.Due.TheVariants as dues
@@ -18,38 +18,38 @@ use Rattle.lobby_words.specs.Answers.{act_game, is_table_act}
 
 -- What comes in; of a message that comes too fast nothing is read. The players are these from now on: by themselves, or for a message
 -- that asks for a player's link, and for which this token was made.
-pub data Event : Type 0 where
-  Opened : (c : ℕ) → Event
-  Closed : (c : ℕ) → Event
-  Said : (c : ℕ) → (text : List ℕ) → Event
-  Hurried : (c : ℕ) → Event
-  Heard : (line : List ℕ) → Event
-  Gone : Event
-  Here : Event
-  Renewed : (players : List Player) → Event
-  Linked : (c : ℕ) → (text : List ℕ) → (players : List Player) → (token : List ℕ) → Event
+pub data DeskInput : Type 0 where
+  Opened : (c : ℕ) → DeskInput
+  Closed : (c : ℕ) → DeskInput
+  Said : (c : ℕ) → (text : List ℕ) → DeskInput
+  Hurried : (c : ℕ) → DeskInput
+  Heard : (line : List ℕ) → DeskInput
+  Gone : DeskInput
+  Here : DeskInput
+  Renewed : (players : List Player) → DeskInput
+  Linked : (c : ℕ) → (text : List ℕ) → (players : List Player) → (token : List ℕ) → DeskInput
 
 -- a message to connections, and what is still to be done with it
-pub record Telling : Type 0 where
+pub record MessageValue : Type 0 where
   pub to : List ℕ
   pub kind : Kind
   pub text : List ℕ
 
-abbrev pub telling : Told → Telling
-telling told = record { to = told.to.items; kind = told.kind; text = string_bytes told.text }
+abbrev pub message_value : Message → MessageValue
+message_value told = record { to = told.to.items; kind = told.kind; text = string_bytes told.text }
 
-abbrev pub tellings : List Told → List Telling
-tellings told = map telling told
+abbrev pub message_values : List Message → List MessageValue
+message_values told = map message_value told
 
 -- a message to one connection: of a kind, and whole
-abbrev pub to_one_as : ℕ → Kind → List ℕ → Telling
+abbrev pub to_one_as : ℕ → Kind → List ℕ → MessageValue
 to_one_as c kind text = record { to = c ∷ []; kind = kind; text = text }
 
-abbrev pub to_one : ℕ → List ℕ → Telling
+abbrev pub to_one : ℕ → List ℕ → MessageValue
 to_one c text = to_one_as c kinds.Whole text
 
 -- a text for the log
-abbrev pub to_log : List ℕ → Telling
+abbrev pub to_log : List ℕ → MessageValue
 to_log text = record { to = []; kind = kinds.Log; text = text }
 
 -- What the server's answer to a message is for: for the message itself, which changes nothing; for the positions of a game, whose

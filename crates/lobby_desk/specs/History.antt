@@ -9,7 +9,7 @@ use Rattle.lobby_words.specs.Words.{rest_of, as_name, as_line, is_message, sort_
 use Rattle.lobby_desk.specs.Players.{holder_of, player_named, renewed, is_token_of}
 use Rattle.lobby_words.specs.Answers.{IsSeated, IsFirstSeated, has_empty_seat, act_game, is_whole, answer}
 use Rattle.lobby_desk.specs.Lines.{name_line, game_line, notice_lines}
-use Rattle.lobby_desk.specs.Events.{Event, Opened, Closed, Said, Heard, Gone, Here, Renewed, Linked, Telling, ForAct, Owed, Asker, Dropper, Followers, Following, asked_after, told_as}
+use Rattle.lobby_desk.specs.Events.{DeskInput, Opened, Closed, Said, Heard, Gone, Here, Renewed, Linked, MessageValue, ForAct, Owed, Asker, Dropper, Followers, Following, asked_after, told_as}
 use Rattle.lobby_desk.specs.Refusals.{is_act_accepted, game_named, refused_game}
 use Rattle.lobby_desk.specs.Logging.{act_logged, is_of_act, one_if, log_texts}
 use Rattle.lobby_desk.specs.Tellings.{Known, known_now, open_now, is_number, IsTold}
@@ -17,9 +17,9 @@ use Rattle.lobby_desk.specs.Who.{View, BeginsView, IsStep, speaker, players_now}
 
 -- one event, the lines that went to the server for it, and what connections were told
 pub record Step : Type 0 where
-  pub event : Event
+  pub event : DeskInput
   pub lines : List (List ℕ)
-  pub tells : List Telling
+  pub tells : List MessageValue
 
 -- what a message shows of a connection: the player who has its token, if it is a login and a player has
 abbrev pub shown_by : Option Identity → Option Identity → Option Identity
@@ -30,7 +30,7 @@ abbrev pub player_said : List Player → List ℕ → Option Identity → Option
 player_said players text before =
     if is_message text && is_login_sort (sort_of text) then shown_by (holder_of players (rest_of text)) before else before
 
-abbrev pub player_after : List Player → Event → ℕ → Option Identity → Option Identity
+abbrev pub player_after : List Player → DeskInput → ℕ → Option Identity → Option Identity
 player_after players (Opened d) c before = if d == c then None else before
 player_after players (Closed d) c before = if d == c then None else before
 player_after players (Said d text) c before = if d == c then player_said players text before else before
@@ -71,7 +71,7 @@ name_through said [] = said
 name_through said (line ∷ lines) = name_through (name_behind said line) lines
 
 -- no name holds on a new connection to the server
-abbrev pub name_before : Event → Option (List ℕ) → Option (List ℕ)
+abbrev pub name_before : DeskInput → Option (List ℕ) → Option (List ℕ)
 name_before Gone said = None
 name_before Here said = None
 name_before _ said = said
@@ -142,7 +142,7 @@ IsArbiter None = ⊥
 IsArbiter (Some who) = who.is_arbiter ≡ true
 
 -- a connection that had shown an arbiter's token has said this message, which asks for a drop
-abbrev pub AsksNow : List Player → List Step → Event → ℕ → List ℕ → Type 0
+abbrev pub AsksNow : List Player → List Step → DeskInput → ℕ → List ℕ → Type 0
 AsksNow players past (Said d said) c text =
     (d ≡ c) × (said ≡ text) × IsArbiter (player_in players past c) × (is_message text ≡ true) × (is_drop text ≡ true)
 AsksNow players past _ c text = ⊥
@@ -180,7 +180,7 @@ pub record IsNoticeOf (players : List Player) (past : List Step) (line : List �
   pub lines_are : lines ≡ notice_lines (asked_after text (act_game (answer (known_in players past).begun line)))
 
 -- whether a connection of this number has come
-abbrev pub comes : Event → ℕ → Bool
+abbrev pub comes : DeskInput → ℕ → Bool
 comes (Opened d) c = d == c
 comes _ c = false
 
@@ -190,7 +190,7 @@ has_come (s ∷ past) c = comes s.event c || has_come past c
 
 -- What goes out for an event; for a message no `drop` does. A connection that comes has a number that none had before. A link is
 -- changed for a message of an arbiter's that asks for that, and its token is then of the player whom the message names.
-abbrev pub IsRight : List Player → List Step → Event → List (List ℕ) → Type 0
+abbrev pub IsRight : List Player → List Step → DeskInput → List (List ℕ) → Type 0
 IsRight players past (Said c text) lines =
     ActsRight (name_for (players_in players past) (player_in players past c) text) (name_in past) lines × NoDrops lines × IsOf (asks_of text) lines
 IsRight players past (Heard line) lines =
@@ -234,7 +234,7 @@ abbrev pub acted_next : List Owed → List ℕ → List Acted
 acted_next [] now = []
 acted_next (o ∷ owed) now = acted_for o now
 
-abbrev pub acted_now : Event → Known → List Acted
+abbrev pub acted_now : DeskInput → Known → List Acted
 acted_now (Heard line) k = if is_whole k.left line then acted_next k.owed (answer k.begun line) else []
 acted_now _ k = []
 
@@ -278,7 +278,7 @@ abbrev pub accepted_next : List Acted → List Owed → List ℕ → List Accept
 accepted_next acts [] now = []
 accepted_next acts (o ∷ owed) now = accepted_for acts o now
 
-abbrev pub accepted_now : List Acted → Event → Known → List Accepted
+abbrev pub accepted_now : List Acted → DeskInput → Known → List Accepted
 accepted_now acts (Heard line) k = if is_whole k.left line then accepted_next acts k.owed (answer k.begun line) else []
 accepted_now acts _ k = []
 
@@ -300,7 +300,7 @@ abbrev pub entries_next : List Acted → List ℕ → Option Following → List 
 entries_next acts before follows [] now = []
 entries_next acts before follows (o ∷ owed) now = entries_for acts before (told_as follows o) now
 
-abbrev pub entries_now : List Acted → Event → Known → List (List ℕ)
+abbrev pub entries_now : List Acted → DeskInput → Known → List (List ℕ)
 entries_now acts (Heard line) k = if is_whole k.left line then entries_next acts k.last k.follows k.owed (answer k.begun line) else []
 entries_now acts _ k = []
 

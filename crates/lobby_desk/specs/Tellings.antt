@@ -11,7 +11,7 @@ use Rattle.lobby_words.specs.declared.refusals.Refusal.TheVariants as refusals
 use Rattle.lobby_words.specs.Plans.{refusal_text}
 use Rattle.lobby_words.specs.Answers.{left_after, is_whole, answer, is_accepted, is_over, act_game}
 use Rattle.lobby_desk.specs.Watching.{at_table, watch_if, sit_if, unwatched, none_watched, risen, followers}
-use Rattle.lobby_desk.specs.Events.{Event, Opened, Closed, Said, Hurried, Heard, Gone, Here, Renewed, Linked, Telling, to_one, to_one_as, Ask, ForPositions, ForGame, ForTable, ForAct, Owed, Nobody, Asker, Dropper, Followers, Behind, owed_lines, asker, follower, Following, follows_heard, told_as}
+use Rattle.lobby_desk.specs.Events.{DeskInput, Opened, Closed, Said, Hurried, Heard, Gone, Here, Renewed, Linked, MessageValue, to_one, to_one_as, Ask, ForPositions, ForGame, ForTable, ForAct, Owed, Nobody, Asker, Dropper, Followers, Behind, owed_lines, asker, follower, Following, follows_heard, told_as}
 use Rattle.lobby_desk.specs.Logging.{logged_for, logged_standing}
 use Rattle.lobby_desk.specs.Waiting.{waiting_told, waiting_listed}
 use Rattle.lobby_desk.specs.Refusals.{refused_told}
@@ -40,7 +40,7 @@ abbrev pub table_front : List ℕ
 table_front = codes "ok lobby\n"
 
 -- Whether a connection is open from now on: since it came until it is gone.
-abbrev pub open_now : Event → ℕ → Bool → Bool
+abbrev pub open_now : DeskInput → ℕ → Bool → Bool
 open_now (Opened d) c before = d == c || before
 open_now (Closed d) c before = if d == c then false else before
 open_now _ c before = before
@@ -64,7 +64,7 @@ watch_next is_open before [] watches = watches
 watch_next is_open before (o ∷ owed) watches = watch_heard is_open before o watches
 
 -- A connection watches a game from the answer to its `watch G` until it says `leave G` or is gone.
-abbrev pub watches_now : Event → (ℕ → Bool) → Known → List Watch
+abbrev pub watches_now : DeskInput → (ℕ → Bool) → Known → List Watch
 watches_now (Closed c) is_open k = none_watched c k.watches
 watches_now (Said c text) is_open k =
     if is_message text && is_leave_sort (sort_of text) then left_game c (number_in (rest_of text)) k.watches else k.watches
@@ -80,7 +80,7 @@ abbrev pub table_next : (ℕ → Bool) → List Owed → List ℕ → List ℕ
 table_next is_open [] table = table
 table_next is_open (o ∷ owed) table = table_heard is_open o table
 
-abbrev pub table_now : Event → (ℕ → Bool) → Known → List ℕ
+abbrev pub table_now : DeskInput → (ℕ → Bool) → Known → List ℕ
 table_now (Closed c) is_open k = risen c k.table
 table_now (Said c text) is_open k = if leaves_table text then risen c k.table else k.table
 table_now (Heard line) is_open k = if is_whole k.left line then table_next is_open k.owed k.table else k.table
@@ -99,7 +99,7 @@ waiting_next (o ∷ owed) now waiting = waiting_heard o now waiting
 abbrev pub waiting_answered : List Owed → List ℕ → List Waiting → List Waiting
 waiting_answered owed now waiting = waiting_listed now (waiting_next owed now waiting)
 
-abbrev pub waiting_now : Event → Known → List Waiting
+abbrev pub waiting_now : DeskInput → Known → List Waiting
 waiting_now (Heard line) k = if is_whole k.left line then waiting_answered k.owed (answer k.begun line) k.waiting else k.waiting
 waiting_now _ k = k.waiting
 
@@ -112,7 +112,7 @@ abbrev pub refused_next : List Owed → List ℕ → List Refused → List Refus
 refused_next [] now refused = refused
 refused_next (o ∷ owed) now refused = refused_heard o now refused
 
-abbrev pub refused_now : Event → Known → List Refused
+abbrev pub refused_now : DeskInput → Known → List Refused
 refused_now (Heard line) k = if is_whole k.left line then refused_next k.owed (answer k.begun line) k.refused else k.refused
 refused_now _ k = k.refused
 
@@ -121,7 +121,7 @@ abbrev pub follows_next : List Owed → List ℕ → Option Following → Option
 follows_next [] now follows = follows
 follows_next (o ∷ owed) now follows = follows_heard o now follows
 
-abbrev pub follows_now : Event → Known → Option Following
+abbrev pub follows_now : DeskInput → Known → Option Following
 follows_now (Heard line) k = if is_whole k.left line then follows_next k.owed (answer k.begun line) k.follows else k.follows
 follows_now Gone k = None
 follows_now Here k = None
@@ -133,32 +133,32 @@ owed_answered [] now lines = []
 owed_answered (o ∷ owed) now lines = owed ++ owed_lines (follower o now) lines
 
 -- For whom the next answers are: the server answers each line, in the order in which the lines went to it.
-abbrev pub owed_now : Event → List ℕ → List (List ℕ) → Known → List Owed
+abbrev pub owed_now : DeskInput → List ℕ → List (List ℕ) → Known → List Owed
 owed_now (Said c text) by lines k = k.owed ++ owed_lines (asker c by text) lines
 owed_now (Heard line) by lines k = if is_whole k.left line then owed_answered k.owed (answer k.begun line) lines else k.owed
 owed_now Gone by lines k = []
 owed_now Here by lines k = []
 owed_now _ by lines k = k.owed
 
-abbrev pub left_now : Event → Known → ℕ
+abbrev pub left_now : DeskInput → Known → ℕ
 left_now (Heard line) k = left_after k.left line
 left_now Gone k = 0
 left_now Here k = 0
 left_now _ k = k.left
 
-abbrev pub begun_now : Event → Known → List ℕ
+abbrev pub begun_now : DeskInput → Known → List ℕ
 begun_now (Heard line) k = if is_whole k.left line then [] else answer k.begun line
 begun_now Gone k = []
 begun_now Here k = []
 begun_now _ k = k.begun
 
-abbrev pub last_now : Event → Known → List ℕ
+abbrev pub last_now : DeskInput → Known → List ℕ
 last_now (Heard line) k = if is_whole k.left line then answer k.begun line else k.last
 last_now _ k = k.last
 
 -- What is known after an event, for which these lines went out; `by` is the name of the player for whom a connection acts that
 -- has spoken.
-abbrev pub known_now : Event → List ℕ → List (List ℕ) → (ℕ → Bool) → Known → Known
+abbrev pub known_now : DeskInput → List ℕ → List (List ℕ) → (ℕ → Bool) → Known → Known
 known_now event by lines is_open k = record {
   owed = owed_now event by lines k;
   left = left_now event k;
@@ -172,11 +172,11 @@ known_now event by lines is_open k = record {
 }
 
 -- one message, to this connection
-abbrev pub IsToldOne : ℕ → List Telling → Type 0
+abbrev pub IsToldOne : ℕ → List MessageValue → Type 0
 IsToldOne c tells = (text : List ℕ) × (tells ≡ to_one c text ∷ [])
 
 -- A message is answered at once where nothing goes to the server for it.
-abbrev pub IsToldOrSent : List (List ℕ) → ℕ → List Telling → Type 0
+abbrev pub IsToldOrSent : List (List ℕ) → ℕ → List MessageValue → Type 0
 IsToldOrSent [] c tells = IsToldOne c tells
 IsToldOrSent (line ∷ lines) c tells = tells ≡ []
 
@@ -203,7 +203,7 @@ kind_of _ before now = kinds.Whole
 
 -- A notice of an act, with the answers to `show` and `fen`: to all who watch the game, and to the table where that is told of the
 -- act or the game is over.
-abbrev pub notice : List Watch → List ℕ → ℕ → List ℕ → Bool → List ℕ → List ℕ → Telling
+abbrev pub notice : List Watch → List ℕ → ℕ → List ℕ → Bool → List ℕ → List ℕ → MessageValue
 notice watches table game act is_table before now = record {
   to = followers watches table game (is_table || is_over before);
   kind = position_kind now;
@@ -216,7 +216,7 @@ abbrev pub undropped : List ℕ → List ℕ
 undropped now = if is_accepted now then refusal_text refusals.NotWaiting else now
 
 -- What is told for an answer of the server, by whose it is. What goes to the log is told before the rest.
-abbrev pub IsToldFor : List ℕ → List Watch → List ℕ → List Refused → Owed → List ℕ → List (List ℕ) → List Telling → Type 0
+abbrev pub IsToldFor : List ℕ → List Watch → List ℕ → List Refused → Owed → List ℕ → List (List ℕ) → List MessageValue → Type 0
 IsToldFor before watches table refused Nobody now lines tells = (lines ≡ []) × (tells ≡ [])
 IsToldFor before watches table refused (Asker c ask) now lines tells =
     tells ≡ logged_for refused ask now ++ to_one_as c (kind_of ask before now) (made_of ask before now) ∷ []
@@ -227,11 +227,11 @@ IsToldFor before watches table refused (Followers game act is_table) now lines t
 IsToldFor before watches table refused Behind now lines tells = (lines ≡ []) × (tells ≡ [])
 
 -- the same of the first that is owed; what nobody asked for is told to nobody
-abbrev pub IsToldNext : Known → List Owed → List ℕ → List (List ℕ) → List Telling → Type 0
+abbrev pub IsToldNext : Known → List Owed → List ℕ → List (List ℕ) → List MessageValue → Type 0
 IsToldNext k [] now lines tells = (lines ≡ []) × (tells ≡ [])
 IsToldNext k (o ∷ owed) now lines tells = IsToldFor k.last k.watches k.table k.refused (told_as k.follows o) now lines tells
 
-abbrev pub IsToldHeard : Bool → Known → List ℕ → List (List ℕ) → List Telling → Type 0
+abbrev pub IsToldHeard : Bool → Known → List ℕ → List (List ℕ) → List MessageValue → Type 0
 IsToldHeard false k now lines tells = (lines ≡ []) × (tells ≡ [])
 IsToldHeard true k now lines tells = IsToldNext k k.owed now lines tells
 
@@ -250,11 +250,11 @@ abbrev pub owes : List Owed → ℕ → Bool
 owes owed c = list_any (λ o. is_number c (waiter o)) owed
 
 -- `lost` to each connection whose message waits, in the order of the messages
-abbrev pub lost_of : Option ℕ → List Telling
+abbrev pub lost_of : Option ℕ → List MessageValue
 lost_of None = []
 lost_of (Some c) = to_one c (codes "lost\n") ∷ []
 
-abbrev pub lost : List Owed → List Telling
+abbrev pub lost : List Owed → List MessageValue
 lost [] = []
 lost (o ∷ owed) = lost_of (waiter o) ++ lost owed
 
@@ -271,13 +271,13 @@ abbrev pub linked_text : List ℕ → List ℕ → List ℕ
 linked_text text token = codes "ok " ++ text ++ token_told (is_close_sort (sort_of text)) token
 
 -- these messages, and behind them one to every connection that is open
-abbrev pub AreToldAll : (ℕ → Bool) → List Telling → List ℕ → List Telling → Type 0
+abbrev pub AreToldAll : (ℕ → Bool) → List MessageValue → List ℕ → List MessageValue → Type 0
 AreToldAll is_open first text tells =
     (to : List ℕ) × ((c : ℕ) → at_table to c ≡ is_open c) × (tells ≡ first ++ record { to = to; kind = kinds.Whole; text = text } ∷ [])
 
 -- What connections are told for an event, where these are open and this is known before it, and these lines go out. A connection
 -- says a message where it is open and no answer is owed to it, so that its answers come in the order of its messages.
-abbrev pub IsTold : Event → List (List ℕ) → List Telling → (ℕ → Bool) → Known → Type 0
+abbrev pub IsTold : DeskInput → List (List ℕ) → List MessageValue → (ℕ → Bool) → Known → Type 0
 IsTold (Opened c) lines tells is_open k = IsToldOne c tells
 IsTold (Closed c) lines tells is_open k = tells ≡ []
 IsTold (Said c text) lines tells is_open k = (is_open c ≡ true) × (owes k.owed c ≡ false) × IsToldOrSent lines c tells

@@ -25,7 +25,7 @@ use Rattle.lobby_desk.specs.Refusals.{game_named}
 use Rattle.lobby_desk.specs.Waiting.{is_crowded}
 use Rattle.lobby_desk.specs.Pace.{is_too_fast}
 pub use Rattle.lobby_desk.specs.Watching.{at_table}
-use Rattle.lobby_desk.specs.Events.{Event, Opened, Closed, Said, Hurried, Heard, Gone, Here, Renewed, Linked, Telling, to_one, ForAct, Owed, Asker, Dropper, owed_of, owed_lines, plan_asker, follower, following, asked_after, follows_heard, told_as}
+use Rattle.lobby_desk.specs.Events.{DeskInput, Opened, Closed, Said, Hurried, Heard, Gone, Here, Renewed, Linked, MessageValue, to_one, ForAct, Owed, Asker, Dropper, owed_of, owed_lines, plan_asker, follower, following, asked_after, follows_heard, told_as}
 use Rattle.lobby_desk.specs.Tellings.{Known, open_now, watch_heard, watch_next, table_heard, table_next, watches_now, table_now, waiting_heard, waiting_next, waiting_now, refused_heard, refused_next, refused_now, follows_next, follows_now, owed_now, left_now, begun_now, last_now, owed_answered, owes, presence, IsTold, IsToldFor, IsToldNext}
 
 -- the player for whom a connection acts
@@ -51,7 +51,7 @@ abbrev pub until_of : Desk → ℕ → ℕ
 until_of desk c = until_in desk.visitors c
 
 -- whether an event is of this connection
-abbrev pub is_of : Event → ℕ → Bool
+abbrev pub is_of : DeskInput → ℕ → Bool
 is_of (Opened d) c = d == c
 is_of (Closed d) c = d == c
 is_of (Said d text) c = d == c
@@ -59,7 +59,7 @@ is_of (Linked d text players token) c = d == c
 is_of _ c = false
 
 -- the players from now on
-abbrev pub players_now : Event → List Player → List Player
+abbrev pub players_now : DeskInput → List Player → List Player
 players_now (Renewed next) before = next
 players_now (Linked c text next token) before = next
 players_now _ before = before
@@ -81,7 +81,7 @@ name_of None = []
 name_of (Some who) = who.name
 
 -- the name of the player for whom a connection acts that says a message
-abbrev pub speaker : (ℕ → Option Identity) → Event → List ℕ
+abbrev pub speaker : (ℕ → Option Identity) → DeskInput → List ℕ
 speaker who (Said c text) = name_of (who c)
 speaker who _ = []
 
@@ -137,12 +137,12 @@ IsOwnText is_paused players is_open acts_for plans.LeaveLobby text = text ≡ co
 IsOwnText is_paused players is_open acts_for (plans.Leave game) text = text ≡ codes "ok leave " ++ decimal game ++ codes "\n"
 IsOwnText is_paused players is_open acts_for _ text = Unit {0}
 
-abbrev pub IsAnsweredIf : Bool → Bool → List Player → (ℕ → Bool) → (ℕ → Option Identity) → Plan → ℕ → List Telling → Type 0
+abbrev pub IsAnsweredIf : Bool → Bool → List Player → (ℕ → Bool) → (ℕ → Option Identity) → Plan → ℕ → List MessageValue → Type 0
 IsAnsweredIf true is_paused players is_open acts_for plan c tells =
     (text : List ℕ) × IsOwnText is_paused players is_open acts_for plan text × (tells ≡ to_one c text ∷ [])
 IsAnsweredIf false is_paused players is_open acts_for plan c tells = tells ≡ []
 
-abbrev pub IsAnswered : Bool → List Player → (ℕ → Bool) → (ℕ → Option Identity) → Plan → ℕ → List Telling → Type 0
+abbrev pub IsAnswered : Bool → List Player → (ℕ → Bool) → (ℕ → Option Identity) → Plan → ℕ → List MessageValue → Type 0
 IsAnswered is_paused players is_open acts_for plan c tells = IsAnsweredIf (is_own plan) is_paused players is_open acts_for plan c tells
 
 abbrev pub known : Desk → Known
@@ -197,7 +197,7 @@ abbrev pub Begins : Desk → Type 0
 Begins desk = BeginsView (view desk)
 
 -- a message, or one that comes too fast
-abbrev pub said_event : Bool → ℕ → List ℕ → Event
+abbrev pub said_event : Bool → ℕ → List ℕ → DeskInput
 said_event true c text = Hurried c
 said_event false c text = Said c text
 
@@ -227,7 +227,7 @@ order_asked desk c text at =
 
 -- The plan for a message is carried out: these lines go out, and of the players for whom connections act no more changes
 -- than a login says.
-pub record IsSaid (players : List Player) (old : View) (c : ℕ) (text : List ℕ) (lines : List (List ℕ)) (tells : List Telling) (new : View) : Type 0 where
+pub record IsSaid (players : List Player) (old : View) (c : ℕ) (text : List ℕ) (lines : List (List ℕ)) (tells : List MessageValue) (new : View) : Type 0 where
   pub standing : Standing
   pub who : standing.who ≡ old.who c
   pub holder : standing.holder ≡ holder_of players (rest_of text)
@@ -296,7 +296,7 @@ pub record IsMoved (old : View) (c : ℕ) (lines : List (List ℕ)) (new : View)
   pub who_is : (d : ℕ) → new.who d ≡ (if c == d then None else old.who d)
 
 -- A connection came: it has the number that comes next, which none had before, and is told whether the server is there.
-pub record IsOpened (old : View) (c : ℕ) (lines : List (List ℕ)) (tells : List Telling) (new : View) : Type 0 where
+pub record IsOpened (old : View) (c : ℕ) (lines : List (List ℕ)) (tells : List MessageValue) (new : View) : Type 0 where
   pub told : tells ≡ to_one c (presence old.here) ∷ []
   pub moved : IsMoved old c lines new
   pub number : c ≡ old.next
@@ -346,7 +346,7 @@ pub record IsLinked (players : List Player) (old : View) (c : ℕ) (text : List 
   pub renews : IsRenewed players old later lines new
 
 -- what the desk does about an event: the lines that go out, and for whom connections act then
-abbrev pub IsDone : List Player → View → Event → List (List ℕ) → List Telling → View → Type 0
+abbrev pub IsDone : List Player → View → DeskInput → List (List ℕ) → List MessageValue → View → Type 0
 IsDone players old (Opened c) lines tells new = IsOpened old c lines tells new
 IsDone players old (Closed c) lines tells new = IsClosed old c lines new
 IsDone players old (Said c text) lines tells new = IsSaid players old c text lines tells new
@@ -358,7 +358,7 @@ IsDone players old Gone lines tells new = IsTurned old false lines new
 IsDone players old Here lines tells new = IsTurned old true lines new
 
 -- What is known then, where these connections are open before, and the one that has spoken acts for the player of this name.
-pub record IsKnown (event : Event) (by : List ℕ) (lines : List (List ℕ)) (is_open : ℕ → Bool) (old new : Known) : Type 0 where
+pub record IsKnown (event : DeskInput) (by : List ℕ) (lines : List (List ℕ)) (is_open : ℕ → Bool) (old new : Known) : Type 0 where
   pub owed : new.owed ≡ owed_now event by lines old
   pub left : new.left ≡ left_now event old
   pub begun : new.begun ≡ begun_now event old
@@ -370,7 +370,7 @@ pub record IsKnown (event : Event) (by : List ℕ) (lines : List (List ℕ)) (is
   pub follows : new.follows ≡ follows_now event old
 
 -- a step: what comes in, the lines that go to the server, and what connections are told
-pub record IsStep (players : List Player) (old : View) (event : Event) (lines : List (List ℕ)) (tells : List Telling) (new : View) : Type 0 where
+pub record IsStep (players : List Player) (old : View) (event : DeskInput) (lines : List (List ℕ)) (tells : List MessageValue) (new : View) : Type 0 where
   pub done : IsDone players old event lines tells new
   pub opens : (c : ℕ) → new.is_open c ≡ open_now event c (old.is_open c)
   pub known : IsKnown event (speaker old.who event) lines old.is_open old.known new.known
@@ -378,9 +378,9 @@ pub record IsStep (players : List Player) (old : View) (event : Event) (lines : 
 
 -- The same of the desk, of the bytes that go to the server, and of what connections are told. The time of no other connection is
 -- taken.
-pub record Steps (old : Desk) (event : Event) (before after : List ℕ) (told_before told_after : List Telling) (new : Desk) : Type 0 where
+pub record Steps (old : Desk) (event : DeskInput) (before after : List ℕ) (told_before told_after : List MessageValue) (new : Desk) : Type 0 where
   pub lines : List (List ℕ)
-  pub tells : List Telling
+  pub tells : List MessageValue
   pub sent : after ≡ before ++ bytes_of lines
   pub told : told_after ≡ told_before ++ tells
   pub step : IsStep old.players.items (view old) event lines tells (view new)
@@ -388,8 +388,8 @@ pub record Steps (old : Desk) (event : Event) (before after : List ℕ) (told_be
   pub untils : (c : ℕ) → is_of event c ≡ false → until_of new c ≡ until_of old c
 
 -- a plan for a message is carried out
-pub record Carried (old : Desk) (from : ℕ) (text : List ℕ) (plan : Plan) (until : ℕ) (before after : List ℕ) (told_before told_after : List Telling) (new : Desk) : Type 0 where
-  pub tells : List Telling
+pub record Carried (old : Desk) (from : ℕ) (text : List ℕ) (plan : Plan) (until : ℕ) (before after : List ℕ) (told_before told_after : List MessageValue) (new : Desk) : Type 0 where
+  pub tells : List MessageValue
   pub sent : after ≡ before ++ bytes_of (lines_of plan old.line.said text)
   pub told : told_after ≡ told_before ++ tells
   pub answers : IsAnswered old.is_paused old.players.items (open_of old) (who_of old) plan from tells
@@ -412,9 +412,9 @@ pub record Carried (old : Desk) (from : ℕ) (text : List ℕ) (plan : Plan) (un
   pub next : new.next ≡ old.next
 
 -- An answer of the server is taken, by whose it is; the first that was owed is taken off before.
-pub record AnswersTo (o : Owed) (now : List ℕ) (old : Desk) (before after : List ℕ) (told_before told_after : List Telling) (new : Desk) : Type 0 where
+pub record AnswersTo (o : Owed) (now : List ℕ) (old : Desk) (before after : List ℕ) (told_before told_after : List MessageValue) (new : Desk) : Type 0 where
   pub lines : List (List ℕ)
-  pub tells : List Telling
+  pub tells : List MessageValue
   pub sent : after ≡ before ++ bytes_of lines
   pub told : told_after ≡ told_before ++ tells
   pub for_whom : IsSentFor o old.line.said now lines new.line.said
@@ -434,9 +434,9 @@ pub record AnswersTo (o : Owed) (now : List ℕ) (old : Desk) (before after : Li
   pub next : new.next ≡ old.next
 
 -- the same of the first that is owed
-pub record Answered (now : List ℕ) (old : Desk) (before after : List ℕ) (told_before told_after : List Telling) (new : Desk) : Type 0 where
+pub record Answered (now : List ℕ) (old : Desk) (before after : List ℕ) (told_before told_after : List MessageValue) (new : Desk) : Type 0 where
   pub lines : List (List ℕ)
-  pub tells : List Telling
+  pub tells : List MessageValue
   pub sent : after ≡ before ++ bytes_of lines
   pub told : told_after ≡ told_before ++ tells
   pub for_whom : IsSentNext (known old).owed old.line.said now lines new.line.said

@@ -2,7 +2,7 @@
 ghost use Rattle.std.specs.Prelude.{ℕ, List, codes, ◌≡◌, ◌++◌, ◌==◌, ◌||◌, IfOk, IfSome, OnOk, map, is_some, if◌then◌else◌};
 ghost use Rattle.std.specs.String.{string_bytes};
 ghost use Rattle.lobby_desk.specs.Lines.{bytes_of, lines_of, said_after, IsNamed, IsHeardSame};
-ghost use Rattle.lobby_desk.specs.Events.{Telling, tellings, owed_of, owed_lines, plan_asker};
+ghost use Rattle.lobby_desk.specs.Events.{MessageValue, message_values, owed_of, owed_lines, plan_asker};
 ghost use Rattle.lobby_desk.specs.Tellings.{token_told};
 ghost use Rattle.lobby_desk.specs.Who.{who_in, open_in_map, until_in, who_noted, plan_watches, plan_table, paused_after, is_own, IsOwnText, IsAnswered};
 
@@ -11,7 +11,7 @@ use crate::present::present_rows;
 use crate::refusals::game_named;
 use crate::rows::{login_line, player_rows};
 use crate::server_line::{Acting, Due, ServerLine};
-use crate::telling::{Kind, Told, headed, tell};
+use crate::telling::{Kind, Message, headed, tell};
 use crate::watching::{Watch, rise, unwatch};
 use lobby_words::{Identity, Order, Plan, Refusal, as_line};
 use std::alloc::{AllocError, Global};
@@ -37,9 +37,9 @@ pub fn answer_plan(
     visitors: &BTreeMap<u64, Visitor>,
     from: u64,
     plan: &Plan,
-    told: &mut Vec<Told>,
+    told: &mut Vec<Message>,
 ) -> Result<(), AllocError>
-    ensures { OnOk result ((tells : List Telling) × (tellings told.new.items ≡ tellings told.old.items ++ tells)
+    ensures { OnOk result ((tells : List MessageValue) × (message_values told.new.items ≡ message_values told.old.items ++ tells)
         × IsAnswered is_paused players.now (open_in_map visitors.now) (who_in visitors.now) plan.now from tells) }
 {
     match own_answer(alloc, is_paused, plan, players, visitors)? {

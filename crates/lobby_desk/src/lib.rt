@@ -21,4 +21,4 @@ pub use desk::{Desk, Linked};
 pub use law::{law_of_lines, law_of_logs, law_of_tellings};
 pub use lobby_words::Order;
 pub use players::Player;
-pub use telling::{Kind, Told};
+pub use telling::{Kind, Message};

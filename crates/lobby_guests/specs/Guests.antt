@@ -4,7 +4,7 @@ use Rattle.std.specs.List.{AllZip}
 use Rattle.std.specs.Io.KnownBytes.{Consumes, Appends}
 use Rattle.std.specs.String.{string_bytes}
 use Rattle.websocket.specs.Content.{text as Text, ping as Ping}
-use Rattle.lobby_desk.specs.declared.telling.Told.{Told}
+use Rattle.lobby_desk.specs.declared.telling.Message.{Message}
 use Rattle.lobby_desk.specs.Events.{Closed}
 use Rattle.lobby_desk.specs.Who.{at_table}
 use Rattle.lobby_web.specs.declared.browser.Browser.{Browser}
@@ -109,7 +109,7 @@ AreTold [] old new = new ≡ old
 AreTold {S = S} (one ∷ made) old new = (between : Guest S) × IsTold one old between × AreTold made between new
 
 -- Each browser is told those of these messages that are for its connection, whole and in their order, as they go out.
-pub record AreDelivered {S : Type 0} (told : List Told) (old new : List (Guest S)) : Type 0 where
+pub record AreDelivered {S : Type 0} (told : List Message) (old new : List (Guest S)) : Type 0 where
   pub made : List Made
   pub are_made : AllZip IsMadeOf told made
   pub are_told : AllZip (AreTold made) old new

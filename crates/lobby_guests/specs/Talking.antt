@@ -1,7 +1,7 @@
 -- What the desk is told, and what goes from it.
 use Rattle.std.specs.Prelude.{ℕ, ◌≡◌, ◌≤◌, ◌+◌, true, false, List, [], is_some}
 use Rattle.lobby_desk.specs.declared.players.Player.{Player}
-use Rattle.lobby_desk.specs.Events.{Event, Opened, Said, Hurried, Linked, tellings}
+use Rattle.lobby_desk.specs.Events.{DeskInput, Opened, Said, Hurried, Linked, message_values}
 use Rattle.lobby_desk.specs.Pace.{is_too_fast}
 use Rattle.lobby_desk.specs.Who.{Begins as BeginsDesk, Steps, order_asked, said_event, until_of}
 use Rattle.lobby_guests.specs.declared.talk.Talk.{Talk}
@@ -15,13 +15,13 @@ pub record Begins (players : List Player) (now : Talk) : Type 0 where
   pub next : now.next ≡ 0
 
 -- a step of the desk, by the bytes that are to go to the server before and after
-abbrev pub StepsAt : Talk → Event → List ℕ → List ℕ → Talk → Type 0
+abbrev pub StepsAt : Talk → DeskInput → List ℕ → List ℕ → Talk → Type 0
 StepsAt old event before after new =
-    Steps old.desk event before after (tellings old.told.items) (tellings new.told.items) new.desk
+    Steps old.desk event before after (message_values old.told.items) (message_values new.told.items) new.desk
 
 -- The desk takes this event: the lines for it stand behind what is to go to the server, and the messages for it behind those
 -- that are to go to connections.
-pub record Moves (old : Talk) (event : Event) (new : Talk) : Type 0 where
+pub record Moves (old : Talk) (event : DeskInput) (new : Talk) : Type 0 where
   pub steps : StepsAt old event old.wire.items new.wire.items new
   pub next : new.next ≡ old.next
 
@@ -32,7 +32,7 @@ pub record Opens (old : Talk) (c : ℕ) (new : Talk) : Type 0 where
   pub next : new.next ≡ c + 1
 
 -- The desk takes this event, and nothing is to go to the server: what was to go there is not sent.
-pub record MovesAnew (old : Talk) (event : Event) (new : Talk) : Type 0 where
+pub record MovesAnew (old : Talk) (event : DeskInput) (new : Talk) : Type 0 where
   pub steps : StepsAt old event [] [] new
   pub nothing : new.wire.items ≡ []
   pub next : new.next ≡ old.next
@@ -44,7 +44,7 @@ pub data Saying : Type 0 where
   TooFast : Saying
   WithLink : (players : List Player) → (token : List ℕ) → Saying
 
-abbrev pub saying : Saying → ℕ → List ℕ → Event
+abbrev pub saying : Saying → ℕ → List ℕ → DeskInput
 saying InTime c text = Said c text
 saying TooFast c text = Hurried c
 saying (WithLink players token) c text = Linked c text players token
@@ -62,5 +62,5 @@ pub record Says (text : List ℕ) (c at : ℕ) (old new : Talk) : Type 0 where
   pub moves : Moves old (saying how c text) new
 
 -- a message of a connection at a moment, as the desk takes it
-abbrev pub said_at : Talk → ℕ → ℕ → List ℕ → Event
+abbrev pub said_at : Talk → ℕ → ℕ → List ℕ → DeskInput
 said_at talk c at text = said_event (is_too_fast (until_of talk.desk c) at) c text

@@ -5,7 +5,7 @@ ghost use Rattle.std.specs.String.{string_bytes};
 ghost use Rattle.lobby_guests.specs.Making.{IsWithMoves, IsOfLine, IsFinished, IsMadeOf};
 ghost use Rattle.lobby_guests.specs.Making as making;
 
-use lobby_desk::{Kind, Told};
+use lobby_desk::{Kind, Message};
 use lobby_moves::moves_line;
 use lobby_positions::line_answer;
 use std::alloc::{AllocError, Global};
@@ -129,10 +129,10 @@ fn finished(alloc: Global, kind: Kind, text: String) -> Result<String, AllocErro
 }
 
 // A message, as it goes out.
-fn made_of(alloc: Global, told: Told) -> Result<Made, AllocError>
+fn made_of(alloc: Global, told: Message) -> Result<Made, AllocError>
     ensures { IfOk result (λ made. IsMadeOf told made) }
 {
-    let Told { to, kind, text } = told;
+    let Message { to, kind, text } = told;
     Ok(Made {
         to,
         text: finished(alloc, kind, text)?,
@@ -140,7 +140,7 @@ fn made_of(alloc: Global, told: Told) -> Result<Made, AllocError>
 }
 
 /// Messages, as they go out.
-pub fn all_made(alloc: Global, told: Vec<Told>) -> Result<Vec<Made>, AllocError>
+pub fn all_made(alloc: Global, told: Vec<Message>) -> Result<Vec<Made>, AllocError>
     ensures { IfOk result (λ made. AllZip IsMadeOf told.items made.items) }
 {
     let mut made = Vec::new(alloc);

@@ -8,8 +8,8 @@ use Rattle.lobby_desk.specs.declared.desk.Desk.{Desk}
 use Rattle.lobby_desk.specs.declared.players.Player.{Player}
 use Rattle.std.proofs.lemmas.List.Elements.{All-nil}
 use Rattle.session_lines.specs.Lines.{HasNoFeed, is_feed}
-use Rattle.lobby_desk.specs.declared.telling.Told.{Told}
-use Rattle.lobby_desk.specs.Events.{Event, Opened, Closed, Heard, Gone, Here, Renewed, Telling, tellings}
+use Rattle.lobby_desk.specs.declared.telling.Message.{Message}
+use Rattle.lobby_desk.specs.Events.{DeskInput, Opened, Closed, Heard, Gone, Here, Renewed, MessageValue, message_values}
 use Rattle.lobby_desk.specs.Lines.{ended, bytes_of}
 use Rattle.lobby_desk.specs.Who.{IsStep, Steps, view, players_now}
 use Rattle.lobby_desk.specs.History.{Step, comes, has_come, players_in, IsRun}
@@ -42,7 +42,7 @@ pub record Traffic : Type 0 where
   pub presences : List Bool
 
 -- the same behind an event
-abbrev behind : Event → Traffic → Traffic
+abbrev behind : DeskInput → Traffic → Traffic
 behind e traffic = record {
   wrote = kept e traffic.wrote;
   heard = line_more e traffic.heard;
@@ -51,8 +51,8 @@ behind e traffic = record {
 
 -- What the desk has done so far; what of it was written to the server and is to go there; what of it went out to connections
 -- and is to go there; and what holds of it.
-pub record IsAt (players : List Player) (traffic : Traffic) (out : List Telling) (K : List Step → Type 0) (desk : Desk)
-    (wire : List ℕ) (told : List Telling) : Type 0 where
+pub record IsAt (players : List Player) (traffic : Traffic) (out : List MessageValue) (K : List Step → Type 0) (desk : Desk)
+    (wire : List ℕ) (told : List MessageValue) : Type 0 where
   pub steps : List Step
   pub run : IsRun players steps (view desk)
   pub players_are : desk.players.items ≡ players_in players steps
@@ -62,21 +62,21 @@ pub record IsAt (players : List Player) (traffic : Traffic) (out : List Telling)
   pub tells : all_tells steps ≡ out ++ told
   pub holds : K steps
 
-abbrev IsTalkAt : List Player → Traffic → List Telling → (List Step → Type 0) → Talk → Type 0
-IsTalkAt players traffic out K talk = IsAt players traffic out K talk.desk talk.wire.items (tellings talk.told.items)
+abbrev IsTalkAt : List Player → Traffic → List MessageValue → (List Step → Type 0) → Talk → Type 0
+IsTalkAt players traffic out K talk = IsAt players traffic out K talk.desk talk.wire.items (message_values talk.told.items)
 
 -- what holds before an event holds of another behind it
-abbrev GoesOn : List Telling → Event → List Telling → (List Step → Type 0) → (List Step → Type 0) → Type 0
+abbrev GoesOn : List MessageValue → DeskInput → List MessageValue → (List Step → Type 0) → (List Step → Type 0) → Type 0
 GoesOn out e told K L =
     (steps : List Step) (s : Step) → s.event ≡ e → all_tells steps ≡ out ++ told → K steps → L (s ∷ steps)
 
-told_more : (out t more u : List Telling) (steps : List Step) → all_tells steps ≡ out ++ t → u ≡ t ++ more →
+told_more : (out t more u : List MessageValue) (steps : List Step) → all_tells steps ≡ out ++ t → u ≡ t ++ more →
     all_tells steps ++ more ≡ out ++ u
 told_more out t more u steps so_far is =
-    ap (λ (l : List Telling). l ++ more) so_far ∙ (append_assoc out t more ∙ ap (λ (l : List Telling). out ++ l) (sym is))
+    ap (λ (l : List MessageValue). l ++ more) so_far ∙ (append_assoc out t more ∙ ap (λ (l : List MessageValue). out ++ l) (sym is))
 
-at_more : (players : List Player) (traffic : Traffic) (out : List Telling) (K L : List Step → Type 0) (before after : List ℕ)
-    (t u : List Telling) (old new : Desk) (e : Event) → ((bytes : List ℕ) → kept e bytes ≡ bytes) → GoesOn out e t K L →
+at_more : (players : List Player) (traffic : Traffic) (out : List MessageValue) (K L : List Step → Type 0) (before after : List ℕ)
+    (t u : List MessageValue) (old new : Desk) (e : DeskInput) → ((bytes : List ℕ) → kept e bytes ≡ bytes) → GoesOn out e t K L →
     IsAt players traffic out K old before t → Steps old e before after t u new → IsAt players (behind e traffic) out L new after u
 at_more players traffic out K L before after t u old new e keeps goes so_far s = record {
   steps = record { event = e; lines = s.lines; tells = s.tells } ∷ so_far.steps;
@@ -96,8 +96,8 @@ at_more players traffic out K L before after t u old new e keeps goes so_far s =
   holds = goes so_far.steps (record { event = e; lines = s.lines; tells = s.tells }) refl so_far.tells so_far.holds;
 }
 
-at_anew : (players : List Player) (traffic : Traffic) (out : List Telling) (K L : List Step → Type 0) (before wire : List ℕ)
-    (t u : List Telling) (old new : Desk) (e : Event) → ((bytes : List ℕ) → kept e bytes ≡ []) → GoesOn out e t K L →
+at_anew : (players : List Player) (traffic : Traffic) (out : List MessageValue) (K L : List Step → Type 0) (before wire : List ℕ)
+    (t u : List MessageValue) (old new : Desk) (e : DeskInput) → ((bytes : List ℕ) → kept e bytes ≡ []) → GoesOn out e t K L →
     IsAt players traffic out K old before t → Steps old e [] [] t u new → wire ≡ [] →
     IsAt players (behind e traffic) out L new wire u
 at_anew players traffic out K L before wire t u old new e drops goes so_far s nothing = record {
@@ -118,8 +118,8 @@ at_anew players traffic out K L before wire t u old new e drops goes so_far s no
 }
 
 -- more holds of the same
-at_with : (players : List Player) (traffic : Traffic) (out : List Telling) (K L : List Step → Type 0) (desk : Desk)
-    (wire : List ℕ) (told : List Telling) → ((steps : List Step) → K steps → L steps) → IsAt players traffic out K desk wire told →
+at_with : (players : List Player) (traffic : Traffic) (out : List MessageValue) (K L : List Step → Type 0) (desk : Desk)
+    (wire : List ℕ) (told : List MessageValue) → ((steps : List Step) → K steps → L steps) → IsAt players traffic out K desk wire told →
     IsAt players traffic out L desk wire told
 at_with players traffic out K L desk wire told more so_far = record {
   steps = so_far.steps;
@@ -143,29 +143,29 @@ same_said TooFast c text traffic = refl
 same_said (WithLink later token) c text traffic = refl
 
 -- the desk has got so far, and no number more was given
-abbrev IsFurther : List Player → Traffic → List Telling → (List Step → Type 0) → Talk → Talk → Type 0
+abbrev IsFurther : List Player → Traffic → List MessageValue → (List Step → Type 0) → Talk → Talk → Type 0
 IsFurther players traffic out K old new = IsTalkAt players traffic out K new × (new.next ≡ old.next)
 
-same_talk : (players : List Player) (traffic : Traffic) (out : List Telling) (K : List Step → Type 0) (old new : Talk) →
+same_talk : (players : List Player) (traffic : Traffic) (out : List MessageValue) (K : List Step → Type 0) (old new : Talk) →
     IsTalkAt players traffic out K old → new ≡ old → IsFurther players traffic out K old new
 same_talk players traffic out K old new so_far same =
     (subst (λ (t : Talk). IsTalkAt players traffic out K t) (sym same) so_far, ap (λ (t : Talk). t.next) same)
 
-moved : (players : List Player) (traffic : Traffic) (out : List Telling) (K L : List Step → Type 0) (old new : Talk) (e : Event) →
-    ((bytes : List ℕ) → kept e bytes ≡ bytes) → GoesOn out e (tellings old.told.items) K L → IsTalkAt players traffic out K old →
+moved : (players : List Player) (traffic : Traffic) (out : List MessageValue) (K L : List Step → Type 0) (old new : Talk) (e : DeskInput) →
+    ((bytes : List ℕ) → kept e bytes ≡ bytes) → GoesOn out e (message_values old.told.items) K L → IsTalkAt players traffic out K old →
     Moves old e new → IsFurther players (behind e traffic) out L old new
 moved players traffic out K L old new e keeps goes so_far moves =
     (at_more players traffic out K L _ _ _ _ old.desk new.desk e keeps goes so_far moves.steps, moves.next)
 
 -- what the server says, and who goes, changes nothing of who is connected
-abbrev IsOfNobody : Event → Type 0
+abbrev IsOfNobody : DeskInput → Type 0
 IsOfNobody e = (c : ℕ) → IsApart c e
 
-nobody_apart : (e : Event) → IsOfNobody e → (n : Option ℕ) → ApartFrom n e
+nobody_apart : (e : DeskInput) → IsOfNobody e → (n : Option ℕ) → ApartFrom n e
 nobody_apart e nobody None = tt
 nobody_apart e nobody (Some c) = nobody c
 
-all_apart : (e : Event) → IsOfNobody e → (ns : List (Option ℕ)) → AreApart ns e
+all_apart : (e : DeskInput) → IsOfNobody e → (ns : List (Option ℕ)) → AreApart ns e
 all_apart e nobody [] = tt
 all_apart e nobody (n ∷ ns) = (nobody_apart e nobody n, all_apart e nobody ns)
 
@@ -193,7 +193,7 @@ lines_of_server remaining (Some link) after old new (next, is, takes) = takes.li
 
 -- ---- connections that the desk was told of
 
-abbrev IsNoOpening : Event → Type 0
+abbrev IsNoOpening : DeskInput → Type 0
 IsNoOpening e = (c : ℕ) → comes e c ≡ false
 
 said_opens_none : (how : Saying) (d : ℕ) (text : List ℕ) → IsNoOpening (saying how d text)
@@ -212,7 +212,7 @@ known_opened : (P Q : ℕ → Type 0) (s : Step) (steps : List Step) (d : ℕ) �
     KnowsBy P steps → KnowsBy Q (s ∷ steps)
 known_opened P Q s steps d is more new known = λ c come.
     let here : ((d == c) || has_come steps c) ≡ true =
-    subst (λ (e : Event). (comes e c || has_come steps c) ≡ true) is come in
+    subst (λ (e : DeskInput). (comes e c || has_come steps c) ≡ true) is come in
     elim (eqb_tells d c) [
       | inl both ↦ subst (λ (k : ℕ). Q k) both.1 new
       | inr both ↦ more c (known c (subst (λ (b : Bool). (b || has_come steps c) ≡ true) both.0 here))
@@ -220,44 +220,44 @@ known_opened P Q s steps d is more new known = λ c come.
 
 -- What is kept of browsers that are there and of those that were let go.
 pub record AreKept {S : Type 0} (remaining contents : S → Option (List ℕ)) (site : Site) (came : Before S) (former : List (Guest S))
-    (out : List Telling) (guests : List (Guest S)) (steps : List Step) : Type 0 where
+    (out : List MessageValue) (guests : List (Guest S)) (steps : List Step) : Type 0 where
   pub served : AreServed remaining contents site came steps out guests
   pub were : WereServed remaining contents site came steps out former
   pub known : AreKnown steps former guests
 
 module _ {S : Type 0} (remaining contents : S → Option (List ℕ)) (site : Site) (came : Before S) (players : List Player)
     (former : List (Guest S)) where
-  abbrev Keeps : List Telling → List (Guest S) → List Step → Type 0
+  abbrev Keeps : List MessageValue → List (Guest S) → List Step → Type 0
   Keeps out guests steps = AreKept remaining contents site came former out guests steps
 
-  goes_on : (out told : List Telling) (e : Event) (guests : List (Guest S)) → AreApart (numbers guests) e →
+  goes_on : (out told : List MessageValue) (e : DeskInput) (guests : List (Guest S)) → AreApart (numbers guests) e →
       AreApart (numbers former) e → IsNoOpening e → GoesOn out e told (Keeps out guests) (Keeps out guests)
   goes_on out told e guests apart from_former none steps s is tells kept = record {
     served = all_served_on remaining contents site came s steps out guests
-        (subst (λ (f : Event). AreApart (numbers guests) f) (sym is) apart) kept.served;
+        (subst (λ (f : DeskInput). AreApart (numbers guests) f) (sym is) apart) kept.served;
     were = all_were_on remaining contents site came s steps out former
-        (subst (λ (f : Event). AreApart (numbers former) f) (sym is) from_former) kept.were;
+        (subst (λ (f : DeskInput). AreApart (numbers former) f) (sym is) from_former) kept.were;
     known = known_on (λ c. IsOneOf c (numbers former) ⊎ IsOneOf c (numbers guests)) s steps
-        (subst (λ (f : Event). IsNoOpening f) (sym is) none) kept.known;
+        (subst (λ (f : DeskInput). IsNoOpening f) (sym is) none) kept.known;
   }
 
   -- what is of nobody
-  goes_by : (out told : List Telling) (e : Event) (guests : List (Guest S)) → IsOfNobody e → IsNoOpening e →
+  goes_by : (out told : List MessageValue) (e : DeskInput) (guests : List (Guest S)) → IsOfNobody e → IsNoOpening e →
       GoesOn out e told (Keeps out guests) (Keeps out guests)
   goes_by out told e guests nobody none =
       goes_on out told e guests (all_apart e nobody (numbers guests)) (all_apart e nobody (numbers former)) none
 
-  heard_lines : (traffic : Traffic) (out : List Telling) (guests : List (Guest S)) (lines : List (List ℕ)) (old new : Talk) →
+  heard_lines : (traffic : Traffic) (out : List MessageValue) (guests : List (Guest S)) (lines : List (List ℕ)) (old new : Talk) →
       IsTalkAt players traffic out (Keeps out guests) old → AreHeard lines old new →
       IsFurther players (behind_lines lines traffic) out (Keeps out guests) old new
   heard_lines traffic out guests [] old new so_far same = same_talk players traffic out (Keeps out guests) old new so_far same
   heard_lines traffic out guests (line ∷ before) old new so_far (between, are, none, moves) =
       let so = heard_lines traffic out guests before old between so_far are in
       let more = moved players (behind_lines before traffic) out (Keeps out guests) (Keeps out guests) between new (Heard line)
-      (λ bytes. refl) (goes_by out (tellings between.told.items) (Heard line) guests (λ c. tt) (λ c. refl)) so.0 moves in
+      (λ bytes. refl) (goes_by out (message_values between.told.items) (Heard line) guests (λ c. tt) (λ c. refl)) so.0 moves in
       (more.0, more.1 ∙ so.1)
 
-  heard_server : (traffic : Traffic) (out : List Telling) (guests : List (Guest S)) (server after : Option (Link S))
+  heard_server : (traffic : Traffic) (out : List MessageValue) (guests : List (Guest S)) (server after : Option (Link S))
       (old new : Talk) → IsTalkAt players traffic out (Keeps out guests) old → (hears : HearsServer remaining server after old new) →
       IsFurther players (behind_lines (lines_of_server remaining server after old new hears) traffic) out (Keeps out guests) old new
   heard_server traffic out guests None after old new so_far (is, same) =
@@ -265,19 +265,19 @@ module _ {S : Type 0} (remaining contents : S → Option (List ℕ)) (site : Sit
   heard_server traffic out guests (Some link) after old new so_far (next, is, takes) =
       heard_lines traffic out guests takes.lines.lines old new so_far takes.lines.heard
 
-  parted : (traffic : Traffic) (out : List Telling) (guests : List (Guest S)) (gone : Bool) (server after : Option (Link S))
+  parted : (traffic : Traffic) (out : List MessageValue) (guests : List (Guest S)) (gone : Bool) (server after : Option (Link S))
       (old new : Talk) → IsTalkAt players traffic out (Keeps out guests) old → PartsFromServer gone server after old new →
       IsFurther players (behind_loss gone traffic) out (Keeps out guests) old new
   parted traffic out guests false server after old new so_far (is, same) =
       same_talk players traffic out (Keeps out guests) old new so_far same
   parted traffic out guests true server after old new so_far (is, anew) = (
     at_anew players traffic out (Keeps out guests) (Keeps out guests) _ _ _ _ old.desk new.desk Gone (λ bytes. refl)
-        (goes_by out (tellings old.told.items) Gone guests (λ c. tt) (λ c. refl)) so_far anew.steps anew.nothing,
+        (goes_by out (message_values old.told.items) Gone guests (λ c. tt) (λ c. refl)) so_far anew.steps anew.nothing,
     anew.next,
   )
 
   -- These are kept, more holds, and nothing is to go to connections.
-  record Closing (out : List Telling) (stay : List (Guest S)) (P : List Step → Type 0) (steps : List Step) : Type 0 where
+  record Closing (out : List MessageValue) (stay : List (Guest S)) (P : List Step → Type 0) (steps : List Step) : Type 0 where
     kept : Keeps out stay steps
     more : P steps
 
@@ -285,42 +285,42 @@ module _ {S : Type 0} (remaining contents : S → Option (List ℕ)) (site : Sit
   abbrev Lasts : (List Step → Type 0) → Type 0
   Lasts P = (s : Step) (steps : List Step) → P steps → P (s ∷ steps)
 
-  abbrev ClosesTo : Traffic → List Telling → List (Guest S) → (List Step → Type 0) → Talk → Talk → Type 0
+  abbrev ClosesTo : Traffic → List MessageValue → List (Guest S) → (List Step → Type 0) → Talk → Talk → Type 0
   ClosesTo traffic out stay P old new =
-      IsFurther players traffic out (Closing out stay P) old new × (tellings new.told.items ≡ [])
+      IsFurther players traffic out (Closing out stay P) old new × (message_values new.told.items ≡ [])
 
-  none_told : (old new : Talk) (c : ℕ) → Moves old (Closed c) new → tellings old.told.items ≡ [] → tellings new.told.items ≡ []
+  none_told : (old new : Talk) (c : ℕ) → Moves old (Closed c) new → message_values old.told.items ≡ [] → message_values new.told.items ≡ []
   none_told old new c moves none =
-      moves.steps.told ∙ (ap (λ (l : List Telling). l ++ moves.steps.tells) none ∙ moves.steps.step.told)
+      moves.steps.told ∙ (ap (λ (l : List MessageValue). l ++ moves.steps.tells) none ∙ moves.steps.step.told)
 
-  closed_if : (traffic : Traffic) (out : List Telling) (stay : List (Guest S)) (P : List Step → Type 0) → Lasts P →
+  closed_if : (traffic : Traffic) (out : List MessageValue) (stay : List (Guest S)) (P : List Step → Type 0) → Lasts P →
       (lost : Bool) (number : Option ℕ) (old new : Talk) → IsTalkAt players traffic out (Closing out stay P) old →
-      tellings old.told.items ≡ [] → IsClosedIf lost number old new →
+      message_values old.told.items ≡ [] → IsClosedIf lost number old new →
       ClosesTo traffic out stay (λ steps. P steps × ClosedIf lost steps out number) old new
   closed_if traffic out stay P lasts false number old new so_far none same =
       let so = same_talk players traffic out (Closing out stay P) old new so_far same in (
         (
           at_with players traffic out (Closing out stay P) (Closing out stay (λ steps. P steps × ClosedIf false steps out number))
-              new.desk new.wire.items (tellings new.told.items)
+              new.desk new.wire.items (message_values new.told.items)
               (λ steps was. record { kept = was.kept; more = (was.more, tt) }) so.0,
           so.1,
         ),
-        ap (λ (t : Talk). tellings t.told.items) same ∙ none,
+        ap (λ (t : Talk). message_values t.told.items) same ∙ none,
       )
   closed_if traffic out stay P lasts true None old new so_far none same =
       let so = same_talk players traffic out (Closing out stay P) old new so_far same in (
         (
           at_with players traffic out (Closing out stay P) (Closing out stay (λ steps. P steps × ClosedIf true steps out None))
-              new.desk new.wire.items (tellings new.told.items)
+              new.desk new.wire.items (message_values new.told.items)
               (λ steps was. record { kept = was.kept; more = (was.more, tt) }) so.0,
           so.1,
         ),
-        ap (λ (t : Talk). tellings t.told.items) same ∙ none,
+        ap (λ (t : Talk). message_values t.told.items) same ∙ none,
       )
   closed_if traffic out stay P lasts true (Some c) old new so_far none moves = (
     moved players traffic out (Closing out stay P) (Closing out stay (λ steps. P steps × ClosedIf true steps out (Some c))) old new
         (Closed c) (λ bytes. refl) (λ steps s is tells was. record {
-          kept = goes_by out (tellings old.told.items) (Closed c) stay (λ d. tt) (λ d. refl) steps s is tells was.kept;
+          kept = goes_by out (message_values old.told.items) (Closed c) stay (λ d. tt) (λ d. refl) steps s is tells was.kept;
           more = (
             lasts s steps was.more,
             record {
@@ -329,25 +329,25 @@ module _ {S : Type 0} (remaining contents : S → Option (List ℕ)) (site : Sit
               earlier = steps;
               steps_are = refl;
               closes = is;
-              all = tells ∙ (ap (λ (l : List Telling). out ++ l) none ∙ append-nil out);
+              all = tells ∙ (ap (λ (l : List MessageValue). out ++ l) none ∙ append-nil out);
             },
           );
         }) so_far moves,
     none_told old new c moves none,
   )
 
-  closed_all : (traffic : Traffic) (out : List Telling) (stay guests : List (Guest S)) (P : List Step → Type 0) → Lasts P →
-      (old new : Talk) → IsTalkAt players traffic out (Closing out stay P) old → tellings old.told.items ≡ [] →
+  closed_all : (traffic : Traffic) (out : List MessageValue) (stay guests : List (Guest S)) (P : List Step → Type 0) → Lasts P →
+      (old new : Talk) → IsTalkAt players traffic out (Closing out stay P) old → message_values old.told.items ≡ [] →
       AreClosed guests old new → ClosesTo traffic out stay (λ steps. P steps × AllClosed guests out steps) old new
   closed_all traffic out stay [] P lasts old new so_far none same =
       let so = same_talk players traffic out (Closing out stay P) old new so_far same in (
         (
           at_with players traffic out (Closing out stay P) (Closing out stay (λ steps. P steps × Unit {0}))
-              new.desk new.wire.items (tellings new.told.items)
+              new.desk new.wire.items (message_values new.told.items)
               (λ steps was. record { kept = was.kept; more = (was.more, tt) }) so.0,
           so.1,
         ),
-        ap (λ (t : Talk). tellings t.told.items) same ∙ none,
+        ap (λ (t : Talk). message_values t.told.items) same ∙ none,
       )
   closed_all traffic out stay (guest ∷ guests) P lasts old new so_far none (between, closed, are) =
       let so = closed_if traffic out stay P lasts guest.is_lost guest.number old between so_far none closed in
@@ -357,7 +357,7 @@ module _ {S : Type 0} (remaining contents : S → Option (List ℕ)) (site : Sit
           at_with players traffic out
               (Closing out stay (λ steps. (P steps × ClosedIf guest.is_lost steps out guest.number) × AllClosed guests out steps))
               (Closing out stay (λ steps. P steps × AllClosed (guest ∷ guests) out steps)) new.desk new.wire.items
-              (tellings new.told.items)
+              (message_values new.told.items)
               (λ steps was. record { kept = was.kept; more = (was.more.0.0, (was.more.0.1, was.more.1)) }) all.0.0,
           all.0.1 ∙ so.0.1,
         ),
@@ -516,7 +516,7 @@ none_such_number c e = false≢true (ap is_number e)
 -- ---- browsers that are attended
 
 module _ {S : Type 0} (remaining contents : S → Option (List ℕ)) (site : Site) (came : Before S) (players : List Player)
-    (former : List (Guest S)) (traffic : Traffic) (out : List Telling) where
+    (former : List (Guest S)) (traffic : Traffic) (out : List MessageValue) where
   abbrev Served : Option ℕ → Spot S → List Step → Type 0
   Served n now steps = IsServed remaining contents site came steps out n now
 
@@ -570,7 +570,7 @@ module _ {S : Type 0} (remaining contents : S → Option (List ℕ)) (site : Sit
       let so = same_talk players traffic out (Three done rest number a) s t so_far same in (
         subst (λ (n : Option ℕ). IsTalkAt players traffic out (Three done rest n b) t) (sym same_number)
             (at_with players traffic out (Three done rest number a) (Three done rest number b) t.desk t.wire.items
-            (tellings t.told.items) (with_one done rest number a b
+            (message_values t.told.items) (with_one done rest number a b
             (λ steps was. gave_nothing remaining contents site came steps out number a b does was)) so.0),
         inl (same_number, so.1),
       )
@@ -579,13 +579,13 @@ module _ {S : Type 0} (remaining contents : S → Option (List ℕ)) (site : Sit
         (at_more players traffic out (Three done rest None a) (Three done rest (Some c) b) _ _ _ _ s.desk t.desk (Opened c)
         (λ bytes. refl) (λ steps step event tells three. record {
           before = before_on done step steps
-              (subst (λ (e : Event). AreApart (numbers done) e) (sym event)
+              (subst (λ (e : DeskInput). AreApart (numbers done) e) (sym event)
               (opened_before s.next c (numbers done) (None ∷ numbers rest) opens.fresh before.0))
-              (subst (λ (e : Event). AreApart (numbers former) e) (sym event)
+              (subst (λ (e : DeskInput). AreApart (numbers former) e) (sym event)
               (opened_before s.next c (numbers former) (None ∷ numbers rest) opens.fresh before.1)) three.before;
-          one = gave_opened remaining contents site came steps step out (tellings s.told.items) c a b event tells does three.one;
+          one = gave_opened remaining contents site came steps step out (message_values s.told.items) c a b event tells does three.one;
           behind = all_served_on remaining contents site came step steps out rest
-              (subst (λ (e : Event). AreApart (numbers rest) e) (sym event)
+              (subst (λ (e : DeskInput). AreApart (numbers rest) e) (sym event)
               (opened_behind s.next c (numbers rest) opens.fresh owns)) three.behind;
           known = known_opened (IsIn done (None ∷ numbers rest)) (IsIn done (Some c ∷ numbers rest)) step steps c event
               (in_opened done rest c) (inr (inr (inl refl))) three.known;
@@ -596,7 +596,7 @@ module _ {S : Type 0} (remaining contents : S → Option (List ℕ)) (site : Sit
       let so = same_talk players traffic out (Three done rest (Some d) a) s t so_far same in (
         subst (λ (n : Option ℕ). IsTalkAt players traffic out (Three done rest n b) t) (sym is)
             (at_with players traffic out (Three done rest (Some d) a) (Three done rest (Some d) b) t.desk t.wire.items
-            (tellings t.told.items) (with_one done rest (Some d) a b
+            (message_values t.told.items) (with_one done rest (Some d) a b
             (λ steps was. gave_again remaining contents site came steps out d a b does was)) so.0),
         inl (is, so.1),
       )
@@ -604,7 +604,7 @@ module _ {S : Type 0} (remaining contents : S → Option (List ℕ)) (site : Sit
       let so = same_talk players traffic out (Three done rest None a) s t so_far same in (
         subst (λ (n : Option ℕ). IsTalkAt players traffic out (Three done rest n b) t) (sym is)
             (at_with players traffic out (Three done rest None a) (Three done rest None b) t.desk t.wire.items
-            (tellings t.told.items) (with_one done rest None a b
+            (message_values t.told.items) (with_one done rest None a b
             (λ steps was. gave_early remaining contents site came steps out text a b does was)) so.0),
         inl (is, so.1),
       )
@@ -614,16 +614,16 @@ module _ {S : Type 0} (remaining contents : S → Option (List ℕ)) (site : Sit
       let so = moved players traffic out (Three done rest (Some d) a) (Three done rest (Some d) b) s t (saying how d shown)
       (keeps_said how d shown) (λ steps step event tells three. record {
         before = before_on done step steps
-            (subst (λ (e : Event). AreApart (numbers done) e) (sym event)
+            (subst (λ (e : DeskInput). AreApart (numbers done) e) (sym event)
             (said_before s.next d how shown (numbers done) (numbers rest) before.0))
-            (subst (λ (e : Event). AreApart (numbers former) e) (sym event)
+            (subst (λ (e : DeskInput). AreApart (numbers former) e) (sym event)
             (said_before s.next d how shown (numbers former) (numbers rest) before.1)) three.before;
         one = gave_text remaining contents site came steps step out d how text shown a b event a_text no_text does three.one;
         behind = all_served_on remaining contents site came step steps out rest
-            (subst (λ (e : Event). AreApart (numbers rest) e) (sym event) (said_behind d how shown (numbers rest) own.1))
+            (subst (λ (e : DeskInput). AreApart (numbers rest) e) (sym event) (said_behind d how shown (numbers rest) own.1))
             three.behind;
         known = known_on (IsIn done (Some d ∷ numbers rest)) step steps
-            (subst (λ (e : Event). IsNoOpening e) (sym event) (said_opens_none how d shown)) three.known;
+            (subst (λ (e : DeskInput). IsNoOpening e) (sym event) (said_opens_none how d shown)) three.known;
       }) so_far says.moves in (
         subst (λ (n : Option ℕ). IsTalkAt players traffic out (Three done rest n b) t) (sym is)
             (subst (λ (w : Traffic). IsTalkAt players w out (Three done rest (Some d) b) t) (same_said how d shown traffic) so.0),
@@ -659,7 +659,7 @@ module _ {S : Type 0} (remaining contents : S → Option (List ℕ)) (site : Sit
   attended_one at done rest guest next s t before own owns so_far one =
       let read : IsTalkAt players traffic out (Three done rest one.read.number (spot one.read)) s =
       at_with players traffic out (Two done (guest ∷ rest)) (Three done rest one.read.number (spot one.read)) s.desk s.wire.items
-      (tellings s.told.items) (λ steps two. record {
+      (message_values s.told.items) (λ steps two. record {
         before = two.before;
         one = served_read remaining contents site came steps out guest one.read one.reads two.behind.0;
         behind = two.behind.1;
@@ -668,7 +668,7 @@ module _ {S : Type 0} (remaining contents : S → Option (List ℕ)) (site : Sit
       let ended : (u : Talk) → IsTalkAt players traffic out (Three done rest next.number (spot next)) u →
       IsTalkAt players traffic out (Two (next ∷ done) rest) u =
       λ u at_u. at_with players traffic out (Three done rest next.number (spot next)) (Two (next ∷ done) rest) u.desk u.wire.items
-      (tellings u.told.items) (λ steps three. record {
+      (message_values u.told.items) (λ steps three. record {
         before = record { served = (three.one, three.before.served); were = three.before.were };
         behind = three.behind;
         known = λ c come. in_done done rest next c (three.known c come);
@@ -709,7 +709,7 @@ module _ {S : Type 0} (remaining contents : S → Option (List ℕ)) (site : Sit
       (own_up s.next between.next (numbers guests) up owns) one.0 are in (
         subst (λ (l : List (Guest S)). IsTalkAt players traffic out (Two done l) t) (sym whole)
             (at_with players traffic out (Two (next ∷ done) rest) (Two done (next ∷ rest)) t.desk t.wire.items
-            (tellings t.told.items) (λ steps two. record {
+            (message_values t.told.items) (λ steps two. record {
               before = record { served = two.before.served.1; were = two.before.were };
               behind = (two.before.served.0, two.behind);
               known = λ c come. in_back done rest next c (two.known c come);
@@ -1049,13 +1049,13 @@ traffic_of o heard = record { wrote = o.wrote; heard = heard; presences = o.pres
 -- what holds of a hall, where this was outside and browsers came by these streams
 pub record IsHallAt {S : Type 0} (remaining contents : S → Option (List ℕ)) (players : List Player) (o : Outside)
     (came : Before S) (hall : Hall S) : Type 0 where
-  pub out : List Telling
+  pub out : List MessageValue
   pub heard : List (List ℕ)
   pub cut : AreCut o.taken heard hall.server
   pub former : List (Guest S)
   pub logged : o.put ≡ log_texts out
   pub talk : IsAt players (traffic_of o heard) out (AreKept remaining contents hall.site came former out hall.guests.items)
-      hall.talk.desk hall.talk.wire.items (tellings hall.talk.told.items)
+      hall.talk.desk hall.talk.wire.items (message_values hall.talk.told.items)
   pub own : AreOwn hall.talk.next (numbers (former ++ hall.guests.items))
   pub whole : NoLineWaits hall.server
 
@@ -1066,7 +1066,7 @@ written_on contents front (Some link) after old new (next, is, hands, kept) = ha
 
 module _ {S : Type 0} (remaining contents : S → Option (List ℕ)) (site : Site) (came : Before S) (former : List (Guest S)) where
   -- each is served on, and has the number that it had
-  kept_zip : (out more : List Telling) (R : Guest S → Guest S → Type 0) →
+  kept_zip : (out more : List MessageValue) (R : Guest S → Guest S → Type 0) →
       ((steps : List Step) (x y : Guest S) → R x y → IsServed remaining contents site came steps out x.number (spot x) →
       IsServed remaining contents site came steps (out ++ more) y.number (spot y)) →
       ((x y : Guest S) → R x y → y.number ≡ x.number) → (xs ys : List (Guest S)) → AllZip R xs ys → (steps : List Step) →
@@ -1081,7 +1081,7 @@ module _ {S : Type 0} (remaining contents : S → Option (List ℕ)) (site : Sit
   }
 
   -- where nothing went out
-  kept_same : (out : List Telling) (R : Guest S → Guest S → Type 0) →
+  kept_same : (out : List MessageValue) (R : Guest S → Guest S → Type 0) →
       ((steps : List Step) (x y : Guest S) → R x y → IsServed remaining contents site came steps out x.number (spot x) →
       IsServed remaining contents site came steps out y.number (spot y)) →
       ((x y : Guest S) → R x y → y.number ≡ x.number) → (xs ys : List (Guest S)) → AllZip R xs ys → (steps : List Step) →
@@ -1096,7 +1096,7 @@ module _ {S : Type 0} (remaining contents : S → Option (List ℕ)) (site : Sit
   }
 
   -- those who are lost are let go
-  kept_parted : (out : List Telling) (guests : List (Guest S)) (steps : List Step) →
+  kept_parted : (out : List MessageValue) (guests : List (Guest S)) (steps : List Step) →
       AreKept remaining contents site came former out guests steps → AllClosed guests out steps →
       AreKept remaining contents site came (gone_of guests ++ former) out (stay_of guests) steps
   kept_parted out guests steps kept closed = record {
@@ -1107,13 +1107,13 @@ module _ {S : Type 0} (remaining contents : S → Option (List ℕ)) (site : Sit
 
 module _ {S : Type 0} (remaining contents : S → Option (List ℕ)) (players : List Player) (came : Before S) where
   -- what went out is delivered, and a front of what is to go to the server is written
-  gone_out : (site : Site) (former : List (Guest S)) (out : List Telling) (base : Traffic) (front : List ℕ) (said : Talk) (desk : Desk)
+  gone_out : (site : Site) (former : List (Guest S)) (out : List MessageValue) (base : Traffic) (front : List ℕ) (said : Talk) (desk : Desk)
       (wire : List ℕ) (guests told : List (Guest S)) → AreDelivered said.told.items guests told → said.wire.items ≡ front ++ wire →
       desk ≡ said.desk →
       IsAt players base out (AreKept remaining contents site came former out guests) said.desk said.wire.items
-      (tellings said.told.items) →
-      IsAt players (behind_front front base) (out ++ tellings said.told.items)
-      (AreKept remaining contents site came former (out ++ tellings said.told.items) told) desk wire []
+      (message_values said.told.items) →
+      IsAt players (behind_front front base) (out ++ message_values said.told.items)
+      (AreKept remaining contents site came former (out ++ message_values said.told.items) told) desk wire []
   gone_out site former out base front said desk wire guests told delivers split same so_far = record {
     steps = so_far.steps;
     run = subst (λ (d : Desk). IsRun players so_far.steps (view d)) (sym same) so_far.run;
@@ -1121,29 +1121,29 @@ module _ {S : Type 0} (remaining contents : S → Option (List ℕ)) (players : 
     sent = so_far.sent ∙ (ap (λ (bytes : List ℕ). base.wrote ++ bytes) split ∙ sym (append_assoc base.wrote front wire));
     heard = so_far.heard;
     presences = so_far.presences;
-    tells = so_far.tells ∙ sym (append-nil (out ++ tellings said.told.items));
-    holds = kept_zip remaining contents site came former out (tellings said.told.items) (AreTold delivers.made)
+    tells = so_far.tells ∙ sym (append-nil (out ++ message_values said.told.items));
+    holds = kept_zip remaining contents site came former out (message_values said.told.items) (AreTold delivers.made)
         (λ steps x y one was. served_told remaining contents site came steps out said.told.items delivers.made x y
         delivers.are_made one was) (λ x y one. told_number delivers.made x y one) guests told delivers.are_told so_far.steps
         so_far.holds;
   }
 
   -- What holds behind a turn, of the desk and of browsers' numbers, where this was so before.
-  record IsTurnedTo (traffic : Traffic) (later : List Telling) (site : Site) (old new : Hall S) : Type 0 where
+  record IsTurnedTo (traffic : Traffic) (later : List MessageValue) (site : Site) (old new : Hall S) : Type 0 where
     former : List (Guest S)
     talk : IsAt players traffic later (AreKept remaining contents site came former later new.guests.items) new.talk.desk
-        new.talk.wire.items (tellings new.talk.told.items)
+        new.talk.wire.items (message_values new.talk.told.items)
     own : AreOwn new.talk.next (numbers (former ++ new.guests.items))
 
   -- from where browsers are attended on
-  attended_on : (at : ℕ) (former : List (Guest S)) (base : Traffic) (out : List Telling) (old new : Hall S)
+  attended_on : (at : ℕ) (former : List (Guest S)) (base : Traffic) (out : List MessageValue) (old new : Hall S)
       (t : HasTurned remaining contents at old new) →
       IsAt players base out (AreKept remaining contents old.site came former out old.guests.items) t.takes.parted.desk t.takes.parted.wire.items
-      (tellings t.takes.parted.told.items) → AreOwn t.takes.parted.next (numbers (former ++ old.guests.items)) →
-      IsTurnedTo (behind_front t.hands.front base) (out ++ tellings t.between.talk.told.items) old.site old new
+      (message_values t.takes.parted.told.items) → AreOwn t.takes.parted.next (numbers (former ++ old.guests.items)) →
+      IsTurnedTo (behind_front t.hands.front base) (out ++ message_values t.between.talk.told.items) old.site old new
   attended_on at former base out old new t so_far own =
       let site = old.site in
-      let later = out ++ tellings t.between.talk.told.items in
+      let later = out ++ message_values t.between.talk.told.items in
       let wrote = behind_front t.hands.front base in
       let settled = t.hands.parted_from.settled in
       let writes = subst (λ (s : Site). AllZip (IsWritten contents s) t.hands.told t.hands.written) t.takes.site t.hands.writes in
@@ -1151,7 +1151,7 @@ module _ {S : Type 0} (remaining contents : S → Option (List ℕ)) (players : 
       let two : IsTalkAt players base out (Two remaining contents site came players former base out [] old.guests.items) t.takes.parted =
       at_with players base out (AreKept remaining contents site came former out old.guests.items)
       (Two remaining contents site came players former base out [] old.guests.items) t.takes.parted.desk t.takes.parted.wire.items
-      (tellings t.takes.parted.told.items) (λ steps kept. record {
+      (message_values t.takes.parted.told.items) (λ steps kept. record {
         before = record { served = tt; were = kept.were };
         behind = kept.served;
         known = λ c come. elim (kept.known c come) [ inl gone ↦ inl gone | inr one ↦ inr (inr one) ];
@@ -1160,9 +1160,9 @@ module _ {S : Type 0} (remaining contents : S → Option (List ℕ)) (players : 
       (tt, all_own_front t.takes.parted.next (numbers former) (numbers old.guests.items) apart)
       (own_back t.takes.parted.next (numbers former) (numbers old.guests.items) apart) two t.takes.attends in
       let attended : IsAt players base out (AreKept remaining contents site came former out t.takes.attended) t.between.talk.desk
-      t.between.talk.wire.items (tellings t.between.talk.told.items) =
+      t.between.talk.wire.items (message_values t.between.talk.told.items) =
       at_with players base out (Two remaining contents site came players former base out [] t.takes.attended)
-      (AreKept remaining contents site came former out t.takes.attended) t.between.talk.desk t.between.talk.wire.items (tellings t.between.talk.told.items)
+      (AreKept remaining contents site came former out t.takes.attended) t.between.talk.desk t.between.talk.wire.items (message_values t.between.talk.told.items)
       (λ steps two. record {
         served = two.behind;
         were = two.before.were;
@@ -1172,18 +1172,18 @@ module _ {S : Type 0} (remaining contents : S → Option (List ℕ)) (players : 
         ];
       }) said.0 in
       let looked : IsAt players base out (AreKept remaining contents site came former out t.between.guests.items) t.between.talk.desk
-      t.between.talk.wire.items (tellings t.between.talk.told.items) =
+      t.between.talk.wire.items (message_values t.between.talk.told.items) =
       at_with players base out (AreKept remaining contents site came former out t.takes.attended)
-      (AreKept remaining contents site came former out t.between.guests.items) t.between.talk.desk t.between.talk.wire.items (tellings t.between.talk.told.items)
+      (AreKept remaining contents site came former out t.between.guests.items) t.between.talk.desk t.between.talk.wire.items (message_values t.between.talk.told.items)
       (kept_same remaining contents site came former out IsLookedAfter
       (λ steps x y one was. served_looked remaining contents site came steps out x y one was) (λ x y one. one.number) t.takes.attended
       t.between.guests.items t.takes.looks) attended in
       let told = gone_out site former out base t.hands.front t.between.talk t.hands.rest.desk t.hands.rest.wire.items t.between.guests.items t.hands.told t.hands.delivers
       (written_on contents t.hands.front t.between.server new.server t.between.talk.wire.items t.hands.rest.wire.items t.hands.tells) t.hands.desk looked in
-      let none : tellings t.hands.rest.told.items ≡ [] = ap (λ (l : List Told). tellings l) t.hands.none in
+      let none : message_values t.hands.rest.told.items ≡ [] = ap (λ (l : List Message). message_values l) t.hands.none in
       let at_settled : IsAt players wrote later (Closing remaining contents site came players former later settled (λ steps. Unit {0}))
-      t.hands.rest.desk t.hands.rest.wire.items (tellings t.hands.rest.told.items) =
-      subst (λ (l : List Telling). IsAt players wrote later
+      t.hands.rest.desk t.hands.rest.wire.items (message_values t.hands.rest.told.items) =
+      subst (λ (l : List MessageValue). IsAt players wrote later
       (Closing remaining contents site came players former later settled (λ steps. Unit {0})) t.hands.rest.desk t.hands.rest.wire.items l) (sym none)
       (at_with players wrote later (AreKept remaining contents site came former later t.hands.told)
       (Closing remaining contents site came players former later settled (λ steps. Unit {0})) t.hands.rest.desk t.hands.rest.wire.items []
@@ -1212,11 +1212,11 @@ module _ {S : Type 0} (remaining contents : S → Option (List ℕ)) (players : 
         former = gone_of settled ++ former;
         talk = subst (λ (gs : List (Guest S)). IsAt players wrote later
             (AreKept remaining contents site came (gone_of settled ++ former) later gs) new.talk.desk new.talk.wire.items
-            (tellings new.talk.told.items)) (sym t.hands.parted_from.stay_is)
+            (message_values new.talk.told.items)) (sym t.hands.parted_from.stay_is)
             (at_with players wrote later
             (Closing remaining contents site came players former later settled (λ steps. Unit {0} × AllClosed settled later steps))
             (AreKept remaining contents site came (gone_of settled ++ former) later (stay_of settled)) new.talk.desk
-            new.talk.wire.items (tellings new.talk.told.items)
+            new.talk.wire.items (message_values new.talk.told.items)
             (λ steps was. kept_parted remaining contents site came former later settled steps was.kept was.more.1) closed.0.0);
         own = subst (λ (n : ℕ). AreOwn n (numbers ((gone_of settled ++ former) ++ new.guests.items))) (sym (closed.0.1 ∙ t.hands.next))
             (subst (λ (gs : List (Guest S)). AreOwn t.between.talk.next (numbers ((gone_of settled ++ former) ++ gs)))
@@ -1234,7 +1234,7 @@ module _ {S : Type 0} (remaining contents : S → Option (List ℕ)) (players : 
       let traffic = traffic_of o so_far.heard in
       let lines = lines_of_server remaining old.server t.takes.server_heard old.talk t.takes.heard t.takes.hears in
       let base = behind_loss t.takes.is_gone (behind_lines lines traffic) in
-      let later = out ++ tellings t.between.talk.told.items in
+      let later = out ++ message_values t.between.talk.told.items in
       let heard = heard_server remaining contents site came players former traffic out old.guests.items old.server t.takes.server_heard
       old.talk t.takes.heard so_far.talk t.takes.hears in
       let gone = parted remaining contents site came players former (behind_lines lines traffic) out old.guests.items t.takes.is_gone
@@ -1251,10 +1251,10 @@ module _ {S : Type 0} (remaining contents : S → Option (List ℕ)) (players : 
             (parted_held t.takes.is_gone t.takes.server_heard t.between.server t.takes.heard t.takes.parted t.takes.parts rest held))
             (heard_cut remaining o.taken so_far.heard old.server t.takes.server_heard old.talk t.takes.heard t.takes.hears so_far.cut);
         former = so.former;
-        logged = ap (λ (l : List (List ℕ)). l ++ texts_put t) so_far.logged ∙ sym (texts_both out (tellings t.between.talk.told.items));
+        logged = ap (λ (l : List (List ℕ)). l ++ texts_put t) so_far.logged ∙ sym (texts_both out (message_values t.between.talk.told.items));
         talk = subst (λ (w : Site). IsAt players (behind_front t.hands.front base) later
             (AreKept remaining contents w came so.former later new.guests.items) new.talk.desk new.talk.wire.items
-            (tellings new.talk.told.items)) (sym (t.hands.site ∙ t.takes.site)) so.talk;
+            (message_values new.talk.told.items)) (sym (t.hands.site ∙ t.takes.site)) so.talk;
         own = so.own;
         whole = told_whole contents t.hands.front t.between.server new.server t.between.talk.wire.items t.hands.rest.wire.items t.hands.tells
             (parted_whole t.takes.is_gone t.takes.server_heard t.between.server t.takes.heard t.takes.parted t.takes.parts
@@ -1264,24 +1264,24 @@ module _ {S : Type 0} (remaining contents : S → Option (List ℕ)) (players : 
 module _ {S : Type 0} (remaining contents : S → Option (List ℕ)) (players : List Player) where
   -- the same of a hall whose site and desk are as they were
   with_guests : (traffic : Traffic) (came more : Before S) (former : List (Guest S)) (old new : Hall S) → new.talk ≡ old.talk →
-      new.site ≡ old.site → (out : List Telling) →
+      new.site ≡ old.site → (out : List MessageValue) →
       ((steps : List Step) → AreKept remaining contents old.site came former out old.guests.items steps →
       AreKept remaining contents old.site more former out new.guests.items steps) →
       IsAt players traffic out (AreKept remaining contents old.site came former out old.guests.items) old.talk.desk
-      old.talk.wire.items (tellings old.talk.told.items) →
+      old.talk.wire.items (message_values old.talk.told.items) →
       IsAt players traffic out (AreKept remaining contents new.site more former out new.guests.items) new.talk.desk
-      new.talk.wire.items (tellings new.talk.told.items)
+      new.talk.wire.items (message_values new.talk.told.items)
   with_guests traffic came more former old new talk site out kept so_far =
       subst (λ (w : Site). IsAt players traffic out (AreKept remaining contents w more former out new.guests.items)
-      new.talk.desk new.talk.wire.items (tellings new.talk.told.items)) (sym site)
+      new.talk.desk new.talk.wire.items (message_values new.talk.told.items)) (sym site)
       (subst (λ (t : Talk). IsAt players traffic out (AreKept remaining contents old.site more former out new.guests.items)
-      t.desk t.wire.items (tellings t.told.items)) (sym talk)
+      t.desk t.wire.items (message_values t.told.items)) (sym talk)
       (at_with players traffic out (AreKept remaining contents old.site came former out old.guests.items)
       (AreKept remaining contents old.site more former out new.guests.items) old.talk.desk old.talk.wire.items
-      (tellings old.talk.told.items) kept so_far))
+      (message_values old.talk.told.items) kept so_far))
 
   -- one more stream by which a browser came
-  kept_came : (site : Site) (came : Before S) (stream : S) (former : List (Guest S)) (out : List Telling) (guests : List (Guest S))
+  kept_came : (site : Site) (came : Before S) (stream : S) (former : List (Guest S)) (out : List MessageValue) (guests : List (Guest S))
       (steps : List Step) → AreKept remaining contents site came former out guests steps →
       AreKept remaining contents site (came_more stream came) former out guests steps
   kept_came site came stream former out guests steps kept = record {
@@ -1291,7 +1291,7 @@ module _ {S : Type 0} (remaining contents : S → Option (List ℕ)) (players : 
   }
 
   -- and the browser that came by it
-  kept_more : (site : Site) (came : Before S) (stream : S) (former : List (Guest S)) (out : List Telling) (guests : List (Guest S))
+  kept_more : (site : Site) (came : Before S) (stream : S) (former : List (Guest S)) (out : List MessageValue) (guests : List (Guest S))
       (guest : Guest S) (steps : List Step) → IsNewGuest stream guest →
       AreKept remaining contents site came former out guests steps →
       AreKept remaining contents site (came_more stream came) former out (guests ++ guest ∷ []) steps
@@ -1370,12 +1370,12 @@ module _ {S : Type 0} (remaining contents : S → Option (List ℕ)) (players : 
         former = former;
         logged = so_far.logged;
         talk = subst (λ (gs : List (Guest S)). IsAt players traffic out (AreKept remaining contents new.site more former out gs)
-            new.talk.desk new.talk.wire.items (tellings new.talk.told.items)) (sym same)
+            new.talk.desk new.talk.wire.items (message_values new.talk.told.items)) (sym same)
             (subst (λ (t : Talk). IsAt players traffic out (AreKept remaining contents new.site more former out old.guests.items)
-            t.desk t.wire.items (tellings t.told.items)) (sym files.talk)
+            t.desk t.wire.items (message_values t.told.items)) (sym files.talk)
             (at_with players traffic out (AreKept remaining contents old.site came former out old.guests.items)
             (AreKept remaining contents new.site more former out old.guests.items) old.talk.desk old.talk.wire.items
-            (tellings old.talk.told.items) (λ steps kept. record {
+            (message_values old.talk.told.items) (λ steps kept. record {
               served = all_filed remaining contents old.site came new.site steps out old.guests.items kept.served;
               were = all_were_filed remaining contents old.site came new.site steps out former kept.were;
               known = kept.known;
@@ -1402,12 +1402,12 @@ module _ {S : Type 0} (remaining contents : S → Option (List ℕ)) (players : 
         logged = so_far.logged;
         talk = subst (λ (w : Site). IsAt players traffic out
             (AreKept remaining contents w came former out new.guests.items) new.talk.desk new.talk.wire.items
-            (tellings new.talk.told.items)) (sym renews.site)
+            (message_values new.talk.told.items)) (sym renews.site)
             (subst (λ (gs : List (Guest S)). IsAt players traffic out
             (AreKept remaining contents old.site came former out gs) new.talk.desk new.talk.wire.items
-            (tellings new.talk.told.items)) (sym same)
+            (message_values new.talk.told.items)) (sym same)
             (at_more players traffic out kept kept _ _ _ _ old.talk.desk new.talk.desk (Renewed later) (λ bytes. refl)
-            (goes_by remaining contents old.site came players former out (tellings old.talk.told.items) (Renewed later)
+            (goes_by remaining contents old.site came players former out (message_values old.talk.told.items) (Renewed later)
             old.guests.items (λ c. tt) (λ c. refl)) so_far.talk renews.talk.steps));
         own = subst (λ (n : ℕ). AreOwn n (numbers (former ++ new.guests.items))) (sym renews.talk.next)
             (subst (λ (gs : List (Guest S)). AreOwn old.talk.next (numbers (former ++ gs))) (sym same) so_far.own);
@@ -1435,12 +1435,12 @@ module _ {S : Type 0} (remaining contents : S → Option (List ℕ)) (players : 
         logged = so_far.logged;
         talk = subst (λ (w : Site). IsAt players (behind Here traffic) out
             (AreKept remaining contents w came former out new.guests.items) new.talk.desk new.talk.wire.items
-            (tellings new.talk.told.items)) (sym comes.site)
+            (message_values new.talk.told.items)) (sym comes.site)
             (subst (λ (gs : List (Guest S)). IsAt players (behind Here traffic) out
             (AreKept remaining contents old.site came former out gs) new.talk.desk new.talk.wire.items
-            (tellings new.talk.told.items)) (sym same)
+            (message_values new.talk.told.items)) (sym same)
             (at_anew players traffic out kept kept _ _ _ _ old.talk.desk new.talk.desk Here (λ bytes. refl)
-            (goes_by remaining contents old.site came players former out (tellings old.talk.told.items) Here old.guests.items
+            (goes_by remaining contents old.site came players former out (message_values old.talk.told.items) Here old.guests.items
             (λ c. tt) (λ c. refl)) so_far.talk comes.talk.steps comes.talk.nothing));
         own = subst (λ (n : ℕ). AreOwn n (numbers (former ++ new.guests.items))) (sym comes.talk.next)
             (subst (λ (gs : List (Guest S)). AreOwn old.talk.next (numbers (former ++ gs))) (sym same) so_far.own);
@@ -1468,7 +1468,7 @@ module _ {S : Type 0} (remaining contents : S → Option (List ℕ)) (players : 
       sent = sym begins.talk.wire;
       heard = refl;
       presences = refl;
-      tells = sym (ap tellings begins.talk.told);
+      tells = sym (ap message_values begins.talk.told);
       holds = subst (λ (gs : List (Guest S)). AreKept remaining contents now.site (record { streams = []; sites = [] }) [] [] gs []) (sym begins.guests)
           (record { served = tt; were = tt; known = λ c come. absurd (false≢true come) });
     };

@@ -7,8 +7,8 @@ use Rattle.std.specs.Io.KnownBytes.{Consumes, Appends}
 use Rattle.std.proofs.lemmas.Bool.{cases_Bool, false≢true}
 use Rattle.std.proofs.lemmas.Bool.Decides.{eqb_tells}
 use Rattle.websocket.specs.Content.{text as Text, ping as Ping}
-use Rattle.lobby_desk.specs.declared.telling.Told.{Told}
-use Rattle.lobby_desk.specs.Events.{Event, Opened, Closed, Said, Hurried, Heard, Gone, Here, Renewed, Linked, Telling, telling, tellings}
+use Rattle.lobby_desk.specs.declared.telling.Message.{Message}
+use Rattle.lobby_desk.specs.Events.{DeskInput, Opened, Closed, Said, Hurried, Heard, Gone, Here, Renewed, Linked, MessageValue, message_value, message_values}
 use Rattle.lobby_desk.specs.Who.{at_table}
 use Rattle.lobby_desk.specs.History.{Step}
 use Rattle.lobby_web.specs.declared.browser.Browser.{Browser}
@@ -32,22 +32,22 @@ pub is_same : (c : ℕ) → (c == c) ≡ true
 is_same c = elim (eqb_tells c c) [ inl both ↦ both.0 | inr both ↦ absurd (both.1 refl) ]
 
 -- an event that says nothing of what a connection said, and does not open it
-abbrev pub IsApart : ℕ → Event → Type 0
+abbrev pub IsApart : ℕ → DeskInput → Type 0
 IsApart c (Opened d) = d ≢ c
 IsApart c (Said d text) = d ≢ c
 IsApart c (Hurried d) = d ≢ c
 IsApart c (Linked d text players token) = d ≢ c
 IsApart c _ = Unit {0}
 
-abbrev pub ApartFrom : Option ℕ → Event → Type 0
+abbrev pub ApartFrom : Option ℕ → DeskInput → Type 0
 ApartFrom None e = Unit {0}
 ApartFrom (Some c) e = IsApart c e
 
-abbrev pub AreApart : List (Option ℕ) → Event → Type 0
+abbrev pub AreApart : List (Option ℕ) → DeskInput → Type 0
 AreApart [] e = Unit {0}
 AreApart (n ∷ ns) e = ApartFrom n e × AreApart ns e
 
-message_apart : (c : ℕ) (e : Event) (before : List Event) → IsApart c e → message_of c e before ≡ before
+message_apart : (c : ℕ) (e : DeskInput) (before : List DeskInput) → IsApart c e → message_of c e before ≡ before
 message_apart c (Opened d) before apart = ap (λ (b : Bool). if b then [] else before) (differs d c apart)
 message_apart c (Closed d) before apart = refl
 message_apart c (Said d text) before apart = ap (λ (b : Bool). if b then Said d text ∷ before else before) (differs d c apart)
@@ -59,7 +59,7 @@ message_apart c (Heard line) before apart = refl
 message_apart c Gone before apart = refl
 message_apart c Here before apart = refl
 
-opening_apart : (c : ℕ) (e : Event) → IsApart c e → is_opening c e ≡ false
+opening_apart : (c : ℕ) (e : DeskInput) → IsApart c e → is_opening c e ≡ false
 opening_apart c (Opened d) apart = differs d c apart
 opening_apart c (Closed d) apart = refl
 opening_apart c (Said d text) apart = refl
@@ -75,11 +75,11 @@ said_on : (n : Option ℕ) (s : Step) (steps : List Step) (past : List Doing) �
 said_on None s steps past apart said = said
 said_on (Some c) s steps past apart (opened, said) = (
   opened,
-  subst (λ (l : List Event). AllZip IsSaidAs (texts_given past) l)
+  subst (λ (l : List DeskInput). AllZip IsSaidAs (texts_given past) l)
       (sym (message_apart c s.event (messages_of c steps) apart)) said,
 )
 
-told_on : (n : Option ℕ) (s : Step) (steps : List Step) (out : List Telling) (past : List Doing) → ApartFrom n s.event →
+told_on : (n : Option ℕ) (s : Step) (steps : List Step) (out : List MessageValue) (past : List Doing) → ApartFrom n s.event →
     IsToldBy steps out n past → IsToldBy (s ∷ steps) out n past
 told_on None s steps out past apart told = told
 told_on (Some c) s steps out past apart told = record {
@@ -101,7 +101,7 @@ said_same (Some c) steps p q opened texts (was, said) = (
   subst (λ (l : List (List ℕ)). AllZip IsSaidAs l (messages_of c steps)) (sym texts) said,
 )
 
-told_same : (n : Option ℕ) (steps : List Step) (out : List Telling) (p q : List Doing) → texts_told q ≡ texts_told p →
+told_same : (n : Option ℕ) (steps : List Step) (out : List MessageValue) (p q : List Doing) → texts_told q ≡ texts_told p →
     IsToldBy steps out n p → IsToldBy steps out n q
 told_same None steps out p q texts told = texts ∙ told
 told_same (Some c) steps out p q texts told = record {
@@ -133,12 +133,12 @@ no_texts (Wrote site bytes ∷ past) closed = no_texts past closed
 
 -- ---- messages for a connection
 
-told_for_both : (c : ℕ) (a b : List Telling) → told_for c (a ++ b) ≡ told_for c a ++ told_for c b
+told_for_both : (c : ℕ) (a b : List MessageValue) → told_for c (a ++ b) ≡ told_for c a ++ told_for c b
 told_for_both c [] b = refl
 told_for_both c (t ∷ a) b = elim (cases_Bool (at_table t.to c)) [
   | inl is ↦
       ap (λ (u : Bool). if u then t ∷ told_for c (a ++ b) else told_for c (a ++ b)) is
-      ∙ (ap (λ (l : List Telling). t ∷ l) (told_for_both c a b)
+      ∙ (ap (λ (l : List MessageValue). t ∷ l) (told_for_both c a b)
       ∙ ap (λ (u : Bool). (if u then t ∷ told_for c a else told_for c a) ++ told_for c b) (sym is))
   | inr is ↦
       ap (λ (u : Bool). if u then t ∷ told_for c (a ++ b) else told_for c (a ++ b)) is
@@ -154,29 +154,29 @@ zip_both R (x ∷ xs) us [] vs none_such all = absurd none_such
 zip_both R (x ∷ xs) us (y ∷ ys) vs (one, more) all = (one, zip_both R xs us ys vs more all)
 
 -- one message more went out, which the connection was told, if it is for it
-told_further : (steps : List Step) (out : List Telling) (c : ℕ) (t : Telling) (texts : List (List ℕ)) (p q : List Doing) →
+told_further : (steps : List Step) (out : List MessageValue) (c : ℕ) (t : MessageValue) (texts : List (List ℕ)) (p q : List Doing) →
     texts_told q ≡ texts_told p ++ texts → AllZip IsToldAs (told_for c (t ∷ [])) texts → IsToldOf steps out c p →
     IsToldOf steps (out ++ t ∷ []) c q
 told_further steps out c t texts p q are new told = record {
   before = told.before;
   since = told.since ++ t ∷ [];
-  split = ap (λ (l : List Telling). l ++ t ∷ []) told.split ∙ append_assoc told.before told.since (t ∷ []);
+  split = ap (λ (l : List MessageValue). l ++ t ∷ []) told.split ∙ append_assoc told.before told.since (t ∷ []);
   early = told.early;
   told = subst (λ (l : List (List ℕ)). AllZip IsToldAs (told_for c (told.since ++ t ∷ [])) l) (sym are)
-      (subst (λ (l : List Telling). AllZip IsToldAs l (texts_told p ++ texts)) (sym (told_for_both c told.since (t ∷ [])))
+      (subst (λ (l : List MessageValue). AllZip IsToldAs l (texts_told p ++ texts)) (sym (told_for_both c told.since (t ∷ [])))
       (zip_both IsToldAs (told_for c told.since) (told_for c (t ∷ [])) (texts_told p) texts told.told new));
 }
 
-for_it : (c : ℕ) (t : Telling) (text : List ℕ) → at_table t.to c ≡ true → IsToldAs t text →
+for_it : (c : ℕ) (t : MessageValue) (text : List ℕ) → at_table t.to c ≡ true → IsToldAs t text →
     AllZip IsToldAs (told_for c (t ∷ [])) (text ∷ [])
 for_it c t text is made = subst (λ (b : Bool). AllZip IsToldAs (if b then t ∷ [] else []) (text ∷ [])) (sym is) (made, tt)
 
-not_for_it : (c : ℕ) (t : Telling) → at_table t.to c ≡ false → AllZip IsToldAs (told_for c (t ∷ [])) []
+not_for_it : (c : ℕ) (t : MessageValue) → at_table t.to c ≡ false → AllZip IsToldAs (told_for c (t ∷ [])) []
 not_for_it c t is = subst (λ (b : Bool). AllZip IsToldAs (if b then t ∷ [] else []) []) (sym is) tt
 
 -- ---- a connection that is gone
 
-closed_on : (s : Step) (steps : List Step) (until : List Telling) (n : Option ℕ) → WasClosed steps until n →
+closed_on : (s : Step) (steps : List Step) (until : List MessageValue) (n : Option ℕ) → WasClosed steps until n →
     WasClosed (s ∷ steps) until n
 closed_on s steps until None was = tt
 closed_on s steps until (Some c) was = record {
@@ -189,15 +189,15 @@ closed_on s steps until (Some c) was = record {
 }
 
 -- Of those who are lost the desk was told that they are gone.
-abbrev pub ClosedIf : Bool → List Step → List Telling → Option ℕ → Type 0
+abbrev pub ClosedIf : Bool → List Step → List MessageValue → Option ℕ → Type 0
 ClosedIf false steps until n = Unit {0}
 ClosedIf true steps until n = WasClosed steps until n
 
-abbrev pub AllClosed : {S : Type 0} → List (Guest S) → List Telling → List Step → Type 0
+abbrev pub AllClosed : {S : Type 0} → List (Guest S) → List MessageValue → List Step → Type 0
 AllClosed [] until steps = Unit {0}
 AllClosed (x ∷ xs) until steps = ClosedIf x.is_lost steps until x.number × AllClosed xs until steps
 
-pub closed_if_on : (lost : Bool) (s : Step) (steps : List Step) (until : List Telling) (n : Option ℕ) → ClosedIf lost steps until n →
+pub closed_if_on : (lost : Bool) (s : Step) (steps : List Step) (until : List MessageValue) (n : Option ℕ) → ClosedIf lost steps until n →
     ClosedIf lost (s ∷ steps) until n
 closed_if_on false s steps until n was = tt
 closed_if_on true s steps until n was = closed_on s steps until n was
@@ -224,10 +224,10 @@ site_more site came = record { streams = came.streams; sites = site ∷ came.sit
 -- ---- a browser that is connected
 
 module _ {S : Type 0} (remaining contents : S → Option (List ℕ)) (site : Site) (came : Before S) where
-  abbrev Served : List Step → List Telling → Option ℕ → Spot S → Type 0
+  abbrev Served : List Step → List MessageValue → Option ℕ → Spot S → Type 0
   Served steps out number now = IsServed remaining contents site came steps out number now
 
-  done_more : (steps : List Step) (out : List Telling) (n : Option ℕ) (d : Doing) (a b : Spot S) →
+  done_more : (steps : List Step) (out : List MessageValue) (n : Option ℕ) (d : Doing) (a b : Spot S) →
       ((past : List Doing) → IsQuiet d past) → IsAt site d → DoesAt remaining contents d a b → Served steps out n a → Served steps out n b
   done_more steps out n d a b quiet at does was = record {
     first = was.first;
@@ -242,19 +242,19 @@ module _ {S : Type 0} (remaining contents : S → Option (List ℕ)) (site : Sit
   }
 
   -- where its connection and its socket are as they were
-  stays_at : (steps : List Step) (out : List Telling) (n : Option ℕ) (old new : Guest S) → new.browser ≡ old.browser →
+  stays_at : (steps : List Step) (out : List MessageValue) (n : Option ℕ) (old new : Guest S) → new.browser ≡ old.browser →
       new.stream ≡ old.stream → Served steps out n (spot old) → Served steps out n (spot new)
   stays_at steps out n old new browser stream was =
       subst (λ (b : Browser). Served steps out n (record { stage = b.stage; stream = new.stream })) (sym browser)
       (subst (λ (s : S). Served steps out n (record { stage = old.browser.stage; stream = s })) (sym stream) was)
 
-  pub served_before : (steps : List Step) (out : List Telling) (old new : Guest S) → IsAsBefore old new →
+  pub served_before : (steps : List Step) (out : List MessageValue) (old new : Guest S) → IsAsBefore old new →
       Served steps out old.number (spot old) → Served steps out new.number (spot new)
   served_before steps out old new same was =
       subst (λ (n : Option ℕ). Served steps out n (spot new)) (sym same.number)
       (stays_at steps out old.number old new same.browser same.stream was)
 
-  pub served_read : (steps : List Step) (out : List Telling) (old new : Guest S) → IsRead remaining site old new →
+  pub served_read : (steps : List Step) (out : List MessageValue) (old new : Guest S) → IsRead remaining site old new →
       Served steps out old.number (spot old) → Served steps out new.number (spot new)
   served_read steps out old new reads was =
       subst (λ (n : Option ℕ). Served steps out n (spot new)) (sym reads.number) (elim reads.takes [
@@ -268,7 +268,7 @@ module _ {S : Type 0} (remaining contents : S → Option (List ℕ)) (site : Sit
             (λ past. record { opened = refl; given = refl; told = refl; late = λ so_far. so_far }) refl (reads.consumed, takes.0, takes.1) was
       ])
 
-  pub served_looked : (steps : List Step) (out : List Telling) (old new : Guest S) → IsLookedAfter old new →
+  pub served_looked : (steps : List Step) (out : List MessageValue) (old new : Guest S) → IsLookedAfter old new →
       Served steps out old.number (spot old) → Served steps out new.number (spot new)
   served_looked steps out old new looks was =
       subst (λ (n : Option ℕ). Served steps out n (spot new)) (sym looks.number) (elim looks.said [
@@ -277,7 +277,7 @@ module _ {S : Type 0} (remaining contents : S → Option (List ℕ)) (site : Sit
             (λ past. record { opened = refl; given = refl; told = append-nil (texts_told past); late = λ so_far. (inl refl, so_far) }) tt (looks.stream, refl, pings.1) was
       ])
 
-  pub served_written : (steps : List Step) (out : List Telling) (old new : Guest S) → IsWritten contents site old new →
+  pub served_written : (steps : List Step) (out : List MessageValue) (old new : Guest S) → IsWritten contents site old new →
       Served steps out old.number (spot old) → Served steps out new.number (spot new)
   served_written steps out old new written was =
       subst (λ (n : Option ℕ). Served steps out n (spot new)) (sym written.number) (elim written.goes [
@@ -292,12 +292,12 @@ module _ {S : Type 0} (remaining contents : S → Option (List ℕ)) (site : Sit
       ])
 
   -- what it gave next, and what the desk was told of that
-  pub gave_nothing : (steps : List Step) (out : List Telling) (n : Option ℕ) (a b : Spot S) →
+  pub gave_nothing : (steps : List Step) (out : List MessageValue) (n : Option ℕ) (a b : Spot S) →
       DoesAt remaining contents (Gave None) a b → Served steps out n a → Served steps out n b
   gave_nothing steps out n a b does was =
       done_more steps out n (Gave None) a b (λ past. record { opened = refl; given = refl; told = refl; late = λ so_far. so_far }) tt does was
 
-  pub gave_again : (steps : List Step) (out : List Telling) (c : ℕ) (a b : Spot S) →
+  pub gave_again : (steps : List Step) (out : List MessageValue) (c : ℕ) (a b : Spot S) →
       DoesAt remaining contents (Gave (Some heards.Opened)) a b → Served steps out (Some c) a → Served steps out (Some c) b
   gave_again steps out c a b does was = record {
     first = was.first;
@@ -311,7 +311,7 @@ module _ {S : Type 0} (remaining contents : S → Option (List ℕ)) (site : Sit
     told = told_same (Some c) steps out was.past (Gave (Some heards.Opened) ∷ was.past) refl was.told;
   }
 
-  pub gave_early : (steps : List Step) (out : List Telling) (text : Vec ℕ Global) (a b : Spot S) →
+  pub gave_early : (steps : List Step) (out : List MessageValue) (text : Vec ℕ Global) (a b : Spot S) →
       DoesAt remaining contents (Gave (Some (heards.Text text))) a b → Served steps out None a → Served steps out None b
   gave_early steps out text a b does was = record {
     first = was.first;
@@ -325,13 +325,13 @@ module _ {S : Type 0} (remaining contents : S → Option (List ℕ)) (site : Sit
     told = was.told;
   }
 
-  pub gave_opened : (steps : List Step) (s : Step) (out t : List Telling) (c : ℕ) (a b : Spot S) → s.event ≡ Opened c →
+  pub gave_opened : (steps : List Step) (s : Step) (out t : List MessageValue) (c : ℕ) (a b : Spot S) → s.event ≡ Opened c →
       all_tells steps ≡ out ++ t → DoesAt remaining contents (Gave (Some heards.Opened)) a b → Served steps out None a →
       Served (s ∷ steps) out (Some c) b
   gave_opened steps s out t c a b is tells does was =
       let own : is_opening c s.event ≡ true = ap (is_opening c) is ∙ is_same c in
       let none : message_of c s.event (messages_of c steps) ≡ [] =
-      ap (λ (e : Event). message_of c e (messages_of c steps)) is
+      ap (λ (e : DeskInput). message_of c e (messages_of c steps)) is
       ∙ ap (λ (u : Bool). if u then [] else messages_of c steps) (is_same c) in
       let whole : length out ≤ length (all_tells steps) = omega (arith, ap length tells, length-append out t) in
       record {
@@ -345,7 +345,7 @@ module _ {S : Type 0} (remaining contents : S → Option (List ℕ)) (site : Sit
         said = (
           refl,
           subst (λ (l : List (List ℕ)). AllZip IsSaidAs l (messages_of c (s ∷ steps))) (sym (no_texts was.past was.said))
-              (subst (λ (l : List Event). AllZip IsSaidAs [] l) (sym none) tt),
+              (subst (λ (l : List DeskInput). AllZip IsSaidAs [] l) (sym none) tt),
         );
         told = record {
           before = out;
@@ -356,7 +356,7 @@ module _ {S : Type 0} (remaining contents : S → Option (List ℕ)) (site : Sit
         };
       }
 
-  said_as : (how : Saying) (c : ℕ) (text shown : List ℕ) (before : List Event) → (IsUtf8 text → shown ≡ text) →
+  said_as : (how : Saying) (c : ℕ) (text shown : List ℕ) (before : List DeskInput) → (IsUtf8 text → shown ≡ text) →
       (¬ IsUtf8 text → shown ≡ []) → (texts : List (List ℕ)) → AllZip IsSaidAs texts before →
       AllZip IsSaidAs (text ∷ texts) (message_of c (saying how c shown) before)
   said_as TooFast c text shown before is is_not texts said =
@@ -373,7 +373,7 @@ module _ {S : Type 0} (remaining contents : S → Option (List ℕ)) (site : Sit
   not_opening (WithLink players token) c shown = refl
   not_opening InTime c shown = refl
 
-  pub gave_text : (steps : List Step) (s : Step) (out : List Telling) (c : ℕ) (how : Saying) (text : Vec ℕ Global) (shown : List ℕ)
+  pub gave_text : (steps : List Step) (s : Step) (out : List MessageValue) (c : ℕ) (how : Saying) (text : Vec ℕ Global) (shown : List ℕ)
       (a b : Spot S) → s.event ≡ saying how c shown → (IsUtf8 text.items → shown ≡ text.items) →
       (¬ IsUtf8 text.items → shown ≡ []) → DoesAt remaining contents (Gave (Some (heards.Text text))) a b →
       Served steps out (Some c) a → Served (s ∷ steps) out (Some c) b
@@ -392,7 +392,7 @@ module _ {S : Type 0} (remaining contents : S → Option (List ℕ)) (site : Sit
           opened,
           subst (λ (u : Bool). AllZip IsSaidAs (texts_more (Some (heards.Text text)) u (texts_given was.past))
               (message_of c s.event (messages_of c steps))) (sym opened)
-              (subst (λ (e : Event). AllZip IsSaidAs (text.items ∷ texts_given was.past) (message_of c e (messages_of c steps)))
+              (subst (λ (e : DeskInput). AllZip IsSaidAs (text.items ∷ texts_given was.past) (message_of c e (messages_of c steps)))
               (sym is) (said_as how c text.items shown (messages_of c steps) text_is text_is_not (texts_given was.past) said)),
         );
         told = record {
@@ -406,10 +406,10 @@ module _ {S : Type 0} (remaining contents : S → Option (List ℕ)) (site : Sit
       }
 
   -- one message goes out of the desk's hands
-  served_one : (n : Option ℕ) (steps : List Step) (out : List Telling) (told : Told) (made : Made) (old new : Guest S) →
+  served_one : (n : Option ℕ) (steps : List Step) (out : List MessageValue) (told : Message) (made : Made) (old new : Guest S) →
       IsMadeOf told made → new.stream ≡ old.stream →
       IsSaidIf (is_for n made.to.items) (string_bytes made.text) old.browser new.browser → Served steps out n (spot old) →
-      Served steps (out ++ telling told ∷ []) n (spot new)
+      Served steps (out ++ message_value told ∷ []) n (spot new)
   served_one None steps out told made old new is stream same was =
       let so = stays_at steps out None old new same stream was in
       record {
@@ -424,7 +424,7 @@ module _ {S : Type 0} (remaining contents : S → Option (List ℕ)) (site : Sit
         told = so.told;
       }
   served_one (Some c) steps out told made old new is stream said was =
-      let to : at_table made.to.items c ≡ at_table (telling told).to c = ap (λ l. at_table l.items c) is.to in
+      let to : at_table made.to.items c ≡ at_table (message_value told).to c = ap (λ l. at_table l.items c) is.to in
       elim (cases_Bool (at_table made.to.items c)) [
         | inl for_c ↦
             let (answer, says) = subst (λ (u : Bool). IsSaidIf u (string_bytes made.text) old.browser new.browser) for_c said in
@@ -437,9 +437,9 @@ module _ {S : Type 0} (remaining contents : S → Option (List ℕ)) (site : Sit
               sites = at_more site came.sites (WasTold (Text (string_bytes made.text)) answer) was.past tt was.sites;
               late = (inr was.said.0, was.late);
               said = was.said;
-              told = told_further steps out c (telling told) (string_bytes made.text ∷ []) was.past
+              told = told_further steps out c (message_value told) (string_bytes made.text ∷ []) was.past
                   (WasTold (Text (string_bytes made.text)) answer ∷ was.past) refl
-                  (for_it c (telling told) (string_bytes made.text) (sym to ∙ for_c) is.text) was.told;
+                  (for_it c (message_value told) (string_bytes made.text) (sym to ∙ for_c) is.text) was.told;
             }
         | inr not_for_c ↦
             let same = subst (λ (u : Bool). IsSaidIf u (string_bytes made.text) old.browser new.browser) not_for_c said in
@@ -453,32 +453,32 @@ module _ {S : Type 0} (remaining contents : S → Option (List ℕ)) (site : Sit
               sites = so.sites;
               late = so.late;
               said = so.said;
-              told = told_further steps out c (telling told) [] so.past so.past (sym (append-nil (texts_told so.past)))
-                  (not_for_it c (telling told) (sym to ∙ not_for_c)) so.told;
+              told = told_further steps out c (message_value told) [] so.past so.past (sym (append-nil (texts_told so.past)))
+                  (not_for_it c (message_value told) (sym to ∙ not_for_c)) so.told;
             }
       ]
 
-  pub served_told : (steps : List Step) (out : List Telling) (told : List Told) (made : List Made) (old new : Guest S) →
+  pub served_told : (steps : List Step) (out : List MessageValue) (told : List Message) (made : List Made) (old new : Guest S) →
       AllZip IsMadeOf told made → AreTold made old new → Served steps out old.number (spot old) →
-      Served steps (out ++ tellings told) new.number (spot new)
+      Served steps (out ++ message_values told) new.number (spot new)
   served_told steps out [] [] old new none same was =
-      subst (λ (l : List Telling). Served steps l new.number (spot new)) (sym (append-nil out))
+      subst (λ (l : List MessageValue). Served steps l new.number (spot new)) (sym (append-nil out))
       (subst (λ (g : Guest S). Served steps out g.number (spot g)) (sym same) was)
   served_told steps out [] (m ∷ made) old new none_such are was = absurd none_such
   served_told steps out (t ∷ told) [] old new none_such are was = absurd none_such
   served_told steps out (t ∷ told) (m ∷ made) old new (one, all) (between, is, are) was =
-      let mid : Served steps (out ++ telling t ∷ []) between.number (spot between) =
-      subst (λ (n : Option ℕ). Served steps (out ++ telling t ∷ []) n (spot between)) (sym is.number)
+      let mid : Served steps (out ++ message_value t ∷ []) between.number (spot between) =
+      subst (λ (n : Option ℕ). Served steps (out ++ message_value t ∷ []) n (spot between)) (sym is.number)
       (served_one old.number steps out t m old between one is.stream is.said was) in
-      subst (λ (l : List Telling). Served steps l new.number (spot new)) (append_assoc out (telling t ∷ []) (tellings told))
-      (served_told steps (out ++ telling t ∷ []) told made between new all are mid)
+      subst (λ (l : List MessageValue). Served steps l new.number (spot new)) (append_assoc out (message_value t ∷ []) (message_values told))
+      (served_told steps (out ++ message_value t ∷ []) told made between new all are mid)
 
   -- ---- all of them
 
-  abbrev pub AllServed : List Step → List Telling → List (Guest S) → Type 0
+  abbrev pub AllServed : List Step → List MessageValue → List (Guest S) → Type 0
   AllServed steps out guests = AreServed remaining contents site came steps out guests
 
-  pub served_on : (s : Step) (steps : List Step) (out : List Telling) (n : Option ℕ) (now : Spot S) → ApartFrom n s.event →
+  pub served_on : (s : Step) (steps : List Step) (out : List MessageValue) (n : Option ℕ) (now : Spot S) → ApartFrom n s.event →
       Served steps out n now → Served (s ∷ steps) out n now
   served_on s steps out n now apart was = record {
     first = was.first;
@@ -492,7 +492,7 @@ module _ {S : Type 0} (remaining contents : S → Option (List ℕ)) (site : Sit
     told = told_on n s steps out was.past apart was.told;
   }
 
-  pub all_served_zip : (steps : List Step) (out after : List Telling) (R : Guest S → Guest S → Type 0) →
+  pub all_served_zip : (steps : List Step) (out after : List MessageValue) (R : Guest S → Guest S → Type 0) →
       ((x y : Guest S) → R x y → Served steps out x.number (spot x) → Served steps after y.number (spot y)) →
       (xs ys : List (Guest S)) → AllZip R xs ys → AllServed steps out xs → AllServed steps after ys
   all_served_zip steps out after R each [] [] none were = tt
@@ -501,7 +501,7 @@ module _ {S : Type 0} (remaining contents : S → Option (List ℕ)) (site : Sit
   all_served_zip steps out after R each (x ∷ xs) (y ∷ ys) (one, all) (was, were) =
       (each x y one was, all_served_zip steps out after R each xs ys all were)
 
-  pub all_served_filter : (test : Guest S → Bool) (steps : List Step) (out : List Telling) (guests : List (Guest S)) →
+  pub all_served_filter : (test : Guest S → Bool) (steps : List Step) (out : List MessageValue) (guests : List (Guest S)) →
       AllServed steps out guests → AllServed steps out (filter test guests)
   all_served_filter test steps out [] were = tt
   all_served_filter test steps out (x ∷ xs) (was, were) = elim (cases_Bool (test x)) [
@@ -511,13 +511,13 @@ module _ {S : Type 0} (remaining contents : S → Option (List ℕ)) (site : Sit
         (all_served_filter test steps out xs were)
   ]
 
-  pub all_served_more : (steps : List Step) (out : List Telling) (guests : List (Guest S)) (guest : Guest S) →
+  pub all_served_more : (steps : List Step) (out : List MessageValue) (guests : List (Guest S)) (guest : Guest S) →
       AllServed steps out guests → Served steps out guest.number (spot guest) → AllServed steps out (guests ++ guest ∷ [])
   all_served_more steps out [] guest none one = (one, tt)
   all_served_more steps out (x ∷ xs) guest (was, were) one = (was, all_served_more steps out xs guest were one)
 
 module _ {S : Type 0} (remaining contents : S → Option (List ℕ)) (site : Site) (came : Before S) where
-  pub all_served_on : (s : Step) (steps : List Step) (out : List Telling) (guests : List (Guest S)) →
+  pub all_served_on : (s : Step) (steps : List Step) (out : List MessageValue) (guests : List (Guest S)) →
       AreApart (numbers guests) s.event → AreServed remaining contents site came steps out guests →
       AreServed remaining contents site came (s ∷ steps) out guests
   all_served_on s steps out [] apart were = tt
@@ -525,7 +525,7 @@ module _ {S : Type 0} (remaining contents : S → Option (List ℕ)) (site : Sit
       (served_on remaining contents site came s steps out x.number (spot x) one was, all_served_on s steps out xs all were)
 
   -- one more stream by which a browser came
-  served_came : (stream : S) (steps : List Step) (out : List Telling) (n : Option ℕ) (now : Spot S) →
+  served_came : (stream : S) (steps : List Step) (out : List MessageValue) (n : Option ℕ) (now : Spot S) →
       IsServed remaining contents site came steps out n now → IsServed remaining contents site (came_more stream came) steps out n now
   served_came stream steps out n now was = record {
     first = was.first;
@@ -539,14 +539,14 @@ module _ {S : Type 0} (remaining contents : S → Option (List ℕ)) (site : Sit
     told = was.told;
   }
 
-  pub all_came : (stream : S) (steps : List Step) (out : List Telling) (guests : List (Guest S)) →
+  pub all_came : (stream : S) (steps : List Step) (out : List MessageValue) (guests : List (Guest S)) →
       AreServed remaining contents site came steps out guests → AreServed remaining contents site (came_more stream came) steps out guests
   all_came stream steps out [] were = tt
   all_came stream steps out (x ∷ xs) (was, were) =
       (served_came stream steps out x.number (spot x) was, all_came stream steps out xs were)
 
   -- another site is served
-  served_filed : (new : Site) (steps : List Step) (out : List Telling) (n : Option ℕ) (now : Spot S) →
+  served_filed : (new : Site) (steps : List Step) (out : List MessageValue) (n : Option ℕ) (now : Spot S) →
       IsServed remaining contents site came steps out n now → IsServed remaining contents new (site_more site came) steps out n now
   served_filed new steps out n now was = record {
     first = was.first;
@@ -560,13 +560,13 @@ module _ {S : Type 0} (remaining contents : S → Option (List ℕ)) (site : Sit
     told = was.told;
   }
 
-  pub all_filed : (new : Site) (steps : List Step) (out : List Telling) (guests : List (Guest S)) →
+  pub all_filed : (new : Site) (steps : List Step) (out : List MessageValue) (guests : List (Guest S)) →
       AreServed remaining contents site came steps out guests → AreServed remaining contents new (site_more site came) steps out guests
   all_filed new steps out [] were = tt
   all_filed new steps out (x ∷ xs) (was, were) =
       (served_filed new steps out x.number (spot x) was, all_filed new steps out xs were)
 
-  pub served_new : (stream : S) (steps : List Step) (out : List Telling) (guest : Guest S) → IsNewGuest stream guest →
+  pub served_new : (stream : S) (steps : List Step) (out : List MessageValue) (guest : Guest S) → IsNewGuest stream guest →
       IsServed remaining contents site (came_more stream came) steps out guest.number (spot guest)
   served_new stream steps out guest is =
       subst (λ (n : Option ℕ). IsServed remaining contents site (came_more stream came) steps out n (spot guest)) (sym is.number) (record {
@@ -583,7 +583,7 @@ module _ {S : Type 0} (remaining contents : S → Option (List ℕ)) (site : Sit
 
   -- ---- browsers that were let go
 
-  pub all_were_on : (s : Step) (steps : List Step) (out : List Telling) (guests : List (Guest S)) →
+  pub all_were_on : (s : Step) (steps : List Step) (out : List MessageValue) (guests : List (Guest S)) →
       AreApart (numbers guests) s.event → WereServed remaining contents site came steps out guests →
       WereServed remaining contents site came (s ∷ steps) out guests
   all_were_on s steps out [] apart were = tt
@@ -599,21 +599,21 @@ module _ {S : Type 0} (remaining contents : S → Option (List ℕ)) (site : Sit
   )
 
   -- more went out
-  pub all_were_out : (steps : List Step) (out more : List Telling) (guests : List (Guest S)) →
+  pub all_were_out : (steps : List Step) (out more : List MessageValue) (guests : List (Guest S)) →
       WereServed remaining contents site came steps out guests → WereServed remaining contents site came steps (out ++ more) guests
   all_were_out steps out more [] were = tt
   all_were_out steps out more (x ∷ xs) (was, were) = (
     record {
       until = was.until;
       after = was.after ++ more;
-      split = ap (λ (l : List Telling). l ++ more) was.split ∙ append_assoc was.until was.after more;
+      split = ap (λ (l : List MessageValue). l ++ more) was.split ∙ append_assoc was.until was.after more;
       served = was.served;
       closed = was.closed;
     },
     all_were_out steps out more xs were,
   )
 
-  pub all_were_came : (stream : S) (steps : List Step) (out : List Telling) (guests : List (Guest S)) →
+  pub all_were_came : (stream : S) (steps : List Step) (out : List MessageValue) (guests : List (Guest S)) →
       WereServed remaining contents site came steps out guests →
       WereServed remaining contents site (came_more stream came) steps out guests
   all_were_came stream steps out [] were = tt
@@ -628,7 +628,7 @@ module _ {S : Type 0} (remaining contents : S → Option (List ℕ)) (site : Sit
     all_were_came stream steps out xs were,
   )
 
-  pub all_were_filed : (new : Site) (steps : List Step) (out : List Telling) (guests : List (Guest S)) →
+  pub all_were_filed : (new : Site) (steps : List Step) (out : List MessageValue) (guests : List (Guest S)) →
       WereServed remaining contents site came steps out guests →
       WereServed remaining contents new (site_more site came) steps out guests
   all_were_filed new steps out [] were = tt
@@ -644,7 +644,7 @@ module _ {S : Type 0} (remaining contents : S → Option (List ℕ)) (site : Sit
   )
 
   -- who is let go, in front of those who were
-  pub all_let_go : (steps : List Step) (out : List Telling) (guests former : List (Guest S)) →
+  pub all_let_go : (steps : List Step) (out : List MessageValue) (guests former : List (Guest S)) →
       AreServed remaining contents site came steps out guests → AllClosed guests out steps →
       WereServed remaining contents site came steps out former →
       WereServed remaining contents site came steps out (filter (λ (guest : Guest S). guest.is_lost) guests ++ former)

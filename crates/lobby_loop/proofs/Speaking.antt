@@ -18,46 +18,46 @@ use Rattle.lobby_web.specs.declared.socket.Unsaid.{Unsaid}
 use Rattle.lobby_web.specs.declared.socket.Unsaid.TheVariants.{NotOpen, NotText, Slow, Memory}
 use Rattle.lobby_web.specs.Browsing.{web_config, pending, AreAnswered, Serves, Answers, IsNew, TakesBytes, HearsNext, SaysTo, Writes}
 use Rattle.lobby_web.specs.Frames.{frames_bytes}
-use Rattle.lobby_web.specs.Happening.{Event, came, asked, said, wrote, Does, Happen, KeepsOpen, AllKeepOpen, Heeds, Utters, text_of, text_if, is_close}
+use Rattle.lobby_web.specs.Happening.{SocketStep, came, asked, said, wrote, Does, Happen, KeepsOpen, AllKeepOpen, Heeds, Utters, text_of, text_if, is_close}
 use Rattle.lobby_web.specs.Happening as life
 use Rattle.lobby_web.specs.Talking.{IsFresh, Hears, Says, may_say}
 use Rattle.lobby_web.proofs.LifeLemmas.{heeded}
 use Rattle.lobby_web.proofs.SayingLemmas.{uttered}
 use Rattle.lobby_web.proofs.ShutLemmas.{stays-shut, unsaid-shut}
-use Rattle.lobby_desk.specs.Events.{Telling}
+use Rattle.lobby_desk.specs.Events.{MessageValue}
 use Rattle.lobby_desk.specs.History.{Step}
 use Rattle.lobby_loop.specs.Doing.{Doing, Took, Tried, Gave, WasTold, Wrote, Spot, HasDone, Before, has_opened, texts_more, texts_given, texts_told, IsLate, AreLate, IsServed as IsGuestServed}
 use Rattle.lobby_loop.specs.Speaking.{bytes_came, bytes_written, texts_said, in_order, AreAnsweredBy, IsSiteIn, IsSilent, IsByHttp, IsSwitched, Speaks}
 
 -- ---- one event more at a socket's end
 
-happen_more : (events : List Event) (e : Event) (a b c : Socket) → Happen events a b → Does e b c → Happen (events ++ e ∷ []) a c
+happen_more : (events : List SocketStep) (e : SocketStep) (a b c : Socket) → Happen events a b → Does e b c → Happen (events ++ e ∷ []) a c
 happen_more [] e a b c happen does = (c, subst (λ (s : Socket). Does e s c) happen does, refl)
 happen_more (x ∷ xs) e a b c (mid, first, rest) does = (mid, first, happen_more xs e mid b c rest does)
 
-keeps_more : (events : List Event) (e : Event) → AllKeepOpen events → KeepsOpen e → AllKeepOpen (events ++ e ∷ [])
+keeps_more : (events : List SocketStep) (e : SocketStep) → AllKeepOpen events → KeepsOpen e → AllKeepOpen (events ++ e ∷ [])
 keeps_more [] e all one = (one, tt)
 keeps_more (x ∷ xs) e (first, all) one = (first, keeps_more xs e all one)
 
-bytes_more : (events : List Event) (e : Event) → life.all_bytes (events ++ e ∷ []) ≡ life.all_bytes events ++ life.bytes_in e
+bytes_more : (events : List SocketStep) (e : SocketStep) → life.all_bytes (events ++ e ∷ []) ≡ life.all_bytes events ++ life.bytes_in e
 bytes_more [] e = append-nil (life.bytes_in e)
 bytes_more (x ∷ xs) e =
     ap (λ (l : List ℕ). life.bytes_in x ++ l) (bytes_more xs e)
     ∙ sym (append_assoc (life.bytes_in x) (life.all_bytes xs) (life.bytes_in e))
 
-written_more : (events : List Event) (e : Event) → life.all_written (events ++ e ∷ []) ≡ life.all_written events ++ life.bytes_out e
+written_more : (events : List SocketStep) (e : SocketStep) → life.all_written (events ++ e ∷ []) ≡ life.all_written events ++ life.bytes_out e
 written_more [] e = append-nil (life.bytes_out e)
 written_more (x ∷ xs) e =
     ap (λ (l : List ℕ). life.bytes_out x ++ l) (written_more xs e)
     ∙ sym (append_assoc (life.bytes_out x) (life.all_written xs) (life.bytes_out e))
 
-texts_given_more : (events : List Event) (e : Event) → life.all_texts (events ++ e ∷ []) ≡ life.all_texts events ++ life.texts_given e
+texts_given_more : (events : List SocketStep) (e : SocketStep) → life.all_texts (events ++ e ∷ []) ≡ life.all_texts events ++ life.texts_given e
 texts_given_more [] e = append-nil (life.texts_given e)
 texts_given_more (x ∷ xs) e =
     ap (λ (l : List (List ℕ)). life.texts_given x ++ l) (texts_given_more xs e)
     ∙ sym (append_assoc (life.texts_given x) (life.all_texts xs) (life.texts_given e))
 
-texts_said_more : (events : List Event) (e : Event) → life.all_said (events ++ e ∷ []) ≡ life.all_said events ++ life.texts_said e
+texts_said_more : (events : List SocketStep) (e : SocketStep) → life.all_said (events ++ e ∷ []) ≡ life.all_said events ++ life.texts_said e
 texts_said_more [] e = append-nil (life.texts_said e)
 texts_said_more (x ∷ xs) e =
     ap (λ (l : List (List ℕ)). life.texts_said x ++ l) (texts_said_more xs e)
@@ -117,7 +117,7 @@ record OnSocket (past : List Doing) (socket : Socket) : Type 0 where
   fresh : IsFresh first
   input : first.input.items ≡ last.unread
   output : first.output.items ≡ last.pending
-  events : List Event
+  events : List SocketStep
   keeps : AllKeepOpen events
   happen : Happen events first socket
   came_is : bytes_came past ≡ front ++ life.all_bytes events
@@ -134,7 +134,7 @@ Stands past (At.Socket socket) = OnSocket past socket
 Stands past At.Over = IsSilent past
 
 -- how what was done and what happened agree
-record Agrees (past : List Doing) (d : Doing) (e : Event) : Type 0 where
+record Agrees (past : List Doing) (d : Doing) (e : SocketStep) : Type 0 where
   comes : bytes_came (d ∷ past) ≡ bytes_came past ++ life.bytes_in e
   writes : bytes_written (d ∷ past) ≡ bytes_written past ++ life.bytes_out e
   gives : in_order (texts_given (d ∷ past)) ≡ in_order (texts_given past) ++ life.texts_given e
@@ -145,7 +145,7 @@ more_behind : {A : Type 0} (all front before one new : List A) → all ≡ front
 more_behind all front before one new is more =
     ap (λ l. l ++ one) is ∙ (append_assoc front before one ∙ ap (λ l. front ++ l) (sym more))
 
-on_more : (past : List Doing) (d : Doing) (e : Event) (old new : Socket) → KeepsOpen e → Does e old new →
+on_more : (past : List Doing) (d : Doing) (e : SocketStep) (old new : Socket) → KeepsOpen e → Does e old new →
     Agrees past d e → (has_opened (d ∷ past) ≡ false → new.is_told ≡ false) → Misses (d ∷ past) new → OnSocket past old →
     OnSocket (d ∷ past) new
 on_more past d e old new keeps does agrees untold misses was = record {
@@ -172,7 +172,7 @@ on_more past d e old new keeps does agrees untold misses was = record {
 }
 
 -- nothing was to be told, and nothing was
-misses_on : (past : List Doing) (d : Doing) (e : Event) (old new : Socket) → Does e old new → texts_told (d ∷ past) ≡ texts_told past →
+misses_on : (past : List Doing) (d : Doing) (e : SocketStep) (old new : Socket) → Does e old new → texts_told (d ∷ past) ≡ texts_told past →
     texts_said (d ∷ past) ≡ texts_said past → Misses past old → Misses (d ∷ past) new
 misses_on past d e old new does no_told no_said was = record {
   missed = was.missed;
@@ -479,7 +479,7 @@ speaks_at past (At.Socket socket) was =
 speaks_at past At.Over stands = stands
 
 module _ {S : Type 0} (remaining contents : S → Option (List ℕ)) (site : Site) where
-  pub served_speaks : (older : Before S) (steps : List Step) (out : List Telling) (number : Option ℕ) (now : Spot S)
+  pub served_speaks : (older : Before S) (steps : List Step) (out : List MessageValue) (number : Option ℕ) (now : Spot S)
       (served : IsGuestServed remaining contents site older steps out number now) → Speaks served.past now.stage
   served_speaks older steps out number now served =
       speaks_at served.past now.stage

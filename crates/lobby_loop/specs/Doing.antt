@@ -3,7 +3,7 @@ use Rattle.std.specs.Prelude.{ℕ, ◌≡◌, ◌≤◌, ◌⊎◌, ◌==◌, Bo
 use Rattle.std.specs.List.{AllZip}
 use Rattle.std.specs.Io.KnownBytes.{Consumes, Appends}
 use Rattle.websocket.specs.Content.{Content}
-use Rattle.lobby_desk.specs.Events.{Event, Opened, Closed, Said, Hurried, Linked, Telling}
+use Rattle.lobby_desk.specs.Events.{DeskInput, Opened, Closed, Said, Hurried, Linked, MessageValue}
 use Rattle.lobby_desk.specs.Who.{at_table}
 use Rattle.lobby_desk.specs.History.{Step}
 use Rattle.lobby_web.specs.declared.browser.Stage.{Stage}
@@ -123,19 +123,19 @@ AreLate (Wrote site bytes ∷ past) = AreLate past
 -- ---- what the desk has of it
 
 -- what a connection has said since it came, the newest first
-abbrev pub message_of : ℕ → Event → List Event → List Event
+abbrev pub message_of : ℕ → DeskInput → List DeskInput → List DeskInput
 message_of c (Opened d) before = if d == c then [] else before
 message_of c (Said d text) before = if d == c then Said d text ∷ before else before
 message_of c (Hurried d) before = if d == c then Hurried d ∷ before else before
 message_of c (Linked d text players token) before = if d == c then Linked d text players token ∷ before else before
 message_of c _ before = before
 
-abbrev pub messages_of : ℕ → List Step → List Event
+abbrev pub messages_of : ℕ → List Step → List DeskInput
 messages_of c [] = []
 messages_of c (s ∷ past) = message_of c s.event (messages_of c past)
 
 -- A text, as the desk took it: what is no text as the empty one, and nothing of one that came too fast.
-abbrev pub IsSaidAs : List ℕ → Event → Type 0
+abbrev pub IsSaidAs : List ℕ → DeskInput → Type 0
 IsSaidAs text (Said c shown) = (IsUtf8 text → shown ≡ text) × (¬ IsUtf8 text → shown ≡ [])
 IsSaidAs text (Hurried c) = Unit {0}
 IsSaidAs text (Linked c shown players token) = (IsUtf8 text → shown ≡ text) × (¬ IsUtf8 text → shown ≡ [])
@@ -149,16 +149,16 @@ IsSaidBy steps (Some c) past =
     (has_opened past ≡ true) × AllZip IsSaidAs (texts_given past) (messages_of c steps)
 
 -- all that the desk told connections, in its order, and that of it which is for one
-abbrev pub all_tells : List Step → List Telling
+abbrev pub all_tells : List Step → List MessageValue
 all_tells [] = []
 all_tells (s ∷ past) = all_tells past ++ s.tells
 
-abbrev pub told_for : ℕ → List Telling → List Telling
+abbrev pub told_for : ℕ → List MessageValue → List MessageValue
 told_for c [] = []
 told_for c (t ∷ tells) = if at_table t.to c then t ∷ told_for c tells else told_for c tells
 
 -- what came and went before a connection came, the last time
-abbrev pub is_opening : ℕ → Event → Bool
+abbrev pub is_opening : ℕ → DeskInput → Bool
 is_opening c (Opened d) = d == c
 is_opening c _ = false
 
@@ -167,19 +167,19 @@ before_opening c [] = []
 before_opening c (s ∷ past) = if is_opening c s.event then past else before_opening c past
 
 -- a message of the desk, as it goes out
-abbrev pub IsToldAs : Telling → List ℕ → Type 0
+abbrev pub IsToldAs : MessageValue → List ℕ → Type 0
 IsToldAs t text = IsFinished t.kind t.text text
 
 -- Of what went out of the desk's hands this connection was to be told each message that is for it, once and in their order,
 -- as it goes out, and nothing else: of all but a front of which nothing was told since it came.
-pub record IsToldOf (steps : List Step) (out : List Telling) (c : ℕ) (past : List Doing) : Type 0 where
-  pub before : List Telling
-  pub since : List Telling
+pub record IsToldOf (steps : List Step) (out : List MessageValue) (c : ℕ) (past : List Doing) : Type 0 where
+  pub before : List MessageValue
+  pub since : List MessageValue
   pub split : out ≡ before ++ since
   pub early : length before ≤ length (all_tells (before_opening c steps))
   pub told : AllZip IsToldAs (told_for c since) (texts_told past)
 
-abbrev pub IsToldBy : List Step → List Telling → Option ℕ → List Doing → Type 0
+abbrev pub IsToldBy : List Step → List MessageValue → Option ℕ → List Doing → Type 0
 IsToldBy steps out None past = texts_told past ≡ []
 IsToldBy steps out (Some c) past = IsToldOf steps out c past
 
@@ -197,7 +197,7 @@ pub record Before (S : Type 0) : Type 0 where
 -- A browser with this number, at this place: it came by one of these streams, with nothing done; and of all that was done since,
 -- while these sites were served, the desk has what it said, and it was told what went out for it.
 pub record IsServed {S : Type 0} (remaining contents : S → Option (List ℕ)) (site : Site) (came : Before S) (steps : List Step)
-    (out : List Telling) (number : Option ℕ) (now : Spot S) : Type 0 where
+    (out : List MessageValue) (number : Option ℕ) (now : Spot S) : Type 0 where
   pub first : Spot S
   pub new : IsNew first.stage
   pub among : IsAmong first.stream came.streams
@@ -208,7 +208,7 @@ pub record IsServed {S : Type 0} (remaining contents : S → Option (List ℕ)) 
   pub said : IsSaidBy steps number past
   pub told : IsToldBy steps out number past
 
-abbrev pub AreServed : {S : Type 0} → (S → Option (List ℕ)) → (S → Option (List ℕ)) → Site → Before S → List Step → List Telling
+abbrev pub AreServed : {S : Type 0} → (S → Option (List ℕ)) → (S → Option (List ℕ)) → Site → Before S → List Step → List MessageValue
     → List (Guest S) → Type 0
 AreServed remaining contents site came steps out [] = Unit {0}
 AreServed remaining contents site came steps out (guest ∷ guests) =
@@ -218,7 +218,7 @@ AreServed remaining contents site came steps out (guest ∷ guests) =
 -- ---- a browser that was let go
 
 -- The desk was told that this connection is gone when these messages, all that it had told so far, had gone out of its hands.
-pub record IsClosedBehind (steps : List Step) (until : List Telling) (c : ℕ) : Type 0 where
+pub record IsClosedBehind (steps : List Step) (until : List MessageValue) (c : ℕ) : Type 0 where
   pub later : List Step
   pub closing : Step
   pub earlier : List Step
@@ -226,21 +226,21 @@ pub record IsClosedBehind (steps : List Step) (until : List Telling) (c : ℕ) :
   pub closes : closing.event ≡ Closed c
   pub all : all_tells earlier ≡ until
 
-abbrev pub WasClosed : List Step → List Telling → Option ℕ → Type 0
+abbrev pub WasClosed : List Step → List MessageValue → Option ℕ → Type 0
 WasClosed steps until None = Unit {0}
 WasClosed steps until (Some c) = IsClosedBehind steps until c
 
 -- A browser that had this number and stood at this place when it was let go. Until then it was served: it was told what had gone
 -- out for it; and all that the desk has of its number it has said.
 pub record WasServed {S : Type 0} (remaining contents : S → Option (List ℕ)) (site : Site) (came : Before S) (steps : List Step)
-    (out : List Telling) (number : Option ℕ) (last : Spot S) : Type 0 where
-  pub until : List Telling
-  pub after : List Telling
+    (out : List MessageValue) (number : Option ℕ) (last : Spot S) : Type 0 where
+  pub until : List MessageValue
+  pub after : List MessageValue
   pub split : out ≡ until ++ after
   pub served : IsServed remaining contents site came steps until number last
   pub closed : WasClosed steps until number
 
-abbrev pub WereServed : {S : Type 0} → (S → Option (List ℕ)) → (S → Option (List ℕ)) → Site → Before S → List Step → List Telling
+abbrev pub WereServed : {S : Type 0} → (S → Option (List ℕ)) → (S → Option (List ℕ)) → Site → Before S → List Step → List MessageValue
     → List (Guest S) → Type 0
 WereServed remaining contents site came steps out [] = Unit {0}
 WereServed remaining contents site came steps out (guest ∷ guests) =

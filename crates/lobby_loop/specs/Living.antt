@@ -3,14 +3,14 @@ use Rattle.std.specs.Prelude.{ℕ, ◌≡◌, ◌≢◌, ◌<◌, ◌⊎◌, Boo
 use Rattle.std.specs.List.{AllZip, AllByRecursion}
 use Rattle.session_lines.specs.Lines.{HasNoFeed}
 use Rattle.lobby_desk.specs.declared.players.Player.{Player}
-use Rattle.lobby_desk.specs.Events.{Event, Heard, Gone, Here, Renewed, Telling, tellings}
+use Rattle.lobby_desk.specs.Events.{DeskInput, Heard, Gone, Here, Renewed, MessageValue, message_values}
 use Rattle.lobby_desk.specs.Lines.{bytes_of}
 use Rattle.lobby_desk.specs.Logging.{log_texts}
 use Rattle.lobby_desk.specs.Who.{view}
 use Rattle.lobby_desk.specs.History.{Step, has_come, IsRun, AllRight, AllTold, IsLogged}
 use Rattle.lobby_web.specs.declared.site.Site.{Site}
 use Rattle.lobby_web.specs.declared.site.File.{File}
-use Rattle.lobby_web.specs.Pages.{Changes, IsSame}
+use Rattle.lobby_web.specs.Pages.{Changes, IsSameSite}
 use Rattle.lobby_guests.specs.declared.guest.Guest.{Guest}
 use Rattle.lobby_loop.specs.declared.hall.Hall.{Hall}
 use Rattle.lobby_guests.specs.Guests.{IsAsBefore}
@@ -57,7 +57,7 @@ pub record KeepsFiles {S : Type 0} (old new : Hall S) : Type 0 where
   pub guests : new.guests ≡ old.guests
   pub talk : new.talk ≡ old.talk
   pub server : new.server ≡ old.server
-  pub site : IsSame old.site new.site
+  pub site : IsSameSite old.site new.site
 
 -- a turn in which these bytes come of the server, the connection to it is lost or not, the log has these texts, and these bytes are
 -- written to the server
@@ -130,7 +130,7 @@ put_in (ServerCame stream ∷ past) = put_in past
 put_in (Turned at taken is_gone put front ∷ past) = put_in past ++ put
 
 -- the bytes of the lines that the desk had for the server since its connection began
-abbrev pub kept : Event → List ℕ → List ℕ
+abbrev pub kept : DeskInput → List ℕ → List ℕ
 kept Gone bytes = []
 kept Here bytes = []
 kept _ bytes = bytes
@@ -140,7 +140,7 @@ sent_in [] = []
 sent_in (s ∷ past) = kept s.event (sent_in past) ++ bytes_of s.lines
 
 -- the lines that the desk heard of the server since its connection began, the newest first
-abbrev pub line_more : Event → List (List ℕ) → List (List ℕ)
+abbrev pub line_more : DeskInput → List (List ℕ) → List (List ℕ)
 line_more (Heard line) lines = line ∷ lines
 line_more Here lines = []
 line_more _ lines = lines
@@ -150,7 +150,7 @@ lines_heard [] = []
 lines_heard (s ∷ past) = line_more s.event (lines_heard past)
 
 -- what the desk was told of whether the server is there, the newest first
-abbrev pub presence_more : Event → List Bool → List Bool
+abbrev pub presence_more : DeskInput → List Bool → List Bool
 presence_more Gone before = false ∷ before
 presence_more Here before = true ∷ before
 presence_more _ before = before
@@ -244,8 +244,8 @@ pub record IsRightLife {S : Type 0} (remaining contents : S → Option (List ℕ
   pub held : IsHeld now.server rest
   pub whole : NoLineWaits now.server
   pub presences : presences_told steps ≡ presences_in past
-  pub out : List Telling
-  pub told : all_tells steps ≡ out ++ tellings now.talk.told.items
+  pub out : List MessageValue
+  pub told : all_tells steps ≡ out ++ message_values now.talk.told.items
   pub logs : IsLogged players steps
   pub put : put_in past ≡ log_texts out
   pub gone : List (Guest S)

@@ -2,7 +2,7 @@
 use Rattle.std.specs.Prelude.{ℕ, ◌≡◌, ◌⊎◌, Bool, true, false, List, [], ◌∷◌, ◌++◌, Option, None, Some}
 use Rattle.std.specs.List.{AllZip}
 use Rattle.lobby_desk.specs.declared.players.Player.{Player}
-use Rattle.lobby_desk.specs.Events.{Gone, Here, tellings}
+use Rattle.lobby_desk.specs.Events.{Gone, Here, message_values}
 use Rattle.lobby_desk.specs.Logging.{log_texts}
 use Rattle.lobby_web.specs.declared.site.Site.{Site}
 use Rattle.lobby_guests.specs.declared.guest.Guest.{Guest}
@@ -120,7 +120,7 @@ pub record HasTurned {S : Type 0} (remaining contents : S → Option (List ℕ))
 -- the texts that the log has in a turn: those for it among all that is to go then
 abbrev pub texts_put : {S : Type 0} → {remaining contents : S → Option (List ℕ)} → {at : ℕ} → {old new : Hall S} →
     HasTurned remaining contents at old new → List (List ℕ)
-texts_put turned = log_texts (tellings turned.between.talk.told.items)
+texts_put turned = log_texts (message_values turned.between.talk.told.items)
 
 -- Browsers come or are turned away, one after the other, the last first.
 abbrev pub AreAdmitted : {S : Type 0} → List S → Hall S → Hall S → Type 0

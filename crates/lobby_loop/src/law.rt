@@ -1,7 +1,7 @@
 //! What is promised of whatever happens.
 ghost use Rattle.std.specs.Prelude.{ℕ, List, Option};
 ghost use Rattle.lobby_desk.specs.declared.players.Player.{Player};
-ghost use Rattle.lobby_desk.specs.Events.{Telling};
+ghost use Rattle.lobby_desk.specs.Events.{MessageValue};
 ghost use Rattle.lobby_desk.specs.History.{Step};
 ghost use Rattle.lobby_web.specs.declared.site.Site.{Site};
 ghost use Rattle.lobby_loop.specs.declared.hall.Hall.{Hall};
@@ -33,7 +33,7 @@ pub fn law_of_lobbies<S>()
 /// that it was told are those of the frames among the bytes that were written to it and wait, in their order, all of them while
 /// its socket is open. Before that HTTP answers what came, and nothing is said.
 pub fn law_of_browsers<S>()
-    ensures { (remaining contents : S → Option (List ℕ)) (site : Site) (came : Before S) (steps : List Step) (out : List Telling)
+    ensures { (remaining contents : S → Option (List ℕ)) (site : Site) (came : Before S) (steps : List Step) (out : List MessageValue)
         (number : Option ℕ) (now : Spot S) → (served : IsServed remaining contents site came steps out number now) →
         Speaks served.past now.stage }
 {}

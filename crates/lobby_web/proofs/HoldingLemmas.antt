@@ -10,8 +10,8 @@ use Rattle.lobby_web.specs.declared.socket.Heard.TheVariants.{Opened, Text as Wo
 use Rattle.lobby_web.specs.declared.socket.Unsaid.TheVariants.{NotOpen, NotText, Slow, Memory}
 use Rattle.lobby_web.specs.Frames.{replies, frame_bytes}
 use Rattle.lobby_web.specs.Talking.{IsSame, Gives, ClosesBy, close_frame, may_say, said_state}
-use Rattle.lobby_web.specs.Happening.{Event, came, asked, said, wrote, Does}
-use Rattle.lobby_web.specs.Holding.{IsWanted, HappenAsWanted, size_said, all_said}
+use Rattle.lobby_web.specs.Happening.{SocketStep, came, asked, said, wrote, Does}
+use Rattle.lobby_web.specs.Holding.{IsWanted, HappenAsWanted, size_said, sizes_said}
 use Rattle.lobby_web.proofs.RoomLemmas.{room, run-fits, short-frame}
 
 -- what waits, what may still be read, and what may still be said of the end
@@ -112,7 +112,7 @@ said-room (pong bytes) conn = omega arith
 said-room (close frame) conn = omega arith
 
 -- one event, where no bytes come
-quiet-load : (event : Event) (old new : Socket) → Does event old new → ((bytes : List ℕ) → event ≡ came bytes → ⊥) → load new ≤ load old + size_said event
+quiet-load : (event : SocketStep) (old new : Socket) → Does event old new → ((bytes : List ℕ) → event ≡ came bytes → ⊥) → load new ≤ load old + size_said event
 quiet-load (came bytes) old new does quiet = absurd (quiet bytes refl)
 quiet-load (asked None) old new does quiet = omega (arith, gives-load old new None does.1)
 quiet-load (asked (Some Opened)) old new does quiet = omega (arith, load-same old new does.1)
@@ -158,19 +158,19 @@ came-load bytes old new wanted does =
           )
     ]
 
-event-load : (event : Event) (old new : Socket) (k : ℕ) → load old ≤ 90137 + k → IsWanted event old → Does event old new → load new ≤ 90137 + (k + size_said event)
+event-load : (event : SocketStep) (old new : Socket) (k : ℕ) → load old ≤ 90137 + k → IsWanted event old → Does event old new → load new ≤ 90137 + (k + size_said event)
 event-load (came bytes) old new k most wanted does = omega (arith, came-load bytes old new wanted does)
 event-load (asked heard) old new k most wanted does = omega (arith, most, quiet-load (asked heard) old new does (λ b e. cc e))
 event-load (said content result) old new k most wanted does = omega (arith, most, quiet-load (said content result) old new does (λ b e. cc e))
 event-load (wrote bytes) old new k most wanted does = omega (arith, most, quiet-load (wrote bytes) old new does (λ b e. cc e))
 
-all-load : (events : List Event) (old new : Socket) (k : ℕ) → load old ≤ 90137 + k → HappenAsWanted events old new → load new ≤ 90137 + (k + all_said events)
+all-load : (events : List SocketStep) (old new : Socket) (k : ℕ) → load old ≤ 90137 + k → HappenAsWanted events old new → load new ≤ 90137 + (k + sizes_said events)
 all-load [] old new k most happen = subst (λ (s : Socket). load s ≤ 90137 + (k + 0)) (sym happen) (omega (arith, most))
 all-load (event ∷ events) old new k most happen =
     omega (arith, all-load events happen.0 new (k + size_said event) (event-load event old happen.0 k most happen.1 happen.2) happen.3)
 
-pub held : (events : List Event) (old new : Socket) → length old.output.items + length old.input.items ≤ 90111 → HappenAsWanted events old new
-    → length new.output.items ≤ 90137 + all_said events
+pub held : (events : List SocketStep) (old new : Socket) → length old.output.items + length old.input.items ≤ 90111 → HappenAsWanted events old new
+    → length new.output.items ≤ 90137 + sizes_said events
 held events old new few happen =
     let begins : load old ≤ 90137 + 0 = omega (arith, load-most old, few, room-most (can_write old.context.state)) in
     omega (arith, load-least new, all-load events old new 0 begins happen)

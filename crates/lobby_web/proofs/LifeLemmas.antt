@@ -7,14 +7,14 @@ use Rattle.lobby_web.specs.declared.socket.Heard.TheVariants.{Opened, Text as Wo
 use Rattle.lobby_web.specs.declared.socket.Unsaid.TheVariants.{NotOpen, NotText, Slow, Memory}
 use Rattle.lobby_web.specs.Frames.{Run, Runs, texts}
 use Rattle.lobby_web.specs.Talking.{Gives, GivesTexts, given, may_say, said_state}
-use Rattle.lobby_web.specs.Happening.{Event, came, asked, said, wrote, Does, Happen, bytes_in, all_bytes, texts_given, all_texts, is_close, KeepsOpen, AllKeepOpen, AreGiven, Heeds}
+use Rattle.lobby_web.specs.Happening.{SocketStep, came, asked, said, wrote, Does, Happen, bytes_in, all_bytes, texts_given, all_texts, is_close, KeepsOpen, AllKeepOpen, AreGiven, Heeds}
 use Rattle.lobby_web.proofs.RunLemmas.{runs-more, runs-join, texts-append}
 
 shut : (s : Socket) → s.is_over ≡ true → may_say s ≡ true → ⊥
 shut s over may = cc (ap (λ b. not b && can_write s.context.state) over, may)
 
 -- what is over stays over, and gives nothing
-stays-over : (event : Event) (old new : Socket) → Does event old new → old.is_over ≡ true → (new.is_over ≡ true) × (texts_given event ≡ [])
+stays-over : (event : SocketStep) (old new : Socket) → Does event old new → old.is_over ≡ true → (new.is_over ≡ true) × (texts_given event ≡ [])
 stays-over (came bytes) old new does over =
     elim does.1 [
       | inl now ↦ (now, refl)
@@ -30,7 +30,7 @@ stays-over (said content (Err Slow)) old new does over = absurd (shut old over d
 stays-over (said content (Err Memory)) old new does over = absurd (shut old over does.0)
 stays-over (wrote bytes) old new does over = (does.1.2 ∙ over, refl)
 
-silent : (events : List Event) (old new : Socket) → Happen events old new → old.is_over ≡ true → (new.is_over ≡ true) × (all_texts events ≡ [])
+silent : (events : List SocketStep) (old new : Socket) → Happen events old new → old.is_over ≡ true → (new.is_over ≡ true) × (all_texts events ≡ [])
 silent [] old new happen over = (ap (λ (s : Socket). s.is_over) happen ∙ over, refl)
 silent (event ∷ events) old new happen over =
     let first = stays-over event old happen.0 happen.1 over in
@@ -102,7 +102,7 @@ said-same (pong bytes) conn h = refl
 said-same (close frame) conn h = cc
 
 -- one event, and then the others
-heeds-event : (event : Event) (events : List Event) (old mid new : Socket) → KeepsOpen event → Does event old mid
+heeds-event : (event : SocketStep) (events : List SocketStep) (old mid new : Socket) → KeepsOpen event → Does event old mid
     → (mid.is_over ≡ true → (new.is_over ≡ true) × (all_texts events ≡ []))
     → Heeds mid.context (mid.input.items ++ all_bytes events) (all_texts events) new
     → Heeds old.context (old.input.items ++ (bytes_in event ++ all_bytes events)) (texts_given event ++ all_texts events) new
@@ -136,7 +136,7 @@ heeds-event (said content (Err Memory)) events old mid new keeps does over heeds
 heeds-event (wrote bytes) events old mid new keeps does over heeds =
     same-heeds old mid new (all_bytes events) (all_texts events) does.1.0 does.1.1 heeds
 
-pub heeded : (events : List Event) (old new : Socket) → AllKeepOpen events → Happen events old new
+pub heeded : (events : List SocketStep) (old new : Socket) → AllKeepOpen events → Happen events old new
     → Heeds old.context (old.input.items ++ all_bytes events) (all_texts events) new
 heeded [] old new keeps happen =
     record {

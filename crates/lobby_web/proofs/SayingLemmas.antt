@@ -11,7 +11,7 @@ use Rattle.lobby_web.specs.declared.socket.Heard.TheVariants.{Opened, Text as Wo
 use Rattle.lobby_web.specs.declared.socket.Unsaid.TheVariants.{NotOpen, NotText, Slow, Memory}
 use Rattle.lobby_web.specs.Frames.{Run, Runs, replies, reply_bytes, frame_bytes, frames_bytes, outgoing, texts_sent, text_payload}
 use Rattle.lobby_web.specs.Talking.{Gives, ClosesBy, close_frame}
-use Rattle.lobby_web.specs.Happening.{Event, came, asked, said, wrote, Does, Happen, all_written, bytes_out, text_of, texts_said, Utters}
+use Rattle.lobby_web.specs.Happening.{SocketStep, came, asked, said, wrote, Does, Happen, all_written, bytes_out, text_of, texts_said, Utters}
 use Rattle.lobby_web.proofs.ReplyLemmas.{no-text}
 
 pub frames_bytes-append : (outs more : List Outgoing) → frames_bytes (outs ++ more) ≡ frames_bytes outs ++ frames_bytes more
@@ -74,7 +74,7 @@ content-frames content = record {
 }
 
 -- what one event adds to what was written and waits
-record Adds (waited : List ℕ) (event : Event) (new : List ℕ) : Type 0 where
+record Adds (waited : List ℕ) (event : SocketStep) (new : List ℕ) : Type 0 where
   more : List ℕ
   frames : Frames more (texts_said event)
   sum : bytes_out event ++ new ≡ waited ++ more
@@ -111,7 +111,7 @@ gives-adds old new words heard gives =
           }
     ]
 
-adds : (event : Event) (old new : Socket) → Does event old new → Adds old.output.items event new.output.items
+adds : (event : SocketStep) (old new : Socket) → Does event old new → Adds old.output.items event new.output.items
 adds (came bytes) old new does = record { more = []; frames = none; sum = unchanged old.output.items new.output.items does.0 }
 adds (asked None) old new does = gives-adds old new None None does.1
 adds (asked (Some Opened)) old new does =
@@ -126,7 +126,7 @@ adds (said content (Err Memory)) old new does = record { more = []; frames = non
 adds (wrote bytes) old new does = record { more = []; frames = none; sum = unchanged old.output.items (bytes ++ new.output.items) (sym does.0) }
 
 -- the life so far, in one step
-pub uttered : (events : List Event) (old new : Socket) → Happen events old new → Utters old.output.items events new
+pub uttered : (events : List SocketStep) (old new : Socket) → Happen events old new → Utters old.output.items events new
 uttered [] old new happen =
     record { frames = []; bytes = unchanged old.output.items new.output.items (ap (λ (s : Socket). s.output.items) happen); texts = refl }
 uttered (event ∷ events) old new happen =

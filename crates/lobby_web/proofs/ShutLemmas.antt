@@ -25,7 +25,7 @@ use Rattle.lobby_web.specs.declared.socket.Unsaid.{Unsaid}
 use Rattle.lobby_web.specs.declared.socket.Unsaid.TheVariants.{NotOpen, NotText, Slow, Memory}
 use Rattle.lobby_web.specs.Frames.{Run, Runs}
 use Rattle.lobby_web.specs.Talking.{Gives, may_say}
-use Rattle.lobby_web.specs.Happening.{Event, came, asked, said, wrote, Does}
+use Rattle.lobby_web.specs.Happening.{SocketStep, came, asked, said, wrote, Does}
 use Rattle.lobby_web.proofs.RoomLemmas.{taken}
 
 -- ---- what a frame does
@@ -142,7 +142,7 @@ said-or-shut : (b : Bool) → b ≡ true → b ≡ false → ⊥
 said-or-shut b is not = cc (is, not)
 
 -- where nothing may be said, nothing may be said later
-pub stays-shut : (event : Event) (old new : Socket) → Does event old new → may_say old ≡ false → may_say new ≡ false
+pub stays-shut : (event : SocketStep) (old new : Socket) → Does event old new → may_say old ≡ false → may_say new ≡ false
 stays-shut (came bytes) old new does shut =
     elim does.1 [
       | inl over ↦ over-shut new over

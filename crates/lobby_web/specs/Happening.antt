@@ -11,31 +11,31 @@ use Rattle.lobby_web.specs.Talking.{Keeps, TakesIn, Hears, Says}
 
 -- Bytes came; it was asked what came next, and gave this; a message was to be said, and this became of it; these bytes
 -- were written.
-pub data Event : Type 0 where
-  came : List ℕ → Event
-  asked : Option Heard → Event
-  said : Content → Result (Unit {0}) Unsaid → Event
-  wrote : List ℕ → Event
+pub data SocketStep : Type 0 where
+  came : List ℕ → SocketStep
+  asked : Option Heard → SocketStep
+  said : Content → Result (Unit {0}) Unsaid → SocketStep
+  wrote : List ℕ → SocketStep
 
 -- What an event does, by the contracts of a socket's calls.
-abbrev pub Does : Event → Socket → Socket → Type 0
+abbrev pub Does : SocketStep → Socket → Socket → Type 0
 Does (came bytes) old new = TakesIn bytes old new
 Does (asked heard) old new = Hears old new heard
 Does (said content result) old new = Says content old new result
 Does (wrote bytes) old new = (old.output.items ≡ bytes ++ new.output.items) × Keeps old new
 
-abbrev pub Happen : List Event → Socket → Socket → Type 0
+abbrev pub Happen : List SocketStep → Socket → Socket → Type 0
 Happen [] old new = new ≡ old
 Happen (event ∷ events) old new = (mid : Socket) × Does event old mid × Happen events mid new
 
 -- the bytes of an event, and of all
-abbrev pub bytes_in : Event → List ℕ
+abbrev pub bytes_in : SocketStep → List ℕ
 bytes_in (came bytes) = bytes
 bytes_in (asked heard) = []
 bytes_in (said content result) = []
 bytes_in (wrote bytes) = []
 
-abbrev pub all_bytes : List Event → List ℕ
+abbrev pub all_bytes : List SocketStep → List ℕ
 all_bytes [] = []
 all_bytes (event ∷ events) = bytes_in event ++ all_bytes events
 
@@ -45,13 +45,13 @@ text_heard (Some Opened) = []
 text_heard (Some (Words found)) = found.items ∷ []
 
 -- the text that an event gave, and those that all gave, in their order
-abbrev pub texts_given : Event → List (List ℕ)
+abbrev pub texts_given : SocketStep → List (List ℕ)
 texts_given (came bytes) = []
 texts_given (asked heard) = text_heard heard
 texts_given (said content result) = []
 texts_given (wrote bytes) = []
 
-abbrev pub all_texts : List Event → List (List ℕ)
+abbrev pub all_texts : List SocketStep → List (List ℕ)
 all_texts [] = []
 all_texts (event ∷ events) = texts_given event ++ all_texts events
 
@@ -63,13 +63,13 @@ is_close (pong bytes) = false
 is_close (close frame) = true
 
 -- The lobby does not begin to close it.
-abbrev pub KeepsOpen : Event → Type 0
+abbrev pub KeepsOpen : SocketStep → Type 0
 KeepsOpen (came bytes) = ⊤
 KeepsOpen (asked heard) = ⊤
 KeepsOpen (said content result) = is_close content ≡ false
 KeepsOpen (wrote bytes) = ⊤
 
-abbrev pub AllKeepOpen : List Event → Type 0
+abbrev pub AllKeepOpen : List SocketStep → Type 0
 AllKeepOpen [] = ⊤
 AllKeepOpen (event ∷ events) = KeepsOpen event × AllKeepOpen events
 
@@ -92,17 +92,17 @@ pub record Heeds (conn : Connection) (bytes : List ℕ) (given : List (List ℕ)
 -- in front of all bytes that came, each once, whole and in their order.
 abbrev pub MessagesAreHeeded : Type 0
 MessagesAreHeeded =
-    (events : List Event) (old new : Socket) → AllKeepOpen events → Happen events old new
+    (events : List SocketStep) (old new : Socket) → AllKeepOpen events → Happen events old new
     → Heeds old.context (old.input.items ++ all_bytes events) (all_texts events) new
 
-abbrev pub bytes_out : Event → List ℕ
+abbrev pub bytes_out : SocketStep → List ℕ
 bytes_out (came bytes) = []
 bytes_out (asked heard) = []
 bytes_out (said content result) = []
 bytes_out (wrote bytes) = bytes
 
 -- all bytes that were written
-abbrev pub all_written : List Event → List ℕ
+abbrev pub all_written : List SocketStep → List ℕ
 all_written [] = []
 all_written (event ∷ events) = bytes_out event ++ all_written events
 
@@ -118,19 +118,19 @@ text_if content (Ok _) = text_of content
 text_if content (Err _) = []
 
 -- the texts that were said, those that were taken, in their order
-abbrev pub texts_said : Event → List (List ℕ)
+abbrev pub texts_said : SocketStep → List (List ℕ)
 texts_said (came bytes) = []
 texts_said (asked heard) = []
 texts_said (said content result) = text_if content result
 texts_said (wrote bytes) = []
 
-abbrev pub all_said : List Event → List (List ℕ)
+abbrev pub all_said : List SocketStep → List (List ℕ)
 all_said [] = []
 all_said (event ∷ events) = texts_said event ++ all_said events
 
 -- What was written and what waits are what waited before and whole frames, and the texts among these frames are those
 -- that were said.
-pub record Utters (waited : List ℕ) (events : List Event) (new : Socket) : Type 0 where
+pub record Utters (waited : List ℕ) (events : List SocketStep) (new : Socket) : Type 0 where
   pub frames : List Outgoing
   pub bytes : all_written events ++ new.output.items ≡ waited ++ frames_bytes frames
   pub texts : texts_sent frames ≡ all_said events
@@ -138,4 +138,4 @@ pub record Utters (waited : List ℕ) (events : List Event) (new : Socket) : Typ
 -- Whatever happens to a socket: what goes out are whole frames, and the texts among them are those that were said, each
 -- once and in their order.
 abbrev pub SayingsGoOut : Type 0
-SayingsGoOut = (events : List Event) (old new : Socket) → Happen events old new → Utters old.output.items events new
+SayingsGoOut = (events : List SocketStep) (old new : Socket) → Happen events old new → Utters old.output.items events new

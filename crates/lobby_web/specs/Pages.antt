@@ -37,5 +37,5 @@ pub record Changes (path : List ℕ) (file : Option File) (old new : Site) : Typ
   pub others : (other : List ℕ) → other ≢ path → file_at new other ≡ file_at old other
 
 -- Hosts and files are the same.
-abbrev pub IsSame : Site → Site → Type 0
-IsSame old new = (new.hosts ≡ old.hosts) × (new.files.items ≡ old.files.items)
+abbrev pub IsSameSite : Site → Site → Type 0
+IsSameSite old new = (new.hosts ≡ old.hosts) × (new.files.items ≡ old.files.items)

@@ -100,7 +100,7 @@ pub struct Site {
 }
 
 impl Site {
-    ghost use Rattle.lobby_web.specs.Pages.{has_host, file_at, place_of, Changes, IsSame};
+    ghost use Rattle.lobby_web.specs.Pages.{has_host, file_at, place_of, Changes, IsSameSite};
 
     /// A site of these files. A host is what `Host` has to say, byte for byte and with its port, as `127.0.0.1:8080`. Of two
     /// files with one path the first is served.
@@ -137,7 +137,7 @@ impl Site {
     /// From now on this file is served at its path, in the place of the one that was there, if any.
     pub fn put(&mut self, file: File) -> Result<(), AllocError>
         ensures put { OnOk result (Changes file.path.items (Some file) self.old self.new) }
-        ensures err { OnErr result (IsSame self.old self.new) }
+        ensures err { OnErr result (IsSameSite self.old self.new) }
     {
         match self.place_of(file.path.as_slice()) {
             Some(place) => {

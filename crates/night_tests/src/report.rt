@@ -1,9 +1,9 @@
 //! A tournament's report: what no clause says, how much room there is, and the sign of a draw of less than a move each.
 use std::alloc::Global;
 use std::process::Abort;
-use trf_texts::{Event, Fault, Meeting, Play, Score, report};
+use trf_texts::{Fault, Meeting, Play, Score, Tournament, report};
 
-const EVENT: Event<'static> = Event {
+const EVENT: Tournament<'static> = Tournament {
     name: "",
     city: "",
     federation: "",

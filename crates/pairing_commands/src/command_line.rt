@@ -4,7 +4,7 @@ use clap::{ArgAction, ArgMatches, Command, Error};
 use command_words::{VERSION, flag, option};
 use std::alloc::{AllocError, Global};
 use std::net::SocketAddr;
-use trf_texts::Event;
+use trf_texts::Tournament;
 
 const HELP_OF_START: &str = "\
 It opens and joins the game of each board of --pairings on the game server at --server, at
@@ -125,7 +125,7 @@ pub struct Reporting<'a> {
     pub players: &'a str,
     pub rounds: Vec<Round<'a>>,
     pub source: Source<'a>,
-    pub event: Event<'a>,
+    pub event: Tournament<'a>,
 }
 
 // An option `--NAME VALUE` of a word.
@@ -484,12 +484,12 @@ fn text_of<'a>(values: &ArgMatches<'a>, name: &str) -> &'a str {
 }
 
 // What is told of the tournament; none where the number of rounds is none.
-fn event_of<'a>(values: &ArgMatches<'a>) -> Option<Event<'a>> {
+fn event_of<'a>(values: &ArgMatches<'a>) -> Option<Tournament<'a>> {
     let rounds = match values.get_str("all-rounds") {
         Some(text) => Some(number_of(text)?),
         None => None,
     };
-    Some(Event {
+    Some(Tournament {
         name: text_of(values, "name"),
         city: text_of(values, "city"),
         federation: text_of(values, "federation"),

@@ -11,7 +11,7 @@ use Rattle.lobby_words.specs.Words.{number_or_0}
 use Rattle.lobby_words.specs.Waiting.{is_name}
 use Rattle.pairing_texts.specs.Times.{front_of}
 use Rattle.pairing_texts.specs.Rows.{name_in}
-use Rattle.pairing_texts.specs.Notes.{Told, Reached, Opening, Opened, Joined, IsNote, IsReached, stage_word, value_text, numbers_text, quoted, member_text, note_text, value_of, unquoted, member_in, behind_one, behind_two, behind_three, board_in, white_in, black_in, last_value, stage_in, reached_in, likely_of, likely_note, where_spelled, note_in}
+use Rattle.pairing_texts.specs.Notes.{NoteState, Reached, Opening, Opened, Joined, IsNote, IsReached, stage_word, value_text, numbers_text, quoted, member_text, note_text, value_of, unquoted, member_in, behind_one, behind_two, behind_three, board_in, white_in, black_in, last_value, stage_in, reached_in, likely_of, likely_note, where_spelled, note_in}
 use Rattle.pairing_texts.proofs.NumbersBack.{numbers_back, lacks_brace}
 use Rattle.pairing_texts.proofs.Spelled.{lacks_below, lacks_above, number_back}
 
@@ -134,14 +134,14 @@ reached_back (Opened game) is = ap (λ (n : ℕ). Some (Opened n)) (number_back 
 reached_back (Joined game) is = ap (λ (n : ℕ). Some (Joined n)) (number_back game is)
 
 -- where the members of a whole line are
-two_behind : (n : Told) → IsNote n → behind_two (whole n.board n.white n.black n.stage) ≡ from_black n.black n.stage
+two_behind : (n : NoteState) → IsNote n → behind_two (whole n.board n.white n.black n.stage) ≡ from_black n.black n.stage
 two_behind n is =
     ap behind_one (behind_board n.board (from_white n.white n.black n.stage) is.board) ∙ behind_white n.white (from_black n.black n.stage) is.white
 
-three_behind : (n : Told) → IsNote n → behind_three (whole n.board n.white n.black n.stage) ≡ end_of n.stage
+three_behind : (n : NoteState) → IsNote n → behind_three (whole n.board n.white n.black n.stage) ≡ end_of n.stage
 three_behind n is = ap behind_one (two_behind n is) ∙ behind_black n.black (end_of n.stage) is.black
 
-stage_back : (n : Told) → IsNote n → stage_in (whole n.board n.white n.black n.stage) ≡ Some n.stage
+stage_back : (n : NoteState) → IsNote n → stage_in (whole n.board n.white n.black n.stage) ≡ Some n.stage
 stage_back n is =
     let line = whole n.board n.white n.black n.stage in
     ap (λ (t : List ℕ). reached_in (unquoted t) (last_value line)) (three_behind n is)
@@ -149,7 +149,7 @@ stage_back n is =
     ∙ (ap (λ (t : List ℕ). reached_in (stage_word n.stage) (front_of 125 (value_of t))) (three_behind n is)
     ∙ (ap (reached_in (stage_word n.stage)) (value_back n.stage is.stage) ∙ reached_back n.stage is.stage)))
 
-likely_by : (board : ℕ) (white black : Option (List ℕ)) (stage : Option Reached) (n : Told) → board ≡ n.board →
+likely_by : (board : ℕ) (white black : Option (List ℕ)) (stage : Option Reached) (n : NoteState) → board ≡ n.board →
     white ≡ Some n.white → black ≡ Some n.black → stage ≡ Some n.stage → likely_of board white black stage ≡ Some n
 likely_by board white black stage n b w k s =
     ap (λ (x : ℕ). likely_of x white black stage) b
@@ -157,7 +157,7 @@ likely_by board white black stage n b w k s =
     ∙ (ap (λ (x : Option (List ℕ)). likely_of n.board (Some n.white) x stage) k
     ∙ ap (λ (x : Option Reached). likely_of n.board (Some n.white) (Some n.black) x) s))
 
-likely_back : (n : Told) → IsNote n → likely_note (note_text n) ≡ Some n
+likely_back : (n : NoteState) → IsNote n → likely_note (note_text n) ≡ Some n
 unfolding likely_note note_text
 likely_back n is =
     let rest = from_white n.white n.black n.stage in
@@ -170,7 +170,7 @@ likely_back n is =
     ∙ black_back n.black (end_of n.stage) is.black)
     (stage_back n is)
 
-pub note_back : (n : Told) → IsNote n → note_in (note_text n) ≡ Some n
+pub note_back : (n : NoteState) → IsNote n → note_in (note_text n) ≡ Some n
 note_back n is =
     ap (where_spelled (note_text n)) (likely_back n is)
     ∙ ap (λ (b : Bool). if b then Some n else None) ((bytes_eq-Decides (note_text n) (note_text n)).1 refl)

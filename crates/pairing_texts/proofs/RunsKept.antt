@@ -14,7 +14,7 @@ use Rattle.pairing_texts.specs.declared.steps.Row.{Row}
 use Rattle.pairing_texts.specs.Newer.{is_newer, is_past}
 use Rattle.pairing_texts.specs.Notes.{Reached, Opening, Opened, Joined}
 use Rattle.pairing_texts.specs.Steps.{sits, is_free_for, may_be, candidates_in, numbers_of, unheard, step_of_games, step_of_seats}
-use Rattle.pairing_texts.specs.Runs.{Board, Standing, Event, Looks, Acts, Dies, Passes, step_at, seen_of, older_in, noted, row_of, acted, happened, TellNewer, IsDone, has_game, Stays, IsAllowed, after_all, AreAllowed, IsBeginning, game_noted, HasOneGame}
+use Rattle.pairing_texts.specs.Runs.{Board, Standing, RunStep, Looks, Acts, Dies, Passes, step_at, seen_of, older_in, noted, row_of, acted, happened, TellNewer, IsDone, has_game, Stays, IsAllowed, after_all, AreAllowed, IsBeginning, game_noted, HasOneGame}
 use Rattle.pairing_texts.proofs.WholeLooks.{whole}
 
 -- ---- the games that may be the board's
@@ -313,7 +313,7 @@ pass_does (Some steps.LookAgain) note given more seen opened holds = tt
 
 -- ---- all of it
 
-sound_more : (b : Board) (event : Event) (s : Standing) → IsSound b s → IsAllowed b event s → IsSound b (happened b event s)
+sound_more : (b : Board) (event : RunStep) (s : Standing) → IsSound b s → IsAllowed b event s → IsSound b (happened b event s)
 sound_more b (Looks servers heard seats) s sound allowed = record {
   given = sound.given;
   note = sound.note;
@@ -329,7 +329,7 @@ sound_more b (Passes rows more) s sound allowed = record {
   does = pass_does s.does s.note s.given more s.seen s.opened sound.does;
 }
 
-sound_all : (b : Board) (events : List Event) (s : Standing) → IsSound b s → AreAllowed b events s → IsSound b (after_all b events s)
+sound_all : (b : Board) (events : List RunStep) (s : Standing) → IsSound b s → AreAllowed b events s → IsSound b (after_all b events s)
 sound_all b [] s sound allowed = sound
 sound_all b (event ∷ events) s sound allowed = sound_all b events (happened b event s) (sound_more b event s sound allowed.0) allowed.1
 
@@ -377,7 +377,7 @@ noted_by b (Some (Joined one)) given rows opened holds game e =
     let same : one ≡ game = cc in
     subst (λ (g : ℕ). list_any (λ x. not (x == g)) opened ≡ false) same (no_other opened one holds)
 
-pub one_game : (b : Board) (s : Standing) (events : List Event) → IsBeginning s → AreAllowed b events s → HasOneGame (after_all b events s)
+pub one_game : (b : Board) (s : Standing) (events : List RunStep) → IsBeginning s → AreAllowed b events s → HasOneGame (after_all b events s)
 one_game b s events is allowed =
     let end = after_all b events s in
     let sound = sound_all b events s (sound_first b s is) allowed in

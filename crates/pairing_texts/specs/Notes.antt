@@ -28,14 +28,14 @@ game_in (Opened game) = Some game
 game_in (Joined game) = Some game
 
 -- what a note tells
-pub record Told : Type 0 where
+pub record NoteState : Type 0 where
   pub board : ℕ
   pub white : List ℕ
   pub black : List ℕ
   pub stage : Reached
 
-abbrev pub told : Note → Told
-told n = record { board = n.board; white = n.white; black = n.black; stage = reached n.stage }
+abbrev pub note_state : Note → NoteState
+note_state n = record { board = n.board; white = n.white; black = n.black; stage = reached n.stage }
 
 abbrev pub stage_word : Reached → List ℕ
 stage_word (Opening games) = codes "opening"
@@ -65,7 +65,7 @@ abbrev pub member_text : List ℕ → List ℕ → List ℕ
 member_text name value = quoted name ++ (58 ∷ value)
 
 -- `{"board":3,"white":"ann","black":"bob","opened":17}`
-unfoldable pub note_text : Told → List ℕ
+unfoldable pub note_text : NoteState → List ℕ
 note_text n =
     123 ∷ (member_text (codes "board") (decimal n.board) ++ (44 ∷ (member_text (codes "white") (quoted n.white)
     ++ (44 ∷ (member_text (codes "black") (quoted n.black) ++ (44 ∷ (member_text (stage_word n.stage) (value_text n.stage) ++ (125 ∷ []))))))))
@@ -127,21 +127,21 @@ abbrev pub stage_in : List ℕ → Option Reached
 stage_in line = reached_in (last_word line) (last_value line)
 
 -- the note of which a line may be that
-abbrev pub likely_of : ℕ → Option (List ℕ) → Option (List ℕ) → Option Reached → Option Told
+abbrev pub likely_of : ℕ → Option (List ℕ) → Option (List ℕ) → Option Reached → Option NoteState
 likely_of board (Some white) (Some black) (Some stage) = Some (record { board = board; white = white; black = black; stage = stage })
 likely_of board (Some white) (Some black) None = None
 likely_of board (Some white) None stage = None
 likely_of board None black stage = None
 
-unfoldable pub likely_note : List ℕ → Option Told
+unfoldable pub likely_note : List ℕ → Option NoteState
 likely_note line = likely_of (board_in line) (white_in line) (black_in line) (stage_in line)
 
-abbrev pub where_spelled : List ℕ → Option Told → Option Told
+abbrev pub where_spelled : List ℕ → Option NoteState → Option NoteState
 where_spelled line None = None
 where_spelled line (Some note) = if bytes_eq (note_text note) line then Some note else None
 
 -- what the note of a line tells; none where it is that of none
-abbrev pub note_in : List ℕ → Option Told
+abbrev pub note_in : List ℕ → Option NoteState
 note_in line = where_spelled line (likely_note line)
 
 -- numbers of games
@@ -155,7 +155,7 @@ IsReached (Opened game) = game < 2 ^ 32
 IsReached (Joined game) = game < 2 ^ 32
 
 -- a note of players with names, whose numbers are those of games and boards
-pub record IsNote (n : Told) : Type 0 where
+pub record IsNote (n : NoteState) : Type 0 where
   pub board : n.board < 2 ^ 32
   pub stage : IsReached n.stage
   pub white : is_name n.white ≡ true

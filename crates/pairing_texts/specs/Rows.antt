@@ -42,8 +42,8 @@ with_black white times start None = Err faults.BadBlack
 with_black white times start (Some black) =
     if bytes_eq white black then Err faults.SamePlayer else with_times black start (times_in times)
 
-abbrev pub game_in : List ℕ → List ℕ → List ℕ → List ℕ → Result Game RowFault
-game_in white black times start = with_black white times start (name_in black)
+abbrev pub game_by_fields : List ℕ → List ℕ → List ℕ → List ℕ → Result Game RowFault
+game_by_fields white black times start = with_black white times start (name_in black)
 
 -- a row of White alone, who has no opponent in this round
 abbrev pub is_bye : List ℕ → List ℕ → List ℕ → Bool
@@ -57,7 +57,7 @@ abbrev pub with_white : ℕ → List ℕ → List ℕ → List ℕ → Option (L
 with_white board black times start None = Err faults.BadWhite
 with_white board black times start (Some white) =
     if is_bye black times start then Ok (record { board = board; white = white; game = None })
-    else with_game board white (game_in white black times start)
+    else with_game board white (game_by_fields white black times start)
 
 -- a board's number is not 0
 abbrev pub board_of : Option ℕ → Option ℕ

@@ -31,11 +31,11 @@ pub record Standing : Type 0 where
 -- was noted; what it is about to do is done: it notes these games as the older ones, and a game that is opened gets this number,
 -- which is noted, or it is killed before; it is killed; and the table is another, with more games given: players act, also for
 -- `start`, which has Black join.
-pub data Event : Type 0 where
-  Looks : (servers : List ℕ) → (heard : List ℕ) → (seats : Option Seats) → Event
-  Acts : (older : List ℕ) → (game : ℕ) → (is_noted : Bool) → Event
-  Dies : Event
-  Passes : (rows : List Row) → (more : List ℕ) → Event
+pub data RunStep : Type 0 where
+  Looks : (servers : List ℕ) → (heard : List ℕ) → (seats : Option Seats) → RunStep
+  Acts : (older : List ℕ) → (game : ℕ) → (is_noted : Bool) → RunStep
+  Dies : RunStep
+  Passes : (rows : List Row) → (more : List ℕ) → RunStep
 
 -- the games that may be the board's and have its times, where it is about to be opened
 abbrev pub games_at : Board → Option Reached → List Row → List ℕ
@@ -74,8 +74,8 @@ noted note next s = record s { note = Some note; does = next }
 abbrev pub row_of : Board → ℕ → Row
 row_of b game = record { game = game; white = Some b.white; black = None }
 
-abbrev pub with_game : Board → ℕ → Standing → Standing
-with_game b game s = record s {
+abbrev pub with_opened_game : Board → ℕ → Standing → Standing
+with_opened_game b game s = record s {
   rows = s.rows ++ (row_of b game ∷ []);
   given = s.given ++ (game ∷ []);
   does = None;
@@ -87,7 +87,7 @@ abbrev pub acted : Board → List ℕ → ℕ → Bool → Option Step → Stand
 acted b older game is_noted None s = s
 acted b older game is_noted (Some steps.Begin) s = noted (Opening older) (Some steps.Open) s
 acted b older game is_noted (Some steps.Open) s =
-    if is_noted then noted (Opened game) (Some (steps.Join game)) (with_game b game s) else with_game b game s
+    if is_noted then noted (Opened game) (Some (steps.Join game)) (with_opened_game b game s) else with_opened_game b game s
 acted b older game is_noted (Some (steps.Take one)) s = noted (Opened one) None s
 acted b older game is_noted (Some (steps.Join one)) s = record s { does = None }
 acted b older game is_noted (Some (steps.Note one)) s = noted (Joined one) None s
@@ -95,7 +95,7 @@ acted b older game is_noted (Some (steps.Has one)) s = record s { does = None }
 acted b older game is_noted (Some steps.Ask) s = record s { does = None }
 acted b older game is_noted (Some steps.LookAgain) s = record s { does = None }
 
-abbrev pub happened : Board → Event → Standing → Standing
+abbrev pub happened : Board → RunStep → Standing → Standing
 happened b (Looks servers heard seats) s = looked b servers heard seats s
 happened b (Acts older game is_noted) s = acted b older game is_noted s.does s
 happened b Dies s = record s { does = None }
@@ -126,17 +126,17 @@ abbrev pub are_of : List ℕ → List ℕ → List Row → Bool
 are_of servers older rows = list_all (λ row. is_of (servers ++ map (λ game. server_of game) older) row) rows
 
 -- What may happen. The arbiter says nothing meanwhile.
-abbrev pub IsAllowed : Board → Event → Standing → Type 0
+abbrev pub IsAllowed : Board → RunStep → Standing → Type 0
 IsAllowed b (Looks servers heard seats) s = are_of servers (older_in s.note) s.rows ≡ true
 IsAllowed b (Acts older game is_noted) s = IsDone b older game s.does s
 IsAllowed b Dies s = Unit {0}
 IsAllowed b (Passes rows more) s = TellNewer (s.given ++ more) (numbers_of rows) × Stays b s.note s.opened s.rows rows
 
-abbrev pub after_all : Board → List Event → Standing → Standing
+abbrev pub after_all : Board → List RunStep → Standing → Standing
 after_all b [] s = s
 after_all b (event ∷ events) s = after_all b events (happened b event s)
 
-abbrev pub AreAllowed : Board → List Event → Standing → Type 0
+abbrev pub AreAllowed : Board → List RunStep → Standing → Type 0
 AreAllowed b [] s = Unit {0}
 AreAllowed b (event ∷ events) s = IsAllowed b event s × AreAllowed b events (happened b event s)
 

@@ -1,8 +1,8 @@
 //! What is promised of texts.
 ghost use Rattle.std.specs.Prelude.{◌≡◌, List, ℕ, true, Some, IfSome};
 ghost use Rattle.pairing_texts.specs.Times.{times_text, times_in, are_taken};
-ghost use Rattle.pairing_texts.specs.Notes.{Told, IsNote, note_text, note_in};
-ghost use Rattle.pairing_texts.specs.Runs.{Board, Standing, Event, IsBeginning, AreAllowed, HasOneGame, after_all};
+ghost use Rattle.pairing_texts.specs.Notes.{NoteState, IsNote, note_text, note_in};
+ghost use Rattle.pairing_texts.specs.Runs.{Board, Standing, RunStep, IsBeginning, AreAllowed, HasOneGame, after_all};
 ghost use Rattle.pairing_texts.specs.declared.times.Times.{Times as GameTimes};
 
 /// The text of times that the server takes is read as these times, and what is read as times is their text.
@@ -13,7 +13,7 @@ pub fn law_of_times()
 
 /// The line of a note is read as that note.
 pub fn law_of_notes()
-    ensures { (n : Told) → IsNote n → note_in (note_text n) ≡ Some n }
+    ensures { (n : NoteState) → IsNote n → note_in (note_text n) ≡ Some n }
 {}
 
 /// Whenever `start` is killed and given again, and whatever others do, `start` opens one game at most for a board, and where
@@ -29,5 +29,5 @@ pub fn law_of_notes()
 ///   (`IsDone`); and the table never has a game that is newer than all of its server that were given (`IsBeginning`, `IsAllowed`).
 /// - While `opening` is the last note, a game that `start` opened for the board stays on the table, and White in it (`Stays`).
 pub fn law_of_runs()
-    ensures { (b : Board) (s : Standing) (events : List Event) → IsBeginning s → AreAllowed b events s → HasOneGame (after_all b events s) }
+    ensures { (b : Board) (s : Standing) (events : List RunStep) → IsBeginning s → AreAllowed b events s → HasOneGame (after_all b events s) }
 {}

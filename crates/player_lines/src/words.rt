@@ -91,7 +91,7 @@ pub fn read_command(text: &str) -> Option<Command> {
     };
     match parse(sent.line.as_bytes())? {
         Request::Act(act) => Some(Command {
-            at: sent.at,
+            moment: sent.at,
             who: sent.who,
             act,
         }),

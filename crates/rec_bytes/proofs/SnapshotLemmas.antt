@@ -3,8 +3,8 @@ use Rattle.std.proofs.Common.{◌≡◌, ℕ, ◌<◌, ◌^◌, Bool, Option, So
 use Rattle.chess_board.specs.Position.{Position}
 use Rattle.rec_codec.specs.declared.record.Meta.{Meta}
 use Rattle.rec_codec.specs.declared.record.Seat.{Seat}
-use Rattle.rec_codec.specs.declared.record.Ending.{Ending}
-use Rattle.rec_codec.specs.declared.record.Ending.TheVariants as ending
+use Rattle.rec_codec.specs.declared.record.StoredEnding.{StoredEnding}
+use Rattle.rec_codec.specs.declared.record.StoredEnding.TheVariants as ending
 use Rattle.rec_codec.specs.declared.record.Head.{Head}
 use Rattle.rec_codec.specs.Records.{ending_number}
 
@@ -20,7 +20,7 @@ same_meta m games moment last entries e0 e1 e2 e3 =
     ∙ ap (λ x. make m.games m.moment m.last x) e3))
 
 pub same_head : (h : Head) (game : ℕ) (moment : ℕ) (moves : ℕ) (initial : ℕ) (increment : ℕ) (period : Option
-    (ℕ × ℕ)) (start : Position) (white : Seat) (black : Seat) (claimed : Bool) (ending : Option Ending) →
+    (ℕ × ℕ)) (start : Position) (white : Seat) (black : Seat) (claimed : Bool) (ending : Option StoredEnding) →
     game ≡ h.game → moment ≡ h.moment → moves ≡ h.moves → initial ≡ h.initial → increment ≡ h.increment →
     period ≡ h.period → start ≡ h.start → white ≡ h.white → black ≡ h.black → claimed ≡ h.claimed → ending ≡ h.ending →
     (let made : Head = record {
@@ -39,7 +39,7 @@ pub same_head : (h : Head) (game : ℕ) (moment : ℕ) (moves : ℕ) (initial : 
           ending;
     } in made) ≡ h
 same_head h game moment moves initial increment period start white black claimed ending e0 e1 e2 e3 e4 e5 e6 e7 e8 e9 e10 =
-    let make : ℕ → ℕ → ℕ → ℕ → ℕ → Option (ℕ × ℕ) → Position → Seat → Seat → Bool → Option Ending → Head =
+    let make : ℕ → ℕ → ℕ → ℕ → ℕ → Option (ℕ × ℕ) → Position → Seat → Seat → Bool → Option StoredEnding → Head =
     λ game moment moves initial increment period start white black claimed ending. record {
       game = game;
       moment =
@@ -68,7 +68,7 @@ same_head h game moment moves initial increment period start white black claimed
     ∙ ap (λ x. make h.game h.moment h.moves h.initial h.increment h.period h.start h.white h.black h.claimed x) e10)))))))))
 
 -- the number of an ending fits its field
-pub ending_number-below : (e : Option Ending) → ending_number e < 2 ^ 16
+pub ending_number-below : (e : Option StoredEnding) → ending_number e < 2 ^ 16
 ending_number-below None = omega arith
 ending_number-below (Some ending.WhiteMates) = omega arith
 ending_number-below (Some ending.BlackMates) = omega arith

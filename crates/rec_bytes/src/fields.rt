@@ -9,7 +9,7 @@ use chess_bits::Colour;
 /// Writes a field's bytes at its place.
 pub fn put(out: &mut [u8], at: usize, bytes: &[u8])
     requires room { at + length bytes.now ≤ length out.old }
-    ensures { out.new ≡ over out.old (record { at = at; width = length bytes.now; bytes = bytes.now }) }
+    ensures { out.new ≡ over out.old (record { offset = at; width = length bytes.now; bytes = bytes.now }) }
 {
     out[at..at + bytes.len()].copy_from_slice(bytes);
 }

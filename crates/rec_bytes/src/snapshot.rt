@@ -2,7 +2,7 @@
 ghost use Rattle.std.specs.Prelude.{◌≡◌, ◌+◌, ◌≤◌, ◌<◌, ◌^◌, Bool, length, Option, Some};
 ghost use Rattle.rec_codec.specs.declared.record.Meta.{Meta};
 ghost use Rattle.rec_codec.specs.declared.record.Seat.{Seat};
-ghost use Rattle.rec_codec.specs.declared.record.Ending.{Ending};
+ghost use Rattle.rec_codec.specs.declared.record.StoredEnding.{StoredEnding};
 ghost use Rattle.rec_codec.specs.declared.record.Head.{Head};
 ghost use Rattle.rec_codec.specs.declared.record.Moves.{Moves};
 ghost use Rattle.rec_codec.specs.Field.{Stands, AllStand, laid, u32 as u32_field};
@@ -13,7 +13,7 @@ use crate::fields::{
     is_set, put, put_u8, put_u16, put_u32, put_u64, u8_at, u16_at, u32_at, u64_at,
 };
 use crate::used::{name_at, period_at, period_numbers, position_at, put_name, put_position};
-use rec_codec::{Ending, GameNumber, Head, Meta, MoveList, Moves, Seat};
+use rec_codec::{GameNumber, Head, Meta, MoveList, Moves, Seat, StoredEnding};
 
 /// The bytes of a meta record.
 pub fn write_meta(meta: &Meta) -> [u8; 128]
@@ -43,48 +43,48 @@ pub fn read_meta(bytes: &[u8]) -> Meta
 }
 
 // The number of an ending.
-fn ending_number(ending: Option<Ending>) -> u16
+fn ending_number(ending: Option<StoredEnding>) -> u16
     ensures number { result ≡ spec.ending_number ending }
     ensures few { result ≤ 14 }
 {
     match ending {
         None => 0,
-        Some(Ending::WhiteMates) => 1,
-        Some(Ending::BlackMates) => 2,
-        Some(Ending::WhiteWinsByResignation) => 3,
-        Some(Ending::BlackWinsByResignation) => 4,
-        Some(Ending::Stalemate) => 5,
-        Some(Ending::DeadPosition) => 6,
-        Some(Ending::Agreement) => 7,
-        Some(Ending::WhiteWinsOnTime) => 8,
-        Some(Ending::BlackWinsOnTime) => 9,
-        Some(Ending::DrawnOnTime) => 10,
-        Some(Ending::ThirdOccurrence) => 11,
-        Some(Ending::FiftyMoves) => 12,
-        Some(Ending::FifthOccurrence) => 13,
-        Some(Ending::SeventyFiveMoves) => 14,
+        Some(StoredEnding::WhiteMates) => 1,
+        Some(StoredEnding::BlackMates) => 2,
+        Some(StoredEnding::WhiteWinsByResignation) => 3,
+        Some(StoredEnding::BlackWinsByResignation) => 4,
+        Some(StoredEnding::Stalemate) => 5,
+        Some(StoredEnding::DeadPosition) => 6,
+        Some(StoredEnding::Agreement) => 7,
+        Some(StoredEnding::WhiteWinsOnTime) => 8,
+        Some(StoredEnding::BlackWinsOnTime) => 9,
+        Some(StoredEnding::DrawnOnTime) => 10,
+        Some(StoredEnding::ThirdOccurrence) => 11,
+        Some(StoredEnding::FiftyMoves) => 12,
+        Some(StoredEnding::FifthOccurrence) => 13,
+        Some(StoredEnding::SeventyFiveMoves) => 14,
     }
 }
 
 // The ending of a number.
-fn ending_of(number: u16) -> Option<Ending>
-    ensures { (ending : Option Ending) → number ≡ spec.ending_number ending → result ≡ ending }
+fn ending_of(number: u16) -> Option<StoredEnding>
+    ensures { (ending : Option StoredEnding) → number ≡ spec.ending_number ending → result ≡ ending }
 {
     match number {
-        1 => Some(Ending::WhiteMates),
-        2 => Some(Ending::BlackMates),
-        3 => Some(Ending::WhiteWinsByResignation),
-        4 => Some(Ending::BlackWinsByResignation),
-        5 => Some(Ending::Stalemate),
-        6 => Some(Ending::DeadPosition),
-        7 => Some(Ending::Agreement),
-        8 => Some(Ending::WhiteWinsOnTime),
-        9 => Some(Ending::BlackWinsOnTime),
-        10 => Some(Ending::DrawnOnTime),
-        11 => Some(Ending::ThirdOccurrence),
-        12 => Some(Ending::FiftyMoves),
-        13 => Some(Ending::FifthOccurrence),
-        14 => Some(Ending::SeventyFiveMoves),
+        1 => Some(StoredEnding::WhiteMates),
+        2 => Some(StoredEnding::BlackMates),
+        3 => Some(StoredEnding::WhiteWinsByResignation),
+        4 => Some(StoredEnding::BlackWinsByResignation),
+        5 => Some(StoredEnding::Stalemate),
+        6 => Some(StoredEnding::DeadPosition),
+        7 => Some(StoredEnding::Agreement),
+        8 => Some(StoredEnding::WhiteWinsOnTime),
+        9 => Some(StoredEnding::BlackWinsOnTime),
+        10 => Some(StoredEnding::DrawnOnTime),
+        11 => Some(StoredEnding::ThirdOccurrence),
+        12 => Some(StoredEnding::FiftyMoves),
+        13 => Some(StoredEnding::FifthOccurrence),
+        14 => Some(StoredEnding::SeventyFiveMoves),
         _ => None,
     }
 }

@@ -50,7 +50,7 @@ pub record IsMoveList (moves : List Move) : Type 0 where
 
 -- its field has two bytes for each of the 60 places
 abbrev pub moves : ℕ → List Move → Field
-moves at list = record { at = at; width = 120; bytes = flat_map (little_bytes 2) (codes_of list) }
+moves at list = record { offset = at; width = 120; bytes = flat_map (little_bytes 2) (codes_of list) }
 
 -- what a pawn becomes by its number
 abbrev pub promotion_of : ℕ → Option Kind

@@ -23,4 +23,4 @@ name_bytes None = replicate 17 0
 name_bytes (Some text) = length text ∷ padded text
 
 abbrev pub name : ℕ → Option (List ℕ) → Field
-name at text = record { at = at; width = 17; bytes = name_bytes text }
+name at text = record { offset = at; width = 17; bytes = name_bytes text }

@@ -11,6 +11,6 @@ abbrev pub inside_of : List ℕ → Inside
 inside_of text = record { len = length text; bytes = padded text }
 
 -- what every name keeps true: its text is a name, with zeros after it
-pub record IsSound (name : Inside) : Type 0 where
+pub record IsSoundName (name : Inside) : Type 0 where
   pub named : IsName (text_of name)
   pub same : inside_of (text_of name) ≡ name

@@ -34,7 +34,7 @@ pair_byte placement k =
     square_number (man_at placement (square_at (2 * k))) + 16 * square_number (man_at placement (square_at (2 * k + 1)))
 
 abbrev pub men : ℕ → List (Option Man) → Field
-men at placement = record { at = at; width = 32; bytes = map (pair_byte placement) (range_with_len 0 32) }
+men at placement = record { offset = at; width = 32; bytes = map (pair_byte placement) (range_with_len 0 32) }
 
 -- the target's number, or 64
 abbrev pub target_number : Option Square → ℕ
@@ -62,7 +62,7 @@ position_bytes None = replicate 38 0
 position_bytes (Some p) = laid 38 (position_fields p)
 
 abbrev pub position : ℕ → Option Position → Field
-position at p = record { at = at; width = 38; bytes = position_bytes p }
+position at p = record { offset = at; width = 38; bytes = position_bytes p }
 
 -- the same numbers read: the kind, and what stands on a square
 abbrev pub kind_numbered : ℕ → Option Kind

@@ -16,11 +16,11 @@ impl Model for Name {
 
     ghost Value = { List ℕ };
 
-    ghost use Rattle.rec_codec.specs.NameInside.{text_of, inside_of, IsSound};
+    ghost use Rattle.rec_codec.specs.NameInside.{text_of, inside_of, IsSoundName};
 
     ghost view = { text_of };
 
-    ghost invariant = { IsSound };
+    ghost invariant = { IsSoundName };
 
     ghost inverse = { inside_of };
 

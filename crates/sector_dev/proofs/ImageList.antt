@@ -52,7 +52,7 @@ listed_become bytes rest value listed = elim (first_or_later (Bytes bytes) (Unre
 listed_with_more : (at : ℕ) (stable : Sector) (w : Write) (ws : List Write) (value : Sector)
     → Contains (values at stable ws) value → Contains (values at stable (w ∷ ws)) value
 listed_with_more at stable w ws value listed =
-    cond_both (w.at == at) (Bytes w.value ∷ Unreadable ∷ values at stable ws) (values at stable ws)
+    cond_both (w.sector == at) (Bytes w.value ∷ Unreadable ∷ values at stable ws) (values at stable ws)
     (λ (xs : List Sector). Contains xs value)
     (λ yes. later_contained (Bytes w.value) (Unreadable ∷ values at stable ws) value
     (later_contained Unreadable (values at stable ws) value listed))
@@ -60,12 +60,12 @@ listed_with_more at stable w ws value listed =
 
 -- what a write to this sector may leave is listed
 written_listed : (at : ℕ) (stable : Sector) (w : Write) (ws : List Write) (value : Sector)
-    → (w.at ≡ at) × MayBecome w.value value → Contains (values at stable (w ∷ ws)) value
+    → (w.sector ≡ at) × MayBecome w.value value → Contains (values at stable (w ∷ ws)) value
 written_listed at stable w ws value here =
-    cond_both (w.at == at) (Bytes w.value ∷ Unreadable ∷ values at stable ws) (values at stable ws)
+    cond_both (w.sector == at) (Bytes w.value ∷ Unreadable ∷ values at stable ws) (values at stable ws)
     (λ (xs : List Sector). Contains xs value)
     (λ yes. become_listed w.value (values at stable ws) value here.1)
-    (λ no. absurd (eqb-false w.at at no here.0))
+    (λ no. absurd (eqb-false w.sector at no here.0))
 
 -- a value that a crash may leave is listed
 value_listed : (at : ℕ) (stable : Sector) (pending : List Write) (value : Sector)
@@ -86,10 +86,10 @@ listed_value at stable [] value listed = elim (first_or_later stable [] value li
   | inr none ↦ absurd (omega (arith, none.1))
 ]
 listed_value at stable (w ∷ ws) value listed =
-    cond_both (w.at == at) (Bytes w.value ∷ Unreadable ∷ values at stable ws) (values at stable ws)
+    cond_both (w.sector == at) (Bytes w.value ∷ Unreadable ∷ values at stable ws) (values at stable ws)
     (λ (xs : List Sector). Contains xs value → IsValue at stable (w ∷ ws) value)
     (λ yes held. elim (listed_become w.value (values at stable ws) value held) [
-      | inl become ↦ inr (inl (eqb-true w.at at yes, become))
+      | inl become ↦ inr (inl (eqb-true w.sector at yes, become))
       | inr later ↦ value_with_more at stable w ws value (listed_value at stable ws value later)
     ])
     (λ no held. value_with_more at stable w ws value (listed_value at stable ws value held))

@@ -9,19 +9,19 @@ use Rattle.sector_dev.specs.declared.memory.Call.TheVariants.{Written, Synced}
 use Rattle.sector_dev.specs.declared.device.Sector.TheVariants.{Bytes}
 use Rattle.sector_dev.specs.Image.{Sectors}
 use Rattle.sector_dev.specs.Device.{State, Elapses, WithOrWithout, IsUnchanged, IsPending, IsStable}
-use Rattle.sector_dev.specs.Memory.{Disk, shown, step, after, at_rest}
-use Rattle.sector_dev.specs.Replay.{MayLeave, MightLeaveSince, length-after, length-applied, shown_is_image, recorded_state}
+use Rattle.sector_dev.specs.Memory.{Disk, shown, step, disk_after, at_rest}
+use Rattle.sector_dev.specs.Replay.{MayLeave, MightLeaveSince, length-disk_after, length-applied, shown_is_image, recorded_state}
 use Rattle.sector_dev.proofs.Images.{pending_images, applied-append, stable_images}
 
-pub after-append : (d : Disk) (cs : List Call) (x : Call) → after d (cs ++ x ∷ []) ≡ step (after d cs) x
-after-append d [] x = refl
-after-append d (c ∷ cs) x = after-append (step d c) cs x
+pub disk_after-append : (d : Disk) (cs : List Call) (x : Call) → disk_after d (cs ++ x ∷ []) ≡ step (disk_after d cs) x
+disk_after-append d [] x = refl
+disk_after-append d (c ∷ cs) x = disk_after-append (step d c) cs x
 
 -- a recorded call is the last step
 pub recorded : (stable : Sectors) (calls next : List Call) (x : Call) → next ≡ calls ++ x ∷ []
-    → after (at_rest stable) next ≡ step (after (at_rest stable) calls) x
-recorded stable calls next x is = ap (λ (cs : List Call). after (at_rest stable) cs) is
-    ∙ after-append (at_rest stable) calls x
+    → disk_after (at_rest stable) next ≡ step (disk_after (at_rest stable) calls) x
+recorded stable calls next x is = ap (λ (cs : List Call). disk_after (at_rest stable) cs) is
+    ∙ disk_after-append (at_rest stable) calls x
 
 -- a call that changes nothing
 pub elapses_same : (now : State) (during : Sectors → Type 0) → Elapses now now during
@@ -32,10 +32,10 @@ same_is_unchanged now = record { reads = refl; images = λ c. (λ i. i, λ i. i)
 
 module _ (stable : Sectors) (calls : List Call) (x : Call) where
   abbrev disk : Disk
-  disk = after (at_rest stable) calls
+  disk = disk_after (at_rest stable) calls
 
   abbrev AtCalls : Sectors → List Call → Type 0
-  AtCalls c cs = MayLeave (after (at_rest stable) cs) c
+  AtCalls c cs = MayLeave (disk_after (at_rest stable) cs) c
 
   keeps : (t : ℕ) (c : Sectors) → MightLeaveSince stable calls t c → MightLeaveSince stable (calls ++ x ∷ []) t c
   keeps t c s = record {
@@ -51,7 +51,7 @@ module _ (stable : Sectors) (calls : List Call) (x : Call) where
   nothing_else during f t c s = elim (cases_eq s.moment (length calls + 1)) [
     | inl last ↦
         let whole = take_all s.moment (calls ++ x ∷ []) (omega (arith, last, length-append calls (x ∷ []))) in
-        inr (f c (subst (λ (d : Disk). MayLeave d c) (after-append (at_rest stable) calls x)
+        inr (f c (subst (λ (d : Disk). MayLeave d c) (disk_after-append (at_rest stable) calls x)
         (subst (AtCalls c) whole s.image)))
     | inr earlier ↦
         let le : s.moment ≤ length calls = omega (arith, earlier, s.to, length-append calls (x ∷ [])) in
@@ -75,21 +75,21 @@ module _ (stable : Sectors) (calls : List Call) (x : Call) where
 -- what a write does to the record's disk
 pub write_images : (stable : Sectors) (calls : List Call) (at : ℕ) (value : List ℕ) → at < length stable
     → (c : Sectors)
-    → MayLeave (step (after (at_rest stable) calls) (Written at value)) c ↔ WithOrWithout at value
-    (MayLeave (after (at_rest stable) calls)) c
+    → MayLeave (step (disk_after (at_rest stable) calls) (Written at value)) c ↔ WithOrWithout at value
+    (MayLeave (disk_after (at_rest stable) calls)) c
 write_images stable calls at value lt c =
-    let d = after (at_rest stable) calls in
-    pending_images d.stable d.pending (record { at = at; value = value })
-    (omega (arith, lt, length-after (at_rest stable) calls)) c
+    let d = disk_after (at_rest stable) calls in
+    pending_images d.stable d.pending (record { sector = at; value = value })
+    (omega (arith, lt, length-disk_after (at_rest stable) calls)) c
 
 pub written_is_pending : (stable : Sectors) (calls next : List Call) (at : ℕ) (value : List ℕ)
     → at < length stable → next ≡ calls ++ Written at value ∷ []
     → IsPending at value (recorded_state stable calls) (recorded_state stable next)
 written_is_pending stable calls next at value lt is =
-    let d = after (at_rest stable) calls in
+    let d = disk_after (at_rest stable) calls in
     let leaves = recorded stable calls next (Written at value) is in
     record {
-      reads = ap shown leaves ∙ applied-append d.stable d.pending (record { at = at; value = value });
+      reads = ap shown leaves ∙ applied-append d.stable d.pending (record { sector = at; value = value });
       images = λ c. subst (λ (e : Disk). MayLeave e c ↔ WithOrWithout at value (MayLeave d) c) (sym leaves)
           (write_images stable calls at value lt c);
     }
@@ -97,16 +97,16 @@ written_is_pending stable calls next at value lt is =
 pub written_elapses : (stable : Sectors) (calls next : List Call) (at : ℕ) (value : List ℕ)
     → at < length stable → next ≡ calls ++ Written at value ∷ []
     → Elapses (recorded_state stable calls) (recorded_state stable next)
-    (WithOrWithout at value (MayLeave (after (at_rest stable) calls)))
+    (WithOrWithout at value (MayLeave (disk_after (at_rest stable) calls)))
 written_elapses stable calls next at value lt is =
-    let during = WithOrWithout at value (MayLeave (after (at_rest stable) calls)) in
+    let during = WithOrWithout at value (MayLeave (disk_after (at_rest stable) calls)) in
     subst (λ (cs : List Call). Elapses (recorded_state stable calls) (recorded_state stable cs) during) (sym is)
     (elapses_one stable calls (Written at value) during (λ c i. (write_images stable calls at value lt c).0 i))
 
 pub synced_is_stable : (stable : Sectors) (calls next : List Call) → next ≡ calls ++ Synced ∷ []
-    → IsStable (shown (after (at_rest stable) calls)) (recorded_state stable next)
+    → IsStable (shown (disk_after (at_rest stable) calls)) (recorded_state stable next)
 synced_is_stable stable calls next is =
-    let now = shown (after (at_rest stable) calls) in
+    let now = shown (disk_after (at_rest stable) calls) in
     let leaves = recorded stable calls next Synced is in
     record {
       reads = ap shown leaves;
@@ -114,52 +114,52 @@ synced_is_stable stable calls next is =
     }
 
 pub synced_elapses : (stable : Sectors) (calls next : List Call) → next ≡ calls ++ Synced ∷ []
-    → Elapses (recorded_state stable calls) (recorded_state stable next) (MayLeave (after (at_rest stable) calls))
+    → Elapses (recorded_state stable calls) (recorded_state stable next) (MayLeave (disk_after (at_rest stable) calls))
 synced_elapses stable calls next is =
-    let d = after (at_rest stable) calls in
+    let d = disk_after (at_rest stable) calls in
     subst (λ (cs : List Call). Elapses (recorded_state stable calls) (recorded_state stable cs) (MayLeave d)) (sym is)
     (elapses_one stable calls Synced (MayLeave d)
     (λ c i. subst (λ (x : Sectors). MayLeave d x) (sym ((stable_images (shown d) c).0 i)) (shown_is_image d)))
 
 -- what reads give after one more write
 pub shown-written : (stable : Sectors) (calls : List Call) (at : ℕ) (value : List ℕ)
-    → shown (after (at_rest stable) (calls ++ Written at value ∷ [])) ≡ slice_set
-    (shown (after (at_rest stable) calls)) at (Bytes value)
+    → shown (disk_after (at_rest stable) (calls ++ Written at value ∷ [])) ≡ slice_set
+    (shown (disk_after (at_rest stable) calls)) at (Bytes value)
 shown-written stable calls at value =
-    let d = after (at_rest stable) calls in
-    ap shown (after-append (at_rest stable) calls (Written at value))
-    ∙ applied-append d.stable d.pending (record { at = at; value = value })
+    let d = disk_after (at_rest stable) calls in
+    ap shown (disk_after-append (at_rest stable) calls (Written at value))
+    ∙ applied-append d.stable d.pending (record { sector = at; value = value })
 
 pub shown-synced : (stable : Sectors) (calls : List Call)
-    → shown (after (at_rest stable) (calls ++ Synced ∷ [])) ≡ shown (after (at_rest stable) calls)
-shown-synced stable calls = ap shown (after-append (at_rest stable) calls Synced)
+    → shown (disk_after (at_rest stable) (calls ++ Synced ∷ [])) ≡ shown (disk_after (at_rest stable) calls)
+shown-synced stable calls = ap shown (disk_after-append (at_rest stable) calls Synced)
 
 pub length-shown : (stable : Sectors) (calls : List Call)
-    → length (shown (after (at_rest stable) calls)) ≡ length stable
+    → length (shown (disk_after (at_rest stable) calls)) ≡ length stable
 length-shown stable calls =
-    let d = after (at_rest stable) calls in
-    length-applied d.stable d.pending ∙ length-after (at_rest stable) calls
+    let d = disk_after (at_rest stable) calls in
+    length-applied d.stable d.pending ∙ length-disk_after (at_rest stable) calls
 
 -- after a call that is recorded or fails, what is seen is what reads give
 pub synced_shown : {T E : Type 0} (r : Result T E) (stable : Sectors) (calls next : List Call)
     (seen : Sectors)
-    → OnOk r (next ≡ calls ++ Synced ∷ []) → OnErr r (next ≡ calls) → seen ≡ shown (after (at_rest stable) calls)
-    → seen ≡ shown (after (at_rest stable) next)
+    → OnOk r (next ≡ calls ++ Synced ∷ []) → OnErr r (next ≡ calls) → seen ≡ shown (disk_after (at_rest stable) calls)
+    → seen ≡ shown (disk_after (at_rest stable) next)
 synced_shown (Ok x) stable calls next seen ok err is = is
-    ∙ sym (ap (λ (cs : List Call). shown (after (at_rest stable) cs)) ok ∙ shown-synced stable calls)
+    ∙ sym (ap (λ (cs : List Call). shown (disk_after (at_rest stable) cs)) ok ∙ shown-synced stable calls)
 synced_shown (Err e) stable calls next seen ok err is = is
-    ∙ ap (λ (cs : List Call). shown (after (at_rest stable) cs)) (sym err)
+    ∙ ap (λ (cs : List Call). shown (disk_after (at_rest stable) cs)) (sym err)
 
 pub written_shown : {T E : Type 0} (r : Result T E) (stable : Sectors) (calls next : List Call)
     (seen later : Sectors) (at : ℕ) (value : List ℕ)
     → OnOk r (next ≡ calls ++ Written at value ∷ []) → OnErr r (next ≡ calls)
     → OnOk r (later ≡ slice_set seen at (Bytes value)) → OnErr r (later ≡ seen)
-    → seen ≡ shown (after (at_rest stable) calls) → later ≡ shown (after (at_rest stable) next)
+    → seen ≡ shown (disk_after (at_rest stable) calls) → later ≡ shown (disk_after (at_rest stable) next)
 written_shown (Ok x) stable calls next seen later at value ok err set same is =
     set ∙ (ap (λ (s : Sectors). slice_set s at (Bytes value)) is
-    ∙ sym (ap (λ (cs : List Call). shown (after (at_rest stable) cs)) ok ∙ shown-written stable calls at value))
+    ∙ sym (ap (λ (cs : List Call). shown (disk_after (at_rest stable) cs)) ok ∙ shown-written stable calls at value))
 written_shown (Err e) stable calls next seen later at value ok err set same is = same
-    ∙ (is ∙ ap (λ (cs : List Call). shown (after (at_rest stable) cs)) (sym err))
+    ∙ (is ∙ ap (λ (cs : List Call). shown (disk_after (at_rest stable) cs)) (sym err))
 
 -- the place of a read doesn't fall past the end
 pub any_default : {X : Type 0} (xs : List X) (k : ℕ) (d e : X) → k < length xs → get_or xs k d ≡ get_or xs k e

@@ -22,17 +22,17 @@ lost_first stable w ws c i = record {
 
 -- an image after the first pending write is one of it and the others
 changed_first : (stable : Sectors) (w : Write) (ws : List Write) (x : Sector) (c : Sectors) → MayBecome w.value x
-    → Image (slice_set stable w.at x) ws c → Image stable (w ∷ ws) c
+    → Image (slice_set stable w.sector x) ws c → Image stable (w ∷ ws) c
 changed_first stable w ws x c become i = record {
-  size = i.size ∙ length-set stable w.at x;
-  each = λ k within. elim (i.each k (omega (arith, within, length-set stable w.at x))) [
+  size = i.size ∙ length-set stable w.sector x;
+  each = λ k within. elim (i.each k (omega (arith, within, length-set stable w.sector x))) [
     | inr later ↦ inr (inr later)
-    | inl same ↦ elim (cases_eq k w.at) [
+    | inl same ↦ elim (cases_eq k w.sector) [
       | inl eq ↦
           let is : sector_at c k ≡ x =
-          same ∙ get_or-set_at stable w.at k x Unreadable eq (omega (arith, within, eq)) in
+          same ∙ get_or-set_at stable w.sector k x Unreadable eq (omega (arith, within, eq)) in
           inr (inl (sym eq, subst (MayBecome w.value) (sym is) become))
-      | inr ne ↦ inl (same ∙ get_or-set_other stable w.at k x Unreadable ne)
+      | inr ne ↦ inl (same ∙ get_or-set_other stable w.sector k x Unreadable ne)
     ]
   ];
 }
@@ -45,23 +45,23 @@ left_is_image stable (w ∷ ws) [] = record { size = refl; each = λ k within. i
 left_is_image stable (w ∷ ws) (Lost ∷ fates) =
     lost_first stable w ws (left_by stable ws fates) (left_is_image stable ws fates)
 left_is_image stable (w ∷ ws) (Kept ∷ fates) =
-    let next = slice_set stable w.at (Bytes w.value) in
+    let next = slice_set stable w.sector (Bytes w.value) in
     changed_first stable w ws (Bytes w.value) (left_by next ws fates) (inl refl) (left_is_image next ws fates)
 left_is_image stable (w ∷ ws) (Ruined ∷ fates) =
-    let next = slice_set stable w.at Unreadable in
+    let next = slice_set stable w.sector Unreadable in
     changed_first stable w ws Unreadable (left_by next ws fates) (inr refl) (left_is_image next ws fates)
 
 -- an image is one without the first pending write, if something else gives the value of that sector
 without_first : (stable : Sectors) (w : Write) (ws : List Write) (c : Sectors) → Image stable (w ∷ ws) c
-    → (w.at < length stable
-    → (sector_at c w.at ≡ sector_at stable w.at) ⊎ IsWritten ws w.at (sector_at c w.at))
+    → (w.sector < length stable
+    → (sector_at c w.sector ≡ sector_at stable w.sector) ⊎ IsWritten ws w.sector (sector_at c w.sector))
     → Image stable ws c
 without_first stable w ws c i here = record {
   size = i.size;
   each = λ k within. elim (i.each k within) [
     | inl same ↦ inl same
     | inr (inl first) ↦
-        let lt : w.at < length stable = omega (arith, first.0) in
+        let lt : w.sector < length stable = omega (arith, first.0) in
         subst (λ (n : ℕ). (sector_at c n ≡ sector_at stable n) ⊎ IsWritten ws n (sector_at c n)) first.0 (here lt)
     | inr (inr later) ↦ inr later
   ];
@@ -69,15 +69,15 @@ without_first stable w ws c i here = record {
 
 -- an image with what the first pending write may leave is one after that write
 after_first : (stable : Sectors) (w : Write) (ws : List Write) (x : Sector) (c : Sectors) → Image stable (w ∷ ws) c
-    → w.at < length stable → sector_at c w.at ≡ x → Image (slice_set stable w.at x) ws c
+    → w.sector < length stable → sector_at c w.sector ≡ x → Image (slice_set stable w.sector x) ws c
 after_first stable w ws x c i lt is = record {
-  size = i.size ∙ sym (length-set stable w.at x);
-  each = λ k within. elim (cases_eq k w.at) [
+  size = i.size ∙ sym (length-set stable w.sector x);
+  each = λ k within. elim (cases_eq k w.sector) [
     | inl eq ↦
-        let there : sector_at c k ≡ sector_at c w.at = ap (λ (n : ℕ). sector_at c n) eq in
-        inl (there ∙ (is ∙ sym (get_or-set_at stable w.at k x Unreadable eq lt)))
-    | inr ne ↦ elim (i.each k (omega (arith, length-set stable w.at x))) [
-      | inl same ↦ inl (same ∙ sym (get_or-set_other stable w.at k x Unreadable ne))
+        let there : sector_at c k ≡ sector_at c w.sector = ap (λ (n : ℕ). sector_at c n) eq in
+        inl (there ∙ (is ∙ sym (get_or-set_at stable w.sector k x Unreadable eq lt)))
+    | inr ne ↦ elim (i.each k (omega (arith, length-set stable w.sector x))) [
+      | inl same ↦ inl (same ∙ sym (get_or-set_other stable w.sector k x Unreadable ne))
       | inr (inl first) ↦ absurd (ne (sym first.0))
       | inr (inr later) ↦ inr later
     ]
@@ -88,20 +88,20 @@ after_first stable w ws x c i lt is = record {
 pub image_is_left : (stable : Sectors) (pending : List Write) (c : Sectors) → Image stable pending c
     → (fates : List Fate) × (left_by stable pending fates ≡ c)
 image_is_left stable [] c i = ([], sym ((stable_images stable c).0 i))
-image_is_left stable (w ∷ ws) c i = elim (cases_lt w.at (length stable)) [
+image_is_left stable (w ∷ ws) c i = elim (cases_lt w.sector (length stable)) [
   | inr past ↦
       let r = image_is_left stable ws c (without_first stable w ws c i (λ lt. absurd (omega arith))) in
       (Lost ∷ r.0, r.1)
-  | inl lt ↦ elim (i.each w.at lt) [
+  | inl lt ↦ elim (i.each w.sector lt) [
     | inl same ↦
         let r = image_is_left stable ws c (without_first stable w ws c i (λ lt. inl same)) in
         (Lost ∷ r.0, r.1)
     | inr (inl (at, inl written)) ↦
-        let r = image_is_left (slice_set stable w.at (Bytes w.value)) ws c
+        let r = image_is_left (slice_set stable w.sector (Bytes w.value)) ws c
         (after_first stable w ws (Bytes w.value) c i lt written) in
         (Kept ∷ r.0, r.1)
     | inr (inl (at, inr unreadable)) ↦
-        let r = image_is_left (slice_set stable w.at Unreadable) ws c
+        let r = image_is_left (slice_set stable w.sector Unreadable) ws c
         (after_first stable w ws Unreadable c i lt unreadable) in
         (Ruined ∷ r.0, r.1)
     | inr (inr later) ↦

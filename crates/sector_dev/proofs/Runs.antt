@@ -101,13 +101,13 @@ with_more writes more old c (d, was, i) = (
 )
 
 module _ (old : Sectors → Type 0) (ws : List Write) (w : Write)
-    (within : (d : Sectors) → old d → w.at < length d) where
+    (within : (d : Sectors) → old d → w.sector < length d) where
   -- one write more
-  pub one_more : (c : Sectors) → WithOrWithout w.at w.value (WithWrites ws old) c → WithWrites (ws ++ w ∷ []) old c
+  pub one_more : (c : Sectors) → WithOrWithout w.sector w.value (WithWrites ws old) c → WithWrites (ws ++ w ∷ []) old c
   one_more c (e, (d, was, i), changed) = (d, was, (pending_images d ws w (within d was) c).1 (e, i, changed))
 
   pub one_less_or_more : (c : Sectors) → WithWrites (ws ++ w ∷ []) old c
-      → WithOrWithout w.at w.value (WithWrites ws old) c
+      → WithOrWithout w.sector w.value (WithWrites ws old) c
   one_less_or_more c (d, was, i) =
       let s = (pending_images d ws w (within d was) c).0 i in (s.0, (d, was, s.1), s.2)
 
@@ -122,19 +122,19 @@ none_pending old = record {
 }
 
 module _ (old mid new : State) (ws : List Write) (w : Write) (pending : ArePending ws old mid)
-    (within : (d : Sectors) → old.image d → w.at < length d) where
-  same_sectors : (c : Sectors) → WithOrWithout w.at w.value mid.image c
-      → WithOrWithout w.at w.value (WithWrites ws old.image) c
+    (within : (d : Sectors) → old.image d → w.sector < length d) where
+  same_sectors : (c : Sectors) → WithOrWithout w.sector w.value mid.image c
+      → WithOrWithout w.sector w.value (WithWrites ws old.image) c
   same_sectors c (d, now, changed) = (d, (pending.images d).0 now, changed)
 
   -- what may be left during one write more
-  pub during_more : (c : Sectors) → WithOrWithout w.at w.value mid.image c → WithWrites (ws ++ w ∷ []) old.image c
+  pub during_more : (c : Sectors) → WithOrWithout w.sector w.value mid.image c → WithWrites (ws ++ w ∷ []) old.image c
   during_more c h = one_more old.image ws w within c (same_sectors c h)
 
   -- one write more is pending
-  pub more_pending : IsPending w.at w.value mid new → ArePending (ws ++ w ∷ []) old new
+  pub more_pending : IsPending w.sector w.value mid new → ArePending (ws ++ w ∷ []) old new
   more_pending last = record {
-    reads = last.reads ∙ (ap (λ (s : Sectors). slice_set s w.at (Bytes w.value)) pending.reads
+    reads = last.reads ∙ (ap (λ (s : Sectors). slice_set s w.sector (Bytes w.value)) pending.reads
         ∙ sym (applied-append old.reads ws w));
     images = λ c. (
       λ now. during_more c ((last.images c).0 now),
@@ -145,7 +145,7 @@ module _ (old mid new : State) (ws : List Write) (w : Write) (pending : ArePendi
   }
 
   -- one write more failed
-  pub more_failed : MayBePending w.at w.value mid new → (c : Sectors) → new.image c
+  pub more_failed : MayBePending w.sector w.value mid new → (c : Sectors) → new.image c
       → WithWrites (ws ++ w ∷ []) old.image c
   more_failed failed c now = elim failed.images [
     | inl same ↦ with_more ws (w ∷ []) old.image c ((pending.images c).0 ((same c).0 now))

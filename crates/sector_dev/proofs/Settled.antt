@@ -12,28 +12,28 @@ use Rattle.sector_dev.specs.declared.device.Fate.{Fate}
 use Rattle.sector_dev.specs.declared.device.Fate.TheVariants.{Lost, Kept, Unreadable as Ruined}
 use Rattle.sector_dev.specs.Image.{Sectors, Write, applied}
 use Rattle.sector_dev.specs.Crash.{left_by}
-use Rattle.sector_dev.specs.Memory.{Disk, shown, step, after, at_rest, writes_of, IsUnsynced, IsSettledAt}
+use Rattle.sector_dev.specs.Memory.{Disk, shown, step, disk_after, at_rest, writes_of, IsUnsynced, IsSettledAt}
 use Rattle.sector_dev.proofs.Images.{applied-append}
-use Rattle.sector_dev.proofs.Moments.{after-append}
+use Rattle.sector_dev.proofs.Moments.{disk_after-append}
 
 pub writes_of-append : (xs ys : List Call) → writes_of (xs ++ ys) ≡ writes_of xs ++ writes_of ys
 writes_of-append [] ys = refl
 writes_of-append (Written at v ∷ xs) ys =
-    ap (λ (ws : List Write). record { at = at; value = v } ∷ ws) (writes_of-append xs ys)
+    ap (λ (ws : List Write). record { sector = at; value = v } ∷ ws) (writes_of-append xs ys)
 writes_of-append (Synced ∷ xs) ys = writes_of-append xs ys
 
 pub applied-append_all : (stable : Sectors) (ws us : List Write)
     → applied stable (ws ++ us) ≡ applied (applied stable ws) us
 applied-append_all stable [] us = refl
-applied-append_all stable (w ∷ ws) us = applied-append_all (slice_set stable w.at (Bytes w.value)) ws us
+applied-append_all stable (w ∷ ws) us = applied-append_all (slice_set stable w.sector (Bytes w.value)) ws us
 
 -- what reads give is each write over the one before it, synced or not
-shown_all : (d : Disk) (cs : List Call) → shown (after d cs) ≡ applied (shown d) (writes_of cs)
+shown_all : (d : Disk) (cs : List Call) → shown (disk_after d cs) ≡ applied (shown d) (writes_of cs)
 shown_all d [] = refl
 shown_all d (Written at v ∷ cs) =
     shown_all (step d (Written at v)) cs
     ∙ ap (λ (s : Sectors). applied s (writes_of cs))
-    (applied-append d.stable d.pending (record { at = at; value = v }))
+    (applied-append d.stable d.pending (record { sector = at; value = v }))
 shown_all d (Synced ∷ cs) = shown_all (step d Synced) cs
 
 unsynced-append : (xs : List Call) (at : ℕ) (v : List ℕ) → IsUnsynced xs → IsUnsynced (xs ++ Written at v ∷ [])
@@ -54,7 +54,7 @@ settled_written xs n at v s =
       within = omega (arith, s.within, length-append xs (Written at v ∷ []));
       unsynced = subst IsUnsynced (sym back) (unsynced-append (drop n xs) at v s.unsynced);
       disk = λ stable.
-          after-append (at_rest stable) xs (Written at v)
+          disk_after-append (at_rest stable) xs (Written at v)
           ∙ (ap (λ (d : Disk). step d (Written at v)) (s.disk stable)
           ∙ (ap (λ (ws : List Write). record { stable = applied stable (writes_of (take n xs)); pending = ws })
           (sym (writes_of-append (drop n xs) (Written at v ∷ [])))
@@ -71,7 +71,7 @@ settled_synced xs =
       within = omega (arith, length-append xs (Synced ∷ []));
       unsynced = subst IsUnsynced (sym back) tt;
       disk = λ stable.
-          after-append (at_rest stable) xs Synced
+          disk_after-append (at_rest stable) xs Synced
           ∙ (ap at_rest (shown_all (at_rest stable) xs
           ∙ ap (applied stable) (sym (writes_of-append xs (Synced ∷ []) ∙ append-nil (writes_of xs))))
           ∙ (ap (λ (cs : List Call). disk_at stable cs []) (sym front)
@@ -92,8 +92,8 @@ left_by-append stable [] w (Kept ∷ fates) = refl
 left_by-append stable [] w (Ruined ∷ fates) = refl
 left_by-append stable (u ∷ ws) w [] = refl
 left_by-append stable (u ∷ ws) w (Lost ∷ fates) = left_by-append stable ws w fates
-left_by-append stable (u ∷ ws) w (Kept ∷ fates) = left_by-append (slice_set stable u.at (Bytes u.value)) ws w fates
-left_by-append stable (u ∷ ws) w (Ruined ∷ fates) = left_by-append (slice_set stable u.at Unreadable) ws w fates
+left_by-append stable (u ∷ ws) w (Kept ∷ fates) = left_by-append (slice_set stable u.sector (Bytes u.value)) ws w fates
+left_by-append stable (u ∷ ws) w (Ruined ∷ fates) = left_by-append (slice_set stable u.sector Unreadable) ws w fates
 
 -- a kept write is made
 pub left_by-kept : (stable : Sectors) (call : Call)
@@ -147,7 +147,7 @@ unsynced-take (Synced ∷ xs) (suc i) u = absurd u
 unsynced_at : (xs : List Call) (i : ℕ) (d : Call) → IsUnsynced xs → i < length xs → (w : Write)
     × (writes_of (get_or xs i d ∷ []) ≡ w ∷ [])
 unsynced_at [] i d u lt = absurd (omega arith)
-unsynced_at (Written at v ∷ xs) zero d u lt = (record { at = at; value = v }, refl)
+unsynced_at (Written at v ∷ xs) zero d u lt = (record { sector = at; value = v }, refl)
 unsynced_at (Written at v ∷ xs) (suc i) d u lt = unsynced_at xs i d u (omega arith)
 unsynced_at (Synced ∷ xs) i d u lt = absurd u
 

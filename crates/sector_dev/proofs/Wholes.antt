@@ -11,7 +11,7 @@ use Rattle.sector_dev.specs.declared.device.Fate.{Fate}
 use Rattle.sector_dev.specs.Image.{Sectors, Image}
 use Rattle.sector_dev.specs.Crash.{left_by}
 use Rattle.sector_dev.specs.InMemory.{zeros}
-use Rattle.sector_dev.specs.Memory.{after, at_rest, writes_of}
+use Rattle.sector_dev.specs.Memory.{disk_after, at_rest, writes_of}
 use Rattle.sector_dev.specs.Replay.{image_is_whole, recorded_whole}
 use Rattle.sector_dev.specs.Whole.{IsWhole, AreWhole, AreWholeWrites}
 use Rattle.sector_dev.proofs.Played.{left_is_image}
@@ -65,7 +65,7 @@ pub written_whole : {T E : Type 0} (r : Result T E) (calls next : List Call) (at
     → IsWhole value → AreWholeWrites (writes_of next)
 written_whole (Ok x) calls next at value ok err whole last =
     more_whole calls next (Written at value) ok whole
-    (All-cons (λ w. IsWhole w.value) (record { at = at; value = value }) [] last (All-nil (λ w. IsWhole w.value)))
+    (All-cons (λ w. IsWhole w.value) (record { sector = at; value = value }) [] last (All-nil (λ w. IsWhole w.value)))
 written_whole (Err e) calls next at value ok err whole last = same_whole calls next err whole
 
 -- after a sync that is recorded or fails
@@ -78,9 +78,9 @@ synced_whole (Err e) calls next ok err whole = same_whole calls next err whole
 -- what a crash leaves
 pub left_whole : (stable : Sectors) (calls : List Call) (fates : List Fate) (next : Sectors) → AreWhole stable
     → AreWholeWrites (writes_of calls)
-    → next ≡ left_by (after (at_rest stable) calls).stable (after (at_rest stable) calls).pending fates
+    → next ≡ left_by (disk_after (at_rest stable) calls).stable (disk_after (at_rest stable) calls).pending fates
     → AreWhole next
 left_whole stable calls fates next whole written is =
-    let d = after (at_rest stable) calls in
+    let d = disk_after (at_rest stable) calls in
     image_is_whole d next (recorded_whole stable calls whole written)
     (subst (λ (c : Sectors). Image d.stable d.pending c) (sym is) (left_is_image d.stable d.pending fates))

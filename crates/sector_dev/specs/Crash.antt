@@ -18,8 +18,8 @@ abbrev pub left_by : Sectors → List Write → List Fate → Sectors
 left_by stable [] fates = stable
 left_by stable (w ∷ ws) [] = stable
 left_by stable (w ∷ ws) (Lost ∷ fates) = left_by stable ws fates
-left_by stable (w ∷ ws) (Kept ∷ fates) = left_by (slice_set stable w.at (Bytes w.value)) ws fates
-left_by stable (w ∷ ws) (Ruined ∷ fates) = left_by (slice_set stable w.at Unreadable) ws fates
+left_by stable (w ∷ ws) (Kept ∷ fates) = left_by (slice_set stable w.sector (Bytes w.value)) ws fates
+left_by stable (w ∷ ws) (Ruined ∷ fates) = left_by (slice_set stable w.sector Unreadable) ws fates
 
 -- a write is kept or lost
 abbrev pub kept_or_lost : Bool → Fate

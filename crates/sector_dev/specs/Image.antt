@@ -13,7 +13,7 @@ sector_at sectors at = slice_index_or sectors at Unreadable
 
 -- a write that may still be lost: the number of its sector, and the bytes for it
 pub record Write : Type 0 where
-  pub at : ℕ
+  pub sector : ℕ
   pub value : List ℕ
 
 -- what a pending write of these bytes may leave in its sector
@@ -23,7 +23,7 @@ MayBecome value sector = (sector ≡ Bytes value) ⊎ (sector ≡ Unreadable)
 -- some of these writes is to the sector with that number and may leave this in it
 abbrev pub IsWritten : List Write → ℕ → Sector → Type 0
 IsWritten [] at sector = ⊥
-IsWritten (w ∷ ws) at sector = ((w.at ≡ at) × MayBecome w.value sector) ⊎ IsWritten ws at sector
+IsWritten (w ∷ ws) at sector = ((w.sector ≡ at) × MayBecome w.value sector) ⊎ IsWritten ws at sector
 
 -- Each sector has its stable value or, where a write to it is pending, the value of some such write, or is unreadable,
 -- whatever the others have.
@@ -35,13 +35,13 @@ pub record Image (stable : Sectors) (pending : List Write) (image : Sectors) : T
 -- the sectors after these writes, each over the one before it
 abbrev pub applied : Sectors → List Write → Sectors
 applied stable [] = stable
-applied stable (w ∷ ws) = applied (slice_set stable w.at (Bytes w.value)) ws
+applied stable (w ∷ ws) = applied (slice_set stable w.sector (Bytes w.value)) ws
 
 -- what a crash may leave in the sector with this number: its stable value, then what each write to it may leave
 abbrev pub values : ℕ → Sector → List Write → List Sector
 values at stable [] = stable ∷ []
 values at stable (w ∷ ws) =
-    if w.at == at then Bytes w.value ∷ Unreadable ∷ values at stable ws else values at stable ws
+    if w.sector == at then Bytes w.value ∷ Unreadable ∷ values at stable ws else values at stable ws
 
 -- each value before each rest
 abbrev pub each_before : List Sector → List Sectors → List Sectors
@@ -59,7 +59,7 @@ abbrev pub of : ℕ → Sector
 of byte = Bytes (byte ∷ [])
 
 abbrev pub put : ℕ → ℕ → Write
-put at byte = record { at = at; value = byte ∷ [] }
+put at byte = record { sector = at; value = byte ∷ [] }
 
 -- two stable sectors; two pending writes to the first and one to the second
 abbrev pub two_sectors : Sectors

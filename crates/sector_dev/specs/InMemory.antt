@@ -5,12 +5,12 @@ use Rattle.sector_dev.specs.declared.device.Sector.TheVariants.{Bytes}
 use Rattle.sector_dev.specs.Image.{Sectors}
 use Rattle.sector_dev.specs.Replay.{recorded_state}
 use Rattle.sector_dev.specs.declared.memory.MemoryDevice.{MemoryDevice}
-use Rattle.sector_dev.specs.Memory.{Disk, step, after, at_rest}
+use Rattle.sector_dev.specs.Memory.{Disk, step, disk_after, at_rest}
 use Rattle.sector_dev.specs.declared.memory.Call.TheVariants.{Written}
 
 -- its stable values and pending writes
 abbrev pub disk_of : MemoryDevice → Disk
-disk_of m = after (at_rest m.base.items) m.calls.items
+disk_of m = disk_after (at_rest m.base.items) m.calls.items
 
 -- how many sectors it has
 abbrev pub sector_count_of : MemoryDevice → ℕ

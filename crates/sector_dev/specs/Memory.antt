@@ -15,13 +15,13 @@ shown d = applied d.stable d.pending
 
 -- after one more call
 abbrev pub step : Disk → Call → Disk
-step d (Written at value) = record { stable = d.stable; pending = d.pending ++ record { at = at; value = value } ∷ [] }
+step d (Written at value) = record { stable = d.stable; pending = d.pending ++ record { sector = at; value = value } ∷ [] }
 step d Synced = record { stable = applied d.stable d.pending; pending = [] }
 
 -- after these calls
-abbrev pub after : Disk → List Call → Disk
-after d [] = d
-after d (c ∷ cs) = after (step d c) cs
+abbrev pub disk_after : Disk → List Call → Disk
+disk_after d [] = d
+disk_after d (c ∷ cs) = disk_after (step d c) cs
 
 -- nothing pending
 abbrev pub at_rest : Sectors → Disk
@@ -29,14 +29,14 @@ at_rest stable = record { stable = stable; pending = [] }
 
 -- two writes, a sync and a write: the two are stable and the last one pending
 after_four_calls :
-    after (at_rest two_sectors) (Written 0 (11 ∷ []) ∷ Written 1 (21 ∷ []) ∷ Synced ∷ Written 0 (12 ∷ []) ∷ [])
+    disk_after (at_rest two_sectors) (Written 0 (11 ∷ []) ∷ Written 1 (21 ∷ []) ∷ Synced ∷ Written 0 (12 ∷ []) ∷ [])
     ≡ record { stable = of 11 ∷ of 21 ∷ []; pending = put 0 12 ∷ [] }
 after_four_calls = refl
 
 -- the writes among these calls
 abbrev pub writes_of : List Call → List Write
 writes_of [] = []
-writes_of (Written at value ∷ cs) = record { at = at; value = value } ∷ writes_of cs
+writes_of (Written at value ∷ cs) = record { sector = at; value = value } ∷ writes_of cs
 writes_of (Synced ∷ cs) = writes_of cs
 
 -- no sync is among these calls
@@ -56,4 +56,4 @@ settled_disk stable calls place = record {
 pub record IsSettledAt (calls : List Call) (place : ℕ) : Type 0 where
   pub within : place ≤ length calls
   pub unsynced : IsUnsynced (drop place calls)
-  pub disk : (stable : Sectors) → after (at_rest stable) calls ≡ settled_disk stable calls place
+  pub disk : (stable : Sectors) → disk_after (at_rest stable) calls ≡ settled_disk stable calls place

@@ -13,7 +13,7 @@ use Rattle.sector_dev.specs.declared.device.Sector.{Sector}
 use Rattle.sector_dev.specs.declared.device.Sector.TheVariants.{Bytes, Unreadable}
 use Rattle.sector_dev.specs.Device.{State, IsCoherent}
 use Rattle.sector_dev.specs.Whole.{IsWhole, AreWhole, AreWholeWrites}
-use Rattle.sector_dev.specs.Memory.{Disk, shown, step, after, at_rest, writes_of}
+use Rattle.sector_dev.specs.Memory.{Disk, shown, step, disk_after, at_rest, writes_of}
 
 -- a crash of this disk may leave that
 abbrev pub MayLeave : Disk → Sectors → Type 0
@@ -25,42 +25,42 @@ pub record MightLeaveSince (stable : Sectors) (calls : List Call) (t : ℕ) (c :
   pub moment : ℕ
   pub from : t ≤ moment
   pub to : moment ≤ length calls
-  pub image : MayLeave (after (at_rest stable) (take moment calls)) c
+  pub image : MayLeave (disk_after (at_rest stable) (take moment calls)) c
 
 pub this_moment_counts : (stable : Sectors) (calls : List Call) (t : ℕ) (c : Sectors) → t ≤ length calls
-    → MayLeave (after (at_rest stable) calls) c → MightLeaveSince stable calls t c
+    → MayLeave (disk_after (at_rest stable) calls) c → MightLeaveSince stable calls t c
 this_moment_counts stable calls t c le now = record {
   moment = length calls;
   from = le;
   to = omega arith;
-  image = subst (λ (cs : List Call). MayLeave (after (at_rest stable) cs) c)
+  image = subst (λ (cs : List Call). MayLeave (disk_after (at_rest stable) cs) c)
       (sym (take_all (length calls) calls (omega arith))) now;
 }
 
 pub no_other_moment : (stable : Sectors) (calls : List Call) (c : Sectors)
-    → MightLeaveSince stable calls (length calls) c → MayLeave (after (at_rest stable) calls) c
+    → MightLeaveSince stable calls (length calls) c → MayLeave (disk_after (at_rest stable) calls) c
 no_other_moment stable calls c m =
-    subst (λ (cs : List Call). MayLeave (after (at_rest stable) cs) c) (take_all m.moment calls m.from) m.image
+    subst (λ (cs : List Call). MayLeave (disk_after (at_rest stable) cs) c) (take_all m.moment calls m.from) m.image
 
 pub length-applied : (stable : Sectors) (ws : List Write) → length (applied stable ws) ≡ length stable
 length-applied stable [] = refl
-length-applied stable (w ∷ ws) = length-applied (slice_set stable w.at (Bytes w.value)) ws ∙ length-set stable w.at (Bytes w.value)
+length-applied stable (w ∷ ws) = length-applied (slice_set stable w.sector (Bytes w.value)) ws ∙ length-set stable w.sector (Bytes w.value)
 
-pub length-after : (d : Disk) (cs : List Call) → length (after d cs).stable ≡ length d.stable
-length-after d [] = refl
-length-after d (Written at v ∷ cs) = length-after (step d (Written at v)) cs
-length-after d (Synced ∷ cs) = length-after (step d Synced) cs ∙ length-applied d.stable d.pending
+pub length-disk_after : (d : Disk) (cs : List Call) → length (disk_after d cs).stable ≡ length d.stable
+length-disk_after d [] = refl
+length-disk_after d (Written at v ∷ cs) = length-disk_after (step d (Written at v)) cs
+length-disk_after d (Synced ∷ cs) = length-disk_after (step d Synced) cs ∙ length-applied d.stable d.pending
 
 each_applied : (stable : Sectors) (ws : List Write) (at : ℕ) → at < length stable
     → (sector_at (applied stable ws) at ≡ sector_at stable at)
     ⊎ IsWritten ws at (sector_at (applied stable ws) at)
 each_applied stable [] at lt = inl refl
 each_applied stable (w ∷ ws) at lt =
-    elim (each_applied (slice_set stable w.at (Bytes w.value)) ws at (omega (arith, lt, length-set stable w.at (Bytes w.value)))) [
+    elim (each_applied (slice_set stable w.sector (Bytes w.value)) ws at (omega (arith, lt, length-set stable w.sector (Bytes w.value)))) [
       | inr later ↦ inr (inr later)
-      | inl same ↦ elim (cases_eq at w.at) [
-        | inl eq ↦ inr (inl (sym eq, inl (same ∙ get_or-set_at stable w.at at (Bytes w.value) Unreadable eq (omega arith))))
-        | inr ne ↦ inl (same ∙ get_or-set_other stable w.at at (Bytes w.value) Unreadable ne)
+      | inl same ↦ elim (cases_eq at w.sector) [
+        | inl eq ↦ inr (inl (sym eq, inl (same ∙ get_or-set_at stable w.sector at (Bytes w.value) Unreadable eq (omega arith))))
+        | inr ne ↦ inl (same ∙ get_or-set_other stable w.sector at (Bytes w.value) Unreadable ne)
       ]
     ]
 
@@ -70,8 +70,8 @@ shown_is_image d =
     record { size = length-applied d.stable d.pending; each = λ at lt. each_applied d.stable d.pending at lt }
 
 pub image_has_size : (stable : Sectors) (calls : List Call) (c : Sectors)
-    → MayLeave (after (at_rest stable) calls) c → length c ≡ length stable
-image_has_size stable calls c i = i.size ∙ length-after (at_rest stable) calls
+    → MayLeave (disk_after (at_rest stable) calls) c → length c ≡ length stable
+image_has_size stable calls c i = i.size ∙ length-disk_after (at_rest stable) calls
 
 -- a readable sector is of 512 bytes where each value that it may have is
 set_whole : (sectors : Sectors) (k : ℕ) (value : List ℕ) → AreWhole sectors → IsWhole value
@@ -93,7 +93,7 @@ applied_whole : (stable : Sectors) (ws : List Write) → AreWhole stable → ByR
     → AreWhole (applied stable ws)
 applied_whole stable [] whole written = whole
 applied_whole stable (w ∷ ws) whole written =
-    applied_whole (slice_set stable w.at (Bytes w.value)) ws (set_whole stable w.at w.value whole written.0) written.1
+    applied_whole (slice_set stable w.sector (Bytes w.value)) ws (set_whole stable w.sector w.value whole written.0) written.1
 
 push_whole : (ws : List Write) (w : Write) → ByRecursion (λ w. IsWhole w.value) ws → IsWhole w.value
     → ByRecursion (λ w. IsWhole w.value) (ws ++ w ∷ [])
@@ -106,10 +106,10 @@ pub record IsWholeDisk (d : Disk) : Type 0 where
   pub pending : ByRecursion (λ w. IsWhole w.value) d.pending
 
 after_whole : (d : Disk) (cs : List Call) → IsWholeDisk d → ByRecursion (λ w. IsWhole w.value) (writes_of cs)
-    → IsWholeDisk (after d cs)
+    → IsWholeDisk (disk_after d cs)
 after_whole d [] whole written = whole
 after_whole d (Written at value ∷ cs) whole written =
-    let w : Write = record { at = at; value = value } in
+    let w : Write = record { sector = at; value = value } in
     after_whole (step d (Written at value)) cs
     (record { stable = whole.stable; pending = push_whole d.pending w whole.pending written.0 }) written.1
 after_whole d (Synced ∷ cs) whole written =
@@ -139,7 +139,7 @@ image_is_whole d c whole i at bytes is = elim (cases_lt at (length d.stable)) [
 ]
 
 pub recorded_whole : (stable : Sectors) (calls : List Call) → AreWhole stable → AreWholeWrites (writes_of calls)
-    → IsWholeDisk (after (at_rest stable) calls)
+    → IsWholeDisk (disk_after (at_rest stable) calls)
 recorded_whole stable calls whole written =
     after_whole (at_rest stable) calls (record { stable = whole; pending = tt })
     (recursion_from_All (λ w. IsWhole w.value) (writes_of calls) written)
@@ -148,8 +148,8 @@ recorded_whole stable calls whole written =
 abbrev pub recorded_state : Sectors → List Call → State
 recorded_state stable calls = record {
   keeps_model = ⊤;
-  reads = shown (after (at_rest stable) calls);
-  image = MayLeave (after (at_rest stable) calls);
+  reads = shown (disk_after (at_rest stable) calls);
+  image = MayLeave (disk_after (at_rest stable) calls);
   moment = length calls;
   image_since = MightLeaveSince stable calls;
 }
@@ -157,7 +157,7 @@ recorded_state stable calls = record {
 pub recorded_is_coherent : (stable : Sectors) (calls : List Call) → AreWhole stable → AreWholeWrites (writes_of calls)
     → IsCoherent (length stable) (recorded_state stable calls)
 recorded_is_coherent stable calls whole written =
-    let d = after (at_rest stable) calls in
+    let d = disk_after (at_rest stable) calls in
     record {
       counts_now = λ t c model le now. this_moment_counts stable calls t c le now;
       only_now = λ c model since. no_other_moment stable calls c since;

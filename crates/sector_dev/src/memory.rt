@@ -5,7 +5,7 @@ ghost use Rattle.sector_dev.specs.Device.{IsRead, WithOrWithout, IsUnchanged, Is
 ghost use Rattle.sector_dev.specs.Whole.{AreWhole, AreWholeWrites};
 ghost use Rattle.sector_dev.specs.Image.{sector_at, applied};
 ghost use Rattle.sector_dev.specs.Crash.{left_by, fates_of, kept_or_lost};
-ghost use Rattle.sector_dev.specs.Memory.{shown, after, at_rest, writes_of, IsUnsynced, IsSettledAt};
+ghost use Rattle.sector_dev.specs.Memory.{shown, disk_after, at_rest, writes_of, IsUnsynced, IsSettledAt};
 ghost use Rattle.sector_dev.specs.Replay.{recorded_is_coherent};
 
 use crate::{CrashDevice, Device, DeviceFault, Fate, Got, Sector};
@@ -34,7 +34,7 @@ pub struct MemoryDevice {
     failed_pending: bool,
     failures: u64,
     ghost fits: { length base.items < 2 ^ 32 },
-    ghost is_shown: { seen.items ≡ shown (after (at_rest base.items) calls.items) },
+    ghost is_shown: { seen.items ≡ shown (disk_after (at_rest base.items) calls.items) },
     ghost whole: { AreWhole base.items },
     ghost whole_writes: { AreWholeWrites (writes_of calls.items) },
 }
@@ -321,7 +321,7 @@ fn redo_as<F: TellsFate>(sectors: &mut [Sector], calls: &[Call], fates: &[F])
 
 // Makes the writes that a sync has settled, and gives each later one its fate.
 fn play<F: TellsFate>(sectors: &mut [Sector], calls: &[Call], fates: &[F])
-    ensures { let disk = after (at_rest sectors.old) calls.now in
+    ensures { let disk = disk_after (at_rest sectors.old) calls.now in
         sectors.new ≡ left_by disk.stable disk.pending (map F.fate_of fates.now) }
 {
     let settled = settled(calls);

@@ -18,19 +18,19 @@ writes_from-append at [] ys =
     ap (λ (n : ℕ). writes_from n ys) same
 writes_from-append at (x ∷ xs) ys =
     let same : (at + 1) + length xs ≡ at + length (x ∷ xs) = omega arith in
-    ap (λ (ws : List Write). record { at = at; value = x } ∷ ws)
+    ap (λ (ws : List Write). record { sector = at; value = x } ∷ ws)
     (writes_from-append (at + 1) xs ys ∙ ap (λ (n : ℕ). writes_from (at + 1) xs ++ writes_from n ys) same)
 
 -- the writes of one more of these values
 pub writes_more : (from : ℕ) (values : List (List ℕ)) (i at : ℕ) → i < length values → at ≡ from + i
     → writes_from from (take (i + 1) values)
-    ≡ writes_from from (take i values) ++ record { at = at; value = get_or values i [] } ∷ []
+    ≡ writes_from from (take i values) ++ record { sector = at; value = get_or values i [] } ∷ []
 writes_more from values i at lt is_at =
     let same : from + length (take i values) ≡ at =
     omega (arith, length-take-le i values (omega (arith, lt)), is_at) in
     ap (writes_from from) (take_more values i [] lt)
     ∙ (writes_from-append from (take i values) (get_or values i [] ∷ [])
-    ∙ ap (λ (n : ℕ). writes_from from (take i values) ++ record { at = n; value = get_or values i [] } ∷ []) same)
+    ∙ ap (λ (n : ℕ). writes_from from (take i values) ++ record { sector = n; value = get_or values i [] } ∷ []) same)
 
 -- a device in memory after one write more
 pub one_noted : (d : Disk) (stable : Sectors) (values : List (List ℕ)) (i at : ℕ) → i < length values → at ≡ i
@@ -54,7 +54,7 @@ module _ (old mid : State) (count : ℕ) (laws : IsCoherent count old) (model : 
     (i at : ℕ) (lt : i < length sectors) (is_at : at ≡ from + i)
     (pending : ArePending (writes_from from (take i sectors)) old mid) where
   abbrev here : Write
-  here = record { at = at; value = get_or sectors i [] }
+  here = record { sector = at; value = get_or sectors i [] }
 
   within : (d : Sectors) → old.image d → at < length d
   within d was = omega (arith, laws.image_size d model was, fit, lt, is_at)

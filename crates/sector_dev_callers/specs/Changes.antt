@@ -10,4 +10,4 @@ OldOrEither old at value also_at also c = (d : Sectors) × OldOrChanged old at v
 -- the writes of these values, one after the other, from the sector with this number on
 abbrev pub writes_from : ℕ → List (List ℕ) → List Write
 writes_from at [] = []
-writes_from at (value ∷ values) = record { at = at; value = value } ∷ writes_from (at + 1) values
+writes_from at (value ∷ values) = record { sector = at; value = value } ∷ writes_from (at + 1) values

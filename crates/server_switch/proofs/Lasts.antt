@@ -4,7 +4,7 @@ use Rattle.std.specs.Prelude.{option_to_list}
 use Rattle.std.specs.List.{last_or}
 use Rattle.std.proofs.Math.Seq.{take-append_seam}
 use Rattle.std.proofs.lemmas.List.{map-append, length-append, length-map, nil_from_length}
-use Rattle.server_switch.specs.declared.slots.Slot.{Slot}
+use Rattle.server_switch.specs.declared.pending.Pending.{Pending}
 use Rattle.server_switch.specs.Exchanges.{View, refusal_in, IsSame, IsOpened, IsPassedOn, IsHandedOn}
 use Rattle.server_switch.specs.Waits.{Wait, wait_of, Refusal, refusal_of}
 
@@ -17,69 +17,69 @@ front_is waits wait =
     let count : length (waits ++ wait ∷ []) - 1 ≡ length waits = omega (arith, length-append waits (wait ∷ [])) in
     ap (λ (n : ℕ). take n (waits ++ wait ∷ [])) count ∙ take-append_seam waits (wait ∷ [])
 
-all_waits : (slots rest : List Slot) (r : Option Slot) (slot : Slot) → slots ≡ rest ++ option_to_list r → r ≡ Some slot →
-    map wait_of slots ≡ map wait_of rest ++ wait_of slot ∷ []
-all_waits slots rest r slot items is =
-    ap (map wait_of) (items ∙ ap (λ (o : Option Slot). rest ++ option_to_list o) is) ∙ map-append wait_of rest (slot ∷ [])
+all_waits : (queue rest : List Pending) (r : Option Pending) (pending : Pending) → queue ≡ rest ++ option_to_list r → r ≡ Some pending →
+    map wait_of queue ≡ map wait_of rest ++ wait_of pending ∷ []
+all_waits queue rest r pending items is =
+    ap (map wait_of) (items ∙ ap (λ (o : Option Pending). rest ++ option_to_list o) is) ∙ map-append wait_of rest (pending ∷ [])
 
 -- a line that was taken off from behind is the last, and the others are left
-pub last_is : (slots rest : List Slot) (r : Option Slot) (slot : Slot) → slots ≡ rest ++ option_to_list r → r ≡ Some slot →
-    last_or None (map wait_of slots) ≡ Some (wait_of slot)
-last_is slots rest r slot items is =
-    ap (last_or None) (all_waits slots rest r slot items is) ∙ last_by None (map wait_of rest) (wait_of slot)
+pub last_is : (queue rest : List Pending) (r : Option Pending) (pending : Pending) → queue ≡ rest ++ option_to_list r → r ≡ Some pending →
+    last_or None (map wait_of queue) ≡ Some (wait_of pending)
+last_is queue rest r pending items is =
+    ap (last_or None) (all_waits queue rest r pending items is) ∙ last_by None (map wait_of rest) (wait_of pending)
 
-pub left_is : (slots rest : List Slot) (r : Option Slot) (slot : Slot) → slots ≡ rest ++ option_to_list r → r ≡ Some slot →
-    take (length (map wait_of slots) - 1) (map wait_of slots) ≡ map wait_of rest
-left_is slots rest r slot items is =
-    ap (λ (waits : List Wait). take (length waits - 1) waits) (all_waits slots rest r slot items is) ∙ front_is (map wait_of rest) (wait_of slot)
+pub left_is : (queue rest : List Pending) (r : Option Pending) (pending : Pending) → queue ≡ rest ++ option_to_list r → r ≡ Some pending →
+    take (length (map wait_of queue) - 1) (map wait_of queue) ≡ map wait_of rest
+left_is queue rest r pending items is =
+    ap (λ (waits : List Wait). take (length waits - 1) waits) (all_waits queue rest r pending items is) ∙ front_is (map wait_of rest) (wait_of pending)
 
 -- so many wait
-pub waits_len : (slots : List Slot) → length (map wait_of slots) ≡ length slots
-waits_len slots = length-map slots wait_of
+pub waits_len : (queue : List Pending) → length (map wait_of queue) ≡ length queue
+waits_len queue = length-map queue wait_of
 
 -- what becomes of the last line, where it opens a game and was refused
-pub handed : (old new : View) (slots rest : List Slot) (r : Option Slot) (slot : Slot) (refusal : Refusal) → old.waits ≡ map wait_of slots →
-    slots ≡ rest ++ option_to_list r → r ≡ Some slot → refusal_of (wait_of slot) ≡ Some refusal →
+pub handed : (old new : View) (queue rest : List Pending) (r : Option Pending) (pending : Pending) (refusal : Refusal) → old.waits ≡ map wait_of queue →
+    queue ≡ rest ++ option_to_list r → r ≡ Some pending → refusal_of (wait_of pending) ≡ Some refusal →
     IsOpened (refusal.place + 1) refusal.line refusal.text
     (record { name = old.name; servers = old.servers; waits = map wait_of rest; told = old.told }) new →
     IsHandedOn old new
-handed old new slots rest r slot refusal waits items is was opened =
+handed old new queue rest r pending refusal waits items is was opened =
     let last : refusal_in (last_or None old.waits) ≡ Some refusal =
-    ap (λ (ws : List Wait). refusal_in (last_or None ws)) waits ∙ (ap refusal_in (last_is slots rest r slot items is) ∙ was) in
+    ap (λ (ws : List Wait). refusal_in (last_or None ws)) waits ∙ (ap refusal_in (last_is queue rest r pending items is) ∙ was) in
     let left : take (length old.waits - 1) old.waits ≡ map wait_of rest =
-    ap (λ (ws : List Wait). take (length ws - 1) ws) waits ∙ left_is slots rest r slot items is in
+    ap (λ (ws : List Wait). take (length ws - 1) ws) waits ∙ left_is queue rest r pending items is in
     subst (λ (o : Option Refusal). IsPassedOn o old new) (sym last)
     (subst (λ (ws : List Wait). IsOpened (refusal.place + 1) refusal.line refusal.text
     (record { name = old.name; servers = old.servers; waits = ws; told = old.told }) new) (sym left) opened)
 
 -- the same, by texts of its line and its answer
-pub handed_told : (old new : View) (slots rest : List Slot) (r : Option Slot) (slot : Slot) (place : ℕ) (own_line own_text line text : List ℕ) →
-    old.waits ≡ map wait_of slots → slots ≡ rest ++ option_to_list r → r ≡ Some slot →
-    refusal_of (wait_of slot) ≡ Some (record { place = place; line = own_line; text = own_text }) → line ≡ own_line → text ≡ own_text →
+pub handed_told : (old new : View) (queue rest : List Pending) (r : Option Pending) (pending : Pending) (place : ℕ) (own_line own_text line text : List ℕ) →
+    old.waits ≡ map wait_of queue → queue ≡ rest ++ option_to_list r → r ≡ Some pending →
+    refusal_of (wait_of pending) ≡ Some (record { place = place; line = own_line; text = own_text }) → line ≡ own_line → text ≡ own_text →
     IsOpened (place + 1) line text (record { name = old.name; servers = old.servers; waits = map wait_of rest; told = old.told }) new →
     IsHandedOn old new
-handed_told old new slots rest r slot place own_line own_text line text waits items is was line_is text_is opened =
-    handed old new slots rest r slot (record { place = place; line = own_line; text = own_text }) waits items is was
+handed_told old new queue rest r pending place own_line own_text line text waits items is was line_is text_is opened =
+    handed old new queue rest r pending (record { place = place; line = own_line; text = own_text }) waits items is was
     (subst (λ (l : List ℕ). IsOpened (place + 1) l own_text (record { name = old.name; servers = old.servers; waits = map wait_of rest; told = old.told }) new) line_is
     (subst (λ (t : List ℕ). IsOpened (place + 1) line t (record { name = old.name; servers = old.servers; waits = map wait_of rest; told = old.told }) new) text_is opened))
 
 -- and where it did not
-pub kept_back : (old new : View) (slots rest : List Slot) (r : Option Slot) (slot : Slot) → old.waits ≡ map wait_of slots →
-    slots ≡ rest ++ option_to_list r → r ≡ Some slot → refusal_of (wait_of slot) ≡ None → IsSame old new → IsHandedOn old new
-kept_back old new slots rest r slot waits items is was same =
+pub kept_back : (old new : View) (queue rest : List Pending) (r : Option Pending) (pending : Pending) → old.waits ≡ map wait_of queue →
+    queue ≡ rest ++ option_to_list r → r ≡ Some pending → refusal_of (wait_of pending) ≡ None → IsSame old new → IsHandedOn old new
+kept_back old new queue rest r pending waits items is was same =
     subst (λ (o : Option Refusal). IsPassedOn o old new)
-    (sym (ap (λ (ws : List Wait). refusal_in (last_or None ws)) waits ∙ (ap refusal_in (last_is slots rest r slot items is) ∙ was))) same
+    (sym (ap (λ (ws : List Wait). refusal_in (last_or None ws)) waits ∙ (ap refusal_in (last_is queue rest r pending items is) ∙ was))) same
 
-pub none_handed : (old new : View) (slots : List Slot) → old.waits ≡ map wait_of slots → length slots ≡ 0 → IsSame old new → IsHandedOn old new
-none_handed old new slots waits none same =
+pub none_handed : (old new : View) (queue : List Pending) → old.waits ≡ map wait_of queue → length queue ≡ 0 → IsSame old new → IsHandedOn old new
+none_handed old new queue waits none same =
     subst (λ (o : Option Refusal). IsPassedOn o old new)
-    (sym (ap (λ (ws : List Wait). refusal_in (last_or None ws)) (waits ∙ ap (map wait_of) (nil_from_length slots none)))) same
+    (sym (ap (λ (ws : List Wait). refusal_in (last_or None ws)) (waits ∙ ap (map wait_of) (nil_from_length queue none)))) same
 
-pub put_back : (slots rest new : List Slot) (r : Option Slot) (slot same : Slot) → slots ≡ rest ++ option_to_list r → r ≡ Some slot →
-    same ≡ slot → new ≡ rest ++ same ∷ [] → map wait_of new ≡ map wait_of slots
-put_back slots rest new r slot same items is one put =
-    ap (map wait_of) (put ∙ (ap (λ (s : Slot). rest ++ s ∷ []) one ∙ sym (items ∙ ap (λ (o : Option Slot). rest ++ option_to_list o) is)))
+pub put_back : (queue rest new : List Pending) (r : Option Pending) (pending same : Pending) → queue ≡ rest ++ option_to_list r → r ≡ Some pending →
+    same ≡ pending → new ≡ rest ++ same ∷ [] → map wait_of new ≡ map wait_of queue
+put_back queue rest new r pending same items is one put =
+    ap (map wait_of) (put ∙ (ap (λ (s : Pending). rest ++ s ∷ []) one ∙ sym (items ∙ ap (λ (o : Option Pending). rest ++ option_to_list o) is)))
 
-pub none_taken : (slots rest : List Slot) (r : Option Slot) → slots ≡ rest ++ option_to_list r → r ≡ None → map wait_of rest ≡ map wait_of slots
-none_taken slots rest r items is =
-    ap (map wait_of) (sym (items ∙ (ap (λ (o : Option Slot). rest ++ option_to_list o) is ∙ append-nil rest)))
+pub none_taken : (queue rest : List Pending) (r : Option Pending) → queue ≡ rest ++ option_to_list r → r ≡ None → map wait_of rest ≡ map wait_of queue
+none_taken queue rest r items is =
+    ap (map wait_of) (sym (items ∙ (ap (λ (o : Option Pending). rest ++ option_to_list o) is ∙ append-nil rest)))

@@ -19,7 +19,7 @@ abbrev pub view : Exchange → View
 view exchange = record {
   name = exchange.name;
   servers = map standing_of exchange.servers.items;
-  waits = map wait_of exchange.slots.items;
+  waits = map wait_of exchange.queue.items;
   told = exchange.told.items;
 }
 

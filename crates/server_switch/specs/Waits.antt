@@ -6,8 +6,8 @@ use Rattle.lobby_words.specs.Waiting.{is_list}
 use Rattle.server_switch.specs.Answers.{lost, told, is_full, rows_told}
 use Rattle.server_switch.specs.declared.lists.Part.{Part}
 use Rattle.server_switch.specs.declared.lists.Part.TheVariants as parts
-use Rattle.server_switch.specs.declared.slots.Slot.{Slot}
-use Rattle.server_switch.specs.declared.slots.Slot.TheVariants as slots
+use Rattle.server_switch.specs.declared.pending.Pending.{Pending}
+use Rattle.server_switch.specs.declared.pending.Pending.TheVariants as queue
 
 -- what one server has of a list: it has not told, it has these rows, or it is not there
 pub data Share : Type 0 where
@@ -32,13 +32,13 @@ share_of parts.Waits = Due
 share_of (parts.Rows rows) = Rows (string_bytes rows)
 share_of parts.Absent = Absent
 
-abbrev pub wait_of : Slot → Wait
-wait_of (slots.Answered text) = Answered (string_bytes text)
-wait_of (slots.Sent place) = Sent place
-wait_of (slots.Naming place) = Naming place
-wait_of (slots.Opening place line) = Opening place (string_bytes line)
-wait_of (slots.Refused place line text) = Refused place (string_bytes line) (string_bytes text)
-wait_of (slots.Listing shares) = Listing (map share_of shares.items)
+abbrev pub wait_of : Pending → Wait
+wait_of (queue.Answered text) = Answered (string_bytes text)
+wait_of (queue.Sent place) = Sent place
+wait_of (queue.Naming place) = Naming place
+wait_of (queue.Opening place line) = Opening place (string_bytes line)
+wait_of (queue.Refused place line text) = Refused place (string_bytes line) (string_bytes text)
+wait_of (queue.Listing shares) = Listing (map share_of shares.items)
 
 abbrev pub is_due : Share → Bool
 is_due Due = true

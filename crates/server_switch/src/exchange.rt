@@ -13,9 +13,9 @@ use crate::answers::{BAD_LINE, NO_GAME, NO_SERVER, TOO_LONG};
 use crate::fields::push_number;
 use crate::lists::{Part, ask_each, listing_of};
 use crate::numbers::{game_of, server_of};
+use crate::pending::{Pending, answer_first, any_opens, any_waits, lose_each, refused, take_ahead};
 use crate::routes::{Route, route_of, text_of};
 use crate::server_line::{ServerLine, give_up};
-use crate::slots::{Slot, answer_first, any_opens, any_waits, lose_each, refused, take_ahead};
 use rec_codec::Name;
 use std::alloc::{AllocError, Global};
 use std::collections::VecDeque;
@@ -30,7 +30,7 @@ pub struct Exchange {
     // The name that the client said last.
     name: Option<Name>,
     servers: Vec<ServerLine>,
-    slots: VecDeque<Slot>,
+    queue: VecDeque<Pending>,
     // What is to go to the client.
     told: Vec<u8>,
 }
@@ -65,7 +65,7 @@ impl Exchange {
             alloc,
             name: None,
             servers,
-            slots: VecDeque::new(alloc),
+            queue: VecDeque::new(alloc),
             told: Vec::new(alloc),
         })
     }
@@ -75,7 +75,7 @@ impl Exchange {
     fn waiting(&self) -> usize
         ensures { result ≡ length (view self.now).waits }
     {
-        self.slots.len()
+        self.queue.len()
     }
 
     /// Whether the next line may be taken: none that opens a game is before it, and not too many lines are.
@@ -83,7 +83,7 @@ impl Exchange {
         ensures { result ≡ exchanges.is_ready (view self.now) }
     {
         let has_room = self.waiting() < SLOTS_MOST;
-        let is_opening = any_opens(&self.slots);
+        let is_opening = any_opens(&self.queue);
         has_room & !is_opening
     }
 
@@ -98,7 +98,7 @@ impl Exchange {
     pub fn waits_for(&self, place: usize) -> bool
         ensures { result ≡ list_any (waits.waits_for place) (view self.now).waits }
     {
-        any_waits(&self.slots, place)
+        any_waits(&self.queue, place)
     }
 
     /// What is to go to a server; of none nothing is.
@@ -182,7 +182,7 @@ impl Exchange {
         ensures { OnOk result (IsOutcome (Answers text.now) (view self.old) (view self.new)) }
     {
         let text = String::from_str(self.alloc, text)?;
-        self.slots.push_back(Slot::Answered(text))?;
+        self.queue.push_back(Pending::Answered(text))?;
         Ok(())
     }
 
@@ -191,34 +191,39 @@ impl Exchange {
         requires { place < length self.old.servers.items }
         ensures new { IfOk result (λ has_said. has_said ≡ is_new (said_at (view self.old) place) self.old.name) }
         ensures sent { OnOk result ((view self.new).servers ≡ change_at (put_under self.old.name line.now) place (view self.old).servers) }
-        ensures rest { OnOk result ((self.new.slots ≡ self.old.slots) × (self.new.name ≡ self.old.name) × (self.new.told ≡ self.old.told)) }
+        ensures rest { OnOk result ((self.new.queue ≡ self.old.queue) × (self.new.name ≡ self.old.name) × (self.new.told ≡ self.old.told)) }
     {
         let has_said = self.servers[place].put_under(self.name, line)?;
         Ok(has_said)
     }
 
     // A line waits, behind one that says the name where that was said.
-    fn push_waits(&mut self, place: usize, has_said: bool, slot: Slot) -> Result<(), AllocError>
-        ensures waits { OnOk result ((view self.new).waits ≡ (view self.old).waits ++ (name_waits place has_said ++ wait_of slot ∷ [])) }
+    fn push_waits(
+        &mut self,
+        place: usize,
+        has_said: bool,
+        pending: Pending,
+    ) -> Result<(), AllocError>
+        ensures waits { OnOk result ((view self.new).waits ≡ (view self.old).waits ++ (name_waits place has_said ++ wait_of pending ∷ [])) }
         ensures rest { OnOk result ((self.new.servers ≡ self.old.servers) × (self.new.name ≡ self.old.name) × (self.new.told ≡ self.old.told)) }
     {
         if has_said {
-            self.slots.push_back(Slot::Naming(place))?;
-            self.slots.push_back(slot)?;
+            self.queue.push_back(Pending::Naming(place))?;
+            self.queue.push_back(pending)?;
             Ok(())
         } else {
-            self.slots.push_back(slot)?;
+            self.queue.push_back(pending)?;
             Ok(())
         }
     }
 
     // Sends a line to a server, under the client's name.
-    fn send(&mut self, place: usize, line: &str, slot: Slot) -> Result<(), AllocError>
+    fn send(&mut self, place: usize, line: &str, pending: Pending) -> Result<(), AllocError>
         requires { place < length self.old.servers.items }
-        ensures { OnOk result (IsOutcome (Sends place line.now (wait_of slot)) (view self.old) (view self.new)) }
+        ensures { OnOk result (IsOutcome (Sends place line.now (wait_of pending)) (view self.old) (view self.new)) }
     {
         let has_said = self.put_to(place, line)?;
-        self.push_waits(place, has_said, slot)?;
+        self.push_waits(place, has_said, pending)?;
         Ok(())
     }
 
@@ -230,7 +235,7 @@ impl Exchange {
         let mut text = String::from_str(self.alloc, "ok name ")?;
         text.push_str(name.as_str())?;
         text.push('\n')?;
-        self.slots.push_back(Slot::Answered(text))?;
+        self.queue.push_back(Pending::Answered(text))?;
         Ok(())
     }
 
@@ -251,7 +256,7 @@ impl Exchange {
         let mut line = String::from_str(self.alloc, word)?;
         line.push(' ')?;
         push_number(&mut line, game_of(number), tail)?;
-        self.send(place, line.as_str(), Slot::Sent(place))
+        self.send(place, line.as_str(), Pending::Sent(place))
     }
 
     // A line that opens a game goes to the first server from a place on that is there.
@@ -262,7 +267,7 @@ impl Exchange {
         match self.next_here(from) {
             Some(place) => {
                 let kept = String::from_str(self.alloc, line)?;
-                self.send(place, line, Slot::Opening(place, kept))
+                self.send(place, line, Pending::Opening(place, kept))
             }
             None => self.answer(refusal),
         }
@@ -272,7 +277,7 @@ impl Exchange {
     fn ask_each(&mut self) -> Result<Vec<Part>, AllocError>
         ensures parts { IfOk result (λ parts. map share_of parts.items ≡ map share_asked (view self.old).servers) }
         ensures asked { OnOk result ((view self.new).servers ≡ map asked (view self.old).servers) }
-        ensures rest { OnOk result ((self.new.slots ≡ self.old.slots) × (self.new.name ≡ self.old.name) × (self.new.told ≡ self.old.told)) }
+        ensures rest { OnOk result ((self.new.queue ≡ self.old.queue) × (self.new.name ≡ self.old.name) × (self.new.told ≡ self.old.told)) }
     {
         ask_each(self.alloc, &mut self.servers)
     }
@@ -282,8 +287,8 @@ impl Exchange {
         ensures { OnOk result (IsListed (view self.old) (view self.new)) }
     {
         let parts = self.ask_each()?;
-        let slot = listing_of(self.alloc, parts)?;
-        self.slots.push_back(slot)?;
+        let pending = listing_of(self.alloc, parts)?;
+        self.queue.push_back(pending)?;
         Ok(())
     }
 
@@ -334,7 +339,7 @@ impl Exchange {
     fn flush(&mut self) -> Result<(), AllocError>
         ensures { OnOk result (IsTold (view self.old) (view self.new)) }
     {
-        take_ahead(&mut self.slots, &mut self.told)
+        take_ahead(&mut self.queue, &mut self.told)
     }
 
     // The next server behind a place is asked to open a game.
@@ -352,12 +357,12 @@ impl Exchange {
     fn hand_on(&mut self) -> Result<(), AllocError>
         ensures { OnOk result (IsHandedOn (view self.old) (view self.new)) }
     {
-        match self.slots.pop_back() {
+        match self.queue.pop_back() {
             None => Ok(()),
-            Some(slot) => match refused(slot) {
+            Some(pending) => match refused(pending) {
                 Ok((place, line, text)) => { self.open_behind(place, line.as_str(), text.as_str()) }
-                Err(slot) => {
-                    self.slots.push_back(slot)?;
+                Err(pending) => {
+                    self.queue.push_back(pending)?;
                     Ok(())
                 }
             },
@@ -368,7 +373,7 @@ impl Exchange {
     fn answered(&mut self, place: usize, answer: &str) -> Result<(), AllocError>
         ensures { OnOk result (IsAnswered place (Some answer.now) (view self.old) (view self.new)) }
     {
-        answer_first(&mut self.slots, self.alloc, place, answer)?;
+        answer_first(&mut self.queue, self.alloc, place, answer)?;
         self.hand_on()?;
         self.flush()
     }
@@ -421,7 +426,7 @@ impl Exchange {
         ensures { OnOk result (IsGone place (view self.old) (view self.new)) }
     {
         self.renew(place, false);
-        lose_each(&mut self.slots, self.alloc, place)?;
+        lose_each(&mut self.queue, self.alloc, place)?;
         self.flush()
     }
 }

@@ -7,9 +7,9 @@ mod fields;
 mod law;
 mod lists;
 mod numbers;
+mod pending;
 mod routes;
 mod server_line;
-mod slots;
 
 pub use exchange::Exchange;
 pub use numbers::{GAMES_MOST, SERVERS_MOST, game_of, number_of, server_of};

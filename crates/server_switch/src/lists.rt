@@ -12,8 +12,8 @@ ghost use Rattle.server_switch.specs.Waits.{is_due, share_of, wait_of, rows_in, 
 use crate::answers::NO_SERVER;
 use crate::fields::{number_ahead, push_number};
 use crate::numbers::number_of;
+use crate::pending::Pending;
 use crate::server_line::ServerLine;
-use crate::slots::Slot;
 use itoa::Buffer;
 use lobby_words::is_list;
 use std::alloc::{AllocError, Global};
@@ -183,13 +183,13 @@ fn merged(alloc: Global, parts: &[Part]) -> Result<String, AllocError>
 }
 
 /// A list, which is answered once no part of it is waited for.
-pub fn listing_of(alloc: Global, parts: Vec<Part>) -> Result<Slot, AllocError>
-    ensures { IfOk result (λ slot. wait_of slot ≡ listing (map share_of parts.items)) }
+pub fn listing_of(alloc: Global, parts: Vec<Part>) -> Result<Pending, AllocError>
+    ensures { IfOk result (λ pending. wait_of pending ≡ listing (map share_of parts.items)) }
 {
     if are_waiting(parts.as_slice()) {
-        Ok(Slot::Listing(parts))
+        Ok(Pending::Listing(parts))
     } else {
-        Ok(Slot::Answered(merged(alloc, parts.as_slice())?))
+        Ok(Pending::Answered(merged(alloc, parts.as_slice())?))
     }
 }
 
@@ -221,8 +221,8 @@ pub fn listed(
     place: usize,
     answer: &str,
     parts: Vec<Part>,
-) -> Result<Slot, AllocError>
-    ensures { IfOk result (λ slot. wait_of slot ≡ listing (waits.put_at place (waits.share_in place answer.now) (map share_of parts.items))) }
+) -> Result<Pending, AllocError>
+    ensures { IfOk result (λ pending. wait_of pending ≡ listing (waits.put_at place (waits.share_in place answer.now) (map share_of parts.items))) }
 {
     let mut parts = parts;
     put_part(&mut parts, place, part_of(alloc, place, answer)?);
@@ -230,8 +230,8 @@ pub fn listed(
 }
 
 /// A server that was asked for its list is lost.
-pub fn without(alloc: Global, place: usize, parts: Vec<Part>) -> Result<Slot, AllocError>
-    ensures { IfOk result (λ slot. wait_of slot ≡ listing (waits.put_at place waits.Absent (map share_of parts.items))) }
+pub fn without(alloc: Global, place: usize, parts: Vec<Part>) -> Result<Pending, AllocError>
+    ensures { IfOk result (λ pending. wait_of pending ≡ listing (waits.put_at place waits.Absent (map share_of parts.items))) }
 {
     let mut parts = parts;
     put_part(&mut parts, place, Part::Absent);

@@ -3,7 +3,7 @@ use Rattle.std.proofs.Common.{◌≡◌, ℕ, ◌+◌, ◌-◌, ◌*◌, ◌≤�
 use Rattle.std.proofs.lemmas.List.{length-replicate}
 use Rattle.std.proofs.lemmas.List.Concat.{length-flat_map}
 use Rattle.std.specs.Int.{bytes_high_first}
-use Rattle.sqlite_file.specs.Page.{page_of, pointers, concat, length_of, content_of, Fits}
+use Rattle.sqlite_file.specs.Page.{page_of, pointers, concat, length_of, content_start, Fits}
 
 -- two bytes a pointer
 length-pointers : (at : ℕ) (cells : List (List ℕ)) → length (pointers at cells) ≡ 2 * length cells
@@ -22,14 +22,14 @@ unfolding page_of
 length_page_of before kind right cells fits =
     let most : length_of cells ≤ 4096 = fits.most in
     let within : before + 8 + length right + 2 * length cells ≤ 4096 - length_of cells = fits.within in
-    let gap = content_of cells - (before + 8 + length right + 2 * length cells) in
+    let gap = content_start cells - (before + 8 + length right + 2 * length cells) in
     let zeros : length (replicate {A = ℕ} gap 0) ≡ gap = length-replicate {A = ℕ} gap 0 in
     omega (
       arith,
-      length-append right (pointers (content_of cells) cells ++ (replicate gap 0 ++ concat cells)),
-      length-append (pointers (content_of cells) cells) (replicate gap 0 ++ concat cells),
+      length-append right (pointers (content_start cells) cells ++ (replicate gap 0 ++ concat cells)),
+      length-append (pointers (content_start cells) cells) (replicate gap 0 ++ concat cells),
       length-append (replicate gap 0) (concat cells),
-      length-pointers (content_of cells) cells,
+      length-pointers (content_start cells) cells,
       length-concat cells,
     )
 

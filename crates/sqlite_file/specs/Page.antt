@@ -21,8 +21,8 @@ head kind right count content =
     (kind ∷ []) ++ (bytes_high_first 2 0 ++ (bytes_high_first 2 count ++ (bytes_high_first 2 content ++ ((0 ∷ []) ++ right))))
 
 -- where the cells begin
-abbrev pub content_of : List (List ℕ) → ℕ
-content_of cells = 4096 - length_of cells
+abbrev pub content_start : List (List ℕ) → ℕ
+content_start cells = 4096 - length_of cells
 
 -- a page whose cells begin here, with so many zeros before them
 abbrev pub filled : ℕ → List ℕ → List (List ℕ) → ℕ → ℕ → List ℕ
@@ -32,12 +32,12 @@ filled kind right cells content gap =
 -- cells have room in a page that begins with so many bytes more, and has this in its head
 pub record Fits (before : ℕ) (right : List ℕ) (cells : List (List ℕ)) : Type 0 where
   pub most : length_of cells ≤ 4096
-  pub within : before + 8 + length right + 2 * length cells ≤ content_of cells
+  pub within : before + 8 + length right + 2 * length cells ≤ content_start cells
 
 -- a page, but for so many bytes before it: its cells stand at its end
 unfoldable pub page_of : ℕ → ℕ → List ℕ → List (List ℕ) → List ℕ
 page_of before kind right cells =
-    filled kind right cells (content_of cells) (content_of cells - (before + 8 + length right + 2 * length cells))
+    filled kind right cells (content_start cells) (content_start cells - (before + 8 + length right + 2 * length cells))
 
 -- a leaf
 unfoldable pub leaf_page : ℕ → List (List ℕ) → List ℕ

@@ -134,7 +134,7 @@ impl Player {
         match line {
             Request::Called(name) => Ok(self.called(sent.at, &name)),
             Request::Act(act) => self.acted(&Command {
-                at: sent.at,
+                moment: sent.at,
                 who: sent.who,
                 act,
             }),
@@ -160,7 +160,7 @@ impl Player {
                 if self.table.entries() == u64::MAX {
                     return Err(Fault::Input);
                 }
-                let line = self.table.enter_told(&entry)?;
+                let line = self.table.enter_answered(&entry)?;
                 self.keep(&entry)?;
                 Ok(self.alone(line))
             }

@@ -37,7 +37,7 @@ fn is_move_line(line: &str, of_game: u32, at_ply: u32, of_text: &str) -> bool {
         return false;
     };
     match act {
-        Act::Play { game, ply, text } => {
+        Act::Move { game, ply, text } => {
             game == of_game && ply == at_ply && text.as_str() == of_text
         }
         _ => false,
@@ -55,7 +55,7 @@ fn reads_names(rt: HostRuntime) {
 fn reads_openings(rt: HostRuntime) {
     let plain = match act_of("open white 300 0") {
         Some(
-            Act::NewGame {
+            Act::Open {
                 colour: Colour::White,
                 initial: 300,
                 increment: 0,
@@ -68,7 +68,7 @@ fn reads_openings(rt: HostRuntime) {
     assert!(rt; plain);
     let two_periods = match act_of("open white 1/60:30 2") {
         Some(
-            Act::NewGame {
+            Act::Open {
                 colour: Colour::White,
                 initial: 60,
                 increment: 2,
@@ -81,7 +81,7 @@ fn reads_openings(rt: HostRuntime) {
     assert!(rt; two_periods);
     let with_fen = match act_of("open black 300 0 4k3/8/8/8/8/8/4P3/4K3 w - - 0 1") {
         Some(
-            Act::NewGame {
+            Act::Open {
                 colour: Colour::Black,
                 initial: 300,
                 increment: 0,
@@ -132,7 +132,7 @@ fn reads_acts_on_a_game(rt: HostRuntime) {
     assert!(rt; matches!(act_of("decline 3"), Some(Act::Decline { game: 3 })));
     assert!(rt; matches!(act_of("resign 4"), Some(Act::Resign { game: 4 })));
     assert!(rt; matches!(act_of("flag 5"), Some(Act::Flag { game: 5 })));
-    assert!(rt; matches!(act_of("drop 6"), Some(Act::Remove { game: 6 })));
+    assert!(rt; matches!(act_of("drop 6"), Some(Act::Drop { game: 6 })));
     assert!(rt;
         matches!(
             act_of("show 4294967295"),

@@ -3,7 +3,7 @@ use crate::game::{board_of, move_of};
 use chess_bits::Colour::{Black, White};
 use chess_board::{Board, Move};
 use chess_game::Game;
-use rec_codec::{Ending, GameNumber, Head, Name, Seat};
+use rec_codec::{GameNumber, Head, Name, Seat, StoredEnding};
 use std::alloc::Global;
 use std::process::Abort;
 
@@ -48,7 +48,7 @@ fn joined(rt: &impl Abort, moves: u32) -> Head {
 }
 
 // That game over, so ended.
-fn over(rt: &impl Abort, moves: u32, ending: Ending) -> Head {
+fn over(rt: &impl Abort, moves: u32, ending: StoredEnding) -> Head {
     Head {
         ending: Some(ending),
         ..joined(rt, moves)
@@ -141,7 +141,7 @@ fn refused_waiting(rt: &impl Abort, alloc: Global, head: Head) {
     let mut offered = head;
     offered.white.offers = true;
     let resigned = Head {
-        ending: Some(Ending::BlackWinsByResignation),
+        ending: Some(StoredEnding::BlackWinsByResignation),
         ..head
     };
     refused(rt, alloc, &[begun, spent, offered, resigned], &[]);
@@ -169,10 +169,10 @@ fn a_game_that_goes_on(rt: HostRuntime) {
 fn a_game_that_is_mated(rt: HostRuntime) {
     let [f3, e5, g4, qh4, _] = past_mate(&rt);
     let moves = [f3, e5, g4, qh4];
-    let head = over(&rt, 4, Ending::BlackMates);
+    let head = over(&rt, 4, StoredEnding::BlackMates);
     let seen = again(&rt, rt.alloc(), &head, &moves);
-    assert!(rt; seen.ending == Some(Ending::BlackMates));
-    let resigned = over(&rt, 4, Ending::BlackWinsByResignation);
+    assert!(rt; seen.ending == Some(StoredEnding::BlackMates));
+    let resigned = over(&rt, 4, StoredEnding::BlackWinsByResignation);
     let mut offered = head;
     offered.black.offers = true;
     refused(
@@ -186,14 +186,14 @@ fn a_game_that_is_mated(rt: HostRuntime) {
 #[test]
 fn a_game_that_an_act_ends(rt: HostRuntime) {
     let (alloc, moves) = (rt.alloc(), one_move(&rt));
-    let mut head = over(&rt, 1, Ending::WhiteWinsOnTime);
+    let mut head = over(&rt, 1, StoredEnding::WhiteWinsOnTime);
     head.black.held = 0;
     assert!(rt; told(&rt, alloc, &head, &moves) == Some([1, 5_000, 300_000, 0]));
     let claimed = Head {
         claimed: true,
         ..head
     };
-    let stalemate = over(&rt, 1, Ending::Stalemate);
+    let stalemate = over(&rt, 1, StoredEnding::Stalemate);
     refused(&rt, alloc, &[claimed, stalemate], &moves);
 }
 
@@ -263,6 +263,6 @@ fn starts_of_games(rt: HostRuntime) {
 fn moves_of_no_game(rt: HostRuntime) {
     let illegal = moved(&rt, 12, 36);
     refused(&rt, rt.alloc(), &[joined(&rt, 1)], &[illegal]);
-    let head = over(&rt, 5, Ending::BlackMates);
+    let head = over(&rt, 5, StoredEnding::BlackMates);
     refused(&rt, rt.alloc(), &[head], &past_mate(&rt));
 }

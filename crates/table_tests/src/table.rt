@@ -17,7 +17,7 @@ const ACCEPT: Act = Act::Accept { game: 1 };
 
 const RESIGN: Act = Act::Resign { game: 1 };
 
-const DROP: Act = Act::Remove { game: 1 };
+const DROP: Act = Act::Drop { game: 1 };
 
 const SHOW: Act = Act::Show { game: 1 };
 
@@ -30,7 +30,7 @@ fn table_within(rt: &impl Abort, alloc: Global, games: u32, plies: u32) -> Table
 // Why an act is refused, if it is; an entry is tested and entered.
 fn refusal(rt: &impl Abort, table: &mut Table, who: &str, act: Act) -> Option<Refusal> {
     let command = Command {
-        at: 1_000,
+        moment: 1_000,
         who: Some(Name::try_new(who).expect(rt, "a name")),
         act,
     };
@@ -56,7 +56,7 @@ fn text_of(rt: &impl Abort, text: &str) -> Text {
 }
 
 fn opening(initial: u32, period: Option<(u32, u32)>, fen: Option<Text>) -> Act {
-    Act::NewGame {
+    Act::Open {
         colour: White,
         initial,
         increment: 0,
@@ -66,7 +66,7 @@ fn opening(initial: u32, period: Option<(u32, u32)>, fen: Option<Text>) -> Act {
 }
 
 fn play(rt: &impl Abort, ply: u32, text: &str) -> Act {
-    Act::Play {
+    Act::Move {
         game: 1,
         ply,
         text: text_of(rt, text),

@@ -2,7 +2,7 @@
 use Rattle.std.specs.Prelude.{ℕ, zero, suc, ◌+◌, ◌-◌, ◌/◌, ◌%◌, ◌==◌, Bool, not, nat_lt, List, [], ◌∷◌, ◌++◌, length, replicate, codes, decimal, map, flat_map, Option, None, Some, if◌then◌else◌}
 use Rattle.trf_texts.specs.declared.cells.Cell.{Cell}
 use Rattle.trf_texts.specs.declared.cells.Meeting.{Meeting}
-use Rattle.trf_texts.specs.declared.columns.Event.{Event}
+use Rattle.trf_texts.specs.declared.columns.Tournament.{Tournament}
 use Rattle.trf_texts.specs.Cells.{cell_in}
 
 -- a text at the right of so many columns
@@ -83,7 +83,7 @@ rounds_line None = []
 rounds_line (Some n) = line_of (codes "XXR") (decimal n)
 
 -- what and where the tournament is, and when
-unfoldable pub place_text : Event → List ℕ
+unfoldable pub place_text : Tournament → List ℕ
 place_text e =
     line_of (codes "012") e.name.now ++ (line_of (codes "022") e.city.now ++ (line_of (codes "032") e.federation.now
     ++ (line_of (codes "042") e.begins.now ++ line_of (codes "052") e.ends.now)))
@@ -93,14 +93,14 @@ unfoldable pub counts_text : ℕ → List ℕ
 counts_text count = line_of (codes "062") (decimal count) ++ (line_of (codes "072") (codes "0") ++ line_of (codes "082") (codes "0"))
 
 -- of which kind it is, who directs it, and the times
-unfoldable pub kind_text : Event → List ℕ
+unfoldable pub kind_text : Tournament → List ℕ
 kind_text e =
     line_of (codes "092") e.kind.now ++ (line_of (codes "102") e.arbiter.now ++ (line_of (codes "112") e.deputy.now
     ++ line_of (codes "122") e.times.now))
 
-unfoldable pub event_text : Event → ℕ → List ℕ
-event_text e count = place_text e ++ (counts_text count ++ (kind_text e ++ rounds_line e.rounds))
+unfoldable pub tournament_text : Tournament → ℕ → List ℕ
+tournament_text e count = place_text e ++ (counts_text count ++ (kind_text e ++ rounds_line e.rounds))
 
 -- the report of these players, who are numbered from 1 on in their order
-unfoldable pub report_text : Event → List (List ℕ) → List (List Meeting) → List ℕ
-report_text e names rounds = event_text e (length names) ++ players_text rounds (all_halves rounds (length names)) 1 names
+unfoldable pub report_text : Tournament → List (List ℕ) → List (List Meeting) → List ℕ
+report_text e names rounds = tournament_text e (length names) ++ players_text rounds (all_halves rounds (length names)) 1 names

@@ -11,7 +11,7 @@ use thiserror::Error;
 
 /// What is told of a tournament; what is not known is an empty text.
 #[derive(Clone, Copy)]
-pub struct Event<'a> {
+pub struct Tournament<'a> {
     pub name: &'a str,
     pub city: &'a str,
     pub federation: &'a str,
@@ -295,14 +295,14 @@ fn push_rounds(out: &mut Vec<u8>, rounds: Option<u32>) -> Result<(), AllocError>
 
 // What and where the tournament is, and when.
 #[tactic(auto, unfolding(crate::specs::Report::place_text))]
-fn push_place(out: &mut Vec<u8>, event: &Event<'_>) -> Result<(), AllocError>
-    ensures { OnOk result (out.new.items ≡ out.old.items ++ spec.place_text event.now) }
+fn push_place(out: &mut Vec<u8>, tournament: &Tournament<'_>) -> Result<(), AllocError>
+    ensures { OnOk result (out.new.items ≡ out.old.items ++ spec.place_text tournament.now) }
 {
-    push_line(out, "012", event.name)?;
-    push_line(out, "022", event.city)?;
-    push_line(out, "032", event.federation)?;
-    push_line(out, "042", event.begins)?;
-    push_line(out, "052", event.ends)
+    push_line(out, "012", tournament.name)?;
+    push_line(out, "022", tournament.city)?;
+    push_line(out, "032", tournament.federation)?;
+    push_line(out, "042", tournament.begins)?;
+    push_line(out, "052", tournament.ends)
 }
 
 // How many players there are.
@@ -318,24 +318,28 @@ fn push_counts(out: &mut Vec<u8>, count: usize) -> Result<(), AllocError>
 
 // Of which kind the tournament is, and who directs it.
 #[tactic(auto, unfolding(crate::specs::Report::kind_text))]
-fn push_kind(out: &mut Vec<u8>, event: &Event<'_>) -> Result<(), AllocError>
-    ensures { OnOk result (out.new.items ≡ out.old.items ++ spec.kind_text event.now) }
+fn push_kind(out: &mut Vec<u8>, tournament: &Tournament<'_>) -> Result<(), AllocError>
+    ensures { OnOk result (out.new.items ≡ out.old.items ++ spec.kind_text tournament.now) }
 {
-    push_line(out, "092", event.kind)?;
-    push_line(out, "102", event.arbiter)?;
-    push_line(out, "112", event.deputy)?;
-    push_line(out, "122", event.times)
+    push_line(out, "092", tournament.kind)?;
+    push_line(out, "102", tournament.arbiter)?;
+    push_line(out, "112", tournament.deputy)?;
+    push_line(out, "122", tournament.times)
 }
 
 // The lines of the tournament.
-#[tactic(auto, unfolding(crate::specs::Report::event_text))]
-fn push_event(out: &mut Vec<u8>, event: &Event<'_>, count: usize) -> Result<(), AllocError>
-    ensures { OnOk result (out.new.items ≡ out.old.items ++ spec.event_text event.now count) }
+#[tactic(auto, unfolding(crate::specs::Report::tournament_text))]
+fn push_tournament(
+    out: &mut Vec<u8>,
+    tournament: &Tournament<'_>,
+    count: usize,
+) -> Result<(), AllocError>
+    ensures { OnOk result (out.new.items ≡ out.old.items ++ spec.tournament_text tournament.now count) }
 {
-    push_place(out, event)?;
+    push_place(out, tournament)?;
     push_counts(out, count)?;
-    push_kind(out, event)?;
-    push_rounds(out, event.rounds)
+    push_kind(out, tournament)?;
+    push_rounds(out, tournament.rounds)
 }
 
 /// The report of a tournament (FIDE's TRF-16) of players in the order of their starting numbers, by their names, and of the
@@ -343,11 +347,11 @@ fn push_event(out: &mut Vec<u8>, event: &Event<'_>, count: usize) -> Result<(), 
 #[tactic(auto, unfolding(crate::specs::Report::report_text))]
 pub fn report(
     alloc: Global,
-    event: &Event<'_>,
+    tournament: &Tournament<'_>,
     names: &[&str],
     rounds: &[Vec<Meeting>],
 ) -> Result<Vec<u8>, Fault>
-    ensures text { IfOk result (λ text. text.items ≡ spec.report_text event.now (map (λ name. name.now) names.now) (map (λ round. round.items) rounds.now)) }
+    ensures text { IfOk result (λ text. text.items ≡ spec.report_text tournament.now (map (λ name. name.now) names.now) (map (λ round. round.items) rounds.now)) }
     ensures room { IfOk result (λ _. HasRoom (length names.now) (length rounds.now)) }
     ensures fault { IfErr result (IsFault (length names.now) (length rounds.now)) }
 {
@@ -359,7 +363,7 @@ pub fn report(
     }
     let all = all_halves(alloc, rounds, names.len() as u32)?;
     let mut text = Vec::new(alloc);
-    push_event(&mut text, event, names.len())?;
+    push_tournament(&mut text, tournament, names.len())?;
     push_players(&mut text, alloc, rounds, all.as_slice(), names)?;
     Ok(text)
 }

@@ -5,4 +5,4 @@ mod cells;
 mod columns;
 
 pub use cells::{Meeting, Play, Score};
-pub use columns::{Event, Fault, report};
+pub use columns::{Fault, Tournament, report};

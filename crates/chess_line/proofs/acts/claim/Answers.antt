@@ -1,6 +1,6 @@
 use Rattle.std.proofs.Common.{◌≡◌, Bool, Option, Some, None, ◌∷◌, decimal, sym, ◌∙◌}
 use Rattle.std.specs.List.{join_with_byte}
-use Rattle.chess_entry.specs.Told.{bytes_of}
+use Rattle.chess_entry.specs.Parsed.{bytes_of}
 use Rattle.chess_line.specs.Fields.{claim_word, optional}
 use Rattle.chess_line.specs.Cut.{rest_of}
 use Rattle.chess_line.proofs.Cuts.{same_cut}

@@ -9,7 +9,7 @@ use Rattle.chess_lives.proofs.serving.serve.Goals as goal
 
 pub report_of-requires-clause-begun : goal.report_of-requires-clause-begun
 report_of-requires-clause-begun g c =
-    let t = c.submit_all-tally.ensures.tallied in
+    let t = c.submit_all-submitted.ensures.tallied in
     omega (
       arith,
       c.shown-begun.ensures,
@@ -23,25 +23,25 @@ returns-in-Ok-clause-served g c = λ model table means.
     let failures = g.D.Device.failures in
     let device = c.args.device in
     let store = c.in-Ok.opened in
-    let left = c.submit_all-tally.new.store.journal.device in
+    let left = c.submit_all-submitted.new.store.journal.device in
     let batches = map (λ b. b.items) c.args.batches.now in
-    let tally = c.submit_all-tally.result in
+    let submitted = c.submit_all-submitted.result in
     let report = c.report_of.result in
     let reads = (state device).reads in
     let same : store.table ≡ table =
     one_table reads store.table table (c.in-Ok.ensures.means model)
     (means reads ((g.met.D.Device.coherent device).reads_are_image model)) in
-    let served = served-opened store.table batches tally (failures store.journal.device)
+    let served = served-opened store.table batches submitted (failures store.journal.device)
     (IsKept (state store.journal.device) store.journal.header store.journal.compaction store.table) (state left)
-    (failures left) c.shown-begun.result report c.submit_all-tally.ensures.tallied (c.in-Ok.ensures.kept model)
+    (failures left) c.shown-begun.result report c.submit_all-submitted.ensures.tallied (c.in-Ok.ensures.kept model)
     c.limits-limits.ensures.table c.shown-begun.ensures c.report_of.ensures.opened c.report_of.ensures.acknowledged c.report_of.ensures.accepted
     c.report_of.ensures.unsent
     (c.report_of.ensures.failures ∙ c.failure_count.ensures ∙ ap failures c.into_device-left.ensures) in
-    subst (λ (t : TableState). IsServed t batches (failures device) report tally.fault (state c.into_device-left.result)
+    subst (λ (t : TableState). IsServed t batches (failures device) report submitted.fault (state c.into_device-left.result)
     (failures c.into_device-left.result)) same
-    (subst (λ (d : _). IsServed store.table batches (failures device) report tally.fault (state d) (failures d))
+    (subst (λ (d : _). IsServed store.table batches (failures device) report submitted.fault (state d) (failures d))
     (sym c.into_device-left.ensures)
-    (subst (λ (n : ℕ). IsServed store.table batches n report tally.fault (state left) (failures left))
+    (subst (λ (n : ℕ). IsServed store.table batches n report submitted.fault (state left) (failures left))
     c.in-Ok.ensures.cause served))
 
 pub returns-in-Err-clause-served : goal.returns-in-Err-clause-served
@@ -61,19 +61,19 @@ returns-in-Err-clause-fault g c = opening_fault c.in-Err.refused.fault c.in-Err.
 pub returns-in-Ok-clause-counts : goal.returns-in-Ok-clause-counts
 returns-in-Ok-clause-counts g c =
     let failures = g.D.Device.failures in
-    let tally = c.submit_all-tally.result in
-    subst (λ (d : _). CountsEnd tally.fault (failures c.args.device) (failures d)) (sym c.into_device-left.ensures)
-    (subst (λ (n : ℕ). CountsEnd tally.fault n (failures c.submit_all-tally.new.store.journal.device))
-    c.in-Ok.ensures.cause c.submit_all-tally.ensures.counts)
+    let submitted = c.submit_all-submitted.result in
+    subst (λ (d : _). CountsEnd submitted.fault (failures c.args.device) (failures d)) (sym c.into_device-left.ensures)
+    (subst (λ (n : ℕ). CountsEnd submitted.fault n (failures c.submit_all-submitted.new.store.journal.device))
+    c.in-Ok.ensures.cause c.submit_all-submitted.ensures.counts)
 
 pub returns-in-Ok-clause-model : goal.returns-in-Ok-clause-model
 returns-in-Ok-clause-model g c =
     let state = g.D.Device.state in
     let goes = c.in-Ok.ensures.goes in
-    let tally = c.submit_all-tally.ensures in
+    let submitted = c.submit_all-submitted.ensures in
     subst (λ (d : _). (state d).keeps_model ↔ (state c.args.device).keeps_model) (sym c.into_device-left.ensures)
-    (λ model. goes.model.0 (tally.model.0 model), λ model. tally.model.1 (goes.model.1 model))
+    (λ model. goes.model.0 (submitted.model.0 model), λ model. submitted.model.1 (goes.model.1 model))
 
 pub returns-in-Ok-clause-sectors : goal.returns-in-Ok-clause-sectors
 returns-in-Ok-clause-sectors g c =
-    ap g.D.Device.sector_count c.into_device-left.ensures ∙ c.submit_all-tally.ensures.sectors ∙ c.in-Ok.ensures.goes.size
+    ap g.D.Device.sector_count c.into_device-left.ensures ∙ c.submit_all-submitted.ensures.sectors ∙ c.in-Ok.ensures.goes.size

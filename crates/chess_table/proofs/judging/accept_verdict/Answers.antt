@@ -48,4 +48,4 @@ returns c =
     let late : nat_lt (ply_of game) 2 ≡ false = grind (arith, nat_tests, c.ply.ensures.ply, c.if-ply-lt2.false) in
     sym (c.in-Ok.ensures.ok rest last
     ∙ skipped _ _ _ (ap not (sym c.is_offered.ensures ∙ c.if-not-is_offered.false))
-    ∙ skipped _ _ _ late ∙ sym c.entered.ensures)
+    ∙ skipped _ _ _ late ∙ sym c.entry_verdict.ensures)

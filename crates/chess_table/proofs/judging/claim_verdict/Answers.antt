@@ -80,4 +80,4 @@ returns c =
     ∙ skipped _ _ _ (sym c.claimed.ensures ∙ c.if-claimed.false)
     ∙ passes_last c.for_stated.result (stated table asked game) (made c.args.at asked game c.in-Ok.seat.1)
     c.for_stated.ensures c.in_default-for_stated.is
-    ∙ sym (c.entered.ensures ∙ ap (λ (n : ℕ). claimed c.args.at asked n game c.in-Ok.seat.1) c.ply.ensures.ply))
+    ∙ sym (c.entry_verdict.ensures ∙ ap (λ (n : ℕ). claimed c.args.at asked n game c.in-Ok.seat.1) c.ply.ensures.ply))

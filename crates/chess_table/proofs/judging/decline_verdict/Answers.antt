@@ -35,4 +35,4 @@ returns c =
     let side = c.in-Ok.seat.1 in
     sym (c.in-Ok.ensures.ok rest last
     ∙ skipped _ _ _ (ap not (sym c.is_offered.ensures ∙ c.if-not-is_offered.false))
-    ∙ sym c.entered.ensures)
+    ∙ sym c.entry_verdict.ensures)

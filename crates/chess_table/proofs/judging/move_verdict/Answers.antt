@@ -69,5 +69,5 @@ returns-in-Some-mv c =
     ∙ passes_last c.for_move.result (for_move table game mv) (move_entered game c.args.at mv) c.for_move.ensures
     c.in_default-for_move.is
     ∙ ap (move_entered game c.args.at) c.in-Some-mv.is
-    ∙ sym (c.entered.ensures ∙ ap (λ (n : ℕ). Enter (entry game.number c.args.at
+    ∙ sym (c.entry_verdict.ensures ∙ ap (λ (n : ℕ). Enter (entry game.number c.args.at
     (event.Move (record { mv = c.in-Some-mv.mv; ply = n })))) c.ply.ensures.ply))

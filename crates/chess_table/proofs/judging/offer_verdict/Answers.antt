@@ -33,4 +33,4 @@ returns c =
     let side = c.in-Ok.seat.1 in
     sym (c.in-Ok.ensures.ok rest last
     ∙ skipped _ _ _ (sym c.has_offer.ensures ∙ c.if-has_offer.false)
-    ∙ sym c.entered.ensures)
+    ∙ sym c.entry_verdict.ensures)

@@ -19,4 +19,4 @@ returns-in-Ok c =
     let rest : GameState → Colour → List Check = λ game side. [] in
     let last : GameState → Colour → Verdict = λ game side. Enter (entry game.number c.args.at (event.Resign side)) in
     sym (c.in-Ok.ensures.ok rest last
-    ∙ sym c.entered.ensures)
+    ∙ sym c.entry_verdict.ensures)

@@ -7,7 +7,7 @@ abbrev pub invariant-loop-count : goal.invariant-loop-count
 invariant-loop-count g l = record {
   stands : Stands g.A.Answerer.is_ready g.A.Answerer.answers (g.S.LineSource.remaining l.fn.source)
       (g.S.LineSource.remaining l.source) (g.W.Write.contents l.fn.writer) (g.W.Write.contents l.writer)
-      l.fn.session.answerer l.session.answerer l.session.line.items l.session.ready.bytes;
+      l.fn.state.answerer l.state.answerer l.state.line.items l.state.ready.bytes;
   works : g.S.LineSource.has_failed l.source ≡ g.S.LineSource.has_failed l.fn.source;
 }
 

@@ -7,8 +7,8 @@ use Rattle.line_loop.proofs.loops.answer_piece.Goals as goal
 pub returns-in_err-hand_out-clause-taken : goal.returns-in_err-hand_out-clause-taken
 returns-in_err-hand_out-clause-taken g c =
     let e = err_from_is_err_and c.from_residual-in_err-hand_out.result c.from_residual-in_err-hand_out.ensures.1 in
-    let s = c.args.session.now in
-    let t = c.take_piece.new.session in
+    let s = c.args.state.now in
+    let t = c.take_piece.new.state in
     let a = g.W.Write.contents c.args.writer.now in
     let b = g.W.Write.contents c.take_piece.new.writer in
     let d = g.W.Write.contents c.hand_out.new.writer in
@@ -21,8 +21,8 @@ returns-in_err-hand_out-clause-taken g c =
 
 pub returns-clause-taken : goal.returns-clause-taken
 returns-clause-taken g c =
-    let s = c.args.session.now in
-    let t = c.take_piece.new.session in
+    let s = c.args.state.now in
+    let t = c.take_piece.new.state in
     let a = g.W.Write.contents c.args.writer.now in
     let b = g.W.Write.contents c.take_piece.new.writer in
     let d = g.W.Write.contents c.hand_out.new.writer in

@@ -6,7 +6,7 @@ use Rattle.line_loop.proofs.loops.end_line.Goals as goal
 pub returns-in_err-flow : goal.returns-in_err-flow
 returns-in_err-flow g c =
     let e = err_from_is_err_and c.from_residual.result c.from_residual.ensures.1 in
-    let s = c.args.session.now in
+    let s = c.args.state.now in
     let t = c.answer_line.new.answerer in
     let a = g.W.Write.contents c.args.writer.now in
     let b = g.W.Write.contents c.answer_line.new.writer in
@@ -18,7 +18,7 @@ returns-in_err-flow g c =
 
 pub returns : goal.returns
 returns g c =
-    let s = c.args.session.now in
+    let s = c.args.state.now in
     emptied g.A.Answerer.is_ready g.A.Answerer.answers g.A.Answerer.breaks (g.W.Write.contents c.args.writer.now)
     (g.W.Write.contents c.answer_line.new.writer) s.ready.bytes c.answer_line.new.ready.bytes s.answerer
     c.answer_line.new.answerer s.line.items c.as_slice.result.now c.clear.new.self.items (10 ∷ [])

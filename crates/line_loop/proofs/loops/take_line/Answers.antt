@@ -6,7 +6,7 @@ use Rattle.line_loop.proofs.loops.take_line.Goals as goal
 
 pub returns-then-part-le-LINE_ROOM : goal.returns-then-part-le-LINE_ROOM
 returns-then-part-le-LINE_ROOM g c =
-    let s = c.args.session.now in
+    let s = c.args.state.now in
     let part = c.args.part.now in
     let none : s.line.items ≡ [] = nil_from_length s.line.items (search rules) in
     took-whole g.A.Answerer.is_ready g.A.Answerer.answers g.A.Answerer.breaks (g.W.Write.contents c.args.writer.now)
@@ -17,8 +17,8 @@ returns-then-part-le-LINE_ROOM g c =
 pub returns-in_err-take_part : goal.returns-in_err-take_part
 returns-in_err-take_part g c =
     let e = err_from_is_err_and c.from_residual.result c.from_residual.ensures.1 in
-    let s = c.args.session.now in
-    let t = c.take_part.new.session in
+    let s = c.args.state.now in
+    let t = c.take_part.new.state in
     let a = g.W.Write.contents c.args.writer.now in
     let b = g.W.Write.contents c.take_part.new.writer in
     let part = c.args.part.now in
@@ -29,9 +29,9 @@ returns-in_err-take_part g c =
 
 pub returns-in-Open : goal.returns-in-Open
 returns-in-Open g c =
-    let s = c.args.session.now in
-    let t = c.take_part.new.session in
-    let u = c.end_line.new.session in
+    let s = c.args.state.now in
+    let t = c.take_part.new.state in
+    let u = c.end_line.new.state in
     let a = g.W.Write.contents c.args.writer.now in
     let b = g.W.Write.contents c.take_part.new.writer in
     let d = g.W.Write.contents c.end_line.new.writer in
@@ -45,8 +45,8 @@ returns-in-Open g c =
 
 pub returns-in-TooLong : goal.returns-in-TooLong
 returns-in-TooLong g c =
-    let s = c.args.session.now in
-    let t = c.take_part.new.session in
+    let s = c.args.state.now in
+    let t = c.take_part.new.state in
     let a = g.W.Write.contents c.args.writer.now in
     let b = g.W.Write.contents c.take_part.new.writer in
     let part = c.args.part.now in
@@ -57,8 +57,8 @@ returns-in-TooLong g c =
 
 pub returns-in-Broken : goal.returns-in-Broken
 returns-in-Broken g c =
-    let s = c.args.session.now in
-    let t = c.take_part.new.session in
+    let s = c.args.state.now in
+    let t = c.take_part.new.state in
     let a = g.W.Write.contents c.args.writer.now in
     let b = g.W.Write.contents c.take_part.new.writer in
     let part = c.args.part.now in

@@ -6,7 +6,7 @@ use Rattle.line_loop.proofs.loops.take_part.Goals as goal
 pub returns-in_err-say : goal.returns-in_err-say
 returns-in_err-say g c =
     let e = err_from_is_err_and c.from_residual.result c.from_residual.ensures.1 in
-    let s = c.args.session.now in
+    let s = c.args.state.now in
     let a = g.W.Write.contents c.args.writer.now in
     let b = g.W.Write.contents c.say.new.writer in
     let part = c.args.part.now in
@@ -19,7 +19,7 @@ returns-in_err-say g c =
 
 pub returns-then-remaining_capacity-part : goal.returns-then-remaining_capacity-part
 returns-then-remaining_capacity-part g c =
-    let s = c.args.session.now in
+    let s = c.args.state.now in
     let a = g.W.Write.contents c.args.writer.now in
     let b = g.W.Write.contents c.say.new.writer in
     let part = c.args.part.now in

@@ -5,21 +5,21 @@ use Rattle.line_loop.proofs.loops.take_piece.Goals as goal
 
 pub loop-end-init : goal.loop-end-init
 loop-end-init g c = through-nothing g.A.Answerer.is_ready g.A.Answerer.answers g.A.Answerer.breaks
-    (g.W.Write.contents c.args.writer.now) c.args.session.now.ready.bytes c.args.session.now.answerer
-    c.args.session.now.line.items c.args.piece.now c.requires.asked c.requires.unfinished
+    (g.W.Write.contents c.args.writer.now) c.args.state.now.ready.bytes c.args.state.now.answerer
+    c.args.state.now.line.items c.args.piece.now c.requires.asked c.requires.unfinished
 
 pub loop-end-preserved : goal.loop-end-preserved
 loop-end-preserved g c =
     through-line g.A.Answerer.is_ready g.A.Answerer.answers g.A.Answerer.breaks (g.W.Write.contents c.args.writer.now)
     (g.W.Write.contents c.loop-end.writer) (g.W.Write.contents c.take_line.new.writer)
-    c.args.session.now.ready.bytes c.loop-end.session.ready.bytes c.take_line.new.session.ready.bytes
-    c.args.session.now.answerer c.loop-end.session.answerer c.take_line.new.session.answerer
-    c.args.session.now.line.items c.loop-end.session.line.items c.take_line.new.session.line.items
+    c.args.state.now.ready.bytes c.loop-end.state.ready.bytes c.take_line.new.state.ready.bytes
+    c.args.state.now.answerer c.loop-end.state.answerer c.take_line.new.state.answerer
+    c.args.state.now.line.items c.loop-end.state.line.items c.take_line.new.state.line.items
     c.args.piece.now c.loop-end.rest.now _ c.in-Some.end c.loop-end.invariant
     (flow_is g.A.Answerer.is_ready g.A.Answerer.answers g.A.Answerer.breaks (g.W.Write.contents c.loop-end.writer)
-    (g.W.Write.contents c.take_line.new.writer) c.loop-end.session.ready.bytes c.take_line.new.session.ready.bytes
-    c.loop-end.session.answerer c.take_line.new.session.answerer c.loop-end.session.line.items
-    c.take_line.new.session.line.items (take c.in-Some.end c.loop-end.rest.now ++ 10 ∷ []) _ _ c.in-Open.is
+    (g.W.Write.contents c.take_line.new.writer) c.loop-end.state.ready.bytes c.take_line.new.state.ready.bytes
+    c.loop-end.state.answerer c.take_line.new.state.answerer c.loop-end.state.line.items
+    c.take_line.new.state.line.items (take c.in-Some.end c.loop-end.rest.now ++ 10 ∷ []) _ _ c.in-Open.is
     c.in_ok-take_line.ensures)
     c.in-Some.ensures.found.0 c.in-Some.ensures.found.1 refl
 
@@ -27,14 +27,14 @@ pub returns-in-TooLong : goal.returns-in-TooLong
 returns-in-TooLong g c =
     through-long g.A.Answerer.is_ready g.A.Answerer.answers g.A.Answerer.breaks (g.W.Write.contents c.args.writer.now)
     (g.W.Write.contents c.loop-end.writer) (g.W.Write.contents c.take_line.new.writer)
-    c.args.session.now.ready.bytes c.loop-end.session.ready.bytes c.take_line.new.session.ready.bytes
-    c.args.session.now.answerer c.loop-end.session.answerer c.take_line.new.session.answerer
-    c.args.session.now.line.items c.loop-end.session.line.items c.take_line.new.session.line.items
+    c.args.state.now.ready.bytes c.loop-end.state.ready.bytes c.take_line.new.state.ready.bytes
+    c.args.state.now.answerer c.loop-end.state.answerer c.take_line.new.state.answerer
+    c.args.state.now.line.items c.loop-end.state.line.items c.take_line.new.state.line.items
     c.args.piece.now c.loop-end.rest.now c.in-Some.end c.loop-end.invariant
     (flow_is g.A.Answerer.is_ready g.A.Answerer.answers g.A.Answerer.breaks (g.W.Write.contents c.loop-end.writer)
-    (g.W.Write.contents c.take_line.new.writer) c.loop-end.session.ready.bytes c.take_line.new.session.ready.bytes
-    c.loop-end.session.answerer c.take_line.new.session.answerer c.loop-end.session.line.items
-    c.take_line.new.session.line.items (take c.in-Some.end c.loop-end.rest.now ++ 10 ∷ []) _ _ c.in-TooLong.is
+    (g.W.Write.contents c.take_line.new.writer) c.loop-end.state.ready.bytes c.take_line.new.state.ready.bytes
+    c.loop-end.state.answerer c.take_line.new.state.answerer c.loop-end.state.line.items
+    c.take_line.new.state.line.items (take c.in-Some.end c.loop-end.rest.now ++ 10 ∷ []) _ _ c.in-TooLong.is
     c.in_ok-take_line.ensures)
     c.in-Some.ensures.found.0 c.in-Some.ensures.found.1
 
@@ -42,14 +42,14 @@ pub returns-in-Broken : goal.returns-in-Broken
 returns-in-Broken g c =
     through-broken g.A.Answerer.is_ready g.A.Answerer.answers g.A.Answerer.breaks (g.W.Write.contents c.args.writer.now)
     (g.W.Write.contents c.loop-end.writer) (g.W.Write.contents c.take_line.new.writer)
-    c.args.session.now.ready.bytes c.loop-end.session.ready.bytes c.take_line.new.session.ready.bytes
-    c.args.session.now.answerer c.loop-end.session.answerer c.take_line.new.session.answerer
-    c.args.session.now.line.items c.loop-end.session.line.items c.take_line.new.session.line.items
+    c.args.state.now.ready.bytes c.loop-end.state.ready.bytes c.take_line.new.state.ready.bytes
+    c.args.state.now.answerer c.loop-end.state.answerer c.take_line.new.state.answerer
+    c.args.state.now.line.items c.loop-end.state.line.items c.take_line.new.state.line.items
     c.args.piece.now c.loop-end.rest.now c.in-Some.end c.in-Broken.fault c.loop-end.invariant
     (flow_is g.A.Answerer.is_ready g.A.Answerer.answers g.A.Answerer.breaks (g.W.Write.contents c.loop-end.writer)
-    (g.W.Write.contents c.take_line.new.writer) c.loop-end.session.ready.bytes c.take_line.new.session.ready.bytes
-    c.loop-end.session.answerer c.take_line.new.session.answerer c.loop-end.session.line.items
-    c.take_line.new.session.line.items (take c.in-Some.end c.loop-end.rest.now ++ 10 ∷ []) _ _ c.in-Broken.is
+    (g.W.Write.contents c.take_line.new.writer) c.loop-end.state.ready.bytes c.take_line.new.state.ready.bytes
+    c.loop-end.state.answerer c.take_line.new.state.answerer c.loop-end.state.line.items
+    c.take_line.new.state.line.items (take c.in-Some.end c.loop-end.rest.now ++ 10 ∷ []) _ _ c.in-Broken.is
     c.in_ok-take_line.ensures)
     c.in-Some.ensures.found.0 c.in-Some.ensures.found.1
 
@@ -57,15 +57,15 @@ pub returns-in_err-take_line : goal.returns-in_err-take_line
 returns-in_err-take_line g c =
     let e = err_from_is_err_and c.from_residual.result c.from_residual.ensures.1 in
     passed_on g.A.Answerer.is_ready g.A.Answerer.answers g.A.Answerer.breaks (g.W.Write.contents c.args.writer.now)
-    (g.W.Write.contents c.take_line.new.writer) c.args.session.now.ready.bytes c.take_line.new.session.ready.bytes
-    c.args.session.now.answerer c.take_line.new.session.answerer c.args.session.now.line.items
-    c.take_line.new.session.line.items c.args.piece.now c.from_residual.result e.0 e.1
+    (g.W.Write.contents c.take_line.new.writer) c.args.state.now.ready.bytes c.take_line.new.state.ready.bytes
+    c.args.state.now.answerer c.take_line.new.state.answerer c.args.state.now.line.items
+    c.take_line.new.state.line.items c.args.piece.now c.from_residual.result e.0 e.1
     (
     through-lost g.A.Answerer.is_ready g.A.Answerer.answers g.A.Answerer.breaks (g.W.Write.contents c.args.writer.now)
     (g.W.Write.contents c.loop-end.writer) (g.W.Write.contents c.take_line.new.writer)
-    c.args.session.now.ready.bytes c.loop-end.session.ready.bytes c.take_line.new.session.ready.bytes
-    c.args.session.now.answerer c.loop-end.session.answerer c.take_line.new.session.answerer
-    c.args.session.now.line.items c.loop-end.session.line.items c.take_line.new.session.line.items
+    c.args.state.now.ready.bytes c.loop-end.state.ready.bytes c.take_line.new.state.ready.bytes
+    c.args.state.now.answerer c.loop-end.state.answerer c.take_line.new.state.answerer
+    c.args.state.now.line.items c.loop-end.state.line.items c.take_line.new.state.line.items
     c.args.piece.now c.loop-end.rest.now c.in-Some.end e.0 c.loop-end.invariant
     c.in_err-take_line.ensures c.in-Some.ensures.found.0 c.in-Some.ensures.found.1)
 
@@ -73,7 +73,7 @@ pub returns : goal.returns
 returns g c =
     through-rest g.A.Answerer.is_ready g.A.Answerer.answers g.A.Answerer.breaks (g.W.Write.contents c.args.writer.now)
     (g.W.Write.contents c.loop-end.writer) (g.W.Write.contents c.take_part.new.writer)
-    c.args.session.now.ready.bytes c.loop-end.session.ready.bytes c.take_part.new.session.ready.bytes
-    c.args.session.now.answerer c.loop-end.session.answerer c.take_part.new.session.answerer
-    c.args.session.now.line.items c.loop-end.session.line.items c.take_part.new.session.line.items
+    c.args.state.now.ready.bytes c.loop-end.state.ready.bytes c.take_part.new.state.ready.bytes
+    c.args.state.now.answerer c.loop-end.state.answerer c.take_part.new.state.answerer
+    c.args.state.now.line.items c.loop-end.state.line.items c.take_part.new.state.line.items
     c.args.piece.now c.loop-end.rest.now c.take_part.result c.loop-end.invariant c.take_part.ensures

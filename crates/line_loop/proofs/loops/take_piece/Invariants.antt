@@ -6,8 +6,8 @@ use Rattle.line_loop.proofs.loops.take_piece.Given as goal
 abbrev pub invariant-loop-end : goal.invariant-loop-end
 invariant-loop-end g l =
     Through g.A.Answerer.is_ready g.A.Answerer.answers g.A.Answerer.breaks (g.W.Write.contents l.fn.writer)
-    (g.W.Write.contents l.writer) l.fn.session.ready.bytes l.session.ready.bytes l.fn.session.answerer
-    l.session.answerer l.fn.session.line.items l.session.line.items l.piece l.rest
+    (g.W.Write.contents l.writer) l.fn.state.ready.bytes l.state.ready.bytes l.fn.state.answerer
+    l.state.answerer l.fn.state.line.items l.state.line.items l.piece l.rest
 
 abbrev pub decreases-loop-end : goal.decreases-loop-end
 decreases-loop-end g l = length l.rest

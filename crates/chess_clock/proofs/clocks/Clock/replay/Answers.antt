@@ -1,7 +1,7 @@
 use Rattle.std.proofs.Common.{[], ◌∷◌, ap, sym, ◌∙◌, subst, arith}
 use Rattle.chess_bits.specs.Man.{other}
 use Rattle.chess_clock.specs.declared.events.ClockEvent.TheVariants.{Turn, WrongClaim}
-use Rattle.chess_clock.specs.ClockState.{after, TimesFit}
+use Rattle.chess_clock.specs.ClockState.{clock_after, TimesFit}
 use Rattle.chess_clock.proofs.ReplayLemmas.{IsAt, other-other, fits_after_this, replayed_this, turn_in_time, turn_ended_is}
 use Rattle.chess_clock.proofs.clocks.Clock.replay.Goals as goal
 use Rattle.chess_clock.proofs.clocks.Clock.replay.Goals.{in-Turn, in-WrongClaim}
@@ -20,7 +20,7 @@ finish_turn-requires-clause-fits c =
     record { below = c.loop-event-test.true; here = c.in-Turn.is }
     in
     let ended = turn_ended_is c.loop-event.invariant at c.requires.in_time c.since.result c.since.ensures in
-    subst (λ es. TimesFit (after c.loop-event.self es)) (sym ended)
+    subst (λ es. TimesFit (clock_after c.loop-event.self es)) (sym ended)
     (fits_after_this c.loop-event.invariant at c.requires.fits)
 
 pub penalty-requires-clause-fits : goal.penalty-requires-clause-fits
@@ -29,7 +29,7 @@ penalty-requires-clause-fits c =
     record { below = c.loop-event-test.true; here = c.in-WrongClaim.is }
     in
     let claimant = ap other c.other.ensures ∙ other-other c.in-WrongClaim.claimant in
-    subst (λ s. TimesFit (after c.loop-event.self (WrongClaim s ∷ []))) (sym claimant)
+    subst (λ s. TimesFit (clock_after c.loop-event.self (WrongClaim s ∷ []))) (sym claimant)
     (fits_after_this c.loop-event.invariant at c.requires.fits)
 
 pub loop-event-preserved : goal.loop-event-preserved
@@ -40,12 +40,12 @@ loop-event-preserved c = elim c.match-event.branch [
       in
       let ended = turn_ended_is c.loop-event.invariant at c.requires.in_time w.since.result w.since.ensures in
       replayed_this c.loop-event.invariant at c.requires.in_time
-      (w.self-is ∙ w.finish_turn.ensures ∙ ap (after c.loop-event.self) ended)
+      (w.self-is ∙ w.finish_turn.ensures ∙ ap (clock_after c.loop-event.self) ended)
   | in-WrongClaim w ↦
       let at : IsAt c.args.events.now c.loop-event.event-index (WrongClaim w.in-WrongClaim.claimant) =
       record { below = c.loop-event-test.true; here = w.in-WrongClaim.is }
       in
       let claimant = ap other w.other.ensures ∙ other-other w.in-WrongClaim.claimant in
       replayed_this c.loop-event.invariant at c.requires.in_time
-      (w.self-is ∙ w.penalty.ensures ∙ ap (λ s. after c.loop-event.self (WrongClaim s ∷ [])) claimant)
+      (w.self-is ∙ w.penalty.ensures ∙ ap (λ s. clock_after c.loop-event.self (WrongClaim s ∷ [])) claimant)
 ]

@@ -1,6 +1,6 @@
 use Rattle.std.proofs.Common.{sym, subst}
 use Rattle.std.proofs.lemmas.Result.{err_from_is_err_and}
-use Rattle.chess_fen.specs.Reading.{IsField}
+use Rattle.chess_fen.specs.Reading.{IsFenField}
 use Rattle.chess_fen.proofs.FieldLemmas.{first_field}
 use Rattle.chess_fen.proofs.fields.Fields.of.Goals as goal
 
@@ -62,4 +62,4 @@ returns-in_err-fullmove-clause-none c =
     c.in_ok-target.ensures.parts same_castling.rest in
     let same_halfmove = first_field _ c.in_ok-halfmove.halfmove.now c.in_ok-halfmove.rest.now f.halfmove _ c.in_ok-halfmove.ensures.field h.halfmove
     c.in_ok-halfmove.ensures.parts same_target.rest in
-    c.in_err-fullmove.ensures.none (subst IsField (sym same_halfmove.rest) h.fullmove))
+    c.in_err-fullmove.ensures.none (subst IsFenField (sym same_halfmove.rest) h.fullmove))

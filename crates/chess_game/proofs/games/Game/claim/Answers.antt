@@ -4,7 +4,7 @@ use Rattle.chess_board.specs.declared.moves.Move.{Move}
 use Rattle.chess_board.specs.Legal.{IsLegal}
 use Rattle.chess_end.specs.declared.ending.Ending.{Ending}
 use Rattle.chess_entry.specs.Follow.{ended, moved, claimed_wrongly}
-use Rattle.chess_game.specs.Line.{LineState, last_of}
+use Rattle.chess_game.specs.Scoresheet.{ScoresheetState, last_of}
 use Rattle.chess_game.proofs.Refused.{on_err}
 use Rattle.chess_game.proofs.KeptGame.{IsGame-moved}
 use Rattle.chess_game.proofs.Shown.{Shows-kept, IsGame-kept, IsSound-shown, state_of-shown}
@@ -44,7 +44,7 @@ invariant_of-self c =
 pub push-requires-clause-legal : goal.push-requires-clause-legal
 push-requires-clause-legal c =
     let shows = Shows-kept c.self.inside c.args.self.now c.self.view_is c.self.invariant in
-    let P : LineState → Type 0 = λ line. IsLegal (last_of line) c.in-Some.mv in
+    let P : ScoresheetState → Type 0 = λ line. IsLegal (last_of line) c.in-Some.mv in
     subst P (sym shows.line) (c.requires.judgeable.stated c.in-Some.mv (sym c.stated_move-mv.ensures ∙ c.in-Some.is)).legal
 
 pub push-requires-clause-room : goal.push-requires-clause-room

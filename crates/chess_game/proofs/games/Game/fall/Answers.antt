@@ -2,7 +2,7 @@ use Rattle.std.proofs.Common.{ap, ◌∙◌}
 use Rattle.chess_end.specs.declared.ending.Ending.{Ending}
 use Rattle.chess_entry.specs.State.{position_of}
 use Rattle.chess_entry.specs.Follow.{ended}
-use Rattle.chess_game.specs.Line.{last_of}
+use Rattle.chess_game.specs.Scoresheet.{last_of}
 use Rattle.chess_game.proofs.EndingLemmas.{flag_ending-answered}
 use Rattle.chess_game.proofs.Shown.{Shows-kept}
 use Rattle.chess_game.proofs.games.Game.fall.Goals as goal

@@ -1,6 +1,6 @@
 use Rattle.std.proofs.Common.{◌∙◌, ap}
 use Rattle.chess_game.specs.declared.sides.Sides.{Sides}
-use Rattle.chess_game.specs.Line.{LineState}
+use Rattle.chess_game.specs.Scoresheet.{ScoresheetState}
 use Rattle.chess_game.proofs.Shown.{Shows-kept, IsGame-kept}
 use Rattle.chess_game.proofs.StoredLemmas.{IsSeatOf-stored, told-none, told-some}
 use Rattle.chess_game.proofs.games.Game.head.Goals as goal
@@ -16,7 +16,7 @@ returns c =
       moment = c.moment.ensures;
       moves = c.ply.ensures.ply;
       control = shows.control;
-      start = c.start.ensures ∙ ap (λ (line : LineState). line.start) shows.line;
+      start = c.start.ensures ∙ ap (λ (line : ScoresheetState). line.start) shows.line;
       white = IsSeatOf-stored c.self.inside.sides.white game.white c.stored_seat.result c.held.result
           c.stored_seat.ensures (ap (λ (sides : Sides). sides.white) shows.sides) c.held.ensures;
       black = IsSeatOf-stored c.self.inside.sides.black game.black c.stored_seat-2.result c.held-2.result

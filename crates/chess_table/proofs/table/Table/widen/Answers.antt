@@ -1,7 +1,7 @@
 use Rattle.std.proofs.Common.{◌≤◌, sym, ap, subst}
 use Rattle.rec_codec.specs.declared.limits.Limits.{Limits}
 use Rattle.chess_entry.specs.State.{TableState}
-use Rattle.chess_table.specs.TableInside.{table_of}
+use Rattle.chess_table.specs.TableInside.{table_seen}
 use Rattle.chess_table.proofs.Kept.{IsTable-widen}
 use Rattle.chess_table.proofs.table.Table.widen.Goals as goal
 
@@ -9,6 +9,6 @@ pub invariant_of-self : goal.invariant_of-self
 invariant_of-self c =
     let limits = c.args.limits in
     let same = sym (ap (λ (t : TableState). t.limits) c.self.view_is) in
-    IsTable-widen (table_of c.self.inside) limits c.self.invariant c.requires.in_range
+    IsTable-widen (table_seen c.self.inside) limits c.self.invariant c.requires.in_range
     (subst (λ (l : Limits). l.games ≤ limits.games) same c.requires.games)
     (subst (λ (l : Limits). l.plies ≤ limits.plies) same c.requires.plies)

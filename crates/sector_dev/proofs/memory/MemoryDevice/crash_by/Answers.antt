@@ -1,6 +1,6 @@
 use Rattle.std.proofs.Common.{◌≡◌, ◌++◌, ◌∙◌, length, take, drop, map, refl, ap, arith}
 use Rattle.sector_dev.specs.Crash.{left_by}
-use Rattle.sector_dev.specs.Memory.{after, at_rest}
+use Rattle.sector_dev.specs.Memory.{disk_after, at_rest}
 use Rattle.sector_dev.proofs.Crashes.{rest_is_stable, rest_is_disk, crash_is_image, played_of}
 use Rattle.sector_dev.proofs.Moments.{length-shown}
 use Rattle.sector_dev.proofs.Settled.{written_back}
@@ -34,7 +34,7 @@ pub returns : goal.returns
 returns g c =
     let base = c.args.self.now.base in
     let calls = c.args.self.now.calls.items in
-    let d = after (at_rest base.items) calls in
+    let d = disk_after (at_rest base.items) calls in
     let fates = map g.F.TellsFate.fate_of c.args.fates.now in
     let left = left_by d.stable d.pending fates in
     let next = take base.len (c.play.new.sectors ++ drop (length c.play.new.sectors) base.items) in

@@ -1,0 +1,71 @@
+use Rattle.std.proofs.Common.{◌<◌, List, take, length, sym, ap, ◌∙◌, subst, arith}
+use Rattle.std.proofs.lemmas.List.{length-take-le}
+use Rattle.chess_board.specs.declared.moves.Move.{Move}
+use Rattle.chess_board.specs.Position.{Position}
+use Rattle.chess_board.specs.Next.{next}
+use Rattle.chess_board.specs.Legal.{IsLegal}
+use Rattle.chess_game.specs.Scoresheet.{HasRoom}
+use Rattle.chess_game.specs.Restored.{IsReplayed}
+use Rattle.chess_game.proofs.ReplayLemmas.{IsReplayed-push, taken, HasRoom-replayed, IsScoresheet-not_legal, IsScoresheet-ended, none_from}
+use Rattle.chess_game.proofs.RestoredLemmas.{none_made}
+use Rattle.chess_game.proofs.scoresheet.Scoresheet.replay.Goals as goal
+
+pub returns-then-is_some-clause-none : goal.returns-then-is_some-clause-none
+returns-then-is_some-clause-none c =
+    IsScoresheet-ended c.args.start.now c.args.moves.now c.loop-mv.mv-index c.mv-item.result c.loop-mv.line
+    c.loop-mv.by_line c.loop-mv.invariant c.loop-mv-test.true c.mv-item.is (sym c.is_some.ensures ∙ c.if-is_some.true)
+
+pub returns-in_default-clause-none : goal.returns-in_default-clause-none
+returns-in_default-clause-none c =
+    let P : Position → Type 0 = λ p. IsLegal p c.mv-item.result in
+    IsScoresheet-not_legal c.args.start.now c.args.moves.now c.loop-mv.mv-index c.mv-item.result c.loop-mv.line
+    c.loop-mv.by_line c.loop-mv.invariant c.loop-mv-test.true c.mv-item.is
+    (λ legal. none_made c.after_legal.result c.in_default.not-Some c.after_legal.ensures.none
+    (subst P (sym c.board.ensures) legal))
+
+pub after_legal-requires-clause-halfmove : goal.after_legal-requires-clause-halfmove
+after_legal-requires-clause-halfmove c =
+    let below = c.loop-mv-test.true in
+    let short = c.requires.short in
+    let long = length-take-le c.loop-mv.mv-index c.args.moves.now (omega arith) in
+    let room : length (take c.loop-mv.mv-index c.args.moves.now) < 20000 = omega arith in
+    let has : HasRoom c.loop-mv.line =
+    HasRoom-replayed c.args.start.now (take c.loop-mv.mv-index c.args.moves.now) c.loop-mv.line c.loop-mv.by_line
+    c.loop-mv.invariant c.requires.start room in
+    subst (λ (p : Position). p.halfmove < 65535) (sym c.board.ensures) has.halfmove
+
+pub after_legal-requires-clause-fullmove : goal.after_legal-requires-clause-fullmove
+after_legal-requires-clause-fullmove c =
+    let below = c.loop-mv-test.true in
+    let short = c.requires.short in
+    let long = length-take-le c.loop-mv.mv-index c.args.moves.now (omega arith) in
+    let room : length (take c.loop-mv.mv-index c.args.moves.now) < 20000 = omega arith in
+    let has : HasRoom c.loop-mv.line =
+    HasRoom-replayed c.args.start.now (take c.loop-mv.mv-index c.args.moves.now) c.loop-mv.line c.loop-mv.by_line
+    c.loop-mv.invariant c.requires.start room in
+    subst (λ (p : Position). p.fullmove < 65535) (sym c.board.ensures) has.fullmove
+
+pub push_made-requires-clause-made : goal.push_made-requires-clause-made
+push_made-requires-clause-made c =
+    c.in-Some.ensures.next ∙ ap (λ (p : Position). next p c.mv-item.result) c.board.ensures
+
+pub push_made-requires-clause-room : goal.push_made-requires-clause-room
+push_made-requires-clause-room c =
+    let below = c.loop-mv-test.true in
+    let short = c.requires.short in
+    let long = length-take-le c.loop-mv.mv-index c.args.moves.now (omega arith) in
+    let room : length (take c.loop-mv.mv-index c.args.moves.now) < 20000 = omega arith in
+    HasRoom-replayed c.args.start.now (take c.loop-mv.mv-index c.args.moves.now) c.loop-mv.line c.loop-mv.by_line
+    c.loop-mv.invariant c.requires.start room
+
+pub loop-mv-preserved : goal.loop-mv-preserved
+loop-mv-preserved c =
+    let moves = c.args.moves.now in
+    let i = c.loop-mv.mv-index in
+    let P : Position → Type 0 = λ p. IsLegal p c.mv-item.result in
+    let Q : List Move → Type 0 = λ ms. IsReplayed c.args.start.now ms c.push_made.new.self c.in_ok-by_line.by_line in
+    subst Q (sym (taken moves i c.mv-item.result c.loop-mv-test.true c.mv-item.is))
+    (IsReplayed-push c.args.start.now (take i moves) c.mv-item.result c.loop-mv.line c.push_made.new.self c.loop-mv.by_line
+    c.in_ok-by_line.by_line c.loop-mv.invariant (none_from c.loop-mv.by_line (sym c.is_some.ensures ∙ c.if-is_some.false))
+    (subst P c.board.ensures c.in-Some.ensures.legal) c.in_ok-by_line.ensures.pushed
+    c.in_ok-by_line.ensures.ending)

@@ -1,9 +1,0 @@
-use Rattle.std.proofs.Common.{◌∙◌, refl}
-use Rattle.server_switch.proofs.Steps.{answer_more}
-use Rattle.server_switch.proofs.slots.answer_first.Goals as goal
-
-pub loop-slot-preserved : goal.loop-slot-preserved
-loop-slot-preserved c =
-    answer_more c.args.place c.args.answer.now c.loop-slot.is_taken c.waits_for-waits.result _ _ _ _ _ _ _ _ c.pop_front.ensures.items c.in-Some.is c.waits_for-waits.ensures refl c.in_ok-other.ensures
-    c.in_ok-push_back.ensures.items
-    ∙ c.loop-slot.invariant
