@@ -20,4 +20,4 @@ pub record IsTheMove (game : Option GameState) (text : Option (List ℕ)) (move 
 -- what an act's text tells on a table
 pub record IsTheParsed (table : TableState) (act : Act) (parsed : Parsed) : Type 0 where
   pub is : IsParsed table act parsed
-  pub one : (other : Parsed) → IsParsed table act other → other ≡ told
+  pub one : (other : Parsed) → IsParsed table act other → other ≡ parsed
