@@ -1,7 +1,7 @@
 -- The checks of a command, group by group, and what its text tells.
 use Rattle.std.proofs.Common.{ℕ, ◌≡◌, Bool, true, false, List, [], ◌∷◌, ◌++◌, Option, Some, None, refl, sym, ap, ◌∙◌, subst, inl, inr}
-use Rattle.std.specs.Prelude.{if◌then◌else◌}
-use Rattle.std.proofs.lemmas.Bool.{cases_Bool}
+use Rattle.std.specs.Prelude.{◌≤◌, ◌&&◌, not, max, is_none, if◌then◌else◌}
+use Rattle.std.proofs.lemmas.Bool.{cases_Bool, le-ltb, and_right}
 use Rattle.std.proofs.lemmas.List.{append-nil}
 use Rattle.chess_bits.specs.declared.men.Colour.{Colour}
 use Rattle.chess_bits.specs.declared.men.Kind.{Kind}
@@ -13,11 +13,18 @@ use Rattle.chess_board.specs.Legal.{IsLegal, IsMoveOf, IsPromotion, IsPromotionK
 use Rattle.chess_notation.specs.Naming.{Names}
 use Rattle.rec_codec.specs.Moves.{CanBecome}
 use Rattle.chess_entry.specs.declared.verdicts.Verdict.{Verdict}
-use Rattle.chess_entry.specs.State.{GameState, position_of}
-use Rattle.chess_entry.specs.Parsed.{IsMoveParsed}
-use Rattle.chess_entry.specs.Verdict.{Check, first_of}
+use Rattle.chess_entry.specs.declared.verdicts.Verdict.TheVariants.{Refuse}
+use Rattle.arrayvec.specs.ArrayString.{ArrayString}
+use Rattle.chess_entry.specs.declared.commands.Act.{Act}
+use Rattle.chess_entry.specs.declared.commands.Act.TheVariants as act
+use Rattle.chess_entry.specs.declared.commands.Command.{Command}
+use Rattle.chess_entry.specs.declared.refusals.Refusal.TheVariants.{BadMoment, NoName}
+use Rattle.chess_entry.specs.State.{GameState, TableState, position_of, find_game}
+use Rattle.chess_entry.specs.Parsed.{Parsed, parsed, IsMoveParsed, bytes_of}
+use Rattle.chess_entry.specs.Verdict.{Check, first_of, is_read, name_or_none, effective, player_verdict, verdict}
 use Rattle.chess_table.specs.Checks.{stopped_by}
-use Rattle.chess_table.specs.Parsing.{IsTheMove}
+use Rattle.chess_table.specs.Asked.{game_of, AsksNoSeat}
+use Rattle.chess_table.specs.Parsing.{IsTheMove, IsTheParsed}
 
 -- ---- groups of checks
 
@@ -112,14 +119,14 @@ move-named (Some h) g text p m is stands names one =
     let same : g ≡ h = cc in
     let here : p ≡ position_of h = stands ∙ ap position_of same in
     record {
-      told = subst (λ (q : Position). Names q text m) here names;
-      one = λ other told. only other told here;
+      parsed = subst (λ (q : Position). Names q text m) here names;
+      one = λ other parsed. only other parsed here;
     }
   where
     only : (other : Option Move) → IsMoveParsed (Some h) (Some text) other → p ≡ position_of h → other ≡ Some m
     only None none here = absurd (none m (subst (λ (q : Position). Names q text m) here names))
-    only (Some n) told here =
-        ap (λ (x : Move). Some x) (one n (subst (λ (q : Position). Names q text n) (sym here) told))
+    only (Some n) parsed here =
+        ap (λ (x : Move). Some x) (one n (subst (λ (q : Position). Names q text n) (sym here) parsed))
 
 pub move-unnamed : (game : Option GameState) (g : GameState) (text : List ℕ) (p : Position) → Some g ≡ game
     → p ≡ position_of g → ((m : Move) → ¬ Names p text m) → IsTheMove game (Some text) None
@@ -129,9 +136,86 @@ move-unnamed (Some h) g text p is stands none =
     let here : p ≡ position_of h = stands ∙ ap position_of same in
     let never : (m : Move) → ¬ Names (position_of h) text m =
     λ m names. none m (subst (λ (q : Position). Names q text m) (sym here) names) in
-    record { told = never; one = λ other told. only never other told }
+    record { parsed = never; one = λ other parsed. only never other parsed }
   where
     only : ((m : Move) → ¬ Names (position_of h) text m) → (other : Option Move)
         → IsMoveParsed (Some h) (Some text) other → other ≡ None
-    only never None told = refl
-    only never (Some n) told = absurd (never n told)
+    only never None parsed = refl
+    only never (Some n) parsed = absurd (never n parsed)
+
+-- a told move is the only thing that an act's text tells
+one-parsed : (o : Option GameState) (text : Option (List ℕ)) (mv : Option Move) → IsTheMove o text mv → (other : Parsed)
+    → (other.start ≡ None) × IsMoveParsed o text other.move → other ≡ parsed None mv
+one-parsed o text mv the other is =
+    ap (λ (s : Option Position). parsed s other.move) is.0
+    ∙ ap (λ (m : Option Move). parsed None m) (the.one other.move is.1)
+
+pub move-parsed : (table : TableState) (a : Act) (game ply : ℕ) (text : ArrayString) (o : Option GameState)
+    (mv : Option Move) → a ≡ act.Move game ply text → o ≡ find_game (game_of a) table.games
+    → IsTheMove o (Some text.bytes) mv → IsTheParsed table a (parsed None mv)
+move-parsed table a game ply text o mv is found the =
+    let here : IsTheMove (find_game game table.games) (Some text.bytes) mv =
+    subst (λ (x : Option GameState). IsTheMove x (Some text.bytes) mv)
+    (found ∙ ap (λ (x : Act). find_game (game_of x) table.games) is) the in
+    subst (λ (x : Act). IsTheParsed table x (parsed None mv)) (sym is)
+    (record { is = (refl, here.told); one = one-parsed _ _ mv here })
+
+pub claim-parsed : (table : TableState) (a : Act) (game ply : ℕ) (fifty : Bool) (text : Option ArrayString)
+    (o : Option GameState) (mv : Option Move) → a ≡ act.Claim game ply fifty text
+    → o ≡ find_game (game_of a) table.games → IsTheMove o (bytes_of text) mv → IsTheParsed table a (parsed None mv)
+claim-parsed table a game ply fifty text o mv is found the =
+    let here : IsTheMove (find_game game table.games) (bytes_of text) mv =
+    subst (λ (x : Option GameState). IsTheMove x (bytes_of text) mv)
+    (found ∙ ap (λ (x : Act). find_game (game_of x) table.games) is) the in
+    subst (λ (x : Act). IsTheParsed table x (parsed None mv)) (sym is)
+    (record { is = (refl, here.told); one = one-parsed _ _ mv here })
+
+-- what is neither made in a seat nor opens or joins a game is a read
+pub other-reads : (a : Act) → AsksNoSeat a
+    → ((colour : Colour) (initial increment : ℕ) (fen : Option ArrayString) (period : Option (ℕ × ℕ))
+    → ¬ (a ≡ act.Open colour initial increment fen period))
+    → ((game : ℕ) → ¬ (a ≡ act.Join game)) → is_read a ≡ true
+other-reads (act.Open colour initial increment fen period) none new join =
+    absurd (new colour initial increment fen period refl)
+other-reads (act.Join game) none new join = absurd (join game refl)
+other-reads (act.Move game ply text) none new join = absurd none
+other-reads (act.Offer game) none new join = absurd none
+other-reads (act.Accept game) none new join = absurd none
+other-reads (act.Decline game) none new join = absurd none
+other-reads (act.Resign game) none new join = absurd none
+other-reads (act.Claim game ply fifty text) none new join = absurd none
+other-reads (act.Flag game) none new join = absurd none
+other-reads (act.Drop game) none new join = absurd none
+other-reads (act.Show game) none new join = refl
+other-reads (act.Fen game) none new join = refl
+other-reads (act.Pgn game) none new join = refl
+other-reads act.List none new join = refl
+
+-- ---- a command whose moment is in range
+
+in_range : (table : TableState) (command : Command) (t : Parsed) (v : Verdict) → command.moment ≤ 4611686018427387903
+    → (not (is_read command.act) && is_none command.who) ≡ false
+    → v ≡ player_verdict table (effective table command.moment) (name_or_none command.who) t command.act
+    → v ≡ verdict table command t
+in_range table command t v to named is =
+    is ∙ sym (skipped _ (Refuse BadMoment) _ (le-ltb 4611686018427387903 command.moment to)
+    ∙ skipped _ (Refuse NoName) _ named)
+
+-- a read is anybody's
+pub read-checked : (table : TableState) (command : Command) (t : Parsed) (v : Verdict) → command.moment ≤ 4611686018427387903
+    → is_read command.act ≡ true
+    → v ≡ player_verdict table (effective table command.moment) (name_or_none command.who) t command.act
+    → v ≡ verdict table command t
+read-checked table command t v to reads is =
+    in_range table command t v to (ap (λ (b : Bool). not b && is_none command.who) reads) is
+
+-- an act of a player with a name
+pub named-checked : (table : TableState) (command : Command) (t : Parsed) (v : Verdict) (at : ℕ) (name : List ℕ)
+    → command.moment ≤ 4611686018427387903 → command.who ≡ Some name → at ≡ max table.moment command.moment
+    → v ≡ player_verdict table at name t command.act → v ≡ verdict table command t
+named-checked table command t v at name to who moment is =
+    in_range table command t v to
+    (and_right (not (is_read command.act)) (is_none command.who) (ap (λ (o : Option (List ℕ)). is_none o) who))
+    (is ∙ ap (λ (n : ℕ). player_verdict table n name t command.act) moment
+    ∙ ap (λ (o : Option (List ℕ)). player_verdict table (effective table command.moment) (name_or_none o) t command.act)
+    (sym who))

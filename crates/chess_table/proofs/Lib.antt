@@ -2,6 +2,7 @@ pub mod Rising
 pub mod PlaceLemmas
 pub mod Kept
 pub mod ParsingLemmas
+pub mod Readiness
 pub mod WhatEnters
 pub mod GameKept
 pub mod TableKept

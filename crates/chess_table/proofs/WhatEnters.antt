@@ -2,11 +2,12 @@
 use Rattle.std.specs.Prelude.{ℕ, ◌≡◌, ◌⊎◌, ◌≤◌, ◌<◌, ◌+◌, ◌^◌, ◌==◌, ◌&&◌, not, nat_le, nat_lt, Bool, true, false, if◌then◌else◌, List, [], ◌∷◌, ◌++◌, length, Option, Some, None, is_some, is_none, IfSome}
 use Rattle.std.specs.Option.{ForSome}
 use Rattle.std.proofs.Common.{ap, sym, subst, ◌∙◌, refl, inl, inr, arith}
-use Rattle.std.proofs.lemmas.Bool.{leb-true, leb-false, or_parts, not-false, cases_Bool}
+use Rattle.std.proofs.lemmas.Bool.{leb-true, leb-false, or_parts, eqb-true, not-false, cases_Bool}
 use Rattle.std.proofs.lemmas.Bool.Decides.{nat_tests}
 use Rattle.arrayvec.specs.ArrayString.{ArrayString}
 use Rattle.chess_bits.specs.declared.men.Colour.{Colour}
-use Rattle.chess_bits.specs.Man.{other}
+use Rattle.chess_bits.specs.declared.men.Colour.TheVariants.{White, Black}
+use Rattle.chess_bits.specs.Man.{is_colour, other}
 use Rattle.chess_board.specs.declared.moves.Move.{Move}
 use Rattle.chess_board.specs.Position.{Position}
 use Rattle.chess_board.specs.Legal.{EachOf, IsLegal}
@@ -31,7 +32,8 @@ use Rattle.chess_entry.specs.Table.{IsTable, IsOnTable, IsEnteredOn}
 use Rattle.chess_entry.proofs.Entering.{passed, entered, in_game-entered, by_side-entered, find_game-number}
 use Rattle.chess_entry.proofs.InPlay.{none-not_some}
 use Rattle.chess_table.proofs.ParsingLemmas.{legal_parsed, start_valid, IsTimeControl-of}
-use Rattle.chess_table.specs.Coming.{IsReadyFor, OpensGame, ActsInGame, Comes}
+use Rattle.chess_table.specs.Witness.{is_fallen, Enters, opening_verdict, witness_verdict}
+use Rattle.chess_table.proofs.Readiness.{IsReadyFor, OpensGame, ActsInGame, Comes}
 use Rattle.chess_game.specs.Turn.{IsRunningAt, IsInTime, IsPlayable}
 
 -- ---- games on the table
@@ -56,19 +58,50 @@ fallen_or : (b : Bool) (x : Entry) (v : Verdict) (e : Entry) → (if b then Ente
 fallen_or true x v e h = inl (refl, entered x e h)
 fallen_or false x v e h = inr (refl, h)
 
+third : (j o f : Bool) (a b c v : Verdict) → j ≡ true → o ≡ false → f ≡ true
+    → (if not j then a else if o then b else if f then c else v) ≡ c
+third true false true a b c v j o f = refl
+third true false false a b c v j o f = absurd (cc)
+third true true f a b c v j o up = absurd (cc)
+third false o f a b c v j so up = absurd (cc)
+
+is_colour-same : (a b : Colour) → is_colour a b ≡ true → a ≡ b
+is_colour-same White White h = refl
+is_colour-same Black Black h = refl
+is_colour-same White Black h = absurd (cc)
+is_colour-same Black White h = absurd (cc)
+
+something : (move : Option Move) → is_none move ≡ false → true ≡ is_some move
+something None h = absurd (cc)
+something (Some m) h = refl
+
+fallen-is : (ev : Event) → is_fallen ev ≡ true → ev ≡ event.Fallen
+fallen-is (event.Open opening) h = absurd (cc)
+fallen-is (event.Join name) h = absurd (cc)
+fallen-is (event.Move made) h = absurd (cc)
+fallen-is (event.Offer by) h = absurd (cc)
+fallen-is (event.Accept by) h = absurd (cc)
+fallen-is (event.Decline by) h = absurd (cc)
+fallen-is (event.Resign by) h = absurd (cc)
+fallen-is (event.Claim claim) h = absurd (cc)
+fallen-is event.Fallen h = refl
+fallen-is event.Drop h = absurd (cc)
+
 module _ (table : TableState) (is : IsTable table) (at : ℕ) (from : table.moment ≤ at) where
   abbrev Acted : Entry → Type 0
   Acted e = (e.moment ≡ at) × ActsInGame table e
 
   acted : (number : ℕ) (game : GameState) (ev : Event) (e : Entry) → find_game number table.games ≡ Some game
-      → IsReadyFor table.limits.plies game at ev → e ≡ entry game.number at ev → Acted e
-  acted number game ev e found ready same =
+      → IsReadyFor table.limits.plies game at ev → e ≡ entry game.number at ev
+      → witness_verdict table at game ev ≡ Enter e → Acted e
+  acted number game ev e found ready same verdict =
       let here : Acted (entry game.number at ev) = (
         refl,
         record {
           game = game;
           found = ap (λ (n : ℕ). find_game n table.games) (find_game-number number table.games game found) ∙ found;
           ready = ready;
+          verdict = verdict ∙ ap (λ (x : Entry). Enter x) same;
         },
       ) in
       subst Acted (sym same) here
@@ -79,7 +112,9 @@ module _ (table : TableState) (is : IsTable table) (at : ℕ) (from : table.mome
       let on = EachOf-found (IsOnTable table) number table.games game is.games found in omega (arith, on.moment)
 
   abbrev Follows : GameState → Entry → Type 0
-  Follows game e = (ev : Event) × IsReadyFor table.limits.plies game at ev × (e ≡ entry game.number at ev)
+  Follows game e =
+      (ev : Event) × IsReadyFor table.limits.plies game at ev × (e ≡ entry game.number at ev)
+      × (witness_verdict table at game ev ≡ Enter e)
 
   -- an entry where the game has to run: the flag has fallen, or the other checks passed
   runs : (number : ℕ) (game : GameState) (checks : List Check) (v : Verdict) (e : Entry)
@@ -95,10 +130,12 @@ module _ (table : TableState) (is : IsTable table) (at : ℕ) (from : table.mome
       } in
       elim (fallen_or (has_fallen game at) (entry game.number at event.Fallen) (first_of checks v) e over.1) [
         | inl fallen ↦
-            acted number game event.Fallen e found (record { ready = running; short = tt; exact = fallen.0 }) fallen.1
+            acted number game event.Fallen e found (record { ready = running; short = tt }) fallen.1
+            (third (is_joined game) (is_over game) (has_fallen game at) _ _ (Enter (entry game.number at event.Fallen))
+            (Refuse FlagUp) running.joined running.goes_on fallen.0 ∙ ap (λ (x : Entry). Enter x) (sym fallen.1))
         | inr up ↦
             let next = follows (record { running = running; in_time = up.0 }) up.1 in
-            acted number game next.0 e found next.1 next.2
+            acted number game next.0 e found next.1 next.2 next.3
       ]
 
   -- what a verdict in a player's seat enters is of that game
@@ -118,29 +155,39 @@ module _ (table : TableState) (is : IsTable table) (at : ℕ) (from : table.mome
 
   in_turn-passes : (game : GameState) (side : Colour) (ply : ℕ) (checks : List Check) (v : Verdict) (e : Entry)
       → first_of (in_turn game side ply ++ checks) v ≡ Enter e
-      → (is_on_move side game ≡ true) × (first_of checks v ≡ Enter e)
+      → (ply ≡ ply_of game) × (is_on_move side game ≡ true) × (first_of checks v ≡ Enter e)
   in_turn-passes game side ply checks v e h =
       let told = passed (not (ply == ply_of game)) _ _ e h in
-      let on_move = passed (not (is_on_move side game)) _ _ e told.1 in
-      (not-false (is_on_move side game) on_move.0, on_move.1)
+      let on_move = passed (not (is_on_move side game)) _ _ e told.1 in (
+        eqb-true ply (ply_of game) (not-false (ply == ply_of game) told.0),
+        not-false (is_on_move side game) on_move.0,
+        on_move.1,
+      )
 
   for_move-passes : (game : GameState) (move : Option Move) (v : Verdict) (e : Entry)
-      → first_of (for_move table game move) v ≡ Enter e → (ply_of game < table.limits.plies) × (v ≡ Enter e)
+      → first_of (for_move table game move) v ≡ Enter e
+      → (ply_of game < table.limits.plies) × (is_none move ≡ false) × (v ≡ Enter e)
   for_move-passes game move v e h =
       let short = passed (is_long table game) _ _ e h in
-      (leb-false table.limits.plies (ply_of game) short.0, (passed (is_none move) _ _ e short.1).1)
+      let named = passed (is_none move) _ _ e short.1 in
+      (leb-false table.limits.plies (ply_of game) short.0, named.0, named.1)
 
   playable : (game : GameState) (m : Move) → IsLegal (position_of game) m → ply_of game < table.limits.plies → IsPlayable game m
   playable game m legal short = record { legal = legal; room = omega (arith, is.limits.few_plies) }
 
-  moved-follows : (game : GameState) (move : Option Move) (e : Entry) → IsInTime game at
+  moved-follows : (game : GameState) (side : Colour) (ply : ℕ) (move : Option Move) (e : Entry) → IsInTime game at
       → ((m : Move) → move ≡ Some m → IsLegal (position_of game) m) → ply_of game < table.limits.plies
+      → ply ≡ ply_of game → is_on_move side game ≡ true → move_verdict table at ply move game side ≡ Enter e
       → move_entered game at move ≡ Enter e → Follows game e
-  moved-follows game None e up legal short h = absurd (cc)
-  moved-follows game (Some m) e up legal short h = (
+  moved-follows game side ply None e up legal short same mover verdict h = absurd (cc)
+  moved-follows game side ply (Some m) e up legal short same mover verdict h = (
     event.Move (record { mv = m; ply = ply_of game }),
-    record { ready = (up, playable game m (legal m refl) short); short = short; exact = refl },
+    record { ready = (up, playable game m (legal m refl) short); short = short },
     entered _ e h,
+    ap (λ (n : ℕ). move_verdict table at n (Some m) game (position_of game).side) (sym same)
+        ∙ ap (λ (s : Colour). move_verdict table at ply (Some m) game s)
+        (sym (is_colour-same side (position_of game).side mover))
+        ∙ verdict,
   )
 
   move-enters : (number ply : ℕ) (text : List ℕ) (move : Option Move)
@@ -151,8 +198,9 @@ module _ (table : TableState) (is : IsTable table) (at : ℕ) (from : table.mome
       runs number game (in_turn game side ply ++ for_move table game move) (move_entered game at move) e found h
       (λ up rest.
       let turn = in_turn-passes game side ply (for_move table game move) (move_entered game at move) e rest in
-      let last = for_move-passes game move (move_entered game at move) e turn.1 in
-      moved-follows game move e up (λ m states. legal_parsed game (Some text) move m here states) last.0 last.1)
+      let last = for_move-passes game move (move_entered game at move) e turn.2 in
+      moved-follows game side ply move e up (λ m states. legal_parsed game (Some text) move m here states) last.0
+      turn.0 turn.1 h last.2)
 
   -- ---- offers, and the end
 
@@ -162,8 +210,9 @@ module _ (table : TableState) (is : IsTable table) (at : ℕ) (from : table.mome
       (λ up rest.
       let free = passed (has_offer game) _ _ e rest in (
         event.Offer side,
-        record { ready = up.running; short = tt; exact = (up.in_time, free.0) },
+        record { ready = up.running; short = tt },
         entered _ e free.1,
+        h,
       ))
 
   accept-enters : (number : ℕ) → EntersIn (accept_verdict at) number
@@ -175,12 +224,9 @@ module _ (table : TableState) (is : IsTable table) (at : ℕ) (from : table.mome
       let offered = passed (not (seat_of (other side) game).offers) _ _ e rest in
       let late = passed (nat_lt (ply_of game) 2) _ _ e offered.1 in (
         event.Accept side,
-        record {
-          ready = up.running;
-          short = tt;
-          exact = (up.in_time, not-false (seat_of (other side) game).offers offered.0, late.0);
-        },
+        record { ready = up.running; short = tt },
         entered _ e late.1,
+        h,
       ))
 
   decline-enters : (number : ℕ) → EntersIn (decline_verdict at) number
@@ -190,12 +236,9 @@ module _ (table : TableState) (is : IsTable table) (at : ℕ) (from : table.mome
       (λ up rest.
       let offered = passed (not (seat_of (other side) game).offers) _ _ e rest in (
         event.Decline side,
-        record {
-          ready = up.running;
-          short = tt;
-          exact = (up.in_time, not-false (seat_of (other side) game).offers offered.0);
-        },
+        record { ready = up.running; short = tt },
         entered _ e offered.1,
+        h,
       ))
 
   resign-enters : (number : ℕ) → EntersIn (resign_verdict at) number
@@ -203,8 +246,9 @@ module _ (table : TableState) (is : IsTable table) (at : ℕ) (from : table.mome
       runs number game [] (Enter (entry game.number at (event.Resign side))) e found h
       (λ up rest. (
         event.Resign side,
-        record { ready = up.running; short = tt; exact = up.in_time },
+        record { ready = up.running; short = tt },
         entered _ e rest,
+        h,
       ))
 
   flag-enters : (number : ℕ) → EntersIn (flag_verdict at) number
@@ -214,16 +258,17 @@ module _ (table : TableState) (is : IsTable table) (at : ℕ) (from : table.mome
   drop-enters : (number : ℕ) → EntersIn (drop_verdict at) number
   drop-enters number game side e found h =
       let gone = passed (is_joined game && not (is_over game)) _ _ e h in
-      acted number game event.Drop e found (record { ready = tt; short = tt; exact = gone.0 }) (entered _ e gone.1)
+      acted number game event.Drop e found (record { ready = tt; short = tt }) (entered _ e gone.1) h
 
   -- ---- a claim
 
   for_stated-passes : (game : GameState) (text : Option (List ℕ)) (move : Option Move) (v : Verdict) (e : Entry)
       → IsMoveParsed (Some game) text move → first_of (for_stated table game (is_some text) move) v ≡ Enter e
-      → ForSome move (λ _. ply_of game < table.limits.plies) × (v ≡ Enter e)
-  for_stated-passes game None move v e tells h = (λ m states. absurd (cc), h)
+      → ForSome move (λ _. ply_of game < table.limits.plies) × (is_some text ≡ is_some move) × (v ≡ Enter e)
+  for_stated-passes game None move v e tells h =
+      (λ m states. absurd (cc), ap (λ (o : Option Move). is_some o) (sym tells), h)
   for_stated-passes game (Some text) move v e tells h =
-      let last = for_move-passes game move v e h in (λ m states. last.0, last.1)
+      let last = for_move-passes game move v e h in (λ m states. last.0, something move last.1, last.2)
 
   claim-enters : (number ply : ℕ) (fifty : Bool) (text : Option (List ℕ)) (move : Option Move)
       → IsMoveParsed (find_game number table.games) text move
@@ -236,22 +281,24 @@ module _ (table : TableState) (is : IsTable table) (at : ℕ) (from : table.mome
       runs number game (in_turn game side ply ++ (refuse game.claimed AlreadyClaimed ∷ last)) v e found h
       (λ up rest.
       let turn = in_turn-passes game side ply (refuse game.claimed AlreadyClaimed ∷ last) v e rest in
-      let first = passed game.claimed _ _ e turn.1 in
+      let first = passed game.claimed _ _ e turn.2 in
       let short = for_stated-passes game text move v e here first.1 in (
         claim,
         record {
           ready = (
             up,
             record {
-              on_move = turn.0;
+              on_move = turn.1;
               unclaimed = first.0;
               stated = λ m states. playable game m (legal_parsed game text move m here states) (short.0 m states);
             },
           );
           short = short.0;
-          exact = refl;
         },
-        entered _ e short.1,
+        entered _ e short.2,
+        ap (λ (n : ℕ). claim_verdict table at n fifty (is_some move) move game side) (sym turn.0)
+            ∙ ap (λ (states : Bool). claim_verdict table at ply fifty states move game side) (sym short.1)
+            ∙ h,
       ))
 
   -- ---- a join
@@ -263,7 +310,8 @@ module _ (table : TableState) (is : IsTable table) (at : ℕ) (from : table.mome
       let untaken = passed (is_joined found.0) _ _ e found.2 in
       let stranger = passed (is_some (side_of name found.0)) _ _ e untaken.1 in
       acted number found.0 (event.Join name) e found.1
-      (record { ready = (untaken.0, none-not_some (side_of name found.0) stranger.0, named); short = tt; exact = tt }) (entered _ e stranger.1)
+      (record { ready = (untaken.0, none-not_some (side_of name found.0) stranger.0, named); short = tt })
+      (entered _ e stranger.1) found.2
 
   -- ---- a new game
 
@@ -273,10 +321,12 @@ module _ (table : TableState) (is : IsTable table) (at : ℕ) (from : table.mome
   opens : (opening : Position → Opening) (start : Option Position) (e : Entry)
       → ((p : Position) → start ≡ Some p
       → IsTimeControl (control_of (opening p)) × IsStart (opening p).start × IsName (opening p).name)
+      → ((p : Position) → start ≡ Some p → opening_verdict table at (opening p) ≡ Enter e)
       → is_full table ≡ false → opened_from table at opening start ≡ Enter e → (e.moment ≡ at) × OpensGame table e
-  opens opening None e good room h = absurd (cc)
-  opens opening (Some p) e good room h =
+  opens opening None e good verdict room h = absurd (cc)
+  opens opening (Some p) e good verdict room h =
       let facts = good p refl in
+      let same : e ≡ entry (table.last + 1) at (event.Open (opening p)) = entered _ e h in
       let full = or_parts (nat_le table.limits.games (length table.games)) (table.last == 4294967295) room in
       let here : OpensGame table (entry (table.last + 1) at (event.Open (opening p))) = record {
         opening = opening p;
@@ -287,8 +337,8 @@ module _ (table : TableState) (is : IsTable table) (at : ℕ) (from : table.mome
         start = facts.1;
         named = facts.2;
         room = leb-false table.limits.games (length table.games) full.0;
+        verdict = verdict p refl ∙ ap (λ (x : Entry). Enter x) same;
       } in
-      let same : e ≡ entry (table.last + 1) at (event.Open (opening p)) = entered _ e h in
       (ap (λ (x : Entry). x.moment) same, subst (OpensGame table) (sym same) here)
 
   abbrev opening_with : Colour → ℕ → ℕ → Option (ℕ × ℕ) → List ℕ → Position → Opening
@@ -319,7 +369,10 @@ module _ (table : TableState) (is : IsTable table) (at : ℕ) (from : table.mome
           goes_on = ap is_finished (sym states) ∙ goes_on.0;
         },
         named,
-      )) room.0 room.1
+      ))
+      (λ p states. ap (λ (s : Option Position). open_verdict table at
+      (opening_with colour initial increment period name) (are_times initial increment period) s) (sym states) ∙ h)
+      room.0 room.1
 
   -- ---- every act
 
@@ -367,6 +420,120 @@ module _ (table : TableState) (is : IsTable table) (at : ℕ) (from : table.mome
   player-enters name parsed (act.Fen game) e named tells h = no_read (find_game game table.games) e h
   player-enters name parsed (act.Pgn game) e named tells h = no_read (find_game game table.games) e h
   player-enters name parsed act.List e named tells h = absurd (cc)
+
+  -- ---- which entry the verdict on the act of one is
+
+  ran : (game : GameState) (checks : List Check) (v : Verdict) (x : Entry)
+      → first_of (while_running game at ++ checks) v ≡ Enter x
+      → (x ≡ entry game.number at event.Fallen) ⊎ (first_of checks v ≡ Enter x)
+  ran game checks v x h =
+      let joined = passed (not (is_joined game)) _ _ x h in
+      let over = passed (is_over game) _ _ x joined.1 in
+      elim (fallen_or (has_fallen game at) (entry game.number at event.Fallen) (first_of checks v) x over.1) [
+        | inl fallen ↦ inl fallen.1
+        | inr up ↦ inr up.1
+      ]
+
+  abbrev Which : ℕ → Event → Entry → Type 0
+  Which number ev x = (x ≡ entry number at event.Fallen) ⊎ (x ≡ entry number at ev)
+
+  or-fallen : (number : ℕ) (ev : Event) (x : Entry) {A : Type 0} → (x ≡ entry number at event.Fallen) ⊎ A
+      → (A → x ≡ entry number at ev) → Which number ev x
+  or-fallen number ev x (inl fallen) so = inl fallen
+  or-fallen number ev x (inr a) so = inr (so a)
+
+  which : (game : GameState) (ev : Event) (x : Entry) → witness_verdict table at game ev ≡ Enter x → Which game.number ev x
+  which game (event.Open opening) x h = absurd (cc)
+  which game (event.Join name) x h =
+      let untaken = passed (is_joined game) _ _ x h in
+      inr (entered _ x (passed (is_some (side_of name game)) _ _ x untaken.1).1)
+  which game (event.Move made) x h =
+      let side = (position_of game).side in
+      let move : Option Move = Some made.mv in
+      or-fallen game.number (event.Move made) x
+      (ran game (in_turn game side made.ply ++ for_move table game move) (move_entered game at move) x h)
+      (λ rest.
+      let turn = in_turn-passes game side made.ply (for_move table game move) (move_entered game at move) x rest in
+      let last = for_move-passes game move (move_entered game at move) x turn.2 in
+      entered _ x last.2
+      ∙ ap (λ (n : ℕ). entry game.number at (event.Move (record { mv = made.mv; ply = n }))) (sym turn.0))
+  which game (event.Offer by) x h =
+      or-fallen game.number (event.Offer by) x
+      (ran game (refuse (has_offer game) OfferStands ∷ []) (Enter (entry game.number at (event.Offer by))) x h)
+      (λ rest. entered _ x (passed (has_offer game) _ _ x rest).1)
+  which game (event.Accept by) x h =
+      or-fallen game.number (event.Accept by) x
+      (ran game
+      (refuse (not (seat_of (other by) game).offers) NoOffer ∷ refuse (nat_lt (ply_of game) 2) TooEarly ∷ [])
+      (Enter (entry game.number at (event.Accept by))) x h)
+      (λ rest.
+      let offered = passed (not (seat_of (other by) game).offers) _ _ x rest in
+      entered _ x (passed (nat_lt (ply_of game) 2) _ _ x offered.1).1)
+  which game (event.Decline by) x h =
+      or-fallen game.number (event.Decline by) x
+      (ran game (refuse (not (seat_of (other by) game).offers) NoOffer ∷ [])
+      (Enter (entry game.number at (event.Decline by))) x h)
+      (λ rest. entered _ x (passed (not (seat_of (other by) game).offers) _ _ x rest).1)
+  which game (event.Resign by) x h =
+      or-fallen game.number (event.Resign by) x (ran game [] (Enter (entry game.number at (event.Resign by))) x h)
+      (λ rest. entered _ x rest)
+  which game (event.Claim claim) x h =
+      let last = for_stated table game (is_some claim.mv) claim.mv in
+      let v : Verdict = Enter (entry game.number at
+      (event.Claim (record { by = claim.by; fifty = claim.fifty; mv = claim.mv; ply = ply_of game }))) in
+      or-fallen game.number (event.Claim claim) x
+      (ran game (in_turn game claim.by claim.ply ++ (refuse game.claimed AlreadyClaimed ∷ last)) v x h)
+      (λ rest.
+      let turn = in_turn-passes game claim.by claim.ply (refuse game.claimed AlreadyClaimed ∷ last) v x rest in
+      let first = passed game.claimed _ _ x turn.2 in
+      entered _ x (stated-last game claim.mv v x first.1)
+      ∙ ap (λ (n : ℕ). entry game.number at
+      (event.Claim (record { by = claim.by; fifty = claim.fifty; mv = claim.mv; ply = n }))) (sym turn.0))
+    where
+      stated-last : (game : GameState) (move : Option Move) (v : Verdict) (x : Entry)
+          → first_of (for_stated table game (is_some move) move) v ≡ Enter x → v ≡ Enter x
+      stated-last game None v x h = h
+      stated-last game (Some m) v x h = (for_move-passes game (Some m) v x h).2
+  which game event.Fallen x h =
+      or-fallen game.number event.Fallen x (ran game [] (Refuse FlagUp) x h) (λ rest. absurd (cc))
+  which game event.Drop x h = inr (entered _ x (passed (is_joined game && not (is_over game)) _ _ x h).1)
+
+  -- the entry that the verdict is, where it is one of this game and kind
+  entered-by : (v : Verdict) (e : Entry) → Enters v e
+      → (x : Entry) × (v ≡ Enter x) × (x.game ≡ e.game) × (is_fallen x.event ≡ is_fallen e.event)
+  entered-by (Refuse refusal) e h = absurd h
+  entered-by Read e h = absurd h
+  entered-by (Enter x) e h = (x, refl, h.0, h.1)
+
+  entry-is : (number : ℕ) (ev : Event) (e : Entry) → number ≡ e.game → e.moment ≡ at → e.event ≡ ev
+      → entry number at ev ≡ e
+  entry-is number ev e game moment is =
+      ap (λ (n : ℕ). entry n at ev) game ∙ ap (λ (n : ℕ). entry e.game n ev) (sym moment)
+      ∙ ap (λ (x : Event). entry e.game e.moment x) (sym is)
+
+  pub the-entry : (game : GameState) (ev : Event) (e : Entry) → game.number ≡ e.game → e.moment ≡ at → e.event ≡ ev
+      → Enters (witness_verdict table at game ev) e → witness_verdict table at game ev ≡ Enter e
+  the-entry game ev e number moment is enters =
+      let by = entered-by (witness_verdict table at game ev) e enters in
+      let same : by.0 ≡ e = elim (which game ev by.0 by.1) [
+        | inl fallen ↦
+            let up : is_fallen e.event ≡ true = sym by.3 ∙ ap (λ (y : Entry). is_fallen y.event) fallen in
+            fallen ∙ entry-is game.number event.Fallen e number moment (fallen-is e.event up)
+        | inr other ↦ other ∙ entry-is game.number ev e number moment is
+      ] in
+      by.1 ∙ ap (λ (y : Entry). Enter y) same
+
+  pub the-opening : (opening : Opening) (e : Entry) → e.moment ≡ at → e.event ≡ event.Open opening
+      → Enters (opening_verdict table at opening) e → opening_verdict table at opening ≡ Enter e
+  the-opening opening e moment is enters =
+      let by = entered-by (opening_verdict table at opening) e enters in
+      let times = passed (not (are_times opening.initial opening.increment opening.period)) _ _ by.0 by.1 in
+      let numbered = passed (not (is_start (Some opening.start))) _ _ by.0 times.1 in
+      let goes_on = passed (is_finished (Some opening.start)) _ _ by.0 numbered.1 in
+      let room = passed (is_full table) _ _ by.0 goes_on.1 in
+      let same : by.0 ≡ entry (table.last + 1) at (event.Open opening) = entered _ by.0 room.1 in
+      by.1 ∙ ap (λ (y : Entry). Enter y)
+      (same ∙ entry-is (table.last + 1) (event.Open opening) e (sym (ap (λ (y : Entry). y.game) same) ∙ by.2) moment is)
 
 -- ---- the verdict
 

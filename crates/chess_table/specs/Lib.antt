@@ -6,7 +6,7 @@ pub mod Parsing
 pub mod Ready
 pub mod Memory
 pub mod Reading
-pub mod Coming
-pub mod Allowing
+pub mod Asked
+pub mod Witness
 pub mod Entered
 pub mod Stored

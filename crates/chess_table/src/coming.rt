@@ -1,33 +1,21 @@
-ghost use Rattle.std.specs.Prelude.{◌≡◌, ◌≤◌, ◌<◌, ◌^◌, ◌↔◌, IsTrue};
+ghost use Rattle.std.specs.Prelude.{◌≡◌, ◌≤◌, ◌↔◌, IsTrue, is_some};
 ghost use Rattle.std.specs.Option.{ForSome};
 ghost use Rattle.chess_board.specs.Position.{IsValid};
 ghost use Rattle.chess_board.specs.Legal.{IsLegal};
 ghost use Rattle.rec_codec.specs.Name.{IsName};
 ghost use Rattle.chess_entry.specs.State.{position_of};
+ghost use Rattle.chess_entry.specs.Verdict.{claim_verdict};
 ghost use Rattle.chess_entry.specs.Table.{IsEnteredOn};
-ghost use Rattle.chess_table.specs.Coming.{IsReadyFor};
-ghost use Rattle.chess_table.specs.Allowing.{is_running_at, is_in_time, is_claimable, is_allowed, StatesLegal, NamesPlayer, opens_well};
+ghost use Rattle.chess_table.specs.Witness.{StatesLegal, NamesPlayer, is_fallen, Enters, opening_verdict, witness_verdict};
 
-use crate::judging::{GREATEST_MOMENT, has_offer, is_full, is_offered};
+use crate::judging::{
+    Claimed, GREATEST_MOMENT, accept_verdict, claim_verdict, decline_verdict, drop_verdict,
+    flag_verdict, join_verdict, move_verdict, offer_verdict, open_verdict, resign_verdict,
+};
 use crate::table::Table;
-use chess_clock::is_time_control;
-use chess_entry::{Claim, Entry, Event, GameNumber, Opening};
-use chess_game::{Game, is_finished};
+use chess_entry::{Claim, Entry, Event, Opening, Refusal, Verdict};
+use chess_game::{Game, Times};
 use chess_moves::legal;
-
-// The game runs, and the moment is not before its turn.
-fn is_running_at(game: &Game, at: u64) -> bool
-    ensures { result ≡ is_running_at game.now at }
-{
-    game.is_joined() && !game.is_over() && game.moment() <= at
-}
-
-// The flag of the side to move is up, too.
-fn is_in_time(game: &Game, at: u64) -> bool
-    ensures { result ≡ is_in_time game.now at }
-{
-    is_running_at(game, at) && !game.has_fallen(at)
-}
 
 // Whether the move that a claim states is legal, if it states one.
 fn claims_legal(game: &Game, claim: &Claim) -> bool
@@ -55,61 +43,77 @@ fn states_legal(game: &Game, event: &Event) -> bool
     }
 }
 
-// Whether the checks let a claim through of a game that runs.
-fn is_claimable(is_legal: bool, plies: u32, game: &Game, claim: &Claim) -> bool
-    ensures { result ≡ is_claimable is_legal plies game.now claim.now }
+// The verdict on the claim that an entry would have become of, by whom it says.
+fn entry_claim(table: &Table, game: &Game, at: u64, claim: &Claim) -> Verdict
+    requires { game.now.moment ≤ at }
+    ensures { result ≡ claim_verdict table.now at claim.now.ply claim.now.fifty (is_some claim.now.mv) claim.now.mv
+        game.now claim.now.by }
 {
-    claim.by == game.board().side()
-        && !game.claimed()
-        && claim.ply == game.ply()
-        && is_legal
-        && (claim.mv.is_none() || game.ply() < plies)
+    let claimed = Claimed {
+        ply: claim.ply,
+        fifty: claim.fifty,
+        states: claim.mv.is_some(),
+        mv: claim.mv,
+    };
+    claim_verdict(table, game, claim.by, at, &claimed)
 }
 
-// Whether the checks of an event's act let it through; whether its stated move is legal is told.
-fn is_allowed(is_legal: bool, plies: u32, game: &Game, at: u64, event: &Event) -> bool
-    ensures { result ≡ is_allowed is_legal plies game.now at event.now }
+// The verdict on the act that an entry of a game would have become of: by whom the entry says, or by who is on move.
+fn witness_verdict(table: &Table, game: &Game, at: u64, event: &Event) -> Verdict
+    requires { game.now.moment ≤ at }
+    ensures { result ≡ witness_verdict table.now at game.now event.now }
 {
     match event {
-        Event::Open(_) => false,
-        Event::Join(name) => !game.is_joined() && game.side_of(name).is_none(),
+        Event::Open(_) => Verdict::Refuse(Refusal::Taken),
+        Event::Join(name) => join_verdict(at, name, game),
         Event::Move(made) => {
-            is_in_time(game, at) && made.ply == game.ply() && is_legal && game.ply() < plies
+            let side = game.board().side();
+            move_verdict(table, game, side, at, made.ply, &Some(made.mv))
         }
-        Event::Offer(_) => is_in_time(game, at) && !has_offer(game),
-        Event::Accept(by) => is_in_time(game, at) && is_offered(game, *by) && game.ply() >= 2,
-        Event::Decline(by) => is_in_time(game, at) && is_offered(game, *by),
-        Event::Resign(_) => is_in_time(game, at),
-        Event::Claim(claim) => is_in_time(game, at) && is_claimable(is_legal, plies, game, claim),
-        Event::Fallen => is_running_at(game, at) && game.has_fallen(at),
-        Event::Drop => !(game.is_joined() && !game.is_over()),
+        Event::Offer(by) => offer_verdict(game, *by, at),
+        Event::Accept(by) => accept_verdict(game, *by, at),
+        Event::Decline(by) => decline_verdict(game, *by, at),
+        Event::Resign(by) => resign_verdict(game, *by, at),
+        Event::Claim(claim) => entry_claim(table, game, at, claim),
+        Event::Fallen => flag_verdict(game, at),
+        Event::Drop => drop_verdict(game, at),
     }
 }
 
-// Whether a game on the table is ready for an entry of it.
-fn acts_well(plies: u32, game: &Game, entry: &Entry) -> bool
-    requires { plies ≤ 20000 }
-    ensures { IsTrue result ↔ IsReadyFor plies game.now entry.now.moment entry.now.event }
-{
-    let is_legal = states_legal(game, &entry.event);
-    is_allowed(is_legal, plies, game, entry.moment, &entry.event)
-}
-
-// Whether a game may be opened so.
-fn opens_well(table: &Table, number: GameNumber, opening: &Opening) -> bool
-    ensures well { result ≡ opens_well table.now number opening.now }
+// The verdict on the act that an opening would have become of.
+fn opening_verdict(table: &Table, at: u64, opening: &Opening) -> Verdict
+    ensures verdict { result ≡ opening_verdict table.now at opening.now }
     ensures named { IsName opening.now.name }
     ensures valid { IsValid opening.now.start }
-    ensures fits { number < 2 ^ 32 }
 {
     let _named = opening.name.as_str();
     let _valid = opening.start.rights();
-    let number = number.get();
-    is_time_control(opening.initial, opening.increment, opening.period)
-        && opening.start.fullmove() <= 9_999
-        && !is_finished(&opening.start)
-        && !is_full(table)
-        && number == table.last() + 1
+    let times = Times {
+        initial: opening.initial,
+        increment: opening.increment,
+        period: opening.period,
+    };
+    let start = Some(opening.start);
+    open_verdict(table, at, opening.name, opening.colour, times, &start)
+}
+
+// Whether an entry is that of a fallen flag.
+fn is_fallen(event: &Event) -> bool
+    ensures { result ≡ is_fallen event.now }
+{
+    matches!(event, Event::Fallen)
+}
+
+// Whether a verdict is an entry of this one's game, and that of a fallen flag just where this one is.
+fn enters(verdict: &Verdict, entry: &Entry) -> bool
+    ensures { IsTrue result ↔ Enters verdict.now entry.now }
+{
+    match verdict {
+        Verdict::Enter(made) => {
+            made.game.get() == entry.game.get() && is_fallen(&made.event) == is_fallen(&entry.event)
+        }
+        _ => false,
+    }
 }
 
 impl Table {
@@ -118,7 +122,8 @@ impl Table {
     pub fn would_enter(&self, entry: &Entry) -> bool
         ensures { IsTrue result ↔ IsEnteredOn self.now entry.now }
     {
-        let limits = self.limits();
+        // With them, the table's bounds are known.
+        let _limits = self.limits();
         if entry.moment < self.moment() {
             return false;
         }
@@ -126,11 +131,16 @@ impl Table {
             return false;
         }
         if let Event::Open(opening) = &entry.event {
-            return opens_well(self, entry.game, opening);
+            let verdict = opening_verdict(self, entry.moment, opening);
+            return enters(&verdict, entry);
         }
-        match self.find(entry.game.get()) {
-            Some(game) => acts_well(limits.plies, game, entry),
-            None => false,
+        let Some(game) = self.find(entry.game.get()) else {
+            return false;
+        };
+        if !states_legal(game, &entry.event) {
+            return false;
         }
+        let verdict = witness_verdict(self, game, entry.moment, &entry.event);
+        enters(&verdict, entry)
     }
 }

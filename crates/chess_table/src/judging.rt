@@ -1,18 +1,19 @@
-ghost use Rattle.std.specs.Prelude.{◌≡◌, ◌≤◌, ◌++◌, ℕ, List, Option, Some, None, is_some, true, false, IfOk, IfErr};
+ghost use Rattle.std.specs.Prelude.{◌≡◌, ◌≤◌, ℕ, List, Option, Some, None, true, IfSome, IfNone};
+ghost use Rattle.std.specs.Option.{option_copied};
 ghost use Rattle.chess_bits.specs.declared.men.Colour.{Colour};
 ghost use Rattle.chess_bits.specs.Man.{other};
 ghost use Rattle.chess_board.specs.declared.moves.Move.{Move};
 ghost use Rattle.chess_board.specs.Position.{Position};
-ghost use Rattle.rec_codec.specs.declared.record.Event.TheVariants as event;
 ghost use Rattle.rec_codec.specs.Records.{entry};
 ghost use Rattle.chess_entry.specs.declared.verdicts.Verdict.{Verdict};
 ghost use Rattle.chess_entry.specs.declared.verdicts.Verdict.TheVariants.{Refuse, Enter};
-ghost use Rattle.chess_entry.specs.State.{GameState, find_game, seat_of};
+ghost use Rattle.chess_entry.specs.State.{TableState, find_game, seat_of};
 ghost use Rattle.chess_entry.specs.Parsed.{Parsed, parsed, bytes_of};
-ghost use Rattle.chess_entry.specs.Verdict.{Check, first_of, while_running, in_turn, for_move, for_stated, are_times, in_seat, is_full, has_offer, open_verdict, join_verdict, move_verdict, offer_verdict, accept_verdict, decline_verdict, resign_verdict, claim_verdict, flag_verdict, drop_verdict, player_verdict, verdict, is_read, IsVerdict};
+ghost use Rattle.chess_entry.specs.Verdict.{while_running, in_turn, for_move, for_stated, are_times, in_game, by_side, side_of, is_full, has_offer, open_verdict, join_verdict, move_verdict, offer_verdict, accept_verdict, decline_verdict, resign_verdict, claim_verdict, flag_verdict, drop_verdict, player_verdict, verdict, is_read, IsVerdict};
 ghost use Rattle.chess_entry.specs.Table.{IsEnteredOn};
 ghost use Rattle.chess_table.specs.Entered.{OnEnter};
 ghost use Rattle.chess_table.specs.Checks.{stopped_by, opening_from};
+ghost use Rattle.chess_table.specs.Asked.{game_of, asked_verdict, IsAskedBy, AsksNoSeat};
 ghost use Rattle.chess_table.specs.Parsing.{IsTheStart, IsTheMove, IsTheParsed};
 
 use crate::table::Table;
@@ -38,13 +39,47 @@ struct ParsedText {
     mv: Option<StoredMove>,
 }
 
-// What a player claims: the number of moves, the rule, and whether a text states a move, with the legal move that it names.
+// What a player claims: the number of moves, the rule, and whether a move is stated, with the legal move that is.
 #[derive(Clone, Copy)]
-struct Asked {
-    ply: u32,
-    fifty: bool,
-    states: bool,
-    mv: Option<StoredMove>,
+pub(crate) struct Claimed {
+    pub(crate) ply: u32,
+    pub(crate) fifty: bool,
+    pub(crate) states: bool,
+    pub(crate) mv: Option<StoredMove>,
+}
+
+// What a player asks in a seat of a game.
+#[derive(Clone, Copy)]
+enum Asked {
+    Move { ply: u32, mv: Option<StoredMove> },
+    Offer,
+    Accept,
+    Decline,
+    Resign,
+    Claim(Claimed),
+    Flag,
+    Drop,
+}
+
+// The number of the game that an act is of; 0, which is no game's, where it is of none.
+fn game_of(act: &Act) -> u32
+    ensures { result ≡ game_of act.now }
+{
+    match act {
+        Act::Open { .. } | Act::List => 0,
+        Act::Join { game }
+        | Act::Move { game, .. }
+        | Act::Offer { game }
+        | Act::Accept { game }
+        | Act::Decline { game }
+        | Act::Resign { game }
+        | Act::Claim { game, .. }
+        | Act::Flag { game }
+        | Act::Drop { game }
+        | Act::Show { game }
+        | Act::Fen { game }
+        | Act::Pgn { game } => *game,
+    }
 }
 
 // The position that a game is to start from, where the text is the FEN of a valid one.
@@ -58,10 +93,10 @@ fn start_parsed(fen: &Option<Text>) -> Option<Board>
 }
 
 // The legal move that a text names in the position of a game, where the game is there.
-fn move_parsed(table: &Table, number: u32, text: &Text) -> Option<StoredMove>
-    ensures { IsTheMove (find_game number table.now.games) (Some text.now.bytes) result }
+fn move_parsed(found: Option<&Game>, text: &Text) -> Option<StoredMove>
+    ensures { IsTheMove (option_copied found.entry) (Some text.now.bytes) result }
 {
-    let Some(game) = table.find(number) else {
+    let Some(game) = found else {
         return None;
     };
     match read(game.board(), text.as_str()) {
@@ -71,31 +106,32 @@ fn move_parsed(table: &Table, number: u32, text: &Text) -> Option<StoredMove>
 }
 
 // The same of a text that may be missing.
-fn stated_parsed(table: &Table, number: u32, text: &Option<Text>) -> Option<StoredMove>
-    ensures { IsTheMove (find_game number table.now.games) (bytes_of text.now) result }
+fn stated_parsed(found: Option<&Game>, text: &Option<Text>) -> Option<StoredMove>
+    ensures { IsTheMove (option_copied found.entry) (bytes_of text.now) result }
 {
     match text {
         None => None,
-        Some(text) => move_parsed(table, number, text),
+        Some(text) => move_parsed(found, text),
     }
 }
 
-// What the text of an act tells on the table.
-fn parsed_by(table: &Table, act: &Act) -> ParsedText
-    ensures { IsTheParsed table.now act.now (parsed result.start result.mv) }
+// What the text of an act tells on the table, in which its game was looked up.
+fn parsed_by(found: Option<&Game>, act: &Act) -> ParsedText
+    ensures { (table : TableState) → option_copied found.entry ≡ find_game (game_of act.now) table.games
+        → IsTheParsed table act.now (parsed result.start result.mv) }
 {
     match act {
         Act::Open { fen, .. } => ParsedText {
             start: start_parsed(fen),
             mv: None,
         },
-        Act::Move { game, text, .. } => ParsedText {
+        Act::Move { text, .. } => ParsedText {
             start: None,
-            mv: move_parsed(table, *game, text),
+            mv: move_parsed(found, text),
         },
-        Act::Claim { game, text, .. } => ParsedText {
+        Act::Claim { text, .. } => ParsedText {
             start: None,
-            mv: stated_parsed(table, *game, text),
+            mv: stated_parsed(found, text),
         },
         _ => ParsedText {
             start: None,
@@ -158,65 +194,24 @@ fn for_move(table: &Table, game: &Game, mv: &Option<StoredMove>) -> Option<Verdi
 }
 
 // The same of a claim that states a move.
-fn for_stated(table: &Table, game: &Game, asked: &Asked) -> Option<Verdict>
-    ensures { result ≡ stopped_by (for_stated table.now game.now asked.now.states asked.now.mv) }
+fn for_stated(table: &Table, game: &Game, claimed: &Claimed) -> Option<Verdict>
+    ensures { result ≡ stopped_by (for_stated table.now game.now claimed.now.states claimed.now.mv) }
 {
-    if asked.states {
-        for_move(table, game, &asked.mv)
+    if claimed.states {
+        for_move(table, game, &claimed.mv)
     } else {
         None
     }
 }
 
-// The game of a number, and the side that the player has in it.
-fn seat<'a>(table: &'a Table, name: &Name, number: u32) -> Result<(&'a Game, Colour), Verdict>
-    ensures ok { IfOk result (λ seat. (v : GameState → Colour → Verdict) →
-        in_seat table.now name.now number v ≡ v seat.0.now seat.1) }
-    ensures err { IfErr result (λ stop. (v : GameState → Colour → Verdict) → in_seat table.now name.now number v ≡ stop) }
-    ensures began { IfOk result (λ seat. seat.0.now.moment ≤ table.now.moment) }
-{
-    match table.find(number) {
-        None => Err(Verdict::Refuse(Refusal::NoGame)),
-        Some(game) => match game.side_of(name) {
-            None => Err(Verdict::Refuse(Refusal::NotSeated)),
-            Some(side) => Ok((game, side)),
-        },
-    }
-}
-
-// The same of a game that has to run at a moment.
-fn running_seat<'a>(
-    table: &'a Table,
-    name: &Name,
-    number: u32,
-    at: u64,
-) -> Result<(&'a Game, Colour), Verdict>
-    requires { table.now.moment ≤ at }
-    ensures ok { IfOk result (λ seat. (rest : GameState → Colour → List Check) (last : GameState → Colour → Verdict) →
-        in_seat table.now name.now number (λ game side. first_of (while_running game at ++ rest game side) (last game side))
-        ≡ first_of (rest seat.0.now seat.1) (last seat.0.now seat.1)) }
-    ensures err { IfErr result (λ stop. (rest : GameState → Colour → List Check) (last : GameState → Colour → Verdict) →
-        in_seat table.now name.now number (λ game side. first_of (while_running game at ++ rest game side) (last game side))
-        ≡ stop) }
-{
-    let (game, side) = match seat(table, name, number) {
-        Ok(seat) => seat,
-        Err(stop) => return Err(stop),
-    };
-    match while_running(game, at) {
-        Some(stop) => Err(stop),
-        None => Ok((game, side)),
-    }
-}
-
 // There is no room for a game, or no number for it.
-pub(crate) fn is_full(table: &Table) -> bool
+fn is_full(table: &Table) -> bool
     ensures { result ≡ is_full table.now }
 {
     table.limits().games as usize <= table.games() || table.last() == u32::MAX
 }
 
-fn open_verdict(
+pub(crate) fn open_verdict(
     table: &Table,
     at: u64,
     name: Name,
@@ -256,7 +251,7 @@ fn open_verdict(
     })
 }
 
-fn join_verdict(at: u64, name: &Name, game: &Game) -> Verdict
+pub(crate) fn join_verdict(at: u64, name: &Name, game: &Game) -> Verdict
     ensures { result ≡ join_verdict at name.now game.now }
 {
     if game.is_joined() {
@@ -268,21 +263,20 @@ fn join_verdict(at: u64, name: &Name, game: &Game) -> Verdict
     }
 }
 
-fn move_verdict(
+pub(crate) fn move_verdict(
     table: &Table,
+    game: &Game,
+    side: Colour,
     at: u64,
-    name: &Name,
-    number: u32,
     ply: u32,
     mv: &Option<StoredMove>,
 ) -> Verdict
-    requires { table.now.moment ≤ at }
-    ensures { result ≡ in_seat table.now name.now number (move_verdict table.now at ply mv.now) }
+    requires { game.now.moment ≤ at }
+    ensures { result ≡ move_verdict table.now at ply mv.now game.now side }
 {
-    let (game, side) = match running_seat(table, name, number, at) {
-        Ok(seat) => seat,
-        Err(stop) => return stop,
-    };
+    if let Some(stop) = while_running(game, at) {
+        return stop;
+    }
     if let Some(stop) = in_turn(game, side, ply) {
         return stop;
     }
@@ -303,41 +297,39 @@ fn move_verdict(
 }
 
 // An offer stands.
-pub(crate) fn has_offer(game: &Game) -> bool
+fn has_offer(game: &Game) -> bool
     ensures { result ≡ has_offer game.now }
 {
     game.offers(Colour::White) || game.offers(Colour::Black)
 }
 
 // An offer of the opponent stands.
-pub(crate) fn is_offered(game: &Game, side: Colour) -> bool
+fn is_offered(game: &Game, side: Colour) -> bool
     ensures { result ≡ (seat_of (other side) game.now).offers }
 {
     game.offers(side.other())
 }
 
-fn offer_verdict(table: &Table, at: u64, name: &Name, number: u32) -> Verdict
-    requires { table.now.moment ≤ at }
-    ensures { result ≡ in_seat table.now name.now number (offer_verdict at) }
+pub(crate) fn offer_verdict(game: &Game, side: Colour, at: u64) -> Verdict
+    requires { game.now.moment ≤ at }
+    ensures { result ≡ offer_verdict at game.now side }
 {
-    let (game, side) = match running_seat(table, name, number, at) {
-        Ok(seat) => seat,
-        Err(stop) => return stop,
-    };
+    if let Some(stop) = while_running(game, at) {
+        return stop;
+    }
     if has_offer(game) {
         return Verdict::Refuse(Refusal::OfferStands);
     }
     entry_verdict(game, at, Event::Offer(side))
 }
 
-fn accept_verdict(table: &Table, at: u64, name: &Name, number: u32) -> Verdict
-    requires { table.now.moment ≤ at }
-    ensures { result ≡ in_seat table.now name.now number (accept_verdict at) }
+pub(crate) fn accept_verdict(game: &Game, side: Colour, at: u64) -> Verdict
+    requires { game.now.moment ≤ at }
+    ensures { result ≡ accept_verdict at game.now side }
 {
-    let (game, side) = match running_seat(table, name, number, at) {
-        Ok(seat) => seat,
-        Err(stop) => return stop,
-    };
+    if let Some(stop) = while_running(game, at) {
+        return stop;
+    }
     if !is_offered(game, side) {
         return Verdict::Refuse(Refusal::NoOffer);
     }
@@ -347,71 +339,70 @@ fn accept_verdict(table: &Table, at: u64, name: &Name, number: u32) -> Verdict
     entry_verdict(game, at, Event::Accept(side))
 }
 
-fn decline_verdict(table: &Table, at: u64, name: &Name, number: u32) -> Verdict
-    requires { table.now.moment ≤ at }
-    ensures { result ≡ in_seat table.now name.now number (decline_verdict at) }
+pub(crate) fn decline_verdict(game: &Game, side: Colour, at: u64) -> Verdict
+    requires { game.now.moment ≤ at }
+    ensures { result ≡ decline_verdict at game.now side }
 {
-    let (game, side) = match running_seat(table, name, number, at) {
-        Ok(seat) => seat,
-        Err(stop) => return stop,
-    };
+    if let Some(stop) = while_running(game, at) {
+        return stop;
+    }
     if !is_offered(game, side) {
         return Verdict::Refuse(Refusal::NoOffer);
     }
     entry_verdict(game, at, Event::Decline(side))
 }
 
-fn resign_verdict(table: &Table, at: u64, name: &Name, number: u32) -> Verdict
-    requires { table.now.moment ≤ at }
-    ensures { result ≡ in_seat table.now name.now number (resign_verdict at) }
+pub(crate) fn resign_verdict(game: &Game, side: Colour, at: u64) -> Verdict
+    requires { game.now.moment ≤ at }
+    ensures { result ≡ resign_verdict at game.now side }
 {
-    match running_seat(table, name, number, at) {
-        Ok((game, side)) => entry_verdict(game, at, Event::Resign(side)),
-        Err(stop) => stop,
+    match while_running(game, at) {
+        Some(stop) => stop,
+        None => entry_verdict(game, at, Event::Resign(side)),
     }
 }
 
-fn flag_verdict(table: &Table, at: u64, name: &Name, number: u32) -> Verdict
-    requires { table.now.moment ≤ at }
-    ensures { result ≡ in_seat table.now name.now number (flag_verdict at) }
+pub(crate) fn flag_verdict(game: &Game, at: u64) -> Verdict
+    requires { game.now.moment ≤ at }
+    ensures { (side : Colour) → result ≡ flag_verdict at game.now side }
 {
-    match running_seat(table, name, number, at) {
-        Ok(_) => Verdict::Refuse(Refusal::FlagUp),
-        Err(stop) => stop,
+    match while_running(game, at) {
+        Some(stop) => stop,
+        None => Verdict::Refuse(Refusal::FlagUp),
     }
 }
 
-fn drop_verdict(table: &Table, at: u64, name: &Name, number: u32) -> Verdict
-    ensures { result ≡ in_seat table.now name.now number (drop_verdict at) }
+pub(crate) fn drop_verdict(game: &Game, at: u64) -> Verdict
+    ensures { (side : Colour) → result ≡ drop_verdict at game.now side }
 {
-    match seat(table, name, number) {
-        Ok((game, _)) => {
-            if game.is_joined() && !game.is_over() {
-                Verdict::Refuse(Refusal::NotOver)
-            } else {
-                entry_verdict(game, at, Event::Drop)
-            }
-        }
-        Err(stop) => stop,
+    if game.is_joined() && !game.is_over() {
+        Verdict::Refuse(Refusal::NotOver)
+    } else {
+        entry_verdict(game, at, Event::Drop)
     }
 }
 
-fn claim_verdict(table: &Table, at: u64, name: &Name, number: u32, asked: &Asked) -> Verdict
-    requires { table.now.moment ≤ at }
-    ensures { result ≡ in_seat table.now name.now number
-        (claim_verdict table.now at asked.now.ply asked.now.fifty asked.now.states asked.now.mv) }
+pub(crate) fn claim_verdict(
+    table: &Table,
+    game: &Game,
+    side: Colour,
+    at: u64,
+    claimed: &Claimed,
+) -> Verdict
+    requires { game.now.moment ≤ at }
+    ensures { result ≡ claim_verdict table.now at claimed.now.ply claimed.now.fifty claimed.now.states claimed.now.mv
+        game.now side }
 {
-    let (game, side) = match running_seat(table, name, number, at) {
-        Ok(seat) => seat,
-        Err(stop) => return stop,
-    };
-    if let Some(stop) = in_turn(game, side, asked.ply) {
+    if let Some(stop) = while_running(game, at) {
+        return stop;
+    }
+    if let Some(stop) = in_turn(game, side, claimed.ply) {
         return stop;
     }
     if game.claimed() {
         return Verdict::Refuse(Refusal::AlreadyClaimed);
     }
-    if let Some(stop) = for_stated(table, game, asked) {
+    if let Some(stop) = for_stated(table, game, claimed) {
         return stop;
     }
     entry_verdict(
@@ -419,11 +410,43 @@ fn claim_verdict(table: &Table, at: u64, name: &Name, number: u32, asked: &Asked
         at,
         Event::Claim(Claim {
             by: side,
-            fifty: asked.fifty,
-            mv: asked.mv,
+            fifty: claimed.fifty,
+            mv: claimed.mv,
             ply: game.ply(),
         }),
     )
+}
+
+// The verdict on what the player of a side asks in a game.
+fn asked_verdict(table: &Table, game: &Game, side: Colour, at: u64, asked: &Asked) -> Verdict
+    requires { game.now.moment ≤ at }
+    ensures { result ≡ asked_verdict table.now at asked.now game.now side }
+{
+    match asked {
+        Asked::Move { ply, mv } => move_verdict(table, game, side, at, *ply, mv),
+        Asked::Offer => offer_verdict(game, side, at),
+        Asked::Accept => accept_verdict(game, side, at),
+        Asked::Decline => decline_verdict(game, side, at),
+        Asked::Resign => resign_verdict(game, side, at),
+        Asked::Claim(claimed) => claim_verdict(table, game, side, at, claimed),
+        Asked::Flag => flag_verdict(game, at),
+        Asked::Drop => drop_verdict(game, at),
+    }
+}
+
+// The same of a game that was looked up, in which the player may have no seat.
+fn seat_verdict(table: &Table, found: Option<&Game>, name: &Name, at: u64, asked: &Asked) -> Verdict
+    requires { IfSome found (λ game. game.now.moment ≤ at) }
+    ensures { result ≡ in_game (λ game. by_side (asked_verdict table.now at asked.now game) (side_of name.now game))
+        (option_copied found.entry) }
+{
+    let Some(game) = found else {
+        return Verdict::Refuse(Refusal::NoGame);
+    };
+    match game.side_of(name) {
+        Some(side) => asked_verdict(table, game, side, at, asked),
+        None => Verdict::Refuse(Refusal::NotSeated),
+    }
 }
 
 // Whether an act is a read, which is anybody's.
@@ -437,12 +460,13 @@ fn is_read(act: &Act) -> bool
 }
 
 // The verdict on a read.
-fn read_verdict(table: &Table, act: &Act) -> Verdict
+fn read_verdict(found: Option<&Game>, act: &Act) -> Verdict
     requires { is_read act.now ≡ true }
-    ensures { (at : ℕ) (name : List ℕ) (parsed : Parsed) → result ≡ player_verdict table.now at name parsed act.now }
+    ensures { (table : TableState) → option_copied found.entry ≡ find_game (game_of act.now) table.games
+        → (at : ℕ) (name : List ℕ) (parsed : Parsed) → result ≡ player_verdict table at name parsed act.now }
 {
     match act {
-        Act::Show { game } | Act::Fen { game } | Act::Pgn { game } => match table.find(*game) {
+        Act::Show { .. } | Act::Fen { .. } | Act::Pgn { .. } => match found {
             Some(_) => Verdict::Read,
             None => Verdict::Refuse(Refusal::NoGame),
         },
@@ -450,11 +474,50 @@ fn read_verdict(table: &Table, act: &Act) -> Verdict
     }
 }
 
-// The verdict on an act that a player may make.
-fn player_verdict(table: &Table, at: u64, name: &Name, named: &ParsedText, act: &Act) -> Verdict
-    requires { table.now.moment ≤ at }
+// What an act asks in a seat, where it is one that is made there.
+fn asked_by(act: &Act, mv: &Option<StoredMove>) -> Option<Asked>
+    ensures some { IfSome result (λ asked. IsAskedBy act.now mv.now asked) }
+    ensures none { IfNone result (AsksNoSeat act.now) }
+{
+    match act {
+        Act::Move { ply, .. } => Some(Asked::Move { ply: *ply, mv: *mv }),
+        Act::Offer { .. } => Some(Asked::Offer),
+        Act::Accept { .. } => Some(Asked::Accept),
+        Act::Decline { .. } => Some(Asked::Decline),
+        Act::Resign { .. } => Some(Asked::Resign),
+        Act::Claim {
+            ply,
+            fifty,
+            text,
+            ..
+        } => Some(Asked::Claim(Claimed {
+            ply: *ply,
+            fifty: *fifty,
+            states: text.is_some(),
+            mv: *mv,
+        })),
+        Act::Flag { .. } => Some(Asked::Flag),
+        Act::Drop { .. } => Some(Asked::Drop),
+        _ => None,
+    }
+}
+
+// The verdict on an act that a player may make; the act's game was looked up.
+fn player_verdict(
+    table: &Table,
+    found: Option<&Game>,
+    at: u64,
+    name: &Name,
+    named: &ParsedText,
+    act: &Act,
+) -> Verdict
+    requires found { option_copied found ≡ find_game (game_of act.now) table.now.games }
+    requires began { IfSome found (λ game. game.now.moment ≤ at) }
     ensures { result ≡ player_verdict table.now at name.now (parsed named.now.start named.now.mv) act.now }
 {
+    if let Some(asked) = asked_by(act, &named.mv) {
+        return seat_verdict(table, found, name, at, &asked);
+    }
     match act {
         Act::Open {
             colour,
@@ -470,39 +533,18 @@ fn player_verdict(table: &Table, at: u64, name: &Name, named: &ParsedText, act: 
             };
             open_verdict(table, at, *name, *colour, times, &named.start)
         }
-        Act::Join { game } => match table.find(*game) {
+        Act::Join { .. } => match found {
             Some(game) => join_verdict(at, name, game),
             None => Verdict::Refuse(Refusal::NoGame),
         },
-        Act::Move { game, ply, .. } => move_verdict(table, at, name, *game, *ply, &named.mv),
-        Act::Offer { game } => offer_verdict(table, at, name, *game),
-        Act::Accept { game } => accept_verdict(table, at, name, *game),
-        Act::Decline { game } => decline_verdict(table, at, name, *game),
-        Act::Resign { game } => resign_verdict(table, at, name, *game),
-        Act::Claim {
-            game,
-            ply,
-            fifty,
-            text,
-        } => {
-            let asked = Asked {
-                ply: *ply,
-                fifty: *fifty,
-                states: text.is_some(),
-                mv: named.mv,
-            };
-            claim_verdict(table, at, name, *game, &asked)
-        }
-        Act::Flag { game } => flag_verdict(table, at, name, *game),
-        Act::Drop { game } => drop_verdict(table, at, name, *game),
-        Act::Show { .. } | Act::Fen { .. } | Act::Pgn { .. } | Act::List => read_verdict(
-            table, act,
-        ),
+        _ => read_verdict(found, act),
     }
 }
 
-// The verdict on a command, by what its text tells.
-fn checked(table: &Table, command: &Command, named: &ParsedText) -> Verdict
+// The verdict on a command, by what its text tells; its game was looked up.
+fn checked(table: &Table, found: Option<&Game>, command: &Command, named: &ParsedText) -> Verdict
+    requires found { option_copied found ≡ find_game (game_of command.now.act) table.now.games }
+    requires began { IfSome found (λ game. game.now.moment ≤ table.now.moment) }
     ensures { result ≡ verdict table.now command.now (parsed named.now.start named.now.mv) }
 {
     if command.moment > GREATEST_MOMENT {
@@ -511,11 +553,11 @@ fn checked(table: &Table, command: &Command, named: &ParsedText) -> Verdict
     let at = table.moment().max(command.moment);
     let Some(name) = command.who else {
         if is_read(&command.act) {
-            return read_verdict(table, &command.act);
+            return read_verdict(found, &command.act);
         }
         return Verdict::Refuse(Refusal::NoName);
     };
-    player_verdict(table, at, &name, named, &command.act)
+    player_verdict(table, found, at, &name, named, &command.act)
 }
 
 /// What a command meets on a table: the first check that applies refuses it, or makes it the entry that a flag has fallen;
@@ -527,6 +569,7 @@ pub fn judge(table: &Table, command: &Command) -> Verdict
     ensures coming { OnEnter result (IsEnteredOn table.now) }
 {
     know_name(&command.who);
-    let named = parsed_by(table, &command.act);
-    checked(table, command, &named)
+    let found = table.find(game_of(&command.act));
+    let named = parsed_by(found, &command.act);
+    checked(table, found, command, &named)
 }

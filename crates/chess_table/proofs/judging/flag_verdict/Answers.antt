@@ -1,21 +1,16 @@
-use Rattle.std.proofs.Common.{[], List, sym, ◌∙◌, refl}
-use Rattle.chess_bits.specs.declared.men.Colour.{Colour}
+use Rattle.std.proofs.Common.{sym}
 use Rattle.chess_entry.specs.declared.refusals.Refusal.TheVariants.{FlagUp}
-use Rattle.chess_entry.specs.declared.verdicts.Verdict.{Verdict}
 use Rattle.chess_entry.specs.declared.verdicts.Verdict.TheVariants.{Refuse}
-use Rattle.chess_entry.specs.State.{GameState}
-use Rattle.chess_entry.specs.Verdict.{Check}
+use Rattle.chess_entry.specs.Verdict.{while_running}
+use Rattle.chess_table.proofs.CheckLemmas.{stops_last, passes_last}
 use Rattle.chess_table.proofs.judging.flag_verdict.Goals as goal
 
-pub returns-in-Err : goal.returns-in-Err
-returns-in-Err c =
-    let rest : GameState → Colour → List Check = λ game side. [] in
-    let last : GameState → Colour → Verdict = λ game side. Refuse FlagUp in
-    sym (c.in-Err.ensures.err rest last)
+pub returns-in-Some : goal.returns-in-Some
+returns-in-Some c = λ side.
+    sym (stops_last c.while_running.result (while_running c.args.game.now c.args.at) (Refuse FlagUp) c.in-Some.stop
+    c.while_running.ensures c.in-Some.is)
 
-pub returns-in-Ok : goal.returns-in-Ok
-returns-in-Ok c =
-    let rest : GameState → Colour → List Check = λ game side. [] in
-    let last : GameState → Colour → Verdict = λ game side. Refuse FlagUp in
-    sym (c.in-Ok.ensures.ok rest last
-    ∙ refl)
+pub returns-in-None : goal.returns-in-None
+returns-in-None c = λ side.
+    sym (passes_last c.while_running.result (while_running c.args.game.now c.args.at) (Refuse FlagUp)
+    c.while_running.ensures c.in-None.is)

@@ -1,6 +1,6 @@
-use Rattle.std.proofs.Common.{Some, List, ℕ, sym, subst}
+use Rattle.std.proofs.Common.{Some, List, ℕ, ◌≡◌, sym, ap, subst}
+use Rattle.std.specs.Option.{option_copied}
 use Rattle.chess_board.specs.declared.moves.Move.{Move}
-use Rattle.chess_entry.specs.State.{find_game}
 use Rattle.chess_notation.specs.Naming.{Names}
 use Rattle.chess_table.specs.Parsing.{IsTheMove}
 use Rattle.chess_table.proofs.CheckLemmas.{CanBecome-legal, move-named, move-unnamed}
@@ -11,12 +11,13 @@ new-requires c = CanBecome-legal _ _ c.in-Some-read.ensures.found.legal
 
 pub returns-in-Some-read : goal.returns-in-Some-read
 returns-in-Some-read c =
-    let found = find_game c.args.number c.args.table.now.games in
+    let found = option_copied c.args.found in
     let text = c.args.text.now.bytes in
     let board = c.board.result.now in
     let m = c.in-Some-read.mv in
+    let is : found ≡ Some c.in-Some.game.now = ap (λ o. option_copied o) c.in-Some.is in
     let told : IsTheMove found (Some text) (Some m) =
-    move-named found c.in-Some.game.now text board m c.in-Some.ensures.game c.board.ensures
+    move-named found c.in-Some.game.now text board m (sym is) c.board.ensures
     (subst (λ (t : List ℕ). Names board t m) c.as_str.ensures.value c.in-Some-read.ensures.found)
     (λ other names. c.in-Some-read.ensures.one other
     (subst (λ (t : List ℕ). Names board t other) (sym c.as_str.ensures.value) names)) in
@@ -24,9 +25,10 @@ returns-in-Some-read c =
 
 pub returns-in-None : goal.returns-in-None
 returns-in-None c =
-    let found = find_game c.args.number c.args.table.now.games in
+    let found = option_copied c.args.found in
     let text = c.args.text.now.bytes in
     let board = c.board.result.now in
-    move-unnamed found c.in-Some.game.now text board c.in-Some.ensures.game c.board.ensures
+    let is : found ≡ Some c.in-Some.game.now = ap (λ o. option_copied o) c.in-Some.is in
+    move-unnamed found c.in-Some.game.now text board (sym is) c.board.ensures
     (λ m names. c.in-None.ensures.none m
     (subst (λ (t : List ℕ). Names board t m) (sym c.as_str.ensures.value) names))

@@ -1,15 +1,19 @@
-use Rattle.std.proofs.Common.{Bool, sym, ap, ◌∙◌}
-use Rattle.chess_entry.specs.declared.commands.Act.{Act}
-use Rattle.chess_entry.specs.Parsed.{parsed}
-use Rattle.chess_entry.specs.Verdict.{in_seat, claim_verdict, player_verdict}
+use Rattle.std.proofs.Common.{Option, sym, ap, ◌∙◌}
+use Rattle.chess_entry.specs.State.{GameState}
+use Rattle.chess_entry.specs.Verdict.{in_game, by_side, side_of}
+use Rattle.chess_table.specs.Asked.{asked_verdict}
+use Rattle.chess_table.proofs.CheckLemmas.{other-reads}
 use Rattle.chess_table.proofs.judging.player_verdict.Goals as goal
 
-pub returns-in-Claim : goal.returns-in-Claim
-returns-in-Claim c =
+pub returns-in-Some : goal.returns-in-Some
+returns-in-Some c =
     let table = c.args.table.now in
     let name = c.args.name.now in
-    let named = c.args.named.now in
-    c.claim_verdict.ensures
-    ∙ ap (λ (states : Bool). in_seat table name c.in-Claim.game
-    (claim_verdict table c.args.at c.in-Claim.ply c.in-Claim.fifty states named.mv)) c.is_some.ensures
-    ∙ ap (λ (a : Act). player_verdict table c.args.at name (parsed named.start named.mv) a) (sym c.in-Claim.is)
+    c.seat_verdict.ensures
+    ∙ ap (λ (o : Option GameState). in_game (λ game. by_side
+    (asked_verdict table c.args.at c.in-Some.asked game) (side_of name game)) o) c.requires.found
+    ∙ sym (c.in-Some.ensures.some table c.args.at name c.args.named.now.start)
+
+pub read_verdict-requires : goal.read_verdict-requires
+read_verdict-requires c =
+    other-reads c.args.act.now c.in_default.ensures.none c.in_default-act.not-Open c.in_default-act.not-Join

@@ -1,22 +1,22 @@
-use Rattle.std.proofs.Common.{[], List, sym, ◌∙◌}
-use Rattle.chess_bits.specs.declared.men.Colour.{Colour}
+use Rattle.std.proofs.Common.{sym, ◌∙◌}
 use Rattle.rec_codec.specs.declared.record.Event.TheVariants as event
 use Rattle.rec_codec.specs.Records.{entry}
 use Rattle.chess_entry.specs.declared.verdicts.Verdict.{Verdict}
 use Rattle.chess_entry.specs.declared.verdicts.Verdict.TheVariants.{Enter}
-use Rattle.chess_entry.specs.State.{GameState}
-use Rattle.chess_entry.specs.Verdict.{Check}
+use Rattle.chess_entry.specs.Verdict.{while_running}
+use Rattle.chess_table.proofs.CheckLemmas.{stops_last, passes_last}
 use Rattle.chess_table.proofs.judging.resign_verdict.Goals as goal
 
-pub returns-in-Err : goal.returns-in-Err
-returns-in-Err c =
-    let rest : GameState → Colour → List Check = λ game side. [] in
-    let last : GameState → Colour → Verdict = λ game side. Enter (entry game.number c.args.at (event.Resign side)) in
-    sym (c.in-Err.ensures.err rest last)
+pub returns-in-Some : goal.returns-in-Some
+returns-in-Some c =
+    let game = c.args.game.now in
+    let last : Verdict = Enter (entry game.number c.args.at (event.Resign c.args.side)) in
+    sym (stops_last c.while_running.result (while_running game c.args.at) last c.in-Some.stop c.while_running.ensures
+    c.in-Some.is)
 
-pub returns-in-Ok : goal.returns-in-Ok
-returns-in-Ok c =
-    let rest : GameState → Colour → List Check = λ game side. [] in
-    let last : GameState → Colour → Verdict = λ game side. Enter (entry game.number c.args.at (event.Resign side)) in
-    sym (c.in-Ok.ensures.ok rest last
+pub returns-in-None : goal.returns-in-None
+returns-in-None c =
+    let game = c.args.game.now in
+    let last : Verdict = Enter (entry game.number c.args.at (event.Resign c.args.side)) in
+    sym (passes_last c.while_running.result (while_running game c.args.at) last c.while_running.ensures c.in-None.is
     ∙ sym c.entry_verdict.ensures)
