@@ -828,6 +828,7 @@ dropped_heard players past line c by text others waits asked lines later h =
         others = others;
         waits = waits;
         name = h.name;
+        named = h.named;
         seated = h.seated;
         first = h.first;
         empty = h.empty;

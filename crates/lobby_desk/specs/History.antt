@@ -1,6 +1,7 @@
 -- What is promised of whatever came in and went out.
 use Rattle.std.specs.Prelude.{ℕ, ◌≡◌, ◌⊎◌, Bool, true, false, ◌&&◌, ◌||◌, ◌==◌, not, List, [], ◌∷◌, ◌++◌, codes, length, map, filter, Option, None, Some, if◌then◌else◌}
 use Rattle.std.specs.List.{AllByRecursion}
+use Rattle.rec_codec.specs.Name.{IsName}
 use Rattle.lobby_words.specs.declared.words.Sort.{Sort}
 use Rattle.lobby_words.specs.declared.words.Sort.TheVariants as sorts
 use Rattle.lobby_words.specs.declared.planning.Identity.{Identity}
@@ -153,8 +154,8 @@ HasAsked players (s ∷ past) c text = AsksNow players past s.event c text ⊎ H
 
 -- A drop goes out behind an answer of the server. It is the message of a connection that had shown an arbiter's token when it
 -- said it; the answer is the one for which this message waits, and shows the game with an empty seat, so that it waits for its
--- second player; and the drop stands under the name of the player who, as that answer says, has the other seat. Right behind it is
--- asked how its game stands.
+-- second player; and the drop stands under the name of the player who, as that answer says, has the other seat, which is a name of
+-- the protocol. Right behind it is asked how its game stands.
 pub record IsDropOf (players : List Player) (past : List Step) (line : List ℕ) (lines : List (List ℕ)) : Type 0 where
   pub c : ℕ
   pub by : List ℕ
@@ -163,6 +164,7 @@ pub record IsDropOf (players : List Player) (past : List Step) (line : List ℕ)
   pub others : List Owed
   pub waits : (known_in players past).owed ≡ Dropper c by text ∷ others
   pub name : List ℕ
+  pub named : IsName name
   pub seated : IsSeated (answer (known_in players past).begun line) (rest_of text) name
   pub first : IsFirstSeated (answer (known_in players past).begun line) name
   pub empty : has_empty_seat (answer (known_in players past).begun line) ≡ true
