@@ -1,6 +1,7 @@
 //! What is told of a lobby to who looks after it, as Prometheus reads it.
+use crate::table::Table;
 use bytes::Bytes;
-use lobby_figures::{Journals, put_head, put_labelled, put_number, seconds};
+use lobby_figures::{Games, Journals, put_head, put_labelled, put_number, seconds};
 use lobby_loop::{ACTS, BOUNDS, Counts, Lobby};
 use lobby_web::{File, Kind};
 use std::alloc::{AllocError, Global};
@@ -39,6 +40,26 @@ fn put_connections(text: &mut String, alloc: Global, lobby: &Lobby) -> Result<()
         "counter",
         "Connections that were turned away since the lobby began.",
         lobby.turned_away(),
+    )
+}
+
+// How many games the server has.
+fn put_games(text: &mut String, alloc: Global, games: Games) -> Result<(), AllocError> {
+    put_number(
+        text,
+        alloc,
+        "games",
+        "gauge",
+        "Games on the server's table: those that wait, that go on, and that are over and not taken off.",
+        games.all,
+    )?;
+    put_number(
+        text,
+        alloc,
+        "games_waiting",
+        "gauge",
+        "Those among them that wait for a second player.",
+        games.waiting,
     )
 }
 
@@ -212,20 +233,23 @@ impl<'a, R: Files<File = OpenFile> + AllocGlobal + Eprint> Health<'a, R> {
     }
 
     // The text, at a moment.
-    fn text(&mut self, lobby: &Lobby, at: u64) -> Result<String, AllocError> {
+    fn text(&mut self, lobby: &Lobby, table: &Table, at: u64) -> Result<String, AllocError> {
         let mut text = String::new(self.alloc);
         put_counts(&mut text, self.alloc, lobby, at)?;
+        if let Some(games) = table.games(at) {
+            put_games(&mut text, self.alloc, games)?;
+        }
         self.journals.put(&mut text)?;
         Ok(text)
     }
 
     /// The text is made anew, where the one that is served is older than a second.
-    pub fn look(&mut self, lobby: &mut Lobby, at: u64) -> Result<(), AllocError> {
+    pub fn look(&mut self, lobby: &mut Lobby, table: &Table, at: u64) -> Result<(), AllocError> {
         if at < self.next_at {
             return Ok(());
         }
         self.next_at = at.saturating_add(REST);
-        let text = self.text(lobby, at)?;
+        let text = self.text(lobby, table, at)?;
         lobby.put_file(file_of(self.alloc, text)?)
     }
 }

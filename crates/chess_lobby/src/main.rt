@@ -11,6 +11,7 @@ mod mark;
 mod page;
 mod players;
 mod serving;
+mod table;
 
 use adding::add_player;
 use command_words::{NotDone, end_of, words_given};

@@ -5,10 +5,11 @@ use crate::live::Live;
 use crate::log::FileLog;
 use crate::page::site_of;
 use crate::players::Players;
+use crate::table::Table;
 use anyhow::{Context, Result};
 use lobby_commands::Serving;
 use lobby_desk::Player;
-use lobby_loop::{ActLog, Entrance, Lobby, NoActLog};
+use lobby_loop::{ActLog, Entrance, Lobby, NoActLog, Turned};
 use monotonic_clock::Moments;
 use std::fs::File;
 use std::hash::RandomState;
@@ -53,11 +54,21 @@ impl<R: Eprint> Telling<'_, R> {
     }
 }
 
+// What came of a turn, where it is to be looked at something else after so many milliseconds at most.
+fn within(turned: Turned, most: Option<u64>) -> Turned {
+    match (turned, most) {
+        (Turned::Idle(None), Some(_)) => Turned::Idle(most),
+        (Turned::Idle(Some(rest)), Some(most)) => Turned::Idle(Some(rest.min(most))),
+        (turned, _) => turned,
+    }
+}
+
 // What is looked at and told beside the turns.
 #[derive(Drop)]
 struct Beside<'a, R> {
     rt: &'a R,
     telling: Telling<'a, R>,
+    table: Table,
     health: Health<'a, R>,
     live: Option<Live<'a>>,
     links: FileLinks<'a, R>,
@@ -79,6 +90,7 @@ where
                 turned_away: 0,
                 next_at: 0,
             },
+            table: Table::new(rt.alloc(), serving.server),
             health,
             live: match serving.live {
                 Some(file) => Some(Live::new(file)),
@@ -90,14 +102,15 @@ where
 
     // Takes a turn of the lobby.
     fn turn<L: ActLog>(&mut self, lobby: &mut Lobby, log: &mut L, at: u64) -> Result<()> {
-        self.health.look(lobby, at)?;
+        self.table.look(self.rt, lobby, at)?;
+        self.health.look(lobby, &self.table, at)?;
         if let Some(live) = &mut self.live {
             live.look(self.rt, lobby, at)?;
         }
         let turned = lobby.turn(self.rt, at, log, &mut self.links)?;
         self.telling.tell_server(lobby.has_server());
         self.telling.tell_turned_away(lobby.turned_away(), at);
-        lobby.rest(turned)?;
+        lobby.rest(within(turned, self.table.rest(at)))?;
         Ok(())
     }
 }

@@ -5,6 +5,9 @@ pub const ACTS: [&str; 10] = [
     "open", "join", "move", "offer", "accept", "decline", "resign", "claim", "flag", "drop",
 ];
 
+// How a request for figures begins, as who asks for them by HTTP sends it.
+const FIGURES: &[u8] = b"GET /health ";
+
 /// The bounds of answers' times, in milliseconds.
 pub const BOUNDS: [u64; 12] = [1, 2, 5, 10, 20, 50, 100, 200, 500, 1_000, 2_000, 5_000];
 
@@ -13,6 +16,8 @@ pub const BOUNDS: [u64; 12] = [1, 2, 5, 10, 20, 50, 100, 200, 500, 1_000, 2_000,
 pub struct Counts {
     /// The moment of the turn.
     pub at: u64,
+    /// Pieces of browsers' bytes that began with a request for figures.
+    pub figures: u64,
     /// Messages that were taken.
     pub messages: u64,
     /// Answers by their first words: `ok`, `no`, `fallen` and `lost`.
@@ -54,6 +59,7 @@ impl Counts {
     pub fn new() -> Counts {
         Counts {
             at: 0,
+            figures: 0,
             messages: 0,
             ok: 0,
             no: 0,
@@ -63,6 +69,13 @@ impl Counts {
             timed: 0,
             time: 0,
             within: [0; 12],
+        }
+    }
+
+    /// A piece came of a browser.
+    pub fn came(&mut self, piece: &[u8]) {
+        if piece.starts_with(FIGURES) {
+            count(&mut self.figures);
         }
     }
 

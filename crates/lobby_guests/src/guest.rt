@@ -328,7 +328,13 @@ fn say_to_desk<K: Links>(
 
 impl<S: Read + Write> Guest<S> {
     /// Reads a piece, if bytes are wanted. It tells whether anything came.
-    pub fn read_in(&mut self, site: &Site, at: u64, piece: &mut [u8; PIECE_ROOM]) -> bool
+    pub fn read_in(
+        &mut self,
+        site: &Site,
+        at: u64,
+        piece: &mut [u8; PIECE_ROOM],
+        counts: &mut Counts,
+    ) -> bool
         ensures { IsRead S.remaining site.now self.old self.new }
     {
         if !self.can_read || self.is_lost || !self.browser.wants_read() {
@@ -341,6 +347,7 @@ impl<S: Read + Write> Guest<S> {
             }
             Came::Interrupted => true,
             Came::Bytes(count) => {
+                counts.came(&piece[..count]);
                 self.browser.take(site, &piece[..count]);
                 self.heard_at = at;
                 self.is_asked = false;

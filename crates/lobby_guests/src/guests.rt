@@ -25,7 +25,7 @@ fn attend<S: Read + Write, K: Links>(
 ) -> Result<bool, AllocError>
     ensures { OnOk result (IsAttended S.remaining site.now at guest.old guest.new talk.old talk.new) }
 {
-    let has_read = guest.read_in(site, at, piece);
+    let has_read = guest.read_in(site, at, piece, counts);
     let has_heard = guest.hear(talk, at, links, counts)?;
     Ok(has_read | has_heard)
 }

@@ -1,0 +1,223 @@
+//! How many games the server has: it is asked by a connection of its own, while somebody asks for figures.
+use lobby_figures::{Games, Listing, Told};
+use lobby_loop::Lobby;
+use mio::net::TcpStream;
+use std::alloc::{AllocError, Global};
+use std::io::{ErrorKind, Read, Write};
+use std::net::{Net, SocketAddr};
+
+/// What is asked, with its end.
+const LIST: &[u8] = b"list\n";
+
+/// So many milliseconds lie between two questions.
+const EVERY: u64 = 10_000;
+
+/// So many milliseconds after figures were last asked for no question is begun.
+const WANTED: u64 = 300_000;
+
+/// So many milliseconds a question may take, and an answer is told.
+const PATIENCE: u64 = 5_000;
+
+const FRESH: u64 = 30_000;
+
+/// So many milliseconds lie between two looks at a question that is not answered: its socket wakes nobody.
+const LOOK_EVERY: u64 = 20;
+
+/// So many bytes a read takes, and so many reads a look.
+const ROOM: usize = 16_384;
+
+const READS: u32 = 16;
+
+/// A question on its way.
+#[derive(Drop)]
+struct Call {
+    stream: TcpStream,
+    is_said: bool,
+    listing: Listing,
+    until: u64,
+}
+
+/// Whether there is more to be seen of a question.
+enum Seen {
+    /// Not for now.
+    Nothing,
+    Games(Games),
+    /// There is no answer.
+    Lost,
+}
+
+// What a fault of a stream that does not wait says.
+fn seen_at(kind: ErrorKind) -> Seen {
+    match kind {
+        ErrorKind::WouldBlock | ErrorKind::Interrupted | ErrorKind::NotConnected => Seen::Nothing,
+        _ => Seen::Lost,
+    }
+}
+
+impl Call {
+    // Says the line, once the connection is made. It is so short that it goes as a whole, or not at all.
+    fn say(&mut self) -> Seen {
+        if self.is_said {
+            return Seen::Nothing;
+        }
+        match self.stream.write(LIST) {
+            Ok(count) if count == LIST.len() => {
+                self.is_said = true;
+                Seen::Nothing
+            }
+            Ok(_) => Seen::Lost,
+            Err(error) => seen_at(error.kind()),
+        }
+    }
+
+    // Reads a piece. It tells nothing where there may be more at once.
+    fn read(&mut self, piece: &mut [u8; ROOM]) -> Result<Option<Seen>, AllocError> {
+        match self.stream.read(piece) {
+            Ok(0) => Ok(Some(Seen::Lost)),
+            Ok(count) => match self.listing.take(&piece[..count])? {
+                Told::Nothing => Ok(None),
+                Told::Games(games) => Ok(Some(Seen::Games(games))),
+                Told::NoList => Ok(Some(Seen::Lost)),
+            },
+            Err(error) => Ok(Some(seen_at(error.kind()))),
+        }
+    }
+
+    // Reads what is there of the answer.
+    fn hear(&mut self) -> Result<Seen, AllocError> {
+        let mut piece = [0u8; ROOM];
+        for _ in 0..READS {
+            if let Some(seen) = self.read(&mut piece)? {
+                return Ok(seen);
+            }
+        }
+        Ok(Seen::Nothing)
+    }
+
+    // Goes on with the question.
+    fn look(&mut self, at: u64) -> Result<Seen, AllocError> {
+        if at >= self.until {
+            return Ok(Seen::Lost);
+        }
+        match self.say() {
+            Seen::Nothing if self.is_said => self.hear(),
+            seen => Ok(seen),
+        }
+    }
+}
+
+/// The server's table, as it told last.
+#[derive(Drop)]
+pub struct Table {
+    alloc: Global,
+    server: SocketAddr,
+    // Whether it was there at the last look.
+    is_here: bool,
+    call: Option<Call>,
+    next_at: u64,
+    // How often figures had been asked for at the last look, and until when they are wanted since.
+    asked: u64,
+    wanted_until: u64,
+    games: Option<Games>,
+    fresh_until: u64,
+}
+
+impl Table {
+    /// Nothing was asked.
+    pub fn new(alloc: Global, server: SocketAddr) -> Table {
+        Table {
+            alloc,
+            server,
+            is_here: false,
+            call: None,
+            next_at: 0,
+            asked: 0,
+            wanted_until: 0,
+            games: None,
+            fresh_until: 0,
+        }
+    }
+
+    // Notes that figures were asked for.
+    fn note(&mut self, asked: u64, at: u64) {
+        if asked != self.asked {
+            self.asked = asked;
+            self.wanted_until = at.saturating_add(WANTED);
+        }
+    }
+
+    // Whether a question is to be begun.
+    fn is_due(&self, at: u64) -> bool {
+        self.call.is_none() && at >= self.next_at && at < self.wanted_until
+    }
+
+    // Begins a question.
+    fn begin(&mut self, net: &impl Net, at: u64) {
+        self.next_at = at.saturating_add(EVERY);
+        if let Ok(stream) = TcpStream::connect(net, self.server) {
+            self.call = Some(Call {
+                stream,
+                is_said: false,
+                listing: Listing::new(self.alloc),
+                until: at.saturating_add(PATIENCE),
+            });
+        }
+    }
+
+    // Goes on with a question.
+    fn go_on(&mut self, mut call: Call, at: u64) -> Result<(), AllocError> {
+        match call.look(at)? {
+            Seen::Nothing => self.call = Some(call),
+            Seen::Lost => {}
+            Seen::Games(games) => {
+                self.games = Some(games);
+                self.fresh_until = at.saturating_add(FRESH);
+            }
+        }
+        Ok(())
+    }
+
+    // What was told is told no more.
+    fn forget(&mut self) {
+        self.call = None;
+        self.games = None;
+        self.next_at = 0;
+    }
+
+    /// Asks the server, where it is time and somebody wants it, or goes on with that. It waits for nothing.
+    pub fn look(&mut self, net: &impl Net, lobby: &Lobby, at: u64) -> Result<(), AllocError> {
+        self.note(lobby.counts().figures, at);
+        self.is_here = lobby.has_server();
+        if !self.is_here {
+            self.forget();
+            return Ok(());
+        }
+        if self.is_due(at) {
+            self.begin(net, at);
+        }
+        match self.call.take() {
+            Some(call) => self.go_on(call, at),
+            None => Ok(()),
+        }
+    }
+
+    /// The games that the server told last; none where that is long ago, or it is not there.
+    pub fn games(&self, at: u64) -> Option<Games> {
+        if at < self.fresh_until {
+            self.games
+        } else {
+            None
+        }
+    }
+
+    /// After so many milliseconds it is to be looked at again, though no socket is ready; none where that is no matter.
+    pub fn rest(&self, at: u64) -> Option<u64> {
+        if self.call.is_some() {
+            Some(LOOK_EVERY)
+        } else if self.is_here && self.next_at < self.wanted_until {
+            Some(self.next_at.saturating_sub(at))
+        } else {
+            None
+        }
+    }
+}
