@@ -1,5 +1,5 @@
 //! How many games the server has, as its answer to `list` tells.
-use lobby_words::{Coming, is_list, waiting_in};
+use lobby_words::{cut, is_list, number_named};
 use std::alloc::{AllocError, Global};
 use std::str;
 
@@ -23,60 +23,75 @@ pub enum Told {
 /// The most bytes of a line of a list.
 const LINE_MOST: usize = 255;
 
-/// An answer to `list` that comes, piece by piece.
+/// An answer to `list` that comes, piece by piece. Of its lines none is kept.
 #[derive(Drop)]
 pub struct Listing {
-    alloc: Global,
     // What came behind the last whole line.
     held: Vec<u8>,
-    coming: Coming,
+    // What the lines told, and how many rows came; none before the first line.
+    games: Option<Games>,
+    rows: u64,
 }
 
-// The games of a whole answer: each has a row behind the first line.
-fn games_in(alloc: Global, answer: &str) -> Result<Told, AllocError> {
-    if !is_list(answer) {
-        return Ok(Told::NoList);
+// The number of rows that the first line of a list says; none of another line.
+fn rows_of(first: &str) -> Option<u64> {
+    if !is_list(first) {
+        return None;
     }
-    let waiting = waiting_in(alloc, answer)?;
-    let mut lines: u64 = 0;
-    for byte in answer.as_bytes() {
-        if *byte == b'\n' {
-            lines = lines.saturating_add(1);
-        }
-    }
-    Ok(Told::Games(Games {
-        all: lines.saturating_sub(1),
-        waiting: waiting.len() as u64,
-    }))
+    let (_, rest) = cut(first);
+    let (_, rest) = cut(rest);
+    Some(u64::from(number_named(rest)?))
+}
+
+// Whether the game of a row `G WHITE BLACK PLY RESULT` has one empty seat.
+fn waits(row: &str) -> bool {
+    let (_, rest) = cut(row);
+    let (white, rest) = cut(rest);
+    let (black, _) = cut(rest);
+    (white == "-") != (black == "-")
 }
 
 impl Listing {
     /// Nothing has come.
     pub fn new(alloc: Global) -> Listing {
         Listing {
-            alloc,
             held: Vec::new(alloc),
-            coming: Coming::new(alloc),
+            games: None,
+            rows: 0,
         }
     }
 
     // A line has come, without its line feed.
-    fn line(&mut self) -> Result<Told, AllocError> {
+    fn line(&mut self) -> Told {
         let Ok(line) = str::from_utf8(self.held.as_slice()) else {
-            return Ok(Told::NoList);
+            return Told::NoList;
         };
-        let whole = self.coming.take(line)?;
+        let games = match self.games {
+            None => match rows_of(line) {
+                Some(all) => Games { all, waiting: 0 },
+                None => return Told::NoList,
+            },
+            Some(before) => {
+                self.rows = self.rows.saturating_add(1);
+                Games {
+                    all: before.all,
+                    waiting: before.waiting.saturating_add(u64::from(waits(line))),
+                }
+            }
+        };
         self.held.clear();
-        match whole {
-            None => Ok(Told::Nothing),
-            Some(answer) => games_in(self.alloc, answer.as_str()),
+        self.games = Some(games);
+        if self.rows >= games.all {
+            Told::Games(games)
+        } else {
+            Told::Nothing
         }
     }
 
     // A byte has come.
     fn byte(&mut self, byte: u8) -> Result<Told, AllocError> {
         if byte == b'\n' {
-            return self.line();
+            return Ok(self.line());
         }
         if self.held.len() >= LINE_MOST {
             return Ok(Told::NoList);
