@@ -36,6 +36,24 @@ fn told(alloc: Global, link: &mut Link, game: u32) -> Result<Option<String>> {
     bail!("the server does not tell game {game}: {first}")
 }
 
+// Whether an answer about a game leaves open that it is on the table: it is there, or its server is away.
+fn may_be_there(first: &str) -> bool {
+    first == "lost" || first.starts_with("no 36 ") || first.starts_with("ok pgn ")
+}
+
+/// Whether a game that was on the table has left it. It has not where its server is away, as one of several may be.
+pub fn has_left(alloc: Global, link: &mut Link, game: u32) -> Result<bool> {
+    let answer = answer_of(alloc, link, game)?;
+    let first = answer.first.as_str();
+    if first.starts_with("no 3 ") {
+        return Ok(true);
+    }
+    if may_be_there(first) {
+        return Ok(false);
+    }
+    bail!("the server does not tell game {game}: {first}")
+}
+
 /// Asks for the PGN of a game, and makes it as the archive has it, with the clocks that the log knows; none where the game has
 /// left the table since.
 pub fn pgn_of(

@@ -51,7 +51,8 @@ have left the table. The file is put in its place at once, and only where it has
 it may be fetched at any moment: pages that show games live take its address. With --log
 each move has its player's clock behind it where the lobby's log knows it.
 
-With --every it goes on until it is killed, and comes back to a server that was away.
+With --every it goes on until it is killed, and comes back to a server that was away. The
+games of one that is away behind a switch stay in the file as they were told last.
 
 Exit status: 0; 1 with what is wrong on standard error; 2 for words that the program does
 not know.

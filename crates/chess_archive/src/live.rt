@@ -1,5 +1,5 @@
 //! The word that writes the games of a night where others fetch them.
-use crate::asking::{Knowledge, pgn_of};
+use crate::asking::{Knowledge, has_left, pgn_of};
 use crate::command_line::Living;
 use crate::log_reader::LogReader;
 use crate::players::Players;
@@ -32,6 +32,8 @@ struct Writer<'a, R> {
     players: Players<'a, R>,
     link: Option<Link>,
     log: LogReader<'a>,
+    // The games of the table as they were seen last, also of servers that are away.
+    seen: Vec<Board>,
     // The games of the archive that are written, and how long it was when they were read.
     archived: Vec<Board>,
     archive_length: u64,
@@ -109,6 +111,11 @@ where
         }
     }
 
+    // Whether a game is written as the archive has it, where the table does not tell it.
+    fn has_kept(&self, game: u32) -> bool {
+        has_game(self.archived.as_slice(), game)
+    }
+
     // Those games of the server's list that are played or over, but those that were kept.
     fn push_rows(&self, boards: &mut Vec<Board>, link: &mut Link, rows: &[Row<'_>]) -> Result<()> {
         let known = Knowledge {
@@ -138,11 +145,39 @@ where
         self.push_rows(boards, link, rows.as_slice())
     }
 
-    // The games of the server's table that are played or over, but those that were kept.
-    fn push_table(&mut self, boards: &mut Vec<Board>) -> Result<()> {
+    // Of the games that were seen and are not told now those that have not left the table: their server is away. (each is asked
+    // about, since a list has no word of a server that is away, nor of one that could not tell its games)
+    fn games_away(&self, boards: &[Board], link: &mut Link) -> Result<Vec<u32>> {
+        let alloc = self.rt.alloc();
+        let mut away = Vec::new(alloc);
+        for board in self.seen.as_slice() {
+            let is_told = has_game(boards, board.game) || self.has_kept(board.game);
+            if !is_told && !has_left(alloc, link, board.game)? {
+                away.push(board.game)?;
+            }
+        }
+        Ok(away)
+    }
+
+    // The games of the server's table that are played or over, but those that were kept. What comes back are the games of servers
+    // that are away.
+    fn push_table(&mut self, boards: &mut Vec<Board>) -> Result<Vec<u32>> {
         let mut link = self.linked()?;
         self.push_list(boards, &mut link)?;
+        let away = self.games_away(boards.as_slice(), &mut link)?;
         self.link = Some(link);
+        Ok(away)
+    }
+
+    // Puts games that are away behind others, as they were seen last, but those that were kept.
+    fn push_away(&self, boards: &mut Vec<Board>, away: &[u32]) -> Result<()> {
+        for board in self.seen.as_slice() {
+            let game = board.game;
+            if away.contains(&game) && !self.has_kept(game) {
+                let pgn = board.pgn.clone()?;
+                boards.push(Board { game, pgn })?;
+            }
+        }
         Ok(())
     }
 
@@ -207,10 +242,12 @@ where
         let alloc = self.rt.alloc();
         self.read_archive()?;
         let mut boards = Vec::new(alloc);
-        self.push_table(&mut boards)?;
+        let away = self.push_table(&mut boards)?;
         // (once more, as a game may have been kept and dropped meanwhile)
         self.read_archive()?;
-        text_of(alloc, boards.as_slice(), self.archived.as_slice())
+        self.push_away(&mut boards, away.as_slice())?;
+        self.seen = boards;
+        text_of(alloc, self.seen.as_slice(), self.archived.as_slice())
     }
 
     // Writes the file where it has changed.
@@ -250,6 +287,7 @@ where
         players: Players::open(rt, living.players)?,
         link: None,
         log: LogReader::new(rt.alloc(), living.log),
+        seen: Vec::new(rt.alloc()),
         archived: Vec::new(rt.alloc()),
         archive_length: 0,
         written: fs::read(rt, living.file).ok(),
