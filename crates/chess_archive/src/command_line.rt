@@ -5,6 +5,7 @@ use clap::error::ErrorKind;
 use clap::{Arg, ArgAction, ArgMatches, Command, Error};
 use command_words::{VERSION, flag, option};
 use option_tables::{OptionText, with_options};
+use pgn_tags::is_date;
 use std::alloc::{AllocError, Global};
 use std::net::SocketAddr;
 
@@ -206,7 +207,7 @@ const KNOWLEDGE: [OptionText; 6] = [
     OptionText {
         name: "date",
         value: "DATE",
-        help: "The tag Date, ????.??.?? without it",
+        help: "The tag Date as YYYY.MM.DD, with ?? for what is not known; ????.??.?? without it",
         is_required: false,
         action: ArgAction::Set,
     },
@@ -289,6 +290,12 @@ pub fn command<'a>(alloc: Global) -> Result<Command<'a>, AllocError> {
 pub fn read_words<'a>(alloc: Global, words: &'a [String]) -> Result<Word<'a>, Error> {
     let mut command = command(alloc)?;
     let matches = command.try_get_matches_from_mut(words)?;
+    if let Some(date) = no_date_of(&matches) {
+        let told = format!(in alloc;
+            "--date {date:?} is no date: it is YYYY.MM.DD, as 2026.11.27, with ?? for what is not known"
+        )?;
+        return Err(command.error(ErrorKind::InvalidValue, told.as_str())?);
+    }
     match word_of(&matches) {
         Some(word) => Ok(word),
         None => Err(command.error(
@@ -296,6 +303,13 @@ pub fn read_words<'a>(alloc: Global, words: &'a [String]) -> Result<Word<'a>, Er
             "an address is none, a tag's value has a control character, --lobby stands without --drop, or export has two forms",
         )?),
     }
+}
+
+// What is given as a date, and is none.
+fn no_date_of<'a>(matches: &ArgMatches<'a>) -> Option<&'a str> {
+    let (_, values) = matches.subcommand()?;
+    let date = values.get_str("date")?;
+    if is_date(date) { None } else { Some(date) }
 }
 
 // What words ask for; none where one of them is none that the program knows.
