@@ -322,6 +322,71 @@ fn files_come_and_go(rt: HostRuntime) {
     check(&rt, &lab, FIGURES, b"", PLAIN, false);
 }
 
+// The entity tag of the page, by `sha256sum`.
+const TAG: &str = "\"aafdd3f20726bac0993d94996c006d7053e72b1b8f96371ace7ba7b5e8c06fd1\"";
+
+// What stands in front of the page's entity tag and behind it, and whether who asks so has the page.
+const ASKED: [(&str, &str, bool); 16] = [
+    ("", "", true),
+    ("W/", "", true),
+    ("\"a\", W/", ", \"b\"", true),
+    ("\"a\"  ,\t", "\t , W/\"b\"", true),
+    ("\"a\",", ",\"b\"", true),
+    (", ,", ",", true),
+    ("\"a,\",\"\",", "", true),
+    ("\"a\", * ,", "", true),
+    ("w/", "", false),
+    ("W/ ", "", false),
+    ("W/W/", "", false),
+    ("x", "", false),
+    ("", "x", false),
+    ("\"", "\"", false),
+    ("\"a\" ", "", false),
+    ("\"a\"; ", "", false),
+];
+
+// Values that do not have the page's entity tag, and whether who asks so has the page.
+const OTHERS: [(&str, bool); 6] = [
+    ("*", true),
+    ("\"*\"", false),
+    ("*, \"a\"", false),
+    ("", false),
+    ("\"a\"", false),
+    ("\"a\", W/\"b\"", false),
+];
+
+const SAME: &[u8] = b"HTTP/1.1 304 Not Modified\r\ncontent-security-policy: ";
+
+const WHOLE: &[u8] = b"HTTP/1.1 200 OK\r\ncontent-type: text/html; charset=utf-8\r\n";
+
+// The page is sent to who asks with this, or 304 without it.
+fn check_known(rt: &impl Abort, lab: &Lab, known: &str, has: bool) {
+    let request = format!(in lab.alloc;
+        "GET / HTTP/1.1\r\nHost: a:1\r\nIf-None-Match: {known}\r\n\r\n"
+    );
+    let request = request.expect(rt, "memory");
+    let told = format!(in lab.alloc; "\r\netag: {TAG}\r\n\r\n").expect(rt, "memory");
+    let (front, end) = if has {
+        (SAME, told.as_bytes())
+    } else {
+        (WHOLE, b"the page".as_slice())
+    };
+    check(rt, lab, request.as_bytes(), b"", front, false);
+    assert!(rt; ends(rt, lab, request.as_bytes(), end));
+}
+
+#[test]
+fn who_has_the_page_is_not_sent_it(rt: HostRuntime) {
+    let lab = lab_of(&rt, rt.alloc(), RandomState::new(&rt).expect(&rt, "keys"));
+    for (front, end, has) in &ASKED {
+        let known = format!(in lab.alloc; "{front}{TAG}{end}").expect(&rt, "memory");
+        check_known(&rt, &lab, known.as_str(), *has);
+    }
+    for (known, has) in &OTHERS {
+        check_known(&rt, &lab, known, *has);
+    }
+}
+
 // A request, and how its answer ends.
 const BOARDS: [(&[u8], &[u8]); 9] = [
     (b"GET /board/7 HTTP/1.1\r\nHost: a:1\r\n\r\n", b"a board"),

@@ -9,7 +9,7 @@ use Rattle.lobby_web.specs.declared.site.Site.{Site}
 use Rattle.lobby_web.specs.declared.site.File.{File}
 use Rattle.lobby_web.specs.Pages.{file_at}
 use Rattle.lobby_web.specs.Requests.{field, path_of, is_taken, is_from_page, asks_socket, asks_upgrade, only_reads, served_path}
-use Rattle.lobby_web.specs.Answering.{file_fields, is_known, IsAnswer, IsSocketAnswer, IsPageAnswer, IsKeyAnswer, IsFileAnswer, IsOtherMethodAnswer, IsTold, IsSwitch, IsGranted}
+use Rattle.lobby_web.specs.Answering.{file_fields, same_fields, is_known, IsAnswer, IsSocketAnswer, IsPageAnswer, IsKeyAnswer, IsFileAnswer, IsOtherMethodAnswer, IsTold, IsSwitch, IsGranted}
 
 matched : (b : Bool) (P Q : Type 0) → MatchBool b P Q → ((b ≡ true) × P) ⊎ ((b ≡ false) × Q)
 matched true P Q h = inl (refl, h)
@@ -18,7 +18,7 @@ matched false P Q h = inr (refl, h)
 file-status : (known : List ℕ) (file : Option File) (response : Response) → IsFileAnswer known file response → response.status ≡ 101 → ⊥
 file-status known None response h switch = omega (arith, h.status, switch)
 file-status known (Some file) response h switch =
-    elim (matched (is_known known file) (IsResponse 304 (file_fields file) [] response) (IsResponse 200 (file_fields file) file.bytes response) h) [
+    elim (matched (is_known known file) (IsResponse 304 (same_fields file) [] response) (IsResponse 200 (file_fields file) file.bytes response) h) [
       | inl same ↦ omega (arith, same.1.status, switch)
       | inr other ↦ omega (arith, other.1.status, switch)
     ]

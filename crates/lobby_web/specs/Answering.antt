@@ -1,7 +1,8 @@
 -- What a site answers to a request.
 use Rattle.std.specs.Prelude.{ℕ, ◌≡◌, ◌⊎◌, ◌==◌, ◌||◌, Bool, true, List, [], ◌∷◌, ◌++◌, Option, None, Some, bytes_eq, codes, MatchBool}
 use Rattle.http.specs.declared.request.Request.{Request}
-use Rattle.http1.specs.Fields.{Header}
+use Rattle.std.specs.List.{list_any}
+use Rattle.http1.specs.Fields.{Header, elements}
 use Rattle.http_server.specs.declared.response.Response.{Response}
 use Rattle.http_server.specs.Response.{IsResponse}
 use Rattle.websocket.specs.Handshake.{IsValidKey, accept_key_of}
@@ -17,12 +18,15 @@ use Rattle.lobby_web.specs.Requests.{field, path_of, is_taken, is_from_page, ask
 abbrev pub policy : List ℕ
 policy = codes "default-src 'none'; script-src 'self'; style-src 'self'; img-src 'self'; connect-src 'self'; base-uri 'none'; form-action 'none'; frame-ancestors 'none'"
 
+-- the fields that each answer has but an upgrade
+abbrev pub guards : List Header
+guards =
+    (codes "content-security-policy", policy) ∷ (codes "x-content-type-options", codes "nosniff")
+    ∷ (codes "referrer-policy", codes "no-referrer") ∷ (codes "cache-control", codes "no-cache") ∷ []
+
 -- the fields of an answer of this media type
 abbrev pub guarded : List ℕ → List Header
-guarded kind =
-    (codes "content-type", kind) ∷ (codes "content-security-policy", policy)
-    ∷ (codes "x-content-type-options", codes "nosniff") ∷ (codes "referrer-policy", codes "no-referrer")
-    ∷ (codes "cache-control", codes "no-cache") ∷ []
+guarded kind = (codes "content-type", kind) ∷ guards
 
 abbrev pub plain_text : List ℕ
 plain_text = codes "text/plain; charset=utf-8"
@@ -32,23 +36,37 @@ abbrev pub IsTold : ℕ → List ℕ → Response → Type 0
 IsTold status words = IsResponse status (guarded plain_text) words
 
 -- Pages of other hosts may read games, and nothing else.
-abbrev pub kind_fields : Kind → List Header
-kind_fields Pgn = guarded (media_type Pgn) ++ (codes "access-control-allow-origin", codes "*") ∷ []
-kind_fields kind = guarded (media_type kind)
+abbrev pub readers : Kind → List Header
+readers Pgn = (codes "access-control-allow-origin", codes "*") ∷ []
+readers kind = []
 
--- the fields of an answer of a file: those of its kind, and its entity tag
+-- the fields that a file has of its own: who may read its kind, and its entity tag
+abbrev pub own_fields : File → List Header
+own_fields file = readers file.kind ++ (codes "etag", file.tag.items) ∷ []
+
+-- the fields of an answer of a file
 abbrev pub file_fields : File → List Header
-file_fields file = kind_fields file.kind ++ (codes "etag", file.tag.items) ∷ []
+file_fields file = guarded (media_type file.kind) ++ own_fields file
 
--- Who asks has the file already: `If-None-Match` has its tag, as it is or as a weak one (RFC 9110, 8.8.3.2 and 13.1.2).
+-- those of an answer for who has the file: all but its media type, which who has it knows
+abbrev pub same_fields : File → List Header
+same_fields file = guards ++ own_fields file
+
+-- The entity tag is the file's by the weak comparison, for which a weak one is as good (RFC 9110, 8.8.3.2).
+abbrev pub is_tag_of : File → List ℕ → Bool
+is_tag_of file tag = bytes_eq tag file.tag.items || bytes_eq tag (codes "W/" ++ file.tag.items)
+
+-- Who asks has the file already: If-None-Match is `*`, or one of the entity tags that it lists is the file's (RFC 9110, 13.1.2).
+-- The elements of the list are what stands between its commas (5.6.1). A tag with a comma in it is several of them, and none of
+-- these is a file's: that has its two quotes at its ends, and no comma (`tag_of`).
 abbrev pub is_known : List ℕ → File → Bool
-is_known known file = bytes_eq known file.tag.items || bytes_eq known (codes "W/" ++ file.tag.items)
+is_known known file = bytes_eq known (codes "*") || list_any (is_tag_of file) (elements known)
 
 -- 200 with the file, 304 without it for who has it already, or 404
 abbrev pub IsFileAnswer : List ℕ → Option File → Response → Type 0
 IsFileAnswer known None response = IsTold 404 (codes "There is no such page here.") response
 IsFileAnswer known (Some file) response =
-    MatchBool (is_known known file) (IsResponse 304 (file_fields file) [] response) (IsResponse 200 (file_fields file) file.bytes response)
+    MatchBool (is_known known file) (IsResponse 304 (same_fields file) [] response) (IsResponse 200 (file_fields file) file.bytes response)
 
 -- 405 with the methods that are answered
 abbrev pub IsOtherMethodAnswer : Response → Type 0

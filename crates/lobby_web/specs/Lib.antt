@@ -1,6 +1,7 @@
 pub mod Media
 pub mod Pages
 pub mod Requests
+pub mod Listed
 pub mod Answering
 pub mod Asking
 pub mod Codes

@@ -2,14 +2,16 @@
 ghost use Rattle.std.specs.Prelude.{◌≡◌, ◌++◌, [], Some, false, OnOk, bytes_eq};
 ghost use Rattle.std.specs.Option.{option_copied};
 ghost use Rattle.std.specs.Char.{is_ascii_digit};
-ghost use Rattle.std.specs.List.{list_all};
+ghost use Rattle.std.specs.List.{list_all, list_any};
 ghost use Rattle.http_header.specs.Token.{lowercase};
 ghost use Rattle.http_header.specs.FieldValue.{plain_value};
-ghost use Rattle.http_server.specs.Response.{IsBlank, IsResponse};
+ghost use Rattle.http1.specs.Fields.{elements};
+ghost use Rattle.http_server.specs.Response.{IsBlank, IsResponse, fields_of};
 ghost use Rattle.lobby_web.specs.Media.{media_type};
 ghost use Rattle.lobby_web.specs.Requests.{field, path_of, is_from_page, lists_upgrade, asks_upgrade, only_reads, is_number, names_game, is_board, served_path};
-ghost use Rattle.lobby_web.specs.Answering.{guarded, kind_fields, file_fields, is_known, IsTold, IsFileAnswer, IsOtherMethodAnswer, IsSwitch, IsKeyAnswer, IsSocketAnswer, IsPageAnswer, IsAnswer};
+ghost use Rattle.lobby_web.specs.Answering.{guards, guarded, readers, own_fields, file_fields, same_fields, is_tag_of, is_known, IsTold, IsFileAnswer, IsOtherMethodAnswer, IsSwitch, IsKeyAnswer, IsSocketAnswer, IsPageAnswer, IsAnswer};
 
+use crate::listed::Elements;
 use crate::site::{File, Kind, Site};
 use bytes::{BufMut, Bytes};
 use http::{HeaderName, HeaderValue, Request, StatusCode};
@@ -99,13 +101,12 @@ fn media_type(kind: Kind) -> HeaderValue
 const POLICY: &str =
     "default-src 'none'; script-src 'self'; style-src 'self'; img-src 'self'; connect-src 'self'; base-uri 'none'; form-action 'none'; frame-ancestors 'none'";
 
-// The status and the fields of an answer, and no body yet.
-fn begin(response: &mut Response, status: StatusCode, kind: HeaderValue) -> Result<(), AllocError>
-    requires { IsBlank response.old }
-    ensures { OnOk result (IsResponse status (guarded kind.bytes) [] response.new) }
+// Puts the fields behind others that each answer has but an upgrade.
+fn add_guards(response: &mut Response) -> Result<(), AllocError>
+    ensures headers { OnOk result (fields_of response.new ≡ fields_of response.old ++ guards) }
+    ensures status { response.new.status ≡ response.old.status }
+    ensures body { response.new.body ≡ response.old.body }
 {
-    response.status = status;
-    response.add_header(HeaderName::from_static("content-type"), kind)?;
     response.add_header(
         HeaderName::from_static("content-security-policy"),
         HeaderValue::from_static(POLICY),
@@ -124,6 +125,16 @@ fn begin(response: &mut Response, status: StatusCode, kind: HeaderValue) -> Resu
     )
 }
 
+// The status and the fields of an answer, and no body yet.
+fn begin(response: &mut Response, status: StatusCode, kind: HeaderValue) -> Result<(), AllocError>
+    requires { IsBlank response.old }
+    ensures { OnOk result (IsResponse status (guarded kind.bytes) [] response.new) }
+{
+    response.status = status;
+    response.add_header(HeaderName::from_static("content-type"), kind)?;
+    add_guards(response)
+}
+
 // An answer in words.
 fn tell(response: &mut Response, status: StatusCode, words: &str) -> Result<(), AllocError>
     requires { IsBlank response.old }
@@ -137,12 +148,12 @@ fn tell(response: &mut Response, status: StatusCode, words: &str) -> Result<(), 
     response.body.put_slice(words.as_bytes())
 }
 
-// The status and the fields by the kind of a file: pages of other hosts may read games, and nothing else.
-fn begin_kind(response: &mut Response, status: StatusCode, kind: Kind) -> Result<(), AllocError>
-    requires { IsBlank response.old }
-    ensures { OnOk result (IsResponse status (kind_fields kind) [] response.new) }
+// Puts behind others that pages of other hosts may read what is of this kind, where they may: games, and nothing else.
+fn add_readers(response: &mut Response, kind: Kind) -> Result<(), AllocError>
+    ensures headers { OnOk result (fields_of response.new ≡ fields_of response.old ++ readers kind) }
+    ensures status { response.new.status ≡ response.old.status }
+    ensures body { response.new.body ≡ response.old.body }
 {
-    begin(response, status, media_type(kind))?;
     match kind {
         Kind::Pgn => response.add_header(
             HeaderName::from_static("access-control-allow-origin"),
@@ -152,20 +163,16 @@ fn begin_kind(response: &mut Response, status: StatusCode, kind: Kind) -> Result
     }
 }
 
-// The status and the fields of an answer of a file.
-fn begin_file(
-    alloc: Global,
-    response: &mut Response,
-    status: StatusCode,
-    file: &File,
-) -> Result<(), AllocError>
-    requires { IsBlank response.old }
-    ensures { OnOk result (IsResponse status (file_fields file.now) [] response.new) }
+// Puts the fields that a file has of its own behind others.
+fn add_own(alloc: Global, response: &mut Response, file: &File) -> Result<(), AllocError>
+    ensures headers { OnOk result (fields_of response.new ≡ fields_of response.old ++ own_fields file.now) }
+    ensures status { response.new.status ≡ response.old.status }
+    ensures body { response.new.body ≡ response.old.body }
 {
     let Ok(tag) = HeaderValue::from_bytes(alloc, file.tag()) else {
         return Err(AllocError);
     };
-    begin_kind(response, status, file.kind())?;
+    add_readers(response, file.kind())?;
     response.add_header(HeaderName::from_static("etag"), tag)
 }
 
@@ -174,15 +181,40 @@ fn send(alloc: Global, response: &mut Response, file: &File) -> Result<(), Alloc
     requires { IsBlank response.old }
     ensures { OnOk result (IsResponse 200 (file_fields file.now) file.now.bytes response.new) }
 {
-    begin_file(alloc, response, StatusCode::OK, file)?;
+    begin(response, StatusCode::OK, media_type(file.kind()))?;
+    add_own(alloc, response, file)?;
     response.body.push(file.bytes().clone()?)
 }
 
-// Whether who asks has the file already: by its tag, which one that packs its bytes on the way makes a weak one.
+// That who asks has the file. (its media type is known there too)
+fn spare(alloc: Global, response: &mut Response, file: &File) -> Result<(), AllocError>
+    requires { IsBlank response.old }
+    ensures { OnOk result (IsResponse 304 (same_fields file.now) [] response.new) }
+{
+    response.status = StatusCode::NOT_MODIFIED;
+    add_guards(response)?;
+    add_own(alloc, response, file)
+}
+
+// Whether an entity tag is a file's: one that packs its bytes on the way makes it a weak one.
+fn is_tag_of(file: &File, tag: &[u8]) -> bool
+    ensures { result ≡ is_tag_of file.now tag.now }
+{
+    tag == file.tag() || is_made_of(tag, b"W/", file.tag())
+}
+
+// Whether a list of entity tags has a file's.
+fn lists_tag(file: &File, known: &[u8]) -> bool
+    ensures { result ≡ list_any (is_tag_of file.now) (elements known.now) }
+{
+    Elements::new(known).any(|tag| is_tag_of(file, tag))
+}
+
+// Whether who asks has the file already.
 fn is_known(file: &File, known: &[u8]) -> bool
     ensures { result ≡ is_known known.now file.now }
 {
-    known == file.tag() || is_made_of(known, b"W/", file.tag())
+    known == b"*".as_slice() || lists_tag(file, known)
 }
 
 // A file, or that who asks has it.
@@ -196,7 +228,7 @@ fn answer_file(
     ensures { OnOk result (IsFileAnswer known.now (Some file.now) response.new) }
 {
     if is_known(file, known) {
-        begin_file(alloc, response, StatusCode::NOT_MODIFIED, file)
+        spare(alloc, response, file)
     } else {
         send(alloc, response, file)
     }

@@ -5,6 +5,7 @@
 mod answer;
 mod browser;
 mod laws;
+mod listed;
 mod site;
 mod socket;
 
