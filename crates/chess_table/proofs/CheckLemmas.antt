@@ -119,14 +119,14 @@ move-named (Some h) g text p m is stands names one =
     let same : g ≡ h = cc in
     let here : p ≡ position_of h = stands ∙ ap position_of same in
     record {
-      parsed = subst (λ (q : Position). Names q text m) here names;
-      one = λ other parsed. only other parsed here;
+      told = subst (λ (q : Position). Names q text m) here names;
+      one = λ other named. only other named here;
     }
   where
     only : (other : Option Move) → IsMoveParsed (Some h) (Some text) other → p ≡ position_of h → other ≡ Some m
     only None none here = absurd (none m (subst (λ (q : Position). Names q text m) here names))
-    only (Some n) parsed here =
-        ap (λ (x : Move). Some x) (one n (subst (λ (q : Position). Names q text n) (sym here) parsed))
+    only (Some n) named here =
+        ap (λ (x : Move). Some x) (one n (subst (λ (q : Position). Names q text n) (sym here) named))
 
 pub move-unnamed : (game : Option GameState) (g : GameState) (text : List ℕ) (p : Position) → Some g ≡ game
     → p ≡ position_of g → ((m : Move) → ¬ Names p text m) → IsTheMove game (Some text) None
@@ -136,14 +136,14 @@ move-unnamed (Some h) g text p is stands none =
     let here : p ≡ position_of h = stands ∙ ap position_of same in
     let never : (m : Move) → ¬ Names (position_of h) text m =
     λ m names. none m (subst (λ (q : Position). Names q text m) (sym here) names) in
-    record { parsed = never; one = λ other parsed. only never other parsed }
+    record { told = never; one = λ other named. only never other named }
   where
     only : ((m : Move) → ¬ Names (position_of h) text m) → (other : Option Move)
         → IsMoveParsed (Some h) (Some text) other → other ≡ None
-    only never None parsed = refl
-    only never (Some n) parsed = absurd (never n parsed)
+    only never None named = refl
+    only never (Some n) named = absurd (never n named)
 
--- a told move is the only thing that an act's text tells
+-- a move that is named is the only thing that an act's text tells
 one-parsed : (o : Option GameState) (text : Option (List ℕ)) (mv : Option Move) → IsTheMove o text mv → (other : Parsed)
     → (other.start ≡ None) × IsMoveParsed o text other.move → other ≡ parsed None mv
 one-parsed o text mv the other is =
