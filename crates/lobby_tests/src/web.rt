@@ -279,17 +279,14 @@ const PAGE: &[u8] = b"GET / HTTP/1.1\r\nHost: a:1\r\n\r\n";
 
 const MISSING: &[u8] = b"HTTP/1.1 404 ";
 
-const PGN: &[u8] = b"HTTP/1.1 200 OK\r\ncontent-type: application/x-chess-pgn; charset=utf-8\r\n";
-
-const PLAIN: &[u8] =
-    b"HTTP/1.1 200 OK\r\ncontent-type: text/plain; version=0.0.4; charset=utf-8\r\n";
+const WHOLE: &[u8] = b"HTTP/1.1 200 OK\r\n";
 
 // Both files have these bytes, and are answered so.
 fn check_files(rt: &impl Abort, lab: &mut Lab, bytes: &'static [u8]) {
     put(rt, lab, b"/live.pgn", Kind::Pgn, bytes);
     put(rt, lab, b"/health", Kind::Figures, bytes);
-    check(rt, lab, GAMES, b"", PGN, false);
-    check(rt, lab, FIGURES, b"", PLAIN, false);
+    check(rt, lab, GAMES, b"", WHOLE, false);
+    check(rt, lab, FIGURES, b"", WHOLE, false);
     assert!(rt; ends(rt, lab, GAMES, bytes));
     assert!(rt; ends(rt, lab, FIGURES, bytes));
 }
@@ -298,11 +295,11 @@ fn check_files(rt: &impl Abort, lab: &mut Lab, bytes: &'static [u8]) {
 const ENDS: [(&[u8], &[u8]); 3] = [
     (
         GAMES,
-        b"\r\naccess-control-allow-origin: *\r\netag: \"e3b0c44298fc1c149afbf4c8996fb92427ae41e4649b934ca495991b7852b855\"\r\ncontent-length: 0\r\n\r\n",
+        b"\r\ncontent-type: application/x-chess-pgn; charset=utf-8\r\naccess-control-allow-origin: *\r\netag: \"e3b0c44298fc1c149afbf4c8996fb92427ae41e4649b934ca495991b7852b855\"\r\ncontent-length: 0\r\n\r\n",
     ),
     (
         FIGURES,
-        b"\r\ncache-control: no-cache\r\netag: \"e3b0c44298fc1c149afbf4c8996fb92427ae41e4649b934ca495991b7852b855\"\r\ncontent-length: 0\r\n\r\n",
+        b"\r\ncache-control: no-cache\r\ncontent-type: text/plain; version=0.0.4; charset=utf-8\r\netag: \"e3b0c44298fc1c149afbf4c8996fb92427ae41e4649b934ca495991b7852b855\"\r\ncontent-length: 0\r\n\r\n",
     ),
     (PAGE, b"the page"),
 ];
@@ -319,7 +316,7 @@ fn files_come_and_go(rt: HostRuntime) {
     }
     lab.site.take_off(b"/live.pgn");
     check(&rt, &lab, GAMES, b"", MISSING, false);
-    check(&rt, &lab, FIGURES, b"", PLAIN, false);
+    check(&rt, &lab, FIGURES, b"", WHOLE, false);
 }
 
 // The entity tag of the page, by `sha256sum`.
@@ -355,9 +352,7 @@ const OTHERS: [(&str, bool); 6] = [
     ("\"a\", W/\"b\"", false),
 ];
 
-const SAME: &[u8] = b"HTTP/1.1 304 Not Modified\r\ncontent-security-policy: ";
-
-const WHOLE: &[u8] = b"HTTP/1.1 200 OK\r\ncontent-type: text/html; charset=utf-8\r\n";
+const SAME: &[u8] = b"HTTP/1.1 304 Not Modified\r\n";
 
 // The page is sent to who asks with this, or 304 without it.
 fn check_known(rt: &impl Abort, lab: &Lab, known: &str, has: bool) {
@@ -365,7 +360,9 @@ fn check_known(rt: &impl Abort, lab: &Lab, known: &str, has: bool) {
         "GET / HTTP/1.1\r\nHost: a:1\r\nIf-None-Match: {known}\r\n\r\n"
     );
     let request = request.expect(rt, "memory");
-    let told = format!(in lab.alloc; "\r\netag: {TAG}\r\n\r\n").expect(rt, "memory");
+    // (no media type stands between)
+    let told = format!(in lab.alloc; "\r\ncache-control: no-cache\r\netag: {TAG}\r\n\r\n");
+    let told = told.expect(rt, "memory");
     let (front, end) = if has {
         (SAME, told.as_bytes())
     } else {

@@ -26,7 +26,7 @@ guards =
 
 -- the fields of an answer of this media type
 abbrev pub guarded : List ℕ → List Header
-guarded kind = (codes "content-type", kind) ∷ guards
+guarded kind = guards ++ (codes "content-type", kind) ∷ []
 
 abbrev pub plain_text : List ℕ
 plain_text = codes "text/plain; charset=utf-8"
@@ -40,17 +40,13 @@ abbrev pub readers : Kind → List Header
 readers Pgn = (codes "access-control-allow-origin", codes "*") ∷ []
 readers kind = []
 
--- the fields that a file has of its own: who may read its kind, and its entity tag
-abbrev pub own_fields : File → List Header
-own_fields file = readers file.kind ++ (codes "etag", file.tag.items) ∷ []
-
--- the fields of an answer of a file
+-- the fields of an answer of a file: its media type, who may read its kind, and its entity tag
 abbrev pub file_fields : File → List Header
-file_fields file = guarded (media_type file.kind) ++ own_fields file
+file_fields file = guarded (media_type file.kind) ++ readers file.kind ++ (codes "etag", file.tag.items) ∷ []
 
 -- those of an answer for who has the file: all but its media type, which who has it knows
 abbrev pub same_fields : File → List Header
-same_fields file = guards ++ own_fields file
+same_fields file = guards ++ readers file.kind ++ (codes "etag", file.tag.items) ∷ []
 
 -- The entity tag is the file's by the weak comparison, for which a weak one is as good (RFC 9110, 8.8.3.2).
 abbrev pub is_tag_of : File → List ℕ → Bool

@@ -1,5 +1,5 @@
 //! What a request is answered.
-ghost use Rattle.std.specs.Prelude.{◌≡◌, ◌++◌, [], Some, false, OnOk, bytes_eq};
+ghost use Rattle.std.specs.Prelude.{◌≡◌, ◌++◌, ◌∷◌, [], Some, false, OnOk, bytes_eq, codes};
 ghost use Rattle.std.specs.Option.{option_copied};
 ghost use Rattle.std.specs.Char.{is_ascii_digit};
 ghost use Rattle.std.specs.List.{list_all, list_any};
@@ -9,7 +9,7 @@ ghost use Rattle.http1.specs.Fields.{elements};
 ghost use Rattle.http_server.specs.Response.{IsBlank, IsResponse, fields_of};
 ghost use Rattle.lobby_web.specs.Media.{media_type};
 ghost use Rattle.lobby_web.specs.Requests.{field, path_of, is_from_page, lists_upgrade, asks_upgrade, only_reads, is_number, names_game, is_board, served_path};
-ghost use Rattle.lobby_web.specs.Answering.{guards, guarded, readers, own_fields, file_fields, same_fields, is_tag_of, is_known, IsTold, IsFileAnswer, IsOtherMethodAnswer, IsSwitch, IsKeyAnswer, IsSocketAnswer, IsPageAnswer, IsAnswer};
+ghost use Rattle.lobby_web.specs.Answering.{guards, guarded, readers, file_fields, same_fields, is_tag_of, is_known, IsTold, IsFileAnswer, IsOtherMethodAnswer, IsSwitch, IsKeyAnswer, IsSocketAnswer, IsPageAnswer, IsAnswer};
 
 use crate::listed::Elements;
 use crate::site::{File, Kind, Site};
@@ -101,12 +101,12 @@ fn media_type(kind: Kind) -> HeaderValue
 const POLICY: &str =
     "default-src 'none'; script-src 'self'; style-src 'self'; img-src 'self'; connect-src 'self'; base-uri 'none'; form-action 'none'; frame-ancestors 'none'";
 
-// Puts the fields behind others that each answer has but an upgrade.
-fn add_guards(response: &mut Response) -> Result<(), AllocError>
-    ensures headers { OnOk result (fields_of response.new ≡ fields_of response.old ++ guards) }
-    ensures status { response.new.status ≡ response.old.status }
-    ensures body { response.new.body ≡ response.old.body }
+// The status and the fields that each answer has but an upgrade, and no body yet.
+fn guard(response: &mut Response, status: StatusCode) -> Result<(), AllocError>
+    requires { IsBlank response.old }
+    ensures { OnOk result (IsResponse status guards [] response.new) }
 {
+    response.status = status;
     response.add_header(
         HeaderName::from_static("content-security-policy"),
         HeaderValue::from_static(POLICY),
@@ -125,14 +125,13 @@ fn add_guards(response: &mut Response) -> Result<(), AllocError>
     )
 }
 
-// The status and the fields of an answer, and no body yet.
+// The same with a media type.
 fn begin(response: &mut Response, status: StatusCode, kind: HeaderValue) -> Result<(), AllocError>
     requires { IsBlank response.old }
     ensures { OnOk result (IsResponse status (guarded kind.bytes) [] response.new) }
 {
-    response.status = status;
-    response.add_header(HeaderName::from_static("content-type"), kind)?;
-    add_guards(response)
+    guard(response, status)?;
+    response.add_header(HeaderName::from_static("content-type"), kind)
 }
 
 // An answer in words.
@@ -148,32 +147,31 @@ fn tell(response: &mut Response, status: StatusCode, words: &str) -> Result<(), 
     response.body.put_slice(words.as_bytes())
 }
 
-// Puts behind others that pages of other hosts may read what is of this kind, where they may: games, and nothing else.
+// Puts behind the fields that pages of other hosts may read what is of this kind, where they may: games, and nothing else.
 fn add_readers(response: &mut Response, kind: Kind) -> Result<(), AllocError>
     ensures headers { OnOk result (fields_of response.new ≡ fields_of response.old ++ readers kind) }
     ensures status { response.new.status ≡ response.old.status }
     ensures body { response.new.body ≡ response.old.body }
 {
     match kind {
-        Kind::Pgn => response.add_header(
+        Kind::Pgn => Ok(response.add_header(
             HeaderName::from_static("access-control-allow-origin"),
             HeaderValue::from_static("*"),
-        ),
+        )?),
         _ => Ok(()),
     }
 }
 
-// Puts the fields that a file has of its own behind others.
-fn add_own(alloc: Global, response: &mut Response, file: &File) -> Result<(), AllocError>
-    ensures headers { OnOk result (fields_of response.new ≡ fields_of response.old ++ own_fields file.now) }
+// Puts a file's entity tag behind the fields.
+fn add_tag(alloc: Global, response: &mut Response, file: &File) -> Result<(), AllocError>
+    ensures headers { OnOk result (fields_of response.new ≡ fields_of response.old ++ (codes "etag", file.now.tag.items) ∷ []) }
     ensures status { response.new.status ≡ response.old.status }
     ensures body { response.new.body ≡ response.old.body }
 {
     let Ok(tag) = HeaderValue::from_bytes(alloc, file.tag()) else {
         return Err(AllocError);
     };
-    add_readers(response, file.kind())?;
-    response.add_header(HeaderName::from_static("etag"), tag)
+    Ok(response.add_header(HeaderName::from_static("etag"), tag)?)
 }
 
 // A file, with its media type.
@@ -182,7 +180,8 @@ fn send(alloc: Global, response: &mut Response, file: &File) -> Result<(), Alloc
     ensures { OnOk result (IsResponse 200 (file_fields file.now) file.now.bytes response.new) }
 {
     begin(response, StatusCode::OK, media_type(file.kind()))?;
-    add_own(alloc, response, file)?;
+    add_readers(response, file.kind())?;
+    add_tag(alloc, response, file)?;
     response.body.push(file.bytes().clone()?)
 }
 
@@ -191,9 +190,9 @@ fn spare(alloc: Global, response: &mut Response, file: &File) -> Result<(), Allo
     requires { IsBlank response.old }
     ensures { OnOk result (IsResponse 304 (same_fields file.now) [] response.new) }
 {
-    response.status = StatusCode::NOT_MODIFIED;
-    add_guards(response)?;
-    add_own(alloc, response, file)
+    guard(response, StatusCode::NOT_MODIFIED)?;
+    add_readers(response, file.kind())?;
+    Ok(add_tag(alloc, response, file)?)
 }
 
 // Whether an entity tag is a file's: one that packs its bytes on the way makes it a weak one.
