@@ -125,7 +125,7 @@ pub struct Reporting<'a> {
     pub players: &'a str,
     pub rounds: Vec<Round<'a>>,
     pub source: Source<'a>,
-    pub event: Tournament<'a>,
+    pub tournament: Tournament<'a>,
 }
 
 // An option `--NAME VALUE` of a word.
@@ -484,7 +484,7 @@ fn text_of<'a>(values: &ArgMatches<'a>, name: &str) -> &'a str {
 }
 
 // What is told of the tournament; none where the number of rounds is none.
-fn event_of<'a>(values: &ArgMatches<'a>) -> Option<Tournament<'a>> {
+fn tournament_of<'a>(values: &ArgMatches<'a>) -> Option<Tournament<'a>> {
     let rounds = match values.get_str("all-rounds") {
         Some(text) => Some(number_of(text)?),
         None => None,
@@ -508,10 +508,10 @@ fn reporting_of<'a>(
     alloc: Global,
     values: &ArgMatches<'a>,
 ) -> Result<Option<Reporting<'a>>, AllocError> {
-    let (Some(players), Some(source), Some(event)) = (
+    let (Some(players), Some(source), Some(tournament)) = (
         values.get_str("players"),
         source_of(values),
-        event_of(values),
+        tournament_of(values),
     ) else {
         return Ok(None);
     };
@@ -523,6 +523,6 @@ fn reporting_of<'a>(
         players,
         rounds,
         source,
-        event,
+        tournament,
     }))
 }
