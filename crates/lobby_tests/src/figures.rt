@@ -7,12 +7,13 @@ const LIST: &[u8] =
 
 // What bytes tell that come in two pieces.
 fn told_of(alloc: Global, bytes: &[u8], cut: usize) -> Result<Told, AllocError> {
+    let (front, rest) = bytes.split_at(cut.min(bytes.len()));
     let mut listing = Listing::new(alloc);
-    let first = listing.take(&bytes[..cut])?;
+    let first = listing.take(front)?;
     if first != Told::Nothing {
         return Ok(first);
     }
-    listing.take(&bytes[cut..])
+    listing.take(rest)
 }
 
 #[test]
