@@ -12,8 +12,7 @@ use Rattle.std.specs.Prelude.{OnOk, IsErrOf}
 use Rattle.line_loop.specs.declared.answerer.LoopFault.{LoopFault}
 use Rattle.line_loop.specs.declared.answerer.LoopFault.TheVariants as faults
 use Rattle.line_loop.specs.Outlets.{IsSaid}
-use Rattle.line_loop.specs.Turns.{IsHeard, HasCome, BreaksAt, Takes}
-use Rattle.line_loop.specs.declared.loops.Flow.{Flow}
+use Rattle.line_loop.specs.Turns.{Moment, IsHeard, HasCome, BreaksAt, Takes}
 use Rattle.line_loop.specs.declared.loops.Flow.TheVariants.{Open, TooLong, Broken}
 use Rattle.line_loop.specs.declared.outlet.WriteFault.{WriteFault}
 use Rattle.line_loop.proofs.Runs.{unfinished-nil, heard-nothing}
@@ -25,26 +24,26 @@ said-written old new text h = subst (Appends old new) (sym (append-nil h.front) 
 
 -- what came of the bytes that were read: all that they call for is written
 pub record Stands {S : Type 0} (Asked : S → Type 0) (Answers : S → List ℕ → List ℕ → S → Type 0)
-    (before later old new : Option (List ℕ)) (start s : S) (held ready : List ℕ) : Type 0 where
+    (before later first : Option (List ℕ)) (start : S) (now : Moment S) : Type 0 where
   pub taken : List ℕ
   pub consumed : Consumes before later taken
-  pub come : HasCome Answers start old new [] taken s held
-  pub empty : ready ≡ []
-  pub asked : Asked s
-  pub unfinished : IsUnfinished held
+  pub come : HasCome Answers start first taken now
+  pub empty : now.ready ≡ []
+  pub asked : Asked now.answerer
+  pub unfinished : IsUnfinished now.held
 
 pub stands-first : {S : Type 0} (Asked : S → Type 0) (Answers : S → List ℕ → List ℕ → S → Type 0)
-    (a old : Option (List ℕ)) (s : S) (held ready : List ℕ) → Asked s → held ≡ [] → ready ≡ [] →
-    Stands Asked Answers a a old old s s held ready
-stands-first Asked Answers a old s held ready asked line none = record {
+    (before : Option (List ℕ)) (now : Moment S) → Asked now.answerer → now.held ≡ [] → now.ready ≡ [] →
+    Stands Asked Answers before before now.written now.answerer now
+stands-first Asked Answers before now asked line none = record {
   taken = [];
-  consumed = Consumes-nil a;
+  consumed = Consumes-nil before;
   come = record {
     done = [];
     heard = subst (IsHeard [] []) (sym line) heard-nothing;
     answers = [];
     run = (refl, refl);
-    said = said-nothing old;
+    said = subst (λ (x : List ℕ). IsSaid now.written now.written x []) (sym none) (said-nothing now.written);
   };
   empty = none;
   asked = asked;
@@ -52,10 +51,10 @@ stands-first Asked Answers a old s held ready asked line none = record {
 }
 
 pub stands-kept : {S : Type 0} (Asked : S → Type 0) (Answers : S → List ℕ → List ℕ → S → Type 0)
-    (before left later old new : Option (List ℕ)) (start s : S) (held ready : List ℕ) →
-    Stands Asked Answers before left old new start s held ready → Keeps left later →
-    Stands Asked Answers before later old new start s held ready
-stands-kept Asked Answers before left later old new start s held ready h k = record {
+    (before left later first : Option (List ℕ)) (start : S) (now : Moment S) →
+    Stands Asked Answers before left first start now → Keeps left later →
+    Stands Asked Answers before later first start now
+stands-kept Asked Answers before left later first start now h k = record {
   taken = h.taken;
   consumed = Consumes-kept before left later h.taken h.consumed k;
   come = h.come;
@@ -66,10 +65,10 @@ stands-kept Asked Answers before left later old new start s held ready h k = rec
 
 -- the reader gave nothing more
 pub stands-read : {S : Type 0} (Asked : S → Type 0) (Answers : S → List ℕ → List ℕ → S → Type 0)
-    (before left later old new : Option (List ℕ)) (start s : S) (held ready : List ℕ) →
-    Stands Asked Answers before left old new start s held ready → Consumes left later [] →
-    Stands Asked Answers before later old new start s held ready
-stands-read Asked Answers before left later old new start s held ready h c = record {
+    (before left later first : Option (List ℕ)) (start : S) (now : Moment S) →
+    Stands Asked Answers before left first start now → Consumes left later [] →
+    Stands Asked Answers before later first start now
+stands-read Asked Answers before left later first start now h c = record {
   taken = h.taken;
   consumed = subst (Consumes before later) (append-nil h.taken)
       (Consumes-trans before left later h.taken [] h.consumed c);
@@ -81,61 +80,55 @@ stands-read Asked Answers before left later old new start s held ready h c = rec
 
 -- all lines that were read are answered
 pub stands-all : {S : Type 0} (Asked : S → Type 0) (Answers : S → List ℕ → List ℕ → S → Type 0)
-    (before later old new : Option (List ℕ)) (start s : S) (held ready : List ℕ) →
-    Stands Asked Answers before later old new start s held ready → AnswersAll Answers before later old new start s
-stands-all Asked Answers before later old new start s held ready h =
+    (before later first : Option (List ℕ)) (start : S) (now : Moment S) →
+    Stands Asked Answers before later first start now →
+    AnswersAll Answers before later first now.written start now.answerer
+stands-all Asked Answers before later first start now h =
     let come = h.come in
     let heard = come.heard in
     let short : has_long_line h.taken ≡ false =
-    ap has_long_line heard.cut ∙ heard.is.long held ∙ long-rest held h.unfinished in
+    ap has_long_line heard.cut ∙ heard.is.long now.held ∙ long-rest now.held h.unfinished in
     let lines : lines_of h.taken ≡ come.done =
-    ap lines_of heard.cut ∙ lines-rest_after heard.whole held heard.is h.unfinished ∙ heard.lines in
+    ap lines_of heard.cut ∙ lines-rest_after heard.whole now.held heard.is h.unfinished ∙ heard.lines in
     record {
       taken = h.taken;
       consumed = h.consumed;
       text = come.answers;
       is = record {
         answers = come.answers;
-        run = subst (λ (x : List (List ℕ)). IsRun Answers start x come.answers s) (sym lines) come.run;
+        run = subst (λ (x : List (List ℕ)). IsRun Answers start x come.answers now.answerer) (sym lines) come.run;
         whole = sym (append-nil come.answers) ∙ ap (λ (b : Bool). come.answers ++ farewell b) (sym short);
       };
-      appended = said-written old new come.answers come.said;
+      appended = said-written first now.written come.answers
+          (subst (λ (x : List ℕ). IsSaid first now.written x come.answers) h.empty come.said);
       short = short;
     }
 
 module _ {S F : Type 0} (Asked : S → Type 0) (Answers : S → List ℕ → List ℕ → S → Type 0)
-    (Breaks : S → List ℕ → F → S → Type 0) (before left later old now new : Option (List ℕ)) (start s t : S)
-    (held kept ready then : List ℕ) (piece : List ℕ) (h : Stands Asked Answers before left old now start s held ready)
-    (read : Consumes left later piece) where
-  from_empty : (result : Result (Flow F) WriteFault) →
-      Takes Asked Answers Breaks now ready s held piece result new then t kept →
-      Takes Asked Answers Breaks now [] s held piece result new then t kept
-  from_empty result takes = subst (λ (x : List ℕ). Takes Asked Answers Breaks now x s held piece result new then t kept)
-      h.empty takes
-
+    (Breaks : S → List ℕ → F → S → Type 0) (before left later first : Option (List ℕ)) (start : S) (old new : Moment S)
+    (piece : List ℕ) (h : Stands Asked Answers before left first start old) (read : Consumes left later piece) where
   consumes : Consumes before later (h.taken ++ piece)
   consumes = Consumes-trans before left later h.taken piece h.consumed read
 
   -- one piece more
-  pub stands-more : then ≡ [] → Takes Asked Answers Breaks now ready s held piece (Ok Open) new then t kept →
-      Stands Asked Answers before later old new start t kept then
+  pub stands-more : new.ready ≡ [] → Takes Asked Answers Breaks old piece (Ok Open) new →
+      Stands Asked Answers before later first start new
   stands-more none takes =
-      let (asked, un, come) = from_empty (Ok Open) takes in
+      let (asked, un, come) = takes in
       record {
         taken = h.taken ++ piece;
         consumed = consumes;
-        come = subst (λ (x : List ℕ). HasCome Answers start old new x (h.taken ++ piece) t kept) none
-            (come start old h.taken h.come);
+        come = come start first h.taken h.come;
         empty = none;
         asked = asked;
         unfinished = un;
       }
 
   -- a line is too long
-  pub stands-long : then ≡ [] → Takes Asked Answers Breaks now ready s held piece (Ok TooLong) new then t kept →
-      AnswersLong Answers before later old new start t
+  pub stands-long : new.ready ≡ [] → Takes Asked Answers Breaks old piece (Ok TooLong) new →
+      AnswersLong Answers before later first new.written start new.answerer
   stands-long none takes =
-      let k = from_empty (Ok TooLong) takes start old h.taken h.come in
+      let k = takes start first h.taken h.come in
       let taken = h.taken ++ piece in
       let cut : (more : List ℕ) → taken ++ more ≡ k.heard.whole ++ (k.after ++ more) = λ more.
       ap (λ (x : List ℕ). x ++ more) k.heard.cut ∙ append_assoc k.heard.whole k.after more in
@@ -151,11 +144,11 @@ module _ {S F : Type 0} (Asked : S → Type 0) (Answers : S → List ℕ → Lis
         text = k.answers ++ farewell true;
         is = λ more. record {
           answers = k.answers;
-          run = subst (λ (x : List (List ℕ)). IsRun Answers start x k.answers t) (sym (lines more)) k.run;
+          run = subst (λ (x : List (List ℕ)). IsRun Answers start x k.answers new.answerer) (sym (lines more)) k.run;
           whole = ap (λ (b : Bool). k.answers ++ farewell b) (sym (long more));
         };
-        appended = said-written old new (k.answers ++ farewell true)
-            (subst (λ (x : List ℕ). IsSaid old new x (k.answers ++ farewell true)) none k.said);
+        appended = said-written first new.written (k.answers ++ farewell true)
+            (subst (λ (x : List ℕ). IsSaid first new.written x (k.answers ++ farewell true)) none k.said);
         long = ap has_long_line (sym (append-nil taken)) ∙ long [];
       }
 
@@ -175,13 +168,13 @@ module _ {S F : Type 0} (Asked : S → Type 0) (Answers : S → List ℕ → Lis
   }
 
   -- a line finds no answer
-  pub stands-broken : (fault : F) → then ≡ [] →
-      Takes Asked Answers Breaks now ready s held piece (Ok (Broken fault)) new then t kept →
-      AnswersUntil Answers Breaks fault before later old new start t
-  unfolding lines_broken from_empty
+  pub stands-broken : (fault : F) → new.ready ≡ [] →
+      Takes Asked Answers Breaks old piece (Ok (Broken fault)) new →
+      AnswersUntil Answers Breaks fault before later first new.written start new.answerer
+  unfolding lines_broken
   stands-broken fault none takes =
-      let k = from_empty (Ok (Broken fault)) takes start old h.taken h.come in
-      let finds = lines_broken fault k.after k.mid t k.breaks in
+      let k = takes start first h.taken h.come in
+      let finds = lines_broken fault k.after k.mid new.answerer k.breaks in
       record {
         taken = h.taken ++ piece;
         consumed = consumes;
@@ -193,20 +186,22 @@ module _ {S F : Type 0} (Asked : S → Type 0) (Answers : S → List ℕ → Lis
         mid = k.mid;
         run = k.run;
         breaks = k.breaks.breaks;
-        appended = said-written old new k.answers (subst (λ (x : List ℕ). IsSaid old new x k.answers) none k.said);
+        appended = said-written first new.written k.answers
+            (subst (λ (x : List ℕ). IsSaid first new.written x k.answers) none k.said);
       }
 
-  last_of : (after : List ℕ) (mid : S) → (t ≡ mid) ⊎ ((fault : F) × BreaksAt Breaks fault after mid t) →
-      (t ≡ mid) ⊎ FindsNone Breaks (lines_of after) mid t
+  last_of : (after : List ℕ) (mid : S) →
+      (new.answerer ≡ mid) ⊎ ((fault : F) × BreaksAt Breaks fault after mid new.answerer) →
+      (new.answerer ≡ mid) ⊎ FindsNone Breaks (lines_of after) mid new.answerer
   last_of after mid (inl same) = inl same
-  last_of after mid (inr (fault, breaks)) = inr (lines_broken fault after mid t breaks)
+  last_of after mid (inr (fault, breaks)) = inr (lines_broken fault after mid new.answerer breaks)
 
   -- a write failed
   pub stands-lost : (fault : WriteFault) →
-      Takes Asked Answers Breaks now ready s held piece (Err fault) new then t kept →
-      AnswersInPart Answers Breaks before later old new start t
+      Takes Asked Answers Breaks old piece (Err fault) new →
+      AnswersInPart Answers Breaks before later first new.written start new.answerer
   stands-lost fault takes =
-      let k = from_empty (Err fault) takes start old h.taken h.come in
+      let k = takes start first h.taken h.come in
       let taken = h.taken ++ piece in
       record {
         taken = taken;

@@ -5,9 +5,9 @@ use Rattle.std.proofs.lemmas.List.{take_more, take_rest}
 use Rattle.std.proofs.lemmas.List.Elements.{All-append}
 use Rattle.std.specs.Io.BufRead.{strip_last}
 use Rattle.session_lines.specs.Lines.{is_feed, HasNoFeed, IsUnfinished}
-use Rattle.line_loop.specs.Texts.{farewell}
+use Rattle.line_loop.specs.Texts.{IsRun, farewell}
 use Rattle.line_loop.specs.Outlets.{IsSaid, IsLost, Says, Loses}
-use Rattle.line_loop.specs.Turns.{IsHeard, HasCome, HasGrownLong, BreaksAt, HasBroken, HasLost, Takes}
+use Rattle.line_loop.specs.Turns.{Moment, IsHeard, HasCome, HasGrownLong, BreaksAt, HasBroken, HasLost, Takes}
 use Rattle.line_loop.specs.declared.loops.Flow.{Flow}
 use Rattle.line_loop.specs.declared.loops.Flow.TheVariants.{Open, TooLong, Broken}
 use Rattle.line_loop.specs.declared.outlet.WriteFault.{WriteFault}
@@ -19,15 +19,15 @@ module _ {S F : Type 0} (Asked : S → Type 0) (Answers : S → List ℕ → Lis
   -- ---- what one call does
 
   -- bytes of a line, for which there is room
-  pub took-part : (now : Option (List ℕ)) (ready : List ℕ) (s : S) (held kept part : List ℕ) → Asked s →
-      IsUnfinished held → HasNoFeed part → length held + length part ≤ 255 → kept ≡ held ++ part →
-      Takes Asked Answers Breaks now ready s held part (Ok Open) now ready s kept
-  took-part now ready s held kept part asked u n l k = (
+  pub took-part : (old : Moment S) (kept part : List ℕ) → Asked old.answerer → IsUnfinished old.held → HasNoFeed part →
+      length old.held + length part ≤ 255 → kept ≡ old.held ++ part →
+      Takes Asked Answers Breaks old part (Ok Open) (record old { held = kept })
+  took-part old kept part asked u n l k = (
     asked,
-    subst IsUnfinished (sym k) (unfinished-more held part u n l),
+    subst IsUnfinished (sym k) (unfinished-more old.held part u n l),
     λ start first taken h. record {
       done = h.done;
-      heard = subst (IsHeard (taken ++ part) h.done) (sym k) (heard-more taken h.done held part h.heard);
+      heard = subst (IsHeard (taken ++ part) h.done) (sym k) (heard-more taken h.done old.held part h.heard);
       answers = h.answers;
       run = h.run;
       said = h.said;
@@ -38,144 +38,144 @@ module _ {S F : Type 0} (Asked : S → Type 0) (Answers : S → List ℕ → Lis
   no_feed-both held part u n = All-append (λ b. is_feed b ≡ false) held part u.no_feed n
 
   -- a line that is too long
-  pub took-long : (now new : Option (List ℕ)) (ready left : List ℕ) (s : S) (held kept part : List ℕ) →
-      IsUnfinished held → HasNoFeed part → 255 < length held + length part → Says now ready (farewell true) new left →
-      Takes Asked Answers Breaks now ready s held part (Ok TooLong) new left s kept
-  took-long now new ready left s held kept part u n l says = λ start first taken h. record {
+  pub took-long : (old new : Moment S) (part : List ℕ) → new.answerer ≡ old.answerer → IsUnfinished old.held →
+      HasNoFeed part → 255 < length old.held + length part →
+      Says old.written old.ready (farewell true) new.written new.ready →
+      Takes Asked Answers Breaks old part (Ok TooLong) new
+  took-long old new part same u n l says = λ start first taken h. record {
     done = h.done;
-    after = held ++ part;
-    heard = heard-more taken h.done held part h.heard;
-    long = too-long (held ++ part) (no_feed-both held part u n) (omega (arith, length-append held part));
+    after = old.held ++ part;
+    heard = heard-more taken h.done old.held part h.heard;
+    long = too-long (old.held ++ part) (no_feed-both old.held part u n) (omega (arith, length-append old.held part));
     answers = h.answers;
-    run = h.run;
+    run = subst (IsRun Answers start h.done h.answers) (sym same) h.run;
     said = says first h.answers h.said;
   }
 
-  pub lost-long : (now new : Option (List ℕ)) (ready left : List ℕ) (s : S) (held kept part : List ℕ)
-      (fault : WriteFault) → IsUnfinished held → HasNoFeed part → 255 < length held + length part →
-      Loses now ready (farewell true) new →
-      Takes Asked Answers Breaks now ready s held part (Err fault) new left s kept
-  lost-long now new ready left s held kept part fault u n l loses = λ start first taken h. record {
+  pub lost-long : (old new : Moment S) (part : List ℕ) (fault : WriteFault) → new.answerer ≡ old.answerer →
+      IsUnfinished old.held → HasNoFeed part → 255 < length old.held + length part →
+      Loses old.written old.ready (farewell true) new.written →
+      Takes Asked Answers Breaks old part (Err fault) new
+  lost-long old new part fault same u n l loses = λ start first taken h. record {
     done = h.done;
-    after = held ++ part;
-    heard = heard-more taken h.done held part h.heard;
+    after = old.held ++ part;
+    heard = heard-more taken h.done old.held part h.heard;
     answers = h.answers;
-    mid = s;
+    mid = old.answerer;
     run = h.run;
-    last = inl refl;
+    last = inl same;
     is_long = true;
-    long = λ _. too-long (held ++ part) (no_feed-both held part u n) (omega (arith, length-append held part));
+    long = λ _. too-long (old.held ++ part) (no_feed-both old.held part u n)
+        (omega (arith, length-append old.held part));
     lost = loses first h.answers h.said;
   }
 
   -- a line that ends, and is answered
-  pub took-feed : (now new : Option (List ℕ)) (ready left : List ℕ) (s t : S) (held kept answer : List ℕ) → Asked t →
-      IsUnfinished held → kept ≡ [] → Answers s (strip_last 13 held) answer t → Says now ready answer new left →
-      Takes Asked Answers Breaks now ready s held (10 ∷ []) (Ok Open) new left t kept
-  took-feed now new ready left s t held kept answer asked u k is says = (
+  pub took-feed : (old new : Moment S) (answer : List ℕ) → Asked new.answerer → IsUnfinished old.held →
+      new.held ≡ [] → Answers old.answerer (strip_last 13 old.held) answer new.answerer →
+      Says old.written old.ready answer new.written new.ready →
+      Takes Asked Answers Breaks old (10 ∷ []) (Ok Open) new
+  took-feed old new answer asked u none is says = (
     asked,
-    subst IsUnfinished (sym k) unfinished-nil,
+    subst IsUnfinished (sym none) unfinished-nil,
     λ start first taken h. record {
-      done = h.done ++ strip_last 13 held ∷ [];
-      heard = subst (IsHeard (taken ++ 10 ∷ []) (h.done ++ strip_last 13 held ∷ [])) (sym k)
-          (heard-feed taken h.done held h.heard u);
+      done = h.done ++ strip_last 13 old.held ∷ [];
+      heard = subst (IsHeard (taken ++ 10 ∷ []) (h.done ++ strip_last 13 old.held ∷ [])) (sym none)
+          (heard-feed taken h.done old.held h.heard u);
       answers = h.answers ++ answer;
-      run = run-more Answers start h.done h.answers s (strip_last 13 held) answer t h.run is;
+      run = run-more Answers start h.done h.answers old.answerer (strip_last 13 old.held) answer new.answerer h.run is;
       said = says first h.answers h.said;
     },
   )
 
-  pub lost-feed : (now new : Option (List ℕ)) (ready left : List ℕ) (s t : S) (held kept answer : List ℕ)
-      (fault : WriteFault) → IsUnfinished held → Answers s (strip_last 13 held) answer t → Loses now ready answer new →
-      Takes Asked Answers Breaks now ready s held (10 ∷ []) (Err fault) new left t kept
-  lost-feed now new ready left s t held kept answer fault u is loses = λ start first taken h. record {
-    done = h.done ++ strip_last 13 held ∷ [];
+  pub lost-feed : (old new : Moment S) (answer : List ℕ) (fault : WriteFault) → IsUnfinished old.held →
+      Answers old.answerer (strip_last 13 old.held) answer new.answerer →
+      Loses old.written old.ready answer new.written →
+      Takes Asked Answers Breaks old (10 ∷ []) (Err fault) new
+  lost-feed old new answer fault u is loses = λ start first taken h. record {
+    done = h.done ++ strip_last 13 old.held ∷ [];
     after = [];
-    heard = heard-feed taken h.done held h.heard u;
+    heard = heard-feed taken h.done old.held h.heard u;
     answers = h.answers ++ answer;
-    mid = t;
-    run = run-more Answers start h.done h.answers s (strip_last 13 held) answer t h.run is;
+    mid = new.answerer;
+    run = run-more Answers start h.done h.answers old.answerer (strip_last 13 old.held) answer new.answerer h.run is;
     last = inl refl;
     is_long = false;
     long = λ e. absurd (false≢true e);
-    lost = subst (IsLost first new) (sym (append-nil (h.answers ++ answer))) (loses first h.answers h.said);
+    lost = subst (IsLost first new.written) (sym (append-nil (h.answers ++ answer))) (loses first h.answers h.said);
   }
 
   -- a line that ends, and finds no answer
-  pub broke-feed : (now : Option (List ℕ)) (ready : List ℕ) (s t : S) (held kept : List ℕ) (fault : F) →
-      IsUnfinished held → Breaks s (strip_last 13 held) fault t →
-      Takes Asked Answers Breaks now ready s held (10 ∷ []) (Ok (Broken fault)) now ready t kept
-  broke-feed now ready s t held kept fault u is = λ start first taken h. record {
+  pub broke-feed : (old : Moment S) (t : S) (kept : List ℕ) (fault : F) → IsUnfinished old.held →
+      Breaks old.answerer (strip_last 13 old.held) fault t →
+      Takes Asked Answers Breaks old (10 ∷ []) (Ok (Broken fault)) (record old { answerer = t; held = kept })
+  broke-feed old t kept fault u is = λ start first taken h. record {
     done = h.done;
-    after = held ++ 10 ∷ [];
-    heard = heard-more taken h.done held (10 ∷ []) h.heard;
+    after = old.held ++ 10 ∷ [];
+    heard = heard-more taken h.done old.held (10 ∷ []) h.heard;
     answers = h.answers;
-    mid = s;
+    mid = old.answerer;
     run = h.run;
-    breaks = record { part = held; after = []; split = refl; unfinished = u; breaks = is };
+    breaks = record { part = old.held; after = []; split = refl; unfinished = u; breaks = is };
     said = h.said;
   }
 
   -- a fault that is passed on
-  pub passed_on : (a b : Option (List ℕ)) (q r : List ℕ) (s t : S) (held kept bytes : List ℕ)
-      (result : Result (Flow F) WriteFault) (fault : WriteFault) → result ≡ Err fault →
-      Takes Asked Answers Breaks a q s held bytes (Err fault) b r t kept →
-      Takes Asked Answers Breaks a q s held bytes result b r t kept
-  passed_on a b q r s t held kept bytes result fault is takes =
-      subst (λ (x : Result (Flow F) WriteFault). Takes Asked Answers Breaks a q s held bytes x b r t kept) (sym is) takes
+  pub passed_on : (a b : Moment S) (bytes : List ℕ) (result : Result (Flow F) WriteFault) (fault : WriteFault) →
+      result ≡ Err fault → Takes Asked Answers Breaks a bytes (Err fault) b →
+      Takes Asked Answers Breaks a bytes result b
+  passed_on a b bytes result fault is takes =
+      subst (λ (x : Result (Flow F) WriteFault). Takes Asked Answers Breaks a bytes x b) (sym is) takes
 
-  pub flow_is : (a b : Option (List ℕ)) (q r : List ℕ) (s t : S) (held kept bytes : List ℕ) (flow other : Flow F) →
-      flow ≡ other → Takes Asked Answers Breaks a q s held bytes (Ok flow) b r t kept →
-      Takes Asked Answers Breaks a q s held bytes (Ok other) b r t kept
-  flow_is a b q r s t held kept bytes flow other is takes =
-      subst (λ (x : Flow F). Takes Asked Answers Breaks a q s held bytes (Ok x) b r t kept) is takes
+  pub flow_is : (a b : Moment S) (bytes : List ℕ) (flow other : Flow F) → flow ≡ other →
+      Takes Asked Answers Breaks a bytes (Ok flow) b → Takes Asked Answers Breaks a bytes (Ok other) b
+  flow_is a b bytes flow other is takes =
+      subst (λ (x : Flow F). Takes Asked Answers Breaks a bytes (Ok x) b) is takes
 
   -- ---- one call after another
 
-  pub then-takes : (a b c : Option (List ℕ)) (q r l : List ℕ) (s t u : S) (held kept left bytes more : List ℕ)
-      (result : Result (Flow F) WriteFault) → Takes Asked Answers Breaks a q s held bytes (Ok Open) b r t kept →
-      Takes Asked Answers Breaks b r t kept more result c l u left →
-      Takes Asked Answers Breaks a q s held (bytes ++ more) result c l u left
-  then-takes a b c q r l s t u held kept left bytes more (Ok Open) (asked, un, come) (asked', un', come') = (
+  pub then-takes : (a b c : Moment S) (bytes more : List ℕ) (result : Result (Flow F) WriteFault) →
+      Takes Asked Answers Breaks a bytes (Ok Open) b → Takes Asked Answers Breaks b more result c →
+      Takes Asked Answers Breaks a (bytes ++ more) result c
+  then-takes a b c bytes more (Ok Open) (asked, un, come) (asked', un', come') = (
     asked',
     un',
-    λ start first taken h. subst (λ (x : List ℕ). HasCome Answers start first c l x u left)
+    λ start first taken h. subst (λ (x : List ℕ). HasCome Answers start first x c)
         (append_assoc taken bytes more) (come' start first (taken ++ bytes) (come start first taken h)),
   )
-  then-takes a b c q r l s t u held kept left bytes more (Ok TooLong) (asked, un, come) then =
-      λ start first taken h. subst (λ (x : List ℕ). HasGrownLong Answers start first c l x u)
+  then-takes a b c bytes more (Ok TooLong) (asked, un, come) then =
+      λ start first taken h. subst (λ (x : List ℕ). HasGrownLong Answers start first x c)
       (append_assoc taken bytes more) (then start first (taken ++ bytes) (come start first taken h))
-  then-takes a b c q r l s t u held kept left bytes more (Ok (Broken fault)) (asked, un, come) then =
-      λ start first taken h. subst (λ (x : List ℕ). HasBroken Answers Breaks fault start first c l x u)
+  then-takes a b c bytes more (Ok (Broken fault)) (asked, un, come) then =
+      λ start first taken h. subst (λ (x : List ℕ). HasBroken Answers Breaks fault start first x c)
       (append_assoc taken bytes more) (then start first (taken ++ bytes) (come start first taken h))
-  then-takes a b c q r l s t u held kept left bytes more (Err fault) (asked, un, come) then =
-      λ start first taken h. subst (λ (x : List ℕ). HasLost Answers Breaks start first c x u)
+  then-takes a b c bytes more (Err fault) (asked, un, come) then =
+      λ start first taken h. subst (λ (x : List ℕ). HasLost Answers Breaks start first c.written x c.answerer)
       (append_assoc taken bytes more) (then start first (taken ++ bytes) (come start first taken h))
-
-  -- bytes that come after its end change nothing
-  -- where nothing of a line waits it may come whole
-  pub took-whole : (now new : Option (List ℕ)) (ready left : List ℕ) (s t : S) (held part : List ℕ)
-      (result : Result (Flow F) WriteFault) → Asked s → held ≡ [] → IsUnfinished part →
-      Takes Asked Answers Breaks now ready s part (10 ∷ []) result new left t [] →
-      Takes Asked Answers Breaks now ready s held (part ++ 10 ∷ []) result new left t held
-  took-whole now new ready left s t held part result asked none u takes =
-      subst (λ (x : List ℕ). Takes Asked Answers Breaks now ready s x (part ++ 10 ∷ []) result new left t x) (sym none)
-      (then-takes now now new ready ready left s s t [] part [] part (10 ∷ []) result
-      (took-part now ready s [] part part asked unfinished-nil u.no_feed (omega (arith, u.short)) refl) takes)
 
   -- what has come of a line is let go
-  pub emptied : (a b : Option (List ℕ)) (q r : List ℕ) (s t : S) (held line kept bytes : List ℕ)
-      (result : Result (Flow F) WriteFault) → line ≡ held → kept ≡ [] →
-      Takes Asked Answers Breaks a q s line bytes result b r t [] →
-      Takes Asked Answers Breaks a q s held bytes result b r t kept
-  emptied a b q r s t held line kept bytes result same none takes =
-      subst (λ (x : List ℕ). Takes Asked Answers Breaks a q s held bytes result b r t x) (sym none)
-      (subst (λ (x : List ℕ). Takes Asked Answers Breaks a q s x bytes result b r t []) same takes)
+  pub emptied : (old new : Moment S) (line bytes : List ℕ) (result : Result (Flow F) WriteFault) → line ≡ old.held →
+      new.held ≡ [] → Takes Asked Answers Breaks (record old { held = line }) bytes result (record new { held = [] }) →
+      Takes Asked Answers Breaks old bytes result new
+  emptied old new line bytes result same none takes =
+      subst (λ (x : List ℕ). Takes Asked Answers Breaks old bytes result (record new { held = x })) (sym none)
+      (subst (λ (x : List ℕ). Takes Asked Answers Breaks (record old { held = x }) bytes result (record new { held = [] }))
+      same takes)
 
-  pub over-long : (a b : Option (List ℕ)) (q r : List ℕ) (s t : S) (held kept bytes more : List ℕ) →
-      Takes Asked Answers Breaks a q s held bytes (Ok TooLong) b r t kept →
-      Takes Asked Answers Breaks a q s held (bytes ++ more) (Ok TooLong) b r t kept
-  over-long a b q r s t held kept bytes more takes = λ start first taken h. (
+  -- where nothing of a line waits it may come whole
+  pub took-whole : (old new : Moment S) (part : List ℕ) (result : Result (Flow F) WriteFault) → Asked old.answerer →
+      old.held ≡ [] → new.held ≡ [] → IsUnfinished part →
+      Takes Asked Answers Breaks (record old { held = part }) (10 ∷ []) result (record new { held = [] }) →
+      Takes Asked Answers Breaks old (part ++ 10 ∷ []) result new
+  took-whole old new part result asked none none' u takes =
+      emptied old new [] (part ++ 10 ∷ []) result (sym none) none'
+      (then-takes (record old { held = [] }) (record old { held = part }) (record new { held = [] }) part (10 ∷ []) result
+      (took-part (record old { held = [] }) part part asked unfinished-nil u.no_feed (omega (arith, u.short)) refl) takes)
+
+  -- bytes that come after its end change nothing
+  pub over-long : (a b : Moment S) (bytes more : List ℕ) → Takes Asked Answers Breaks a bytes (Ok TooLong) b →
+      Takes Asked Answers Breaks a (bytes ++ more) (Ok TooLong) b
+  over-long a b bytes more takes = λ start first taken h. (
       let k = takes start first taken h in
       record {
         done = k.done;
@@ -188,10 +188,10 @@ module _ {S F : Type 0} (Asked : S → Type 0) (Answers : S → List ℕ → Lis
         said = k.said;
       })
 
-  pub over-broken : (a b : Option (List ℕ)) (q r : List ℕ) (s t : S) (held kept bytes more : List ℕ) (fault : F) →
-      Takes Asked Answers Breaks a q s held bytes (Ok (Broken fault)) b r t kept →
-      Takes Asked Answers Breaks a q s held (bytes ++ more) (Ok (Broken fault)) b r t kept
-  over-broken a b q r s t held kept bytes more fault takes = λ start first taken h. (
+  pub over-broken : (a b : Moment S) (bytes more : List ℕ) (fault : F) →
+      Takes Asked Answers Breaks a bytes (Ok (Broken fault)) b →
+      Takes Asked Answers Breaks a (bytes ++ more) (Ok (Broken fault)) b
+  over-broken a b bytes more fault takes = λ start first taken h. (
       let k = takes start first taken h in
       record {
         done = k.done;
@@ -201,7 +201,7 @@ module _ {S F : Type 0} (Asked : S → Type 0) (Answers : S → List ℕ → Lis
         answers = k.answers;
         mid = k.mid;
         run = k.run;
-        breaks = breaks-more Breaks fault k.after more k.mid t k.breaks;
+        breaks = breaks-more Breaks fault k.after more k.mid b.answerer k.breaks;
         said = k.said;
       })
 
@@ -210,10 +210,9 @@ module _ {S F : Type 0} (Asked : S → Type 0) (Answers : S → List ℕ → Lis
   last-more after more mid t (inl same) = inl same
   last-more after more mid t (inr (fault, breaks)) = inr (fault, breaks-more Breaks fault after more mid t breaks)
 
-  pub over-lost : (a b : Option (List ℕ)) (q r : List ℕ) (s t : S) (held kept bytes more : List ℕ)
-      (fault : WriteFault) → Takes Asked Answers Breaks a q s held bytes (Err fault) b r t kept →
-      Takes Asked Answers Breaks a q s held (bytes ++ more) (Err fault) b r t kept
-  over-lost a b q r s t held kept bytes more fault takes = λ start first taken h. (
+  pub over-lost : (a b : Moment S) (bytes more : List ℕ) (fault : WriteFault) →
+      Takes Asked Answers Breaks a bytes (Err fault) b → Takes Asked Answers Breaks a (bytes ++ more) (Err fault) b
+  over-lost a b bytes more fault takes = λ start first taken h. (
       let k = takes start first taken h in
       record {
         done = k.done;
@@ -223,7 +222,7 @@ module _ {S F : Type 0} (Asked : S → Type 0) (Answers : S → List ℕ → Lis
         answers = k.answers;
         mid = k.mid;
         run = k.run;
-        last = last-more k.after more k.mid t k.last;
+        last = last-more k.after more k.mid b.answerer k.last;
         is_long = k.is_long;
         long = λ e. too-long-more k.after more (k.long e);
         lost = k.lost;
@@ -231,10 +230,10 @@ module _ {S F : Type 0} (Asked : S → Type 0) (Answers : S → List ℕ → Lis
 
   -- ---- what is ready is written behind a call
 
-  pub then-handed : (a b c : Option (List ℕ)) (q r l : List ℕ) (s t : S) (held kept bytes : List ℕ) (flow : Flow F) →
-      Takes Asked Answers Breaks a q s held bytes (Ok flow) b r t kept → Says b r [] c l →
-      Takes Asked Answers Breaks a q s held bytes (Ok flow) c l t kept
-  then-handed a b c q r l s t held kept bytes Open (asked, un, come) says = (
+  pub then-handed : (a b : Moment S) (written : Option (List ℕ)) (left bytes : List ℕ) (flow : Flow F) →
+      Takes Asked Answers Breaks a bytes (Ok flow) b → Says b.written b.ready [] written left →
+      Takes Asked Answers Breaks a bytes (Ok flow) (record b { written = written; ready = left })
+  then-handed a b written left bytes Open (asked, un, come) says = (
     asked,
     un,
     λ start first taken h.
@@ -244,10 +243,10 @@ module _ {S F : Type 0} (Asked : S → Type 0) (Answers : S → List ℕ → Lis
           heard = k.heard;
           answers = k.answers;
           run = k.run;
-          said = subst (IsSaid first c l) (append-nil k.answers) (says first k.answers k.said);
+          said = subst (IsSaid first written left) (append-nil k.answers) (says first k.answers k.said);
         },
   )
-  then-handed a b c q r l s t held kept bytes TooLong takes says = λ start first taken h. (
+  then-handed a b written left bytes TooLong takes says = λ start first taken h. (
       let k = takes start first taken h in
       record {
         done = k.done;
@@ -256,10 +255,10 @@ module _ {S F : Type 0} (Asked : S → Type 0) (Answers : S → List ℕ → Lis
         long = k.long;
         answers = k.answers;
         run = k.run;
-        said = subst (IsSaid first c l) (append-nil (k.answers ++ farewell true))
+        said = subst (IsSaid first written left) (append-nil (k.answers ++ farewell true))
             (says first (k.answers ++ farewell true) k.said);
       })
-  then-handed a b c q r l s t held kept bytes (Broken fault) takes says = λ start first taken h. (
+  then-handed a b written left bytes (Broken fault) takes says = λ start first taken h. (
       let k = takes start first taken h in
       record {
         done = k.done;
@@ -269,42 +268,42 @@ module _ {S F : Type 0} (Asked : S → Type 0) (Answers : S → List ℕ → Lis
         mid = k.mid;
         run = k.run;
         breaks = k.breaks;
-        said = subst (IsSaid first c l) (append-nil k.answers) (says first k.answers k.said);
+        said = subst (IsSaid first written left) (append-nil k.answers) (says first k.answers k.said);
       })
 
-  pub then-lost : (a b c : Option (List ℕ)) (q r l : List ℕ) (s t : S) (held kept bytes : List ℕ) (flow : Flow F)
-      (fault : WriteFault) → Takes Asked Answers Breaks a q s held bytes (Ok flow) b r t kept → Loses b r [] c →
-      Takes Asked Answers Breaks a q s held bytes (Err fault) c l t kept
-  then-lost a b c q r l s t held kept bytes Open fault (asked, un, come) loses = λ start first taken h. (
+  pub then-lost : (a b : Moment S) (written : Option (List ℕ)) (left bytes : List ℕ) (flow : Flow F)
+      (fault : WriteFault) → Takes Asked Answers Breaks a bytes (Ok flow) b → Loses b.written b.ready [] written →
+      Takes Asked Answers Breaks a bytes (Err fault) (record b { written = written; ready = left })
+  then-lost a b written left bytes Open fault (asked, un, come) loses = λ start first taken h. (
       let k = come start first taken h in
       record {
         done = k.done;
-        after = kept;
+        after = b.held;
         heard = k.heard;
         answers = k.answers;
-        mid = t;
+        mid = b.answerer;
         run = k.run;
         last = inl refl;
         is_long = false;
         long = λ e. absurd (false≢true e);
         lost = loses first k.answers k.said;
       })
-  then-lost a b c q r l s t held kept bytes TooLong fault takes loses = λ start first taken h. (
+  then-lost a b written left bytes TooLong fault takes loses = λ start first taken h. (
       let k = takes start first taken h in
       record {
         done = k.done;
         after = k.after;
         heard = k.heard;
         answers = k.answers;
-        mid = t;
+        mid = b.answerer;
         run = k.run;
         last = inl refl;
         is_long = true;
         long = λ _. k.long;
-        lost = subst (IsLost first c) (append-nil (k.answers ++ farewell true))
+        lost = subst (IsLost first written) (append-nil (k.answers ++ farewell true))
             (loses first (k.answers ++ farewell true) k.said);
       })
-  then-lost a b c q r l s t held kept bytes (Broken broken) fault takes loses = λ start first taken h. (
+  then-lost a b written left bytes (Broken broken) fault takes loses = λ start first taken h. (
       let k = takes start first taken h in
       record {
         done = k.done;
@@ -337,83 +336,81 @@ split_at all done rest at e l f =
 
 -- what came of the front of a piece, before its rest
 pub record Through {S F : Type 0} (Asked : S → Type 0) (Answers : S → List ℕ → List ℕ → S → Type 0)
-    (Breaks : S → List ℕ → F → S → Type 0) (old now : Option (List ℕ)) (q r : List ℕ) (s t : S)
-    (held kept all rest : List ℕ) : Type 0 where
+    (Breaks : S → List ℕ → F → S → Type 0) (old now : Moment S) (all rest : List ℕ) : Type 0 where
   pub done : List ℕ
   pub split : all ≡ done ++ rest
-  pub takes : Takes Asked Answers Breaks old q s held done (Ok Open) now r t kept
+  pub takes : Takes Asked Answers Breaks old done (Ok Open) now
 
 module _ {S F : Type 0} (Asked : S → Type 0) (Answers : S → List ℕ → List ℕ → S → Type 0)
     (Breaks : S → List ℕ → F → S → Type 0) where
-  pub through-nothing : (old : Option (List ℕ)) (q : List ℕ) (s : S) (held all : List ℕ) → Asked s → IsUnfinished held →
-      Through Asked Answers Breaks old old q q s s held held all all
-  through-nothing old q s held all asked u = record {
+  pub through-nothing : (now : Moment S) (all : List ℕ) → Asked now.answerer → IsUnfinished now.held →
+      Through Asked Answers Breaks now now all all
+  through-nothing now all asked u = record {
     done = [];
     split = refl;
     takes = (
       asked,
       u,
-      λ start first taken h. subst (λ (x : List ℕ). HasCome Answers start first old q x s held)
-          (sym (append-nil taken)) h,
+      λ start first taken h. subst (λ (x : List ℕ). HasCome Answers start first x now) (sym (append-nil taken)) h,
     );
   }
 
   -- one line more
-  pub through-line : (old now new : Option (List ℕ)) (q r l : List ℕ) (s t u : S) (held kept left all rest next : List ℕ)
-      (at : ℕ) → Through Asked Answers Breaks old now q r s t held kept all rest →
-      Takes Asked Answers Breaks now r t kept (take at rest ++ 10 ∷ []) (Ok Open) new l u left →
+  pub through-line : (old now new : Moment S) (all rest next : List ℕ)
+      (at : ℕ) → Through Asked Answers Breaks old now all rest →
+      Takes Asked Answers Breaks now (take at rest ++ 10 ∷ []) (Ok Open) new →
       at < length rest → get_or rest at 0 ≡ 10 → next ≡ take (length rest - (at + 1)) (drop (at + 1) rest) →
-      Through Asked Answers Breaks old new q l s u held left all next
-  through-line old now new q r l s t u held kept left all rest next at h takes lt e f = record {
+      Through Asked Answers Breaks old new all next
+  through-line old now new all rest next at h takes lt e f = record {
     done = h.done ++ (take at rest ++ 10 ∷ []);
     split = split_at all h.done rest at h.split lt e
         ∙ ap (λ (x : List ℕ). (h.done ++ (take at rest ++ 10 ∷ [])) ++ x) (sym (f ∙ take_rest rest (at + 1)));
-    takes = then-takes Asked Answers Breaks old now new q r l s t u held kept left h.done (take at rest ++ 10 ∷ [])
+    takes = then-takes Asked Answers Breaks old now new h.done (take at rest ++ 10 ∷ [])
         (Ok Open) h.takes takes;
   }
 
   -- a line at which it ends
-  pub through-long : (old now new : Option (List ℕ)) (q r l : List ℕ) (s t u : S) (held kept left all rest : List ℕ)
-      (at : ℕ) → Through Asked Answers Breaks old now q r s t held kept all rest →
-      Takes Asked Answers Breaks now r t kept (take at rest ++ 10 ∷ []) (Ok TooLong) new l u left →
+  pub through-long : (old now new : Moment S) (all rest : List ℕ)
+      (at : ℕ) → Through Asked Answers Breaks old now all rest →
+      Takes Asked Answers Breaks now (take at rest ++ 10 ∷ []) (Ok TooLong) new →
       at < length rest → get_or rest at 0 ≡ 10 →
-      Takes Asked Answers Breaks old q s held all (Ok TooLong) new l u left
-  through-long old now new q r l s t u held kept left all rest at h takes lt e =
-      subst (λ (x : List ℕ). Takes Asked Answers Breaks old q s held x (Ok TooLong) new l u left)
+      Takes Asked Answers Breaks old all (Ok TooLong) new
+  through-long old now new all rest at h takes lt e =
+      subst (λ (x : List ℕ). Takes Asked Answers Breaks old x (Ok TooLong) new)
       (sym (split_at all h.done rest at h.split lt e))
-      (over-long Asked Answers Breaks old new q l s u held left (h.done ++ (take at rest ++ 10 ∷ []))
-      (drop (at + 1) rest) (then-takes Asked Answers Breaks old now new q r l s t u held kept left h.done
+      (over-long Asked Answers Breaks old new (h.done ++ (take at rest ++ 10 ∷ []))
+      (drop (at + 1) rest) (then-takes Asked Answers Breaks old now new h.done
       (take at rest ++ 10 ∷ []) (Ok TooLong) h.takes takes))
 
-  pub through-broken : (old now new : Option (List ℕ)) (q r l : List ℕ) (s t u : S) (held kept left all rest : List ℕ)
-      (at : ℕ) (fault : F) → Through Asked Answers Breaks old now q r s t held kept all rest →
-      Takes Asked Answers Breaks now r t kept (take at rest ++ 10 ∷ []) (Ok (Broken fault)) new l u left →
+  pub through-broken : (old now new : Moment S) (all rest : List ℕ)
+      (at : ℕ) (fault : F) → Through Asked Answers Breaks old now all rest →
+      Takes Asked Answers Breaks now (take at rest ++ 10 ∷ []) (Ok (Broken fault)) new →
       at < length rest → get_or rest at 0 ≡ 10 →
-      Takes Asked Answers Breaks old q s held all (Ok (Broken fault)) new l u left
-  through-broken old now new q r l s t u held kept left all rest at fault h takes lt e =
-      subst (λ (x : List ℕ). Takes Asked Answers Breaks old q s held x (Ok (Broken fault)) new l u left)
+      Takes Asked Answers Breaks old all (Ok (Broken fault)) new
+  through-broken old now new all rest at fault h takes lt e =
+      subst (λ (x : List ℕ). Takes Asked Answers Breaks old x (Ok (Broken fault)) new)
       (sym (split_at all h.done rest at h.split lt e))
-      (over-broken Asked Answers Breaks old new q l s u held left (h.done ++ (take at rest ++ 10 ∷ []))
-      (drop (at + 1) rest) fault (then-takes Asked Answers Breaks old now new q r l s t u held kept left h.done
+      (over-broken Asked Answers Breaks old new (h.done ++ (take at rest ++ 10 ∷ []))
+      (drop (at + 1) rest) fault (then-takes Asked Answers Breaks old now new h.done
       (take at rest ++ 10 ∷ []) (Ok (Broken fault)) h.takes takes))
 
-  pub through-lost : (old now new : Option (List ℕ)) (q r l : List ℕ) (s t u : S) (held kept left all rest : List ℕ)
-      (at : ℕ) (fault : WriteFault) → Through Asked Answers Breaks old now q r s t held kept all rest →
-      Takes Asked Answers Breaks now r t kept (take at rest ++ 10 ∷ []) (Err fault) new l u left →
+  pub through-lost : (old now new : Moment S) (all rest : List ℕ)
+      (at : ℕ) (fault : WriteFault) → Through Asked Answers Breaks old now all rest →
+      Takes Asked Answers Breaks now (take at rest ++ 10 ∷ []) (Err fault) new →
       at < length rest → get_or rest at 0 ≡ 10 →
-      Takes Asked Answers Breaks old q s held all (Err fault) new l u left
-  through-lost old now new q r l s t u held kept left all rest at fault h takes lt e =
-      subst (λ (x : List ℕ). Takes Asked Answers Breaks old q s held x (Err fault) new l u left)
+      Takes Asked Answers Breaks old all (Err fault) new
+  through-lost old now new all rest at fault h takes lt e =
+      subst (λ (x : List ℕ). Takes Asked Answers Breaks old x (Err fault) new)
       (sym (split_at all h.done rest at h.split lt e))
-      (over-lost Asked Answers Breaks old new q l s u held left (h.done ++ (take at rest ++ 10 ∷ []))
-      (drop (at + 1) rest) fault (then-takes Asked Answers Breaks old now new q r l s t u held kept left h.done
+      (over-lost Asked Answers Breaks old new (h.done ++ (take at rest ++ 10 ∷ []))
+      (drop (at + 1) rest) fault (then-takes Asked Answers Breaks old now new h.done
       (take at rest ++ 10 ∷ []) (Err fault) h.takes takes))
 
   -- the rest, which ends no line
-  pub through-rest : (old now new : Option (List ℕ)) (q r l : List ℕ) (s t u : S) (held kept left all rest : List ℕ)
-      (result : Result (Flow F) WriteFault) → Through Asked Answers Breaks old now q r s t held kept all rest →
-      Takes Asked Answers Breaks now r t kept rest result new l u left →
-      Takes Asked Answers Breaks old q s held all result new l u left
-  through-rest old now new q r l s t u held kept left all rest result h takes =
-      subst (λ (x : List ℕ). Takes Asked Answers Breaks old q s held x result new l u left) (sym h.split)
-      (then-takes Asked Answers Breaks old now new q r l s t u held kept left h.done rest result h.takes takes)
+  pub through-rest : (old now new : Moment S) (all rest : List ℕ)
+      (result : Result (Flow F) WriteFault) → Through Asked Answers Breaks old now all rest →
+      Takes Asked Answers Breaks now rest result new →
+      Takes Asked Answers Breaks old all result new
+  through-rest old now new all rest result h takes =
+      subst (λ (x : List ℕ). Takes Asked Answers Breaks old x result new) (sym h.split)
+      (then-takes Asked Answers Breaks old now new h.done rest result h.takes takes)

@@ -1,4 +1,5 @@
--- How the loop goes on: `start` and `first` are from its beginning, `taken` is what was taken since then.
+-- How the loop goes on: `start` and `first` are from its beginning, `taken` is what was taken since then, and `now` is
+-- the moment that is spoken of.
 use Rattle.std.specs.Prelude.{ℕ, ◌≡◌, ◌⊎◌, Bool, true, List, [], ◌∷◌, ◌++◌, Option, Result, Ok, Err}
 use Rattle.std.specs.Io.BufRead.{strip_last}
 use Rattle.session_lines.specs.Lines.{lines_of, has_long_line, IsUnfinished}
@@ -7,7 +8,19 @@ use Rattle.line_loop.specs.Texts.{IsRun, farewell}
 use Rattle.line_loop.specs.Outlets.{IsSaid, IsLost}
 use Rattle.line_loop.specs.declared.loops.Flow.{Flow}
 use Rattle.line_loop.specs.declared.loops.Flow.TheVariants.{Open, TooLong, Broken}
+use Rattle.line_loop.specs.declared.loops.LoopState.{LoopState}
 use Rattle.line_loop.specs.declared.outlet.WriteFault.{WriteFault}
+
+-- The loop at a moment: what the writer holds, what is ready behind it, who answers, and what came of the next line.
+pub record Moment (S : Type 0) : Type 0 where
+  pub written : Option (List ℕ)
+  pub ready : List ℕ
+  pub answerer : S
+  pub held : List ℕ
+
+abbrev pub moment_of : {A : Type 0} → LoopState A → Option (List ℕ) → Moment A
+moment_of state written =
+    record { written = written; ready = state.ready.bytes; answerer = state.answerer; held = state.line.items }
 
 -- What was taken is whole lines, which were answered, and what comes after them.
 pub record IsHeard (taken : List ℕ) (done : List (List ℕ)) (after : List ℕ) : Type 0 where
@@ -21,25 +34,25 @@ pub record IsTooLong (bytes : List ℕ) : Type 0 where
   pub none : (more : List ℕ) → lines_of (bytes ++ more) ≡ []
   pub long : (more : List ℕ) → has_long_line (bytes ++ more) ≡ true
 
--- All whole lines were answered, and `held` has come of the next.
-pub record HasCome {S : Type 0} (Answers : S → List ℕ → List ℕ → S → Type 0) (start : S) (first now : Option (List ℕ))
-    (ready taken : List ℕ) (s : S) (held : List ℕ) : Type 0 where
+-- All whole lines were answered, and what is held has come of the next.
+pub record HasCome {S : Type 0} (Answers : S → List ℕ → List ℕ → S → Type 0) (start : S) (first : Option (List ℕ))
+    (taken : List ℕ) (now : Moment S) : Type 0 where
   pub done : List (List ℕ)
-  pub heard : IsHeard taken done held
+  pub heard : IsHeard taken done now.held
   pub answers : List ℕ
-  pub run : IsRun Answers start done answers s
-  pub said : IsSaid first now ready answers
+  pub run : IsRun Answers start done answers now.answerer
+  pub said : IsSaid first now.written now.ready answers
 
 -- They were, and the next line is too long.
 pub record HasGrownLong {S : Type 0} (Answers : S → List ℕ → List ℕ → S → Type 0) (start : S)
-    (first now : Option (List ℕ)) (ready taken : List ℕ) (s : S) : Type 0 where
+    (first : Option (List ℕ)) (taken : List ℕ) (now : Moment S) : Type 0 where
   pub done : List (List ℕ)
   pub after : List ℕ
   pub heard : IsHeard taken done after
   pub long : IsTooLong after
   pub answers : List ℕ
-  pub run : IsRun Answers start done answers s
-  pub said : IsSaid first now ready (answers ++ farewell true)
+  pub run : IsRun Answers start done answers now.answerer
+  pub said : IsSaid first now.written now.ready (answers ++ farewell true)
 
 -- The first line of these bytes finds no answer.
 pub record BreaksAt {S F : Type 0} (Breaks : S → List ℕ → F → S → Type 0) (fault : F) (bytes : List ℕ) (s t : S)
@@ -52,16 +65,16 @@ pub record BreaksAt {S F : Type 0} (Breaks : S → List ℕ → F → S → Type
 
 -- Some were answered, and the next found no answer.
 pub record HasBroken {S F : Type 0} (Answers : S → List ℕ → List ℕ → S → Type 0)
-    (Breaks : S → List ℕ → F → S → Type 0) (fault : F) (start : S) (first now : Option (List ℕ))
-    (ready taken : List ℕ) (s : S) : Type 0 where
+    (Breaks : S → List ℕ → F → S → Type 0) (fault : F) (start : S) (first : Option (List ℕ)) (taken : List ℕ)
+    (now : Moment S) : Type 0 where
   pub done : List (List ℕ)
   pub after : List ℕ
   pub heard : IsHeard taken done after
   pub answers : List ℕ
   pub mid : S
   pub run : IsRun Answers start done answers mid
-  pub breaks : BreaksAt Breaks fault after mid s
-  pub said : IsSaid first now ready answers
+  pub breaks : BreaksAt Breaks fault after mid now.answerer
+  pub said : IsSaid first now.written now.ready answers
 
 -- A write failed.
 pub record HasLost {S F : Type 0} (Answers : S → List ℕ → List ℕ → S → Type 0) (Breaks : S → List ℕ → F → S → Type 0)
@@ -79,17 +92,16 @@ pub record HasLost {S F : Type 0} (Answers : S → List ℕ → List ℕ → S �
 
 -- What a call did that took bytes, whatever came before.
 abbrev pub Takes : {S F : Type 0} → (S → Type 0) → (S → List ℕ → List ℕ → S → Type 0) → (S → List ℕ → F → S → Type 0)
-    → Option (List ℕ) → List ℕ → S → List ℕ → List ℕ → Result (Flow F) WriteFault → Option (List ℕ) → List ℕ → S
-    → List ℕ → Type 0
-Takes {S = S} Asked Answers Breaks now ready s held bytes (Ok Open) new left t kept = Asked t × IsUnfinished kept
-    × ((start : S) (first : Option (List ℕ)) (taken : List ℕ) → HasCome Answers start first now ready taken s held
-    → HasCome Answers start first new left (taken ++ bytes) t kept)
-Takes {S = S} Asked Answers Breaks now ready s held bytes (Ok TooLong) new left t kept =
-    (start : S) (first : Option (List ℕ)) (taken : List ℕ) → HasCome Answers start first now ready taken s held
-    → HasGrownLong Answers start first new left (taken ++ bytes) t
-Takes {S = S} Asked Answers Breaks now ready s held bytes (Ok (Broken fault)) new left t kept =
-    (start : S) (first : Option (List ℕ)) (taken : List ℕ) → HasCome Answers start first now ready taken s held
-    → HasBroken Answers Breaks fault start first new left (taken ++ bytes) t
-Takes {S = S} Asked Answers Breaks now ready s held bytes (Err fault) new left t kept =
-    (start : S) (first : Option (List ℕ)) (taken : List ℕ) → HasCome Answers start first now ready taken s held
-    → HasLost Answers Breaks start first new (taken ++ bytes) t
+    → Moment S → List ℕ → Result (Flow F) WriteFault → Moment S → Type 0
+Takes {S = S} Asked Answers Breaks old bytes (Ok Open) new = Asked new.answerer × IsUnfinished new.held
+    × ((start : S) (first : Option (List ℕ)) (taken : List ℕ) → HasCome Answers start first taken old
+    → HasCome Answers start first (taken ++ bytes) new)
+Takes {S = S} Asked Answers Breaks old bytes (Ok TooLong) new =
+    (start : S) (first : Option (List ℕ)) (taken : List ℕ) → HasCome Answers start first taken old
+    → HasGrownLong Answers start first (taken ++ bytes) new
+Takes {S = S} Asked Answers Breaks old bytes (Ok (Broken fault)) new =
+    (start : S) (first : Option (List ℕ)) (taken : List ℕ) → HasCome Answers start first taken old
+    → HasBroken Answers Breaks fault start first (taken ++ bytes) new
+Takes {S = S} Asked Answers Breaks old bytes (Err fault) new =
+    (start : S) (first : Option (List ℕ)) (taken : List ℕ) → HasCome Answers start first taken old
+    → HasLost Answers Breaks start first new.written (taken ++ bytes) new.answerer

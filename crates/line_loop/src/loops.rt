@@ -3,7 +3,7 @@ ghost use Rattle.std.specs.Prelude.{ℕ, ◌≡◌, List, [], ◌∷◌, ◌++�
 ghost use Rattle.std.specs.Io.KnownBytes.{Appends, IsAtEnd};
 ghost use Rattle.session_lines.specs.Lines.{HasNoFeed, IsUnfinished};
 ghost use Rattle.line_loop.specs.Texts.{IsText, IsOfSource, Ended};
-ghost use Rattle.line_loop.specs.Turns.{Takes};
+ghost use Rattle.line_loop.specs.Turns.{Takes, moment_of};
 
 use crate::answerer::{Answer, Answerer, LoopFault};
 use crate::outlet::{Ready, WriteFault, hand_out, say, say_answer};
@@ -41,9 +41,8 @@ fn take_part<A: Answerer, W: Write>(
     requires asked { A.is_ready state.old.answerer }
     requires unfinished { IsUnfinished state.old.line.items }
     requires no_feed { HasNoFeed part.now }
-    ensures { Takes A.is_ready A.answers A.breaks (W.contents writer.old) state.old.ready.bytes
-        state.old.answerer state.old.line.items part.now result (W.contents writer.new) state.new.ready.bytes
-        state.new.answerer state.new.line.items }
+    ensures { Takes A.is_ready A.answers A.breaks (moment_of state.old (W.contents writer.old)) part.now
+        result (moment_of state.new (W.contents writer.new)) }
 {
     if state.line.remaining_capacity() < part.len() {
         say(&mut state.ready, "bye LineTooLong\n", writer)?;
@@ -62,8 +61,10 @@ fn answer_line<A: Answerer, W: Write>(
 ) -> Result<Flow<A::Fault>, WriteFault>
     requires asked { A.is_ready answerer.old }
     requires unfinished { IsUnfinished line.now }
-    ensures { Takes A.is_ready A.answers A.breaks (W.contents writer.old) ready.old.bytes answerer.old line.now (10 ∷ [])
-        result (W.contents writer.new) ready.new.bytes answerer.new [] }
+    ensures { Takes A.is_ready A.answers A.breaks
+        record { written = W.contents writer.old; ready = ready.old.bytes; answerer = answerer.old; held = line.now }
+        (10 ∷ []) result
+        record { written = W.contents writer.new; ready = ready.new.bytes; answerer = answerer.new; held = [] } }
 {
     let mut said = Answer {
         line: ArrayString::new(),
@@ -85,9 +86,8 @@ fn end_line<A: Answerer, W: Write>(
 ) -> Result<Flow<A::Fault>, WriteFault>
     requires asked { A.is_ready state.old.answerer }
     requires unfinished { IsUnfinished state.old.line.items }
-    ensures { Takes A.is_ready A.answers A.breaks (W.contents writer.old) state.old.ready.bytes
-        state.old.answerer state.old.line.items (10 ∷ []) result (W.contents writer.new) state.new.ready.bytes
-        state.new.answerer state.new.line.items }
+    ensures { Takes A.is_ready A.answers A.breaks (moment_of state.old (W.contents writer.old)) (10 ∷ [])
+        result (moment_of state.new (W.contents writer.new)) }
 {
     let flow = answer_line(
         &mut state.answerer,
@@ -108,9 +108,8 @@ fn take_line<A: Answerer, W: Write>(
     requires asked { A.is_ready state.old.answerer }
     requires unfinished { IsUnfinished state.old.line.items }
     requires no_feed { HasNoFeed part.now }
-    ensures { Takes A.is_ready A.answers A.breaks (W.contents writer.old) state.old.ready.bytes
-        state.old.answerer state.old.line.items (part.now ++ 10 ∷ []) result (W.contents writer.new)
-        state.new.ready.bytes state.new.answerer state.new.line.items }
+    ensures { Takes A.is_ready A.answers A.breaks (moment_of state.old (W.contents writer.old)) (part.now ++ 10 ∷ [])
+        result (moment_of state.new (W.contents writer.new)) }
 {
     // A line that came whole, as nearly all do, is answered where it lies.
     if state.line.is_empty() && part.len() <= LINE_ROOM {
@@ -131,9 +130,8 @@ fn take_piece<A: Answerer, W: Write>(
 ) -> Result<Flow<A::Fault>, WriteFault>
     requires asked { A.is_ready state.old.answerer }
     requires unfinished { IsUnfinished state.old.line.items }
-    ensures { Takes A.is_ready A.answers A.breaks (W.contents writer.old) state.old.ready.bytes
-        state.old.answerer state.old.line.items piece.now result (W.contents writer.new) state.new.ready.bytes
-        state.new.answerer state.new.line.items }
+    ensures { Takes A.is_ready A.answers A.breaks (moment_of state.old (W.contents writer.old)) piece.now
+        result (moment_of state.new (W.contents writer.new)) }
 {
     let mut rest = piece;
     while let Some(end) = first_feed(rest) {
@@ -154,9 +152,8 @@ fn answer_piece<A: Answerer, W: Write>(
 ) -> Result<Flow<A::Fault>, WriteFault>
     requires asked { A.is_ready state.old.answerer }
     requires unfinished { IsUnfinished state.old.line.items }
-    ensures taken { Takes A.is_ready A.answers A.breaks (W.contents writer.old) state.old.ready.bytes
-        state.old.answerer state.old.line.items piece.now result (W.contents writer.new) state.new.ready.bytes
-        state.new.answerer state.new.line.items }
+    ensures taken { Takes A.is_ready A.answers A.breaks (moment_of state.old (W.contents writer.old)) piece.now
+        result (moment_of state.new (W.contents writer.new)) }
     ensures empty { OnOk result (state.new.ready.bytes ≡ []) }
 {
     let flow = take_piece(state, piece, writer)?;

@@ -1,68 +1,61 @@
 use Rattle.std.proofs.Common.{◌≡◌, [], ◌∷◌, ◌++◌, arith, rules}
 use Rattle.std.proofs.lemmas.Result.{err_from_is_err_and}
 use Rattle.std.proofs.lemmas.List.{nil_from_length}
+use Rattle.line_loop.specs.Turns.{moment_of}
 use Rattle.line_loop.proofs.TurnLemmas.{took-whole, flow_is, then-takes, over-long, over-broken, over-lost, passed_on}
 use Rattle.line_loop.proofs.loops.take_line.Goals as goal
 
 pub returns-then-part-le-LINE_ROOM : goal.returns-then-part-le-LINE_ROOM
 returns-then-part-le-LINE_ROOM g c =
-    let s = c.args.state.now in
-    let part = c.args.part.now in
-    let none : s.line.items ≡ [] = nil_from_length s.line.items (search rules) in
-    took-whole g.A.Answerer.is_ready g.A.Answerer.answers g.A.Answerer.breaks (g.W.Write.contents c.args.writer.now)
-    (g.W.Write.contents c.answer_line.new.writer) s.ready.bytes c.answer_line.new.ready.bytes s.answerer
-    c.answer_line.new.answerer s.line.items part c.answer_line.result c.requires.asked none
+    let old = moment_of c.args.state.now (g.W.Write.contents c.args.writer.now) in
+    let new = record old {
+      written = g.W.Write.contents c.answer_line.new.writer;
+      ready = c.answer_line.new.ready.bytes;
+      answerer = c.answer_line.new.answerer;
+    } in
+    let none : old.held ≡ [] = nil_from_length old.held (search rules) in
+    took-whole g.A.Answerer.is_ready g.A.Answerer.answers g.A.Answerer.breaks old new c.args.part.now
+    c.answer_line.result c.requires.asked none none
     (record { no_feed = c.requires.no_feed; short = omega arith }) c.answer_line.ensures
 
 pub returns-in_err-take_part : goal.returns-in_err-take_part
 returns-in_err-take_part g c =
     let e = err_from_is_err_and c.from_residual.result c.from_residual.ensures.1 in
-    let s = c.args.state.now in
-    let t = c.take_part.new.state in
-    let a = g.W.Write.contents c.args.writer.now in
-    let b = g.W.Write.contents c.take_part.new.writer in
+    let old = moment_of c.args.state.now (g.W.Write.contents c.args.writer.now) in
+    let took = moment_of c.take_part.new.state (g.W.Write.contents c.take_part.new.writer) in
     let part = c.args.part.now in
-    passed_on g.A.Answerer.is_ready g.A.Answerer.answers g.A.Answerer.breaks a b s.ready.bytes t.ready.bytes s.answerer
-    t.answerer s.line.items t.line.items (part ++ 10 ∷ []) c.from_residual.result e.0 e.1
-    (over-lost g.A.Answerer.is_ready g.A.Answerer.answers g.A.Answerer.breaks a b s.ready.bytes t.ready.bytes s.answerer
-    t.answerer s.line.items t.line.items part (10 ∷ []) e.0 c.in_err-take_part.ensures)
+    passed_on g.A.Answerer.is_ready g.A.Answerer.answers g.A.Answerer.breaks old took (part ++ 10 ∷ [])
+    c.from_residual.result e.0 e.1
+    (over-lost g.A.Answerer.is_ready g.A.Answerer.answers g.A.Answerer.breaks old took part (10 ∷ []) e.0
+    c.in_err-take_part.ensures)
 
 pub returns-in-Open : goal.returns-in-Open
 returns-in-Open g c =
-    let s = c.args.state.now in
-    let t = c.take_part.new.state in
-    let u = c.end_line.new.state in
-    let a = g.W.Write.contents c.args.writer.now in
-    let b = g.W.Write.contents c.take_part.new.writer in
-    let d = g.W.Write.contents c.end_line.new.writer in
+    let old = moment_of c.args.state.now (g.W.Write.contents c.args.writer.now) in
+    let took = moment_of c.take_part.new.state (g.W.Write.contents c.take_part.new.writer) in
+    let new = moment_of c.end_line.new.state (g.W.Write.contents c.end_line.new.writer) in
     let part = c.args.part.now in
-    then-takes g.A.Answerer.is_ready g.A.Answerer.answers g.A.Answerer.breaks a b d s.ready.bytes t.ready.bytes
-    u.ready.bytes s.answerer t.answerer u.answerer s.line.items t.line.items u.line.items part (10 ∷ [])
+    then-takes g.A.Answerer.is_ready g.A.Answerer.answers g.A.Answerer.breaks old took new part (10 ∷ [])
     c.end_line.result
-    (flow_is g.A.Answerer.is_ready g.A.Answerer.answers g.A.Answerer.breaks a b s.ready.bytes t.ready.bytes s.answerer
-    t.answerer s.line.items t.line.items part _ _ c.in-Open.is c.in_ok-take_part.ensures)
+    (flow_is g.A.Answerer.is_ready g.A.Answerer.answers g.A.Answerer.breaks old took part _ _ c.in-Open.is
+    c.in_ok-take_part.ensures)
     c.end_line.ensures
 
 pub returns-in-TooLong : goal.returns-in-TooLong
 returns-in-TooLong g c =
-    let s = c.args.state.now in
-    let t = c.take_part.new.state in
-    let a = g.W.Write.contents c.args.writer.now in
-    let b = g.W.Write.contents c.take_part.new.writer in
+    let old = moment_of c.args.state.now (g.W.Write.contents c.args.writer.now) in
+    let took = moment_of c.take_part.new.state (g.W.Write.contents c.take_part.new.writer) in
     let part = c.args.part.now in
-    over-long g.A.Answerer.is_ready g.A.Answerer.answers g.A.Answerer.breaks a b s.ready.bytes t.ready.bytes s.answerer
-    t.answerer s.line.items t.line.items part (10 ∷ [])
-    (flow_is g.A.Answerer.is_ready g.A.Answerer.answers g.A.Answerer.breaks a b s.ready.bytes t.ready.bytes s.answerer
-    t.answerer s.line.items t.line.items part _ _ c.in-TooLong.is c.in_ok-take_part.ensures)
+    over-long g.A.Answerer.is_ready g.A.Answerer.answers g.A.Answerer.breaks old took part (10 ∷ [])
+    (flow_is g.A.Answerer.is_ready g.A.Answerer.answers g.A.Answerer.breaks old took part _ _ c.in-TooLong.is
+    c.in_ok-take_part.ensures)
 
 pub returns-in-Broken : goal.returns-in-Broken
 returns-in-Broken g c =
-    let s = c.args.state.now in
-    let t = c.take_part.new.state in
-    let a = g.W.Write.contents c.args.writer.now in
-    let b = g.W.Write.contents c.take_part.new.writer in
+    let old = moment_of c.args.state.now (g.W.Write.contents c.args.writer.now) in
+    let took = moment_of c.take_part.new.state (g.W.Write.contents c.take_part.new.writer) in
     let part = c.args.part.now in
-    over-broken g.A.Answerer.is_ready g.A.Answerer.answers g.A.Answerer.breaks a b s.ready.bytes t.ready.bytes s.answerer
-    t.answerer s.line.items t.line.items part (10 ∷ []) c.in-Broken.fault
-    (flow_is g.A.Answerer.is_ready g.A.Answerer.answers g.A.Answerer.breaks a b s.ready.bytes t.ready.bytes s.answerer
-    t.answerer s.line.items t.line.items part _ _ c.in-Broken.is c.in_ok-take_part.ensures)
+    over-broken g.A.Answerer.is_ready g.A.Answerer.answers g.A.Answerer.breaks old took part (10 ∷ [])
+    c.in-Broken.fault
+    (flow_is g.A.Answerer.is_ready g.A.Answerer.answers g.A.Answerer.breaks old took part _ _ c.in-Broken.is
+    c.in_ok-take_part.ensures)

@@ -1,28 +1,25 @@
-use Rattle.std.proofs.Common.{◌<◌, ◌+◌, length, arith}
+use Rattle.std.proofs.Common.{◌<◌, ◌+◌, length, arith, refl}
 use Rattle.std.proofs.lemmas.Result.{err_from_is_err_and}
+use Rattle.line_loop.specs.Turns.{moment_of}
 use Rattle.line_loop.proofs.TurnLemmas.{took-long, lost-long, passed_on}
 use Rattle.line_loop.proofs.loops.take_part.Goals as goal
 
 pub returns-in_err-say : goal.returns-in_err-say
 returns-in_err-say g c =
     let e = err_from_is_err_and c.from_residual.result c.from_residual.ensures.1 in
-    let s = c.args.state.now in
-    let a = g.W.Write.contents c.args.writer.now in
-    let b = g.W.Write.contents c.say.new.writer in
+    let old = moment_of c.args.state.now (g.W.Write.contents c.args.writer.now) in
+    let new = record old { written = g.W.Write.contents c.say.new.writer; ready = c.say.new.ready.bytes } in
     let part = c.args.part.now in
-    let long : 255 < length s.line.items + length part = omega arith in
-    passed_on g.A.Answerer.is_ready g.A.Answerer.answers g.A.Answerer.breaks a b s.ready.bytes
-    c.say.new.ready.bytes s.answerer s.answerer s.line.items s.line.items part c.from_residual.result e.0 e.1
-    (lost-long g.A.Answerer.is_ready g.A.Answerer.answers g.A.Answerer.breaks a b s.ready.bytes c.say.new.ready.bytes
-    s.answerer s.line.items s.line.items part e.0 c.requires.unfinished c.requires.no_feed long
-    c.in_err-say.ensures.loses)
+    let long : 255 < length old.held + length part = omega arith in
+    passed_on g.A.Answerer.is_ready g.A.Answerer.answers g.A.Answerer.breaks old new part c.from_residual.result e.0 e.1
+    (lost-long g.A.Answerer.is_ready g.A.Answerer.answers g.A.Answerer.breaks old new part e.0 refl
+    c.requires.unfinished c.requires.no_feed long c.in_err-say.ensures.loses)
 
 pub returns-then-remaining_capacity-part : goal.returns-then-remaining_capacity-part
 returns-then-remaining_capacity-part g c =
-    let s = c.args.state.now in
-    let a = g.W.Write.contents c.args.writer.now in
-    let b = g.W.Write.contents c.say.new.writer in
+    let old = moment_of c.args.state.now (g.W.Write.contents c.args.writer.now) in
+    let new = record old { written = g.W.Write.contents c.say.new.writer; ready = c.say.new.ready.bytes } in
     let part = c.args.part.now in
-    let long : 255 < length s.line.items + length part = omega arith in
-    took-long g.A.Answerer.is_ready g.A.Answerer.answers g.A.Answerer.breaks a b s.ready.bytes c.say.new.ready.bytes
-    s.answerer s.line.items s.line.items part c.requires.unfinished c.requires.no_feed long c.in_ok-say.ensures.says
+    let long : 255 < length old.held + length part = omega arith in
+    took-long g.A.Answerer.is_ready g.A.Answerer.answers g.A.Answerer.breaks old new part refl c.requires.unfinished
+    c.requires.no_feed long c.in_ok-say.ensures.says

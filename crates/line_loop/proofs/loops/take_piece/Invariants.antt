@@ -1,13 +1,13 @@
 -- What was taken so far, and what was said.
 use Rattle.std.proofs.Common.{length}
+use Rattle.line_loop.specs.Turns.{moment_of}
 use Rattle.line_loop.proofs.TurnLemmas.{Through}
 use Rattle.line_loop.proofs.loops.take_piece.Given as goal
 
 abbrev pub invariant-loop-end : goal.invariant-loop-end
-invariant-loop-end g l =
-    Through g.A.Answerer.is_ready g.A.Answerer.answers g.A.Answerer.breaks (g.W.Write.contents l.fn.writer)
-    (g.W.Write.contents l.writer) l.fn.state.ready.bytes l.state.ready.bytes l.fn.state.answerer
-    l.state.answerer l.fn.state.line.items l.state.line.items l.piece l.rest
+invariant-loop-end g l = Through g.A.Answerer.is_ready g.A.Answerer.answers g.A.Answerer.breaks
+    (moment_of l.fn.state (g.W.Write.contents l.fn.writer)) (moment_of l.state (g.W.Write.contents l.writer)) l.piece
+    l.rest
 
 abbrev pub decreases-loop-end : goal.decreases-loop-end
 decreases-loop-end g l = length l.rest
