@@ -1,5 +1,5 @@
 //! A game's PGN as the archive has it, asked of the server.
-use act_log::{Record, clocks};
+use act_log::{Record, Shown, clocks, shown_of};
 use anyhow::{Context, Result, bail};
 use archive_text::{Heading, archived};
 use lobby_desk::Player;
@@ -54,8 +54,36 @@ pub fn has_left(alloc: Global, link: &mut Link, game: u32) -> Result<bool> {
     bail!("the server does not tell game {game}: {first}")
 }
 
-/// Asks for the PGN of a game, and makes it as the archive has it, with the clocks that the log knows; none where the game has
-/// left the table since.
+// How a game stands now; none where the game has left the table since.
+fn shown(alloc: Global, link: &mut Link, game: u32) -> Result<Option<Shown>> {
+    let line = format!(in alloc; "show {game}")?;
+    let answer = link.ask(line.as_str(), "ok show ")?;
+    let first = answer.first.as_str();
+    if first.starts_with("ok show ") || first.starts_with("no 3 ") {
+        return Ok(shown_of(first));
+    }
+    bail!("the server does not show game {game}: {first}")
+}
+
+// The clocks that the log knows. Where it has none behind the last move, whose answer was lost or is still to come, the server is
+// asked.
+fn clocks_of(
+    alloc: Global,
+    link: &mut Link,
+    records: &[Record],
+    row: Row<'_>,
+) -> Result<Vec<Option<u64>>> {
+    let Row { game, ply, .. } = row;
+    let logged = clocks(alloc, records, None, game, ply)?;
+    if !matches!(logged.last(), Some(None)) || records.is_empty() {
+        return Ok(logged);
+    }
+    let asked = shown(alloc, link, game)?;
+    Ok(clocks(alloc, records, asked, game, ply)?)
+}
+
+/// Asks for the PGN of a game, and makes it as the archive has it, with the clocks that the log knows, and where it is given that of
+/// the last move by the server; none where the game has left the table since.
 pub fn pgn_of(
     alloc: Global,
     link: &mut Link,
@@ -71,7 +99,7 @@ pub fn pgn_of(
         black: full_name(known.players, row.black),
         ..known.heading
     };
-    let clocks = clocks(alloc, known.records, game, row.ply)?;
+    let clocks = clocks_of(alloc, link, known.records, row)?;
     let pgn = archived(alloc, &heading, told.as_str(), clocks.as_slice()).context(format_args!(
         "game {game}"
     ))?;
