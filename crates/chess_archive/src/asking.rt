@@ -14,6 +14,8 @@ pub struct Knowledge<'a> {
     /// Of White and Black it says nothing yet.
     pub heading: Heading<'a>,
     pub records: &'a [Record],
+    /// Whether there is a log: without one no game has clocks.
+    pub is_logged: bool,
 }
 
 // The server's answer to `pgn`.
@@ -70,16 +72,16 @@ fn shown(alloc: Global, link: &mut Link, game: u32) -> Result<Option<Shown>> {
 fn clocks_of(
     alloc: Global,
     link: &mut Link,
-    records: &[Record],
+    known: &Knowledge<'_>,
     row: Row<'_>,
 ) -> Result<Vec<Option<u64>>> {
     let Row { game, ply, .. } = row;
-    let logged = clocks(alloc, records, None, game, ply)?;
-    if !matches!(logged.last(), Some(None)) || records.is_empty() {
+    let logged = clocks(alloc, known.records, None, game, ply)?;
+    if !known.is_logged || !matches!(logged.last(), Some(None)) {
         return Ok(logged);
     }
     let asked = shown(alloc, link, game)?;
-    Ok(clocks(alloc, records, asked, game, ply)?)
+    Ok(clocks(alloc, known.records, asked, game, ply)?)
 }
 
 /// Asks for the PGN of a game, and makes it as the archive has it, with the clocks that the log knows, and where it is given that of
@@ -99,7 +101,7 @@ pub fn pgn_of(
         black: full_name(known.players, row.black),
         ..known.heading
     };
-    let clocks = clocks_of(alloc, link, known.records, row)?;
+    let clocks = clocks_of(alloc, link, known, row)?;
     let pgn = archived(alloc, &heading, told.as_str(), clocks.as_slice()).context(format_args!(
         "game {game}"
     ))?;

@@ -111,6 +111,7 @@ where
                 players: self.players.known(),
                 heading: self.keeping.heading,
                 records: self.log.records(),
+                is_logged: self.keeping.log.is_some(),
             },
             rows,
             drops: self.keeping.drops,

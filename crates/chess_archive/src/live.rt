@@ -122,6 +122,7 @@ where
             players: self.players.known(),
             heading: self.living.heading,
             records: self.log.records(),
+            is_logged: self.living.log.is_some(),
         };
         for row in rows {
             if is_played(*row)
