@@ -1,2 +1,3 @@
 pub mod Unknown
 pub mod File
+pub mod Calls

@@ -1,8 +1,7 @@
 // A file that is read and written at byte offsets.
-ghost use Rattle.std.specs.Prelude.{◌≡◌, ◌<◌, ◌*◌, ◌↔◌, ℕ, Option, Some, Ok, OnOk, OnErr};
-ghost use Rattle.sector_dev.specs.declared.device.Sector.TheVariants.{Bytes};
-ghost use Rattle.sector_dev.specs.Image.{sector_at};
-ghost use Rattle.sector_dev.specs.Device.{State, IsCoherent, WithOrWithout, IsUnchanged, IsPending, MayBePending, IsStable, MayBeStable, Elapses};
+ghost use Rattle.std.specs.Prelude.{◌≡◌, ℕ, Option, Some, Ok};
+ghost use Rattle.sector_dev.specs.Device.{State, IsCoherent};
+ghost use Rattle.file_device.specs.Calls.{IsReadAt, IsWriteAt, IsSync};
 
 use std::io;
 
@@ -31,39 +30,15 @@ pub trait PositionedFile {
 
     /// Reads 512 bytes from this offset on.
     fn read_at(&mut self, into: &mut [u8; 512], offset: u64) -> io::Result<()>
-        ensures size { sector_count self.new ≡ sector_count self.old }
-        ensures model { (state self.new).keeps_model ↔ (state self.old).keeps_model }
-        ensures value { (state self.old).keeps_model
-            → (at : ℕ) → at < sector_count self.old → offset ≡ 512 * at
-            → OnOk result (sector_at (state self.old).reads at ≡ Bytes into.new) }
-        ensures unchanged { (state self.old).keeps_model → IsUnchanged (state self.old) (state self.new) }
-        ensures time { (state self.old).keeps_model
-            → Elapses (state self.old) (state self.new) (state self.old).image };
+        ensures { IsReadAt state sector_count self.old self.new into.new offset result };
 
     /// Writes 512 bytes from this offset on.
     fn write_at(&mut self, from: &[u8; 512], offset: u64) -> io::Result<()>
-        ensures size { sector_count self.new ≡ sector_count self.old }
-        ensures model { (state self.new).keeps_model ↔ (state self.old).keeps_model }
-        ensures ok { (state self.old).keeps_model
-            → (at : ℕ) → at < sector_count self.old → offset ≡ 512 * at
-            → OnOk result (IsPending at from.now (state self.old) (state self.new)) }
-        ensures err { (state self.old).keeps_model
-            → (at : ℕ) → at < sector_count self.old → offset ≡ 512 * at
-            → OnErr result (MayBePending at from.now (state self.old) (state self.new)) }
-        ensures time { (state self.old).keeps_model
-            → (at : ℕ) → at < sector_count self.old → offset ≡ 512 * at
-            → Elapses (state self.old) (state self.new) (WithOrWithout at from.now (state self.old).image) };
+        ensures { IsWriteAt state sector_count self.old self.new from.now offset result };
 
     /// Makes what was written last.
     fn sync(&mut self) -> io::Result<()>
-        ensures size { sector_count self.new ≡ sector_count self.old }
-        ensures model { (state self.new).keeps_model ↔ (state self.old).keeps_model }
-        ensures ok { (state self.old).keeps_model
-            → OnOk result (IsStable (state self.old).reads (state self.new)) }
-        ensures err { (state self.old).keeps_model
-            → OnErr result (MayBeStable (state self.old) (state self.new)) }
-        ensures time { (state self.old).keeps_model
-            → Elapses (state self.old) (state self.new) (state self.old).image };
+        ensures { IsSync state sector_count self.old self.new result };
 
     /// Whether the file still has its name, and how many bytes it has. Nothing changes.
     fn standing(&self) -> io::Result<Standing>

@@ -1,9 +1,10 @@
 // A device as a positioned file.
-ghost use Rattle.std.specs.Prelude.{◌≡◌, ◌⊎◌, ◌<◌, ◌*◌, ◌↔◌, ℕ, Some, IfSome, Ok, OnOk, OnErr};
-ghost use Rattle.sector_dev.specs.declared.device.Sector.TheVariants.{Bytes, Unreadable};
+ghost use Rattle.std.specs.Prelude.{◌≡◌, ◌⊎◌, ◌<◌, ◌*◌, ℕ, Some, IfSome, Ok, OnErr};
+ghost use Rattle.sector_dev.specs.declared.device.Sector.TheVariants.{Unreadable};
 ghost use Rattle.file_device.specs.declared.positioned.Standing.TheVariants.{Named};
 ghost use Rattle.sector_dev.specs.Image.{sector_at};
-ghost use Rattle.sector_dev.specs.Device.{WithOrWithout, IsUnchanged, IsPending, MayBePending, IsStable, MayBeStable, Elapses, HasRisen, CountsFailure};
+ghost use Rattle.sector_dev.specs.Device.{HasRisen, CountsFailure};
+ghost use Rattle.file_device.specs.Calls.{IsReadAt, IsWriteAt, IsSync};
 
 use crate::{PositionedFile, Standing};
 use sector_dev::{Device, Got};
@@ -55,15 +56,8 @@ impl<D: Device> PositionedFile for SectorFile<D> {
     ghost coherent = { λ file. D.coherent file.device };
 
     fn read_at(&mut self, into: &mut [u8; 512], offset: u64) -> io::Result<()>
-        ensures size { D.sector_count self.new.device ≡ D.sector_count self.old.device }
-        ensures model { (D.state self.new.device).keeps_model ↔ (D.state self.old.device).keeps_model }
-        ensures value { (D.state self.old.device).keeps_model
-            → (at : ℕ) → at < D.sector_count self.old.device → offset ≡ 512 * at
-            → OnOk result (sector_at (D.state self.old.device).reads at ≡ Bytes into.new) }
-        ensures unchanged { (D.state self.old.device).keeps_model
-            → IsUnchanged (D.state self.old.device) (D.state self.new.device) }
-        ensures time { (D.state self.old.device).keeps_model
-            → Elapses (D.state self.old.device) (D.state self.new.device) (D.state self.old.device).image }
+        ensures call { IsReadAt (λ file. D.state file.device) (λ file. D.sector_count file.device)
+            self.old self.new into.new offset result }
         // Of a sector it fails only where the device does, or where the sector is unreadable.
         ensures cause { (D.state self.old.device).keeps_model
             → (at : ℕ) → at < D.sector_count self.old.device → offset ≡ 512 * at
@@ -81,18 +75,8 @@ impl<D: Device> PositionedFile for SectorFile<D> {
     }
 
     fn write_at(&mut self, from: &[u8; 512], offset: u64) -> io::Result<()>
-        ensures size { D.sector_count self.new.device ≡ D.sector_count self.old.device }
-        ensures model { (D.state self.new.device).keeps_model ↔ (D.state self.old.device).keeps_model }
-        ensures ok { (D.state self.old.device).keeps_model
-            → (at : ℕ) → at < D.sector_count self.old.device → offset ≡ 512 * at
-            → OnOk result (IsPending at from.now (D.state self.old.device) (D.state self.new.device)) }
-        ensures err { (D.state self.old.device).keeps_model
-            → (at : ℕ) → at < D.sector_count self.old.device → offset ≡ 512 * at
-            → OnErr result (MayBePending at from.now (D.state self.old.device) (D.state self.new.device)) }
-        ensures time { (D.state self.old.device).keeps_model
-            → (at : ℕ) → at < D.sector_count self.old.device → offset ≡ 512 * at
-            → Elapses (D.state self.old.device) (D.state self.new.device)
-            (WithOrWithout at from.now (D.state self.old.device).image) }
+        ensures call { IsWriteAt (λ file. D.state file.device) (λ file. D.sector_count file.device)
+            self.old self.new from.now offset result }
         ensures cause { (at : ℕ) → at < D.sector_count self.old.device → offset ≡ 512 * at
             → CountsFailure result (D.failures self.old.device) (D.failures self.new.device) }
     {
@@ -106,14 +90,8 @@ impl<D: Device> PositionedFile for SectorFile<D> {
     }
 
     fn sync(&mut self) -> io::Result<()>
-        ensures size { D.sector_count self.new.device ≡ D.sector_count self.old.device }
-        ensures model { (D.state self.new.device).keeps_model ↔ (D.state self.old.device).keeps_model }
-        ensures ok { (D.state self.old.device).keeps_model
-            → OnOk result (IsStable (D.state self.old.device).reads (D.state self.new.device)) }
-        ensures err { (D.state self.old.device).keeps_model
-            → OnErr result (MayBeStable (D.state self.old.device) (D.state self.new.device)) }
-        ensures time { (D.state self.old.device).keeps_model
-            → Elapses (D.state self.old.device) (D.state self.new.device) (D.state self.old.device).image }
+        ensures call { IsSync (λ file. D.state file.device) (λ file. D.sector_count file.device)
+            self.old self.new result }
         ensures cause { CountsFailure result (D.failures self.old.device) (D.failures self.new.device) }
     {
         match self.device.sync() {

@@ -1,6 +1,7 @@
 pub mod Image
 pub mod Whole
 pub mod Device
+pub mod Calls
 pub mod Crash
 pub mod Runs
 pub mod Memory

@@ -1,7 +1,8 @@
 // A device as its callers see it: what a read gives, and what a crash may leave.
-ghost use Rattle.std.specs.Prelude.{◌≡◌, ◌<◌, ◌↔◌, List, ℕ, [], Option, Some, None, IfOk, OnOk, OnErr};
-ghost use Rattle.sector_dev.specs.Image.{Sectors, sector_at, Write};
-ghost use Rattle.sector_dev.specs.Device.{State, IsCoherent, IsRead, WithOrWithout, IsUnchanged, IsPending, MayBePending, IsStable, MayBeStable, Elapses, CountsFailure, TakesOne};
+ghost use Rattle.std.specs.Prelude.{◌≡◌, ◌<◌, ◌↔◌, List, ℕ, [], Option, Some, None};
+ghost use Rattle.sector_dev.specs.Image.{Sectors, Write};
+ghost use Rattle.sector_dev.specs.Device.{State, IsCoherent, IsUnchanged, IsStable, Elapses};
+ghost use Rattle.sector_dev.specs.Calls.{IsReadCall, IsWriteCall, IsSyncCall};
 ghost use Rattle.sector_dev.specs.Crash.{left_by, fates_of, IsOfDisk};
 
 /// The device failed, or had no memory for a call.
@@ -37,8 +38,8 @@ pub enum Fate {
 }
 
 /// Sectors of 512 bytes. Its clauses speak of the disk model: `docs/DISK.md` in words, `specs/Device.antt` for what a
-/// caller can know, `specs/Image.antt` for what a crash may leave. A sector is named by its number, which callers keep
-/// below `sectors()`.
+/// caller can know, `specs/Calls.antt` for what each call does, `specs/Image.antt` for what a crash may leave. A sector
+/// is named by its number, which callers keep below `sectors()`.
 pub trait Device {
     /// What reads give and what a crash may leave, where the device keeps the model. Without it only the number of
     /// sectors and the two counts are promised.
@@ -61,58 +62,23 @@ pub trait Device {
     /// with a failure counted, it may hold anything. Nothing changes.
     fn read(&mut self, at: u32, into: &mut [u8; 512]) -> Result<Got, DeviceFault>
         requires { at < sector_count self.old }
-        ensures sectors { sector_count self.new ≡ sector_count self.old }
-        ensures model { (state self.new).keeps_model ↔ (state self.old).keeps_model }
-        ensures value { (state self.old).keeps_model
-            → IfOk result (λ got. IsRead (sector_at (state self.old).reads at) got into.new) }
-        ensures unchanged { (state self.old).keeps_model → IsUnchanged (state self.old) (state self.new) }
-        ensures time { (state self.old).keeps_model
-            → Elapses (state self.old) (state self.new) (state self.old).image }
-        ensures cause { CountsFailure result (failures self.old) (failures self.new) }
-        ensures calls_left { TakesOne result (calls_left self.old) (calls_left self.new) };
+        ensures { IsReadCall state sector_count failures calls_left self.old self.new at into.new result };
 
     /// At `Ok` the write is pending. At `DeviceFault`, which comes with a failure counted, it may be. The other
     /// sectors are as before.
     fn write(&mut self, at: u32, from: &[u8; 512]) -> Result<(), DeviceFault>
         requires { at < sector_count self.old }
-        ensures sectors { sector_count self.new ≡ sector_count self.old }
-        ensures model { (state self.new).keeps_model ↔ (state self.old).keeps_model }
-        ensures ok { (state self.old).keeps_model
-            → OnOk result (IsPending at from.now (state self.old) (state self.new)) }
-        ensures err { (state self.old).keeps_model
-            → OnErr result (MayBePending at from.now (state self.old) (state self.new)) }
-        ensures time { (state self.old).keeps_model
-            → Elapses (state self.old) (state self.new) (WithOrWithout at from.now (state self.old).image) }
-        ensures cause { CountsFailure result (failures self.old) (failures self.new) }
-        ensures calls_left { TakesOne result (calls_left self.old) (calls_left self.new) };
+        ensures { IsWriteCall state sector_count failures calls_left self.old self.new at from.now result };
 
     /// At `Ok` what reads give is stable, with nothing pending. At `DeviceFault`, which comes with a failure counted,
     /// some of the pending writes may be stable.
     fn sync(&mut self) -> Result<(), DeviceFault>
-        ensures sectors { sector_count self.new ≡ sector_count self.old }
-        ensures model { (state self.new).keeps_model ↔ (state self.old).keeps_model }
-        ensures ok { (state self.old).keeps_model
-            → OnOk result (IsStable (state self.old).reads (state self.new)) }
-        ensures err { (state self.old).keeps_model
-            → OnErr result (MayBeStable (state self.old) (state self.new)) }
-        ensures time { (state self.old).keeps_model
-            → Elapses (state self.old) (state self.new) (state self.old).image }
-        ensures cause { CountsFailure result (failures self.old) (failures self.new) }
-        ensures calls_left { TakesOne result (calls_left self.old) (calls_left self.new) };
+        ensures { IsSyncCall state sector_count failures calls_left self.old self.new result };
 
     /// As `sync`, for use within what a later `sync` ends, before anybody is told that it lasts. A device that also looks
     /// whether it is still in its place may leave that to the later one.
     fn barrier(&mut self) -> Result<(), DeviceFault>
-        ensures sectors { sector_count self.new ≡ sector_count self.old }
-        ensures model { (state self.new).keeps_model ↔ (state self.old).keeps_model }
-        ensures ok { (state self.old).keeps_model
-            → OnOk result (IsStable (state self.old).reads (state self.new)) }
-        ensures err { (state self.old).keeps_model
-            → OnErr result (MayBeStable (state self.old) (state self.new)) }
-        ensures time { (state self.old).keeps_model
-            → Elapses (state self.old) (state self.new) (state self.old).image }
-        ensures cause { CountsFailure result (failures self.old) (failures self.new) }
-        ensures calls_left { TakesOne result (calls_left self.old) (calls_left self.new) }
+        ensures { IsSyncCall state sector_count failures calls_left self.old self.new result }
     {
         self.sync()
     }

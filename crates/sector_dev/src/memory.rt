@@ -1,9 +1,10 @@
 // A device in memory: the values that were stable when its record began, and the record of the calls since.
-ghost use Rattle.std.specs.Prelude.{◌≡◌, ◌⊎◌, ◌<◌, ◌^◌, ◌++◌, ◌∷◌, ◌↔◌, [], true, false, map, length, slice_set, Some, None, IsErr, IfOk, OnOk, OnErr, vec_len, vec_capacity, ◌≤◌, ◌+◌};
+ghost use Rattle.std.specs.Prelude.{◌≡◌, ◌⊎◌, ◌<◌, ◌^◌, ◌++◌, ◌∷◌, ◌↔◌, [], false, map, length, slice_set, Some, None, IsErr, IfOk, OnOk, OnErr, vec_len, vec_capacity, ◌≤◌, ◌+◌};
 ghost use Rattle.sector_dev.specs.declared.device.Sector.TheVariants.{Bytes};
-ghost use Rattle.sector_dev.specs.Device.{IsRead, WithOrWithout, IsUnchanged, IsPending, MayBePending, IsStable, MayBeStable, Elapses, CountsFailure, TakesOne, one_less};
+ghost use Rattle.sector_dev.specs.Device.{IsUnchanged, IsStable, Elapses, CountsFailure, TakesOne, one_less};
+ghost use Rattle.sector_dev.specs.Calls.{IsReadCall, IsWriteCall, IsSyncCall};
 ghost use Rattle.sector_dev.specs.Whole.{AreWhole, AreWholeWrites};
-ghost use Rattle.sector_dev.specs.Image.{sector_at, applied};
+ghost use Rattle.sector_dev.specs.Image.{applied};
 ghost use Rattle.sector_dev.specs.Crash.{left_by, fates_of, kept_or_lost};
 ghost use Rattle.sector_dev.specs.Memory.{shown, disk_after, at_rest, writes_of, IsUnsynced, IsSettledAt};
 ghost use Rattle.sector_dev.specs.Replay.{recorded_is_coherent};
@@ -155,16 +156,8 @@ impl Device for MemoryDevice {
     /// It takes no memory, so it fails only where the device is armed and no call is left.
     fn read(&mut self, at: u32, into: &mut [u8; 512]) -> Result<Got, DeviceFault>
         requires { at < sector_count_of self.old }
-        ensures sectors { sector_count_of self.new ≡ sector_count_of self.old }
-        ensures model { (state_of self.new).keeps_model ↔ (state_of self.old).keeps_model }
-        ensures value { (state_of self.old).keeps_model
-            → IfOk result (λ got. IsRead (sector_at (state_of self.old).reads at) got into.new) }
-        ensures unchanged { (state_of self.old).keeps_model
-            → IsUnchanged (state_of self.old) (state_of self.new) }
-        ensures time { (state_of self.old).keeps_model
-            → Elapses (state_of self.old) (state_of self.new) (state_of self.old).image }
-        ensures cause { CountsFailure result self.old.failures self.new.failures }
-        ensures calls_left { TakesOne result self.old.calls_left self.new.calls_left }
+        ensures call { IsReadCall state_of sector_count_of (λ m. m.failures) (λ m. m.calls_left) self.old self.new
+            at into.new result }
         ensures taken { self.new.calls_left ≡ one_less self.old.calls_left }
         ensures disk { KeepsDisk self.old self.new }
         ensures fails { IsErr result ↔ (self.old.calls_left ≡ Some 0) }
@@ -187,16 +180,8 @@ impl Device for MemoryDevice {
     /// others are not. One that fails for want of memory is not pending. It fails for no other reason.
     fn write(&mut self, at: u32, from: &[u8; 512]) -> Result<(), DeviceFault>
         requires { at < sector_count_of self.old }
-        ensures sectors { sector_count_of self.new ≡ sector_count_of self.old }
-        ensures model { (state_of self.new).keeps_model ↔ (state_of self.old).keeps_model }
-        ensures ok { (state_of self.old).keeps_model
-            → OnOk result (IsPending at from.now (state_of self.old) (state_of self.new)) }
-        ensures err { (state_of self.old).keeps_model
-            → OnErr result (MayBePending at from.now (state_of self.old) (state_of self.new)) }
-        ensures time { (state_of self.old).keeps_model
-            → Elapses (state_of self.old) (state_of self.new) (WithOrWithout at from.now (state_of self.old).image) }
-        ensures cause { CountsFailure result self.old.failures self.new.failures }
-        ensures calls_left { TakesOne result self.old.calls_left self.new.calls_left }
+        ensures call { IsWriteCall state_of sector_count_of (λ m. m.failures) (λ m. m.calls_left) self.old self.new
+            at from.now result }
         ensures taken { self.new.calls_left ≡ one_less self.old.calls_left }
         ensures pending { OnOk result (Pends at from.now self.old self.new) }
         ensures failed_pending { OnOk result (self.new.failed_pending ≡ self.old.failed_pending) }
@@ -221,16 +206,8 @@ impl Device for MemoryDevice {
 
     /// One that fails leaves the pending writes as they are. It fails only where no call is left or memory is refused.
     fn sync(&mut self) -> Result<(), DeviceFault>
-        ensures sectors { sector_count_of self.new ≡ sector_count_of self.old }
-        ensures model { (state_of self.new).keeps_model ↔ (state_of self.old).keeps_model }
-        ensures ok { (state_of self.old).keeps_model
-            → OnOk result (IsStable (state_of self.old).reads (state_of self.new)) }
-        ensures err { (state_of self.old).keeps_model
-            → OnErr result (MayBeStable (state_of self.old) (state_of self.new)) }
-        ensures time { (state_of self.old).keeps_model
-            → Elapses (state_of self.old) (state_of self.new) (state_of self.old).image }
-        ensures cause { CountsFailure result self.old.failures self.new.failures }
-        ensures calls_left { TakesOne result self.old.calls_left self.new.calls_left }
+        ensures call { IsSyncCall state_of sector_count_of (λ m. m.failures) (λ m. m.calls_left) self.old self.new
+            result }
         ensures taken { self.new.calls_left ≡ one_less self.old.calls_left }
         ensures settled { OnOk result (disk_of self.new ≡ step (disk_of self.old) Synced) }
         ensures failed_pending { OnOk result (self.new.failed_pending ≡ self.old.failed_pending) }

@@ -1,7 +1,7 @@
 // A device of which one call fails.
-ghost use Rattle.std.specs.Prelude.{◌≡◌, ◌≢◌, ◌⊎◌, ◌<◌, ◌+◌, ◌-◌, ◌↔◌, true, false, IsTrue, IsErr, IfOk, OnOk, OnErr};
-ghost use Rattle.sector_dev.specs.Image.{sector_at};
-ghost use Rattle.sector_dev.specs.Device.{IsRead, WithOrWithout, IsUnchanged, IsPending, MayBePending, IsStable, MayBeStable, Elapses, HasRisen, CountsFailure, TakesOne};
+ghost use Rattle.std.specs.Prelude.{◌≡◌, ◌≢◌, ◌⊎◌, ◌<◌, ◌+◌, ◌-◌, ◌↔◌, true, false, IsTrue, IsErr};
+ghost use Rattle.sector_dev.specs.Calls.{IsReadCall, IsWriteCall, IsSyncCall};
+ghost use Rattle.sector_dev.specs.Device.{IsPending, HasRisen, CountsFailure};
 
 use crate::{Device, DeviceFault, Got};
 
@@ -79,17 +79,9 @@ impl<D: Device> Device for OnceDevice<D> {
 
     fn read(&mut self, at: u32, into: &mut [u8; 512]) -> Result<Got, DeviceFault>
         requires { at < D.sector_count self.old.device }
-        ensures sectors { D.sector_count self.new.device ≡ D.sector_count self.old.device }
-        ensures model { (D.state self.new.device).keeps_model ↔ (D.state self.old.device).keeps_model }
-        ensures value { (D.state self.old.device).keeps_model
-            → IfOk result (λ got. IsRead (sector_at (D.state self.old.device).reads at) got into.new) }
-        ensures unchanged { (D.state self.old.device).keeps_model
-            → IsUnchanged (D.state self.old.device) (D.state self.new.device) }
-        ensures time { (D.state self.old.device).keeps_model
-            → Elapses (D.state self.old.device) (D.state self.new.device) (D.state self.old.device).image }
-        ensures cause { CountsFailure result (D.failures self.old.device + self.old.failures)
-            (D.failures self.new.device + self.new.failures) }
-        ensures calls_left { TakesOne result (D.calls_left self.old.device) (D.calls_left self.new.device) }
+        ensures call { IsReadCall (λ once. D.state once.device) (λ once. D.sector_count once.device)
+            (λ once. D.failures once.device + once.failures) (λ once. D.calls_left once.device)
+            self.old self.new at into.new result }
         ensures counted { self.new.fails_in ≡ self.old.fails_in - 1 }
         ensures pending { self.new.pending ≡ self.old.pending }
         ensures fails { self.old.fails_in ≡ 1 → IsErr result × (self.new.device ≡ self.old.device) }
@@ -106,18 +98,9 @@ impl<D: Device> Device for OnceDevice<D> {
 
     fn write(&mut self, at: u32, from: &[u8; 512]) -> Result<(), DeviceFault>
         requires { at < D.sector_count self.old.device }
-        ensures sectors { D.sector_count self.new.device ≡ D.sector_count self.old.device }
-        ensures model { (D.state self.new.device).keeps_model ↔ (D.state self.old.device).keeps_model }
-        ensures ok { (D.state self.old.device).keeps_model
-            → OnOk result (IsPending at from.now (D.state self.old.device) (D.state self.new.device)) }
-        ensures err { (D.state self.old.device).keeps_model
-            → OnErr result (MayBePending at from.now (D.state self.old.device) (D.state self.new.device)) }
-        ensures time { (D.state self.old.device).keeps_model
-            → Elapses (D.state self.old.device) (D.state self.new.device)
-            (WithOrWithout at from.now (D.state self.old.device).image) }
-        ensures cause { CountsFailure result (D.failures self.old.device + self.old.failures)
-            (D.failures self.new.device + self.new.failures) }
-        ensures calls_left { TakesOne result (D.calls_left self.old.device) (D.calls_left self.new.device) }
+        ensures call { IsWriteCall (λ once. D.state once.device) (λ once. D.sector_count once.device)
+            (λ once. D.failures once.device + once.failures) (λ once. D.calls_left once.device)
+            self.old self.new at from.now result }
         ensures counted { self.new.fails_in ≡ self.old.fails_in - 1 }
         ensures pending { self.new.pending ≡ self.old.pending }
         ensures fails { self.old.fails_in ≡ 1 → IsErr result }
@@ -140,17 +123,9 @@ impl<D: Device> Device for OnceDevice<D> {
     }
 
     fn sync(&mut self) -> Result<(), DeviceFault>
-        ensures sectors { D.sector_count self.new.device ≡ D.sector_count self.old.device }
-        ensures model { (D.state self.new.device).keeps_model ↔ (D.state self.old.device).keeps_model }
-        ensures ok { (D.state self.old.device).keeps_model
-            → OnOk result (IsStable (D.state self.old.device).reads (D.state self.new.device)) }
-        ensures err { (D.state self.old.device).keeps_model
-            → OnErr result (MayBeStable (D.state self.old.device) (D.state self.new.device)) }
-        ensures time { (D.state self.old.device).keeps_model
-            → Elapses (D.state self.old.device) (D.state self.new.device) (D.state self.old.device).image }
-        ensures cause { CountsFailure result (D.failures self.old.device + self.old.failures)
-            (D.failures self.new.device + self.new.failures) }
-        ensures calls_left { TakesOne result (D.calls_left self.old.device) (D.calls_left self.new.device) }
+        ensures call { IsSyncCall (λ once. D.state once.device) (λ once. D.sector_count once.device)
+            (λ once. D.failures once.device + once.failures) (λ once. D.calls_left once.device)
+            self.old self.new result }
         ensures counted { self.new.fails_in ≡ self.old.fails_in - 1 }
         ensures pending { self.new.pending ≡ self.old.pending }
         ensures fails { self.old.fails_in ≡ 1 → IsErr result × (self.new.device ≡ self.old.device) }

@@ -8,7 +8,7 @@ loop-sector-preserved c =
     let so_far = c.loop-sector.invariant in
     record {
       at = omega (arith, so_far.at);
-      count = c.in-Ok.ensures.sectors ∙ so_far.count;
+      count = c.in-Ok.ensures.call.sectors ∙ so_far.count;
       disk = c.in-Ok.ensures.pending
           ∙ one_noted (disk_of c.loop-sector.device) (zeros c.args.count) c.args.sectors.now c.loop-sector.sector-index
           c.loop-sector.at c.loop-sector-test.true so_far.at so_far.disk;

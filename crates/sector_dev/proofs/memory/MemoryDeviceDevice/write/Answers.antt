@@ -18,26 +18,22 @@ invariant_of-self-2-clause-is_shown c =
     written_shown c.put.result m.base.items m.calls.items c.put.new.calls.items m.seen.items c.put.new.seen.items
     c.args.at c.args.from.now e.calls e.calls_err e.seen e.seen_err m.is_shown
 
-pub returns-clause-ok : goal.returns-clause-ok
-returns-clause-ok c =
-    let m = c.args.self.now in
-    λ model. at_ok c.take_one-taken.result _
-    (written_is_pending m.base.items m.calls.items c.put.new.calls.items c.args.at c.args.from.now c.requires
-    c.in_ok-put.ensures.calls)
-
-pub returns-clause-err : goal.returns-clause-err
-returns-clause-err c =
+pub returns-clause-call : goal.returns-clause-call
+returns-clause-call c =
     let m = c.args.self.now in
     let pending = written_is_pending m.base.items m.calls.items c.put.new.calls.items c.args.at c.args.from.now
-    c.requires
-    c.in_ok-put.ensures.calls in
-    λ model. at_err c.take_one-taken.result _ (record { reads = inr pending.reads; images = inr pending.images })
-
-pub returns-clause-time : goal.returns-clause-time
-returns-clause-time c =
-    let m = c.args.self.now in
-    λ model. written_elapses m.base.items m.calls.items c.put.new.calls.items c.args.at c.args.from.now c.requires
-    c.in_ok-put.ensures.calls
+    c.requires c.in_ok-put.ensures.calls in
+    record {
+      sectors = search rules;
+      model = search rules;
+      ok = λ model. at_ok c.take_one-taken.result _ pending;
+      err = λ model. at_err c.take_one-taken.result _
+          (record { reads = inr pending.reads; images = inr pending.images });
+      time = λ model. written_elapses m.base.items m.calls.items c.put.new.calls.items c.args.at c.args.from.now
+          c.requires c.in_ok-put.ensures.calls;
+      cause = search rules;
+      calls_left = search rules;
+    }
 
 pub returns-clause-pending : goal.returns-clause-pending
 returns-clause-pending c =
