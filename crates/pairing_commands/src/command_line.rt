@@ -1,4 +1,5 @@
 //! The words of the command line, with the texts of their help.
+use crate::days::is_day;
 use clap::error::ErrorKind;
 use clap::{ArgAction, ArgMatches, Command, Error};
 use command_words::{VERSION, flag, option};
@@ -199,6 +200,9 @@ const HEAD: [(&str, &str); 10] = [
     ("all-rounds", "How many rounds there are to be"),
 ];
 
+// Which of these are days.
+const DAYS: [&str; 2] = ["begins", "ends"];
+
 fn players_option(help: &'static str) -> OptionText {
     OptionText {
         name: "players",
@@ -333,7 +337,10 @@ fn read_by<'a>(
     words: &'a [String],
 ) -> Result<Word<'a>, Error> {
     let matches = command.try_get_matches_from_mut(words)?;
-    word_or_fault(alloc, command, &matches)
+    match no_day_told(alloc, &matches)? {
+        Some(told) => Err(command.error(ErrorKind::InvalidValue, told.as_str())?),
+        None => word_or_fault(alloc, command, &matches),
+    }
 }
 
 fn word_or_fault<'a>(
@@ -348,6 +355,24 @@ fn word_or_fault<'a>(
             "an address, a board, a game, a server or a round's files are none, or neither --archive nor --server is given",
         )?),
     }
+}
+
+// What is said where the tournament's first or last day is given and is none.
+fn no_day_told(alloc: Global, matches: &ArgMatches<'_>) -> Result<Option<String>, AllocError> {
+    let Some(("trf", values)) = matches.subcommand() else {
+        return Ok(None);
+    };
+    for name in &DAYS {
+        if let Some(text) = values.get_str(*name)
+            && !is_day(alloc, text)?
+        {
+            let told = format!(in alloc;
+                "--{name} {text:?} is no day: it is YYYY/MM/DD, as 2026/11/27"
+            )?;
+            return Ok(Some(told));
+        }
+    }
+    Ok(None)
 }
 
 // What words ask for; none where one of them is none that the program knows.
