@@ -3,6 +3,7 @@
 
 mod adding;
 mod evidence;
+mod gaps;
 mod health;
 mod links;
 mod live;

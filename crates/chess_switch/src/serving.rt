@@ -3,7 +3,7 @@ use crate::command_line::Serving;
 use crate::hall::Hall;
 use anyhow::Result;
 use monotonic_clock::Moments;
-use std::net::{IpAddr, Net, SocketAddr};
+use std::net::{Net, SocketAddr};
 use std::rt::Clock;
 
 // Tells an operator that a server is there, or that it is not.
@@ -36,18 +36,11 @@ fn tell_servers<R: Eprint>(
     }
 }
 
-fn is_loopback(address: SocketAddr) -> bool {
-    match address.ip() {
-        IpAddr::V4(ip) => ip.is_loopback(),
-        IpAddr::V6(ip) => ip.is_loopback(),
-    }
-}
-
 // Prints the port, and warns where other machines reach it.
 fn tell_port<R: Print + Eprint>(rt: &R, hall: &Hall<'_>, address: SocketAddr) -> Result<()> {
     let port = hall.port()?;
     println!(rt; "port {port}")?;
-    if !is_loopback(address) {
+    if !address.ip().is_loopback() {
         eprintln!(rt; "other machines reach it: whoever says a name there is believed")?;
     }
     Ok(())

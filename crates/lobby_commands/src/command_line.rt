@@ -55,8 +55,8 @@ prints
 const HELP_OF_EVIDENCE: &str = "\
 It prints what the log has of a game, a line for each act: when it was answered (UTC), who
 said what, the answer, and what both clocks showed behind it, - where that is not known. An
-answer to show that stands behind no act has a line of its own. The log is only read, also
-while a lobby writes it.
+answer to show that stands behind no act has a line of its own, and so have moves that the
+log has not got, and that it has no end. The log is only read, also while a lobby writes it.
 
 Exit status: 0; 1 with what is wrong on standard error, as where the log has no such game; 2
 for words that the program does not know.

@@ -1,7 +1,9 @@
 //! The words of the command line, with the texts of their help.
+use crate::days::is_day;
 use clap::error::ErrorKind;
 use clap::{ArgAction, ArgMatches, Command, Error};
 use command_words::{VERSION, flag, option};
+use option_tables::{OptionText, with_options};
 use std::alloc::{AllocError, Global};
 use std::net::SocketAddr;
 use trf_texts::Tournament;
@@ -128,36 +130,36 @@ pub struct Reporting<'a> {
     pub tournament: Tournament<'a>,
 }
 
-// An option `--NAME VALUE` of a word.
-#[derive(Clone, Copy)]
-struct OptionText {
-    name: &'static str,
-    value: &'static str,
-    help: &'static str,
-}
-
 const PAIRINGS: OptionText = OptionText {
     name: "pairings",
     value: "FILE",
     help: "The round's pairings, a CSV file",
+    is_required: true,
+    action: ArgAction::Set,
 };
 
 const ROUND_FILE: OptionText = OptionText {
     name: "round-file",
     value: "FILE",
     help: "Which game is which board's",
+    is_required: true,
+    action: ArgAction::Set,
 };
 
 const SERVER: OptionText = OptionText {
     name: "server",
     value: "A:P",
     help: "Where the game server listens",
+    is_required: false,
+    action: ArgAction::Set,
 };
 
 const ARCHIVE: OptionText = OptionText {
     name: "archive",
     value: "FILE",
     help: "The archive of games that are over",
+    is_required: false,
+    action: ArgAction::Set,
 };
 
 // What `start` may be told several times.
@@ -166,16 +168,22 @@ const TOLD_TO_START: [OptionText; 3] = [
         name: "take",
         value: "BOARD=GAME",
         help: "This game is the board's; it may be given several times",
+        is_required: false,
+        action: ArgAction::Append,
     },
     OptionText {
         name: "after",
         value: "BOARD=GAME",
         help: "No game up to this one of its server is the board's; it may be given several times",
+        is_required: false,
+        action: ArgAction::Append,
     },
     OptionText {
         name: "without",
         value: "SERVER",
         help: "This server of a switch is not waited for; it may be given several times",
+        is_required: false,
+        action: ArgAction::Append,
     },
 ];
 
@@ -183,6 +191,8 @@ const ROUNDS: OptionText = OptionText {
     name: "rounds",
     value: "CSV,GAMES",
     help: "The two files of a round; it is given once for each round, in their order",
+    is_required: true,
+    action: ArgAction::Append,
 };
 
 // What a report's head tells of the tournament, each with its help.
@@ -199,48 +209,25 @@ const HEAD: [(&str, &str); 10] = [
     ("all-rounds", "How many rounds there are to be"),
 ];
 
+// Which of these are days.
+const DAYS: [&str; 2] = ["begins", "ends"];
+
 fn players_option(help: &'static str) -> OptionText {
     OptionText {
         name: "players",
         value: "FILE",
         help,
+        is_required: false,
+        action: ArgAction::Set,
     }
 }
 
-// (A loop over a table is proved once, and each call in a chain over what all calls before it say.)
-fn with_options<'a>(
-    alloc: Global,
-    command: Command<'a>,
-    options: &[OptionText],
-    is_required: bool,
-    // What comes of several.
-    action: ArgAction,
-) -> Result<Command<'a>, AllocError> {
-    let mut command = command;
-    for text in options {
-        let made = option(alloc, text.name, text.value, text.help)
-            .required(is_required)
-            .action(action);
-        command = command.arg(made)?;
+// The same option, where it is to be there.
+fn required(text: OptionText) -> OptionText {
+    OptionText {
+        is_required: true,
+        ..text
     }
-    Ok(command)
-}
-
-// Options that are to be there, and others that may be, each once.
-fn with_required<'a>(
-    alloc: Global,
-    command: Command<'a>,
-    options: &[OptionText],
-) -> Result<Command<'a>, AllocError> {
-    with_options(alloc, command, options, true, ArgAction::Set)
-}
-
-fn with_optional<'a>(
-    alloc: Global,
-    command: Command<'a>,
-    options: &[OptionText],
-) -> Result<Command<'a>, AllocError> {
-    with_options(alloc, command, options, false, ArgAction::Set)
 }
 
 fn with_head<'a>(alloc: Global, command: Command<'a>) -> Result<Command<'a>, AllocError> {
@@ -266,9 +253,12 @@ fn start_command<'a>(alloc: Global) -> Result<Command<'a>, AllocError> {
     let players = players_option(
         "The players' file: nothing is opened where a player is not in it",
     );
-    let command = with_required(alloc, command, &[PAIRINGS, ROUND_FILE, SERVER])?;
-    let command = with_optional(alloc, command, &[players])?;
-    let command = with_options(alloc, command, &TOLD_TO_START, false, ArgAction::Append)?;
+    let command = with_options(
+        alloc,
+        command,
+        &[PAIRINGS, ROUND_FILE, required(SERVER), players],
+    )?;
+    let command = with_options(alloc, command, &TOLD_TO_START)?;
     command.arg(flag(
         alloc,
         "short",
@@ -284,8 +274,11 @@ fn results_command<'a>(alloc: Global) -> Result<Command<'a>, AllocError> {
         HELP_OF_RESULTS,
     );
     let players = players_option("The players' file, with the full names that the archive has");
-    let command = with_required(alloc, command, &[PAIRINGS, ROUND_FILE])?;
-    with_optional(alloc, command, &[players, ARCHIVE, SERVER])
+    with_options(
+        alloc,
+        command,
+        &[PAIRINGS, ROUND_FILE, players, ARCHIVE, SERVER],
+    )
 }
 
 fn trf_command<'a>(alloc: Global) -> Result<Command<'a>, AllocError> {
@@ -295,10 +288,10 @@ fn trf_command<'a>(alloc: Global) -> Result<Command<'a>, AllocError> {
         "Writes the report of a tournament, TRF-16",
         HELP_OF_TRF,
     );
-    let command = with_required(alloc, command, &[players_option("The players' file")])?;
-    let command = with_options(alloc, command, &[ROUNDS], true, ArgAction::Append)?;
+    let players = required(players_option("The players' file"));
+    let command = with_options(alloc, command, &[players, ROUNDS])?;
     let command = with_head(alloc, command)?;
-    with_optional(alloc, command, &[ARCHIVE, SERVER])
+    with_options(alloc, command, &[ARCHIVE, SERVER])
 }
 
 // (A word is made before it is added, so that one call alone has the command to drop where that fails.)
@@ -333,7 +326,10 @@ fn read_by<'a>(
     words: &'a [String],
 ) -> Result<Word<'a>, Error> {
     let matches = command.try_get_matches_from_mut(words)?;
-    word_or_fault(alloc, command, &matches)
+    match no_day_told(alloc, &matches)? {
+        Some(told) => Err(command.error(ErrorKind::InvalidValue, told.as_str())?),
+        None => word_or_fault(alloc, command, &matches),
+    }
 }
 
 fn word_or_fault<'a>(
@@ -348,6 +344,24 @@ fn word_or_fault<'a>(
             "an address, a board, a game, a server or a round's files are none, or neither --archive nor --server is given",
         )?),
     }
+}
+
+// What is said where the tournament's first or last day is given and is none.
+fn no_day_told(alloc: Global, matches: &ArgMatches<'_>) -> Result<Option<String>, AllocError> {
+    let Some(("trf", values)) = matches.subcommand() else {
+        return Ok(None);
+    };
+    for name in &DAYS {
+        if let Some(text) = values.get_str(*name)
+            && !is_day(alloc, text)?
+        {
+            let told = format!(in alloc;
+                "--{name} {text:?} is no day: it is YYYY/MM/DD, as 2026/11/27"
+            )?;
+            return Ok(Some(told));
+        }
+    }
+    Ok(None)
 }
 
 // What words ask for; none where one of them is none that the program knows.

@@ -2,6 +2,7 @@
 #![tactic(auto)]
 
 mod command_line;
+mod days;
 
 pub use command_line::{
     Asking, Reporting, Round, Said, Source, Starting, Word, command, read_words,

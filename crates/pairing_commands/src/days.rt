@@ -1,0 +1,17 @@
+//! The days of a tournament.
+use pgn_tags::is_date;
+use std::alloc::{AllocError, Global};
+
+// Whether a byte may stand in a day: what the tag Date has besides is no part of it.
+fn is_day_byte(byte: u8) -> bool {
+    byte.is_ascii_digit() || byte == b'/'
+}
+
+/// Whether a text is a day of the calendar as a report has it, `YYYY/MM/DD`.
+pub fn is_day(alloc: Global, text: &str) -> Result<bool, AllocError> {
+    if !text.as_bytes().iter().all(|byte| is_day_byte(*byte)) {
+        return Ok(false);
+    }
+    let date = text.replace(alloc, "/", ".")?;
+    Ok(is_date(date.as_str()))
+}
