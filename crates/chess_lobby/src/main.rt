@@ -2,6 +2,7 @@
 #![tactic(auto)]
 
 mod adding;
+mod entries;
 mod evidence;
 mod health;
 mod links;

@@ -66,7 +66,7 @@ impl Play {
         Ok(Play {
             alloc,
             members,
-            desk: Desk::new(alloc, players),
+            desk: Desk::new(alloc, players, false),
             now: 0,
         })
     }

@@ -176,13 +176,12 @@ pub record View : Type 0 where
 abbrev pub view : Desk → View
 view desk = record { next = desk.next; is_open = open_of desk; who = who_of desk; said = desk.line.said; here = desk.line.is_here; paused = desk.is_paused; known = known desk }
 
--- A desk that begins: no connection has come, and nothing was said.
+-- A desk that begins: no connection has come, and nothing was said. Entries are paused, or not.
 pub record BeginsView (now : View) : Type 0 where
   pub next : now.next ≡ 0
   pub none_open : (c : ℕ) → now.is_open c ≡ false
   pub who : (c : ℕ) → now.who c ≡ None
   pub said : now.said ≡ None
-  pub paused : now.paused ≡ false
   pub owed : now.known.owed ≡ []
   pub left : now.known.left ≡ 0
   pub begun : now.known.begun ≡ []

@@ -132,7 +132,7 @@ fn earlier(a: Option<u64>, b: Option<u64>) -> Option<u64> {
 }
 
 impl Lobby {
-    /// A lobby whose server is at this address. The system's error where it cannot be watched.
+    /// A lobby whose server is at this address, which begins with entries paused, or not. The system's error where it cannot be watched.
     pub fn new(
         net: &impl Net,
         alloc: Global,
@@ -141,8 +141,10 @@ impl Lobby {
         server: SocketAddr,
         site: Site,
         players: Vec<Player>,
+        is_paused: bool,
     ) -> io::Result<Lobby>
-        ensures { IfOk result (λ lobby. BeginsHall site players.items lobby.hall) }
+        ensures begins { IfOk result (λ lobby. BeginsHall site players.items lobby.hall) }
+        ensures paused { IfOk result (λ lobby. lobby.hall.talk.desk.is_paused ≡ is_paused) }
     {
         let Watched { poll, events } = watch_entrance(net, alloc, &mut entrance)?;
         Ok(Lobby {
@@ -153,7 +155,7 @@ impl Lobby {
             call: None,
             call_until: 0,
             call_at: 0,
-            hall: Hall::new(alloc, keys, site, players),
+            hall: Hall::new(alloc, keys, site, players, is_paused),
             poll,
             events,
         })

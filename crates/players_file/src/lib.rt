@@ -4,7 +4,7 @@
 mod file;
 mod players;
 
-pub use file::{Hold, put, read};
+pub use file::{Hold, put, read, take_away};
 pub use players::{full_name, players_of};
 
 #[cfg(test)]

@@ -1,5 +1,5 @@
 //! What no clause says: who may read the players' file, and who may change it.
-use crate::{Hold, put};
+use crate::{Hold, put, take_away};
 use std::fs;
 use std::os::unix::fs::PermissionsExt;
 use std::test::Fail;
@@ -28,6 +28,10 @@ fn a_file_keeps_its_mode_and_a_new_one_is_its_owners(rt: HostRuntime) -> Result<
     }
     assert_eq!(rt; fs::read_to_string(&rt, FILE)?.as_str(), "two\n");
     assert!(rt; !fs::exists(&rt, "players_file_test/club.players.new")?);
+    for _ in 0..2 {
+        assert!(rt; take_away(&rt, FILE).is_ok());
+        assert!(rt; !fs::exists(&rt, FILE)?);
+    }
     fs::remove_dir_all(&rt, FOLDER)?;
     Ok(())
 }
