@@ -1,10 +1,11 @@
 //! Browsers and a server over streams that give and take little, or fail.
 use bytes::Bytes;
-use lobby_desk::{Linked, Order, Player};
+use lobby_desk::Order;
 use lobby_loop::{
     ActLog, Fault, Found, Hall, Links, Listens, NoActLog, NoLinks, Welcomed, welcome,
 };
 use lobby_players::relinked;
+use lobby_roster::{Linked, Player};
 use lobby_web::{File, Kind, Site};
 use rec_codec::Name;
 use std::alloc::Global;

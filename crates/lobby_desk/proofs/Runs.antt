@@ -13,7 +13,7 @@ use Rattle.lobby_words.specs.declared.planning.Plan.{Plan}
 use Rattle.lobby_words.specs.declared.planning.Plan.TheVariants as plans
 use Rattle.lobby_words.specs.declared.planning.Standing.{Standing}
 use Rattle.lobby_words.specs.declared.planning.Identity.{Identity}
-use Rattle.lobby_desk.specs.declared.players.Player.{Player}
+use Rattle.lobby_roster.specs.declared.players.Player.{Player}
 use Rattle.lobby_words.specs.declared.listing.Waiting.{Waiting}
 use Rattle.lobby_desk.specs.declared.refusals.Refused.{Refused}
 use Rattle.lobby_desk.specs.declared.watching.Watch.{Watch}
@@ -26,7 +26,7 @@ use Rattle.lobby_desk.specs.Watching.{watch_if, sit_if}
 use Rattle.lobby_desk.specs.Events.{DeskInput, Opened, Closed, Said, Hurried, Heard, Gone, Here, Renewed, Linked, MessageValue, ForItself, ForPositions, ForTable, ForGame, ForAct, Owed, Nobody, Asker, Dropper, Followers, Behind, owed_last, owed_acted, owed_some, owed_lines, sort_asker, asker, followers_of, follower, Following, is_same_game, asked_after}
 use Rattle.lobby_desk.specs.Tellings.{Known, open_now, watch_heard, watch_next, watches_now, table_heard, table_next, table_now, owed_answered, owed_now, known_now, presence, lost, AreToldAll, IsTold}
 use Rattle.lobby_desk.specs.Who.{View, BeginsView, IsSaid, IsHeard, IsDropped, IsSentFor, IsSentNext, IsSentHeard, IsDone, IsRenewed, IsLinked, IsKnown, who_noted, name_of, speaker}
-use Rattle.lobby_desk.specs.Players.{player_named, renewed}
+use Rattle.lobby_roster.specs.Players.{player_named, renewed}
 use Rattle.lobby_desk.specs.History.{Step, comes, has_come, shown_by, player_said, player_after, players_in, player_in, is_drop, name_as, name_for, name_behind, name_through, name_before, name_in, ActsUnder, ActsRight, NoActs, NoDrops, sort_asks, IsOf, open_in, known_in, IsArbiter, AsksNow, HasAsked, IsDropOf, IsNoticeOf, IsRight, AreWhole, AllRight, AllTold, IsRun}
 use Rattle.lobby_words.proofs.Numbers.{number_small}
 use Rattle.lobby_desk.proofs.Sent.{is_said_same}

@@ -10,13 +10,13 @@ use Rattle.lobby_words.specs.declared.refusals.Refusal.TheVariants as refusals
 use Rattle.lobby_words.specs.declared.planning.Order.{Order}
 use Rattle.lobby_words.specs.declared.planning.Standing.{Standing}
 use Rattle.lobby_words.specs.declared.planning.Identity.{Identity}
-use Rattle.lobby_desk.specs.declared.players.Player.{Player}
-use Rattle.lobby_desk.specs.declared.players.Visitor.{Visitor}
+use Rattle.lobby_roster.specs.declared.players.Player.{Player}
+use Rattle.lobby_desk.specs.declared.visitors.Visitor.{Visitor}
 use Rattle.lobby_desk.specs.declared.watching.Watch.{Watch}
 use Rattle.lobby_desk.specs.declared.desk.Desk.{Desk}
 use Rattle.lobby_words.specs.Words.{rest_of, as_name, actor, is_message, sort_of, number_in}
 use Rattle.lobby_words.specs.Waiting.{is_open as opens_game}
-use Rattle.lobby_desk.specs.Players.{holder_of, player_named, renewed, is_token_of, login_text, players_text, present_names, who_text}
+use Rattle.lobby_roster.specs.Players.{holder_of, player_named, renewed, is_token_of, login_text, players_text, present_names, who_text}
 use Rattle.lobby_words.specs.Plans.{refusal_text, plan_of, order_of}
 use Rattle.lobby_desk.specs.Lines.{bytes_of, lines_of, act_lines, said_after, notice_lines, IsNamed}
 use Rattle.lobby_words.specs.Answers.{IsSeated, IsFirstSeated, IsSeatless, has_empty_seat, act_game, is_whole, answer}

@@ -1,10 +1,11 @@
 //! Who changes players' links, and keeps whether entries are paused.
 ghost use Rattle.std.specs.Prelude.{List, [], IfSome};
 ghost use Rattle.std.specs.String.{string_bytes};
-ghost use Rattle.lobby_desk.specs.declared.players.Player.{Player};
-ghost use Rattle.lobby_desk.specs.Players.{IsRelinked};
+ghost use Rattle.lobby_roster.specs.declared.players.Player.{Player};
+ghost use Rattle.lobby_roster.specs.Players.{IsRelinked};
 
-use lobby_desk::{Linked, Order};
+use lobby_desk::Order;
+use lobby_roster::Linked;
 
 /// Keeps the players' file, by which links hold, and beside it whether entries are paused.
 pub trait Links {
