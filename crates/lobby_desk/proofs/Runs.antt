@@ -991,8 +991,8 @@ asked_then players past old (Linked c text later token) lines tells now agrees s
 asked_then players past old Gone lines tells now agrees step = tt
 asked_then players past old Here lines tells now agrees step = tt
 
-begins_known : (players : List Player) (now : View) → BeginsView now → now.known ≡ known_in players []
-begins_known players now begins =
+begins_known : (players : List Player) (is_paused : Bool) (now : View) → BeginsView is_paused now → now.known ≡ known_in players []
+begins_known players is_paused now begins =
     same_known now.known (known_in players []) begins.owed begins.left begins.begun begins.last begins.watches begins.table begins.waiting begins.refused begins.follows
 
 pub record RunGood (players : List Player) (steps : List Step) (now : View) : Type 0 where
@@ -1000,14 +1000,15 @@ pub record RunGood (players : List Player) (steps : List Step) (now : View) : Ty
   pub right : AllRight players steps
   pub told : AllTold players steps
 
-pub run_good : (players : List Player) (steps : List Step) (now : View) → IsRun players steps now → RunGood players steps now
-run_good players [] now run = record {
-  agrees = record { who = run.who; said = run.said; opens = run.none_open; known = begins_known players now run; asked = subst (AreAsked players []) (sym run.owed) tt; came = λ c h. absurd (false≢true h) };
+pub run_good : (players : List Player) (is_paused : Bool) (steps : List Step) (now : View) → IsRun players is_paused steps now →
+    RunGood players steps now
+run_good players is_paused [] now run = record {
+  agrees = record { who = run.who; said = run.said; opens = run.none_open; known = begins_known players is_paused now run; asked = subst (AreAsked players []) (sym run.owed) tt; came = λ c h. absurd (false≢true h) };
   right = tt;
   told = tt;
 }
-run_good players (s ∷ past) now run =
-    let before = run_good players past run.0 run.1 in
+run_good players is_paused (s ∷ past) now run =
+    let before = run_good players is_paused past run.0 run.1 in
     let step = run.2 in
     let good = done_good players past run.0 s.event s.lines s.tells now before.agrees step.done in
     record {

@@ -217,10 +217,11 @@ abbrev pub AllTold : List Player → List Step → Type 0
 AllTold players [] = Unit {0}
 AllTold players (s ∷ past) = IsTold s.event s.lines s.tells (open_in past) (known_in players past) × AllTold players past
 
--- a desk that begins with these players, and steps of it
-abbrev pub IsRun : List Player → List Step → View → Type 0
-IsRun players [] now = BeginsView now
-IsRun players (s ∷ past) now = (before : View) × IsRun players past before × IsStep (players_in players past) before s.event s.lines s.tells now
+-- a desk that begins with these players, with entries paused or not, and steps of it
+abbrev pub IsRun : List Player → Bool → List Step → View → Type 0
+IsRun players is_paused [] now = BeginsView is_paused now
+IsRun players is_paused (s ∷ past) now =
+    (before : View) × IsRun players is_paused past before × IsStep (players_in players past) before s.event s.lines s.tells now
 
 -- an act that the server answered: the message, and the server's whole answer
 pub record Acted : Type 0 where

@@ -7,7 +7,8 @@ use Rattle.lobby_words.specs.declared.planning.Plan.TheVariants as plans
 use Rattle.rec_codec.specs.Name.{IsName}
 use Rattle.lobby_desk.specs.Refusals.{game_named}
 use Rattle.lobby_desk.specs.declared.server_line.ServerLine.{ServerLine}
-pub use Rattle.lobby_words.specs.Answers.{ended, bytes_of}
+pub use Rattle.lobby_words.specs.Answers.{ended}
+pub use Rattle.lobby_roster.specs.Lines.{bytes_of}
 
 -- the line that says a name
 abbrev pub name_line : List ℕ → List ℕ

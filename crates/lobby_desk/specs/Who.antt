@@ -176,12 +176,13 @@ pub record View : Type 0 where
 abbrev pub view : Desk → View
 view desk = record { next = desk.next; is_open = open_of desk; who = who_of desk; said = desk.line.said; here = desk.line.is_here; paused = desk.is_paused; known = known desk }
 
--- A desk that begins: no connection has come, and nothing was said. Entries are paused, or not.
-pub record BeginsView (now : View) : Type 0 where
+-- A desk that begins: no connection has come, and nothing was said. Entries are paused just where it is told so.
+pub record BeginsView (is_paused : Bool) (now : View) : Type 0 where
   pub next : now.next ≡ 0
   pub none_open : (c : ℕ) → now.is_open c ≡ false
   pub who : (c : ℕ) → now.who c ≡ None
   pub said : now.said ≡ None
+  pub paused : now.paused ≡ is_paused
   pub owed : now.known.owed ≡ []
   pub left : now.known.left ≡ 0
   pub begun : now.known.begun ≡ []
@@ -192,8 +193,8 @@ pub record BeginsView (now : View) : Type 0 where
   pub refused : now.known.refused ≡ []
   pub follows : now.known.follows ≡ None
 
-abbrev pub Begins : Desk → Type 0
-Begins desk = BeginsView (view desk)
+abbrev pub Begins : Bool → Desk → Type 0
+Begins is_paused desk = BeginsView is_paused (view desk)
 
 -- a message, or one that comes too fast
 abbrev pub said_event : Bool → ℕ → List ℕ → DeskInput

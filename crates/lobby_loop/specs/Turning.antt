@@ -43,10 +43,10 @@ TellsServer {S} contents front (Some link) server old new =
     (after : Link S) × (server ≡ Some after) × HandsOn front (contents link.stream) (contents after.stream) old new
     × IsKept link after
 
--- Nobody is connected, and nothing was said.
-pub record BeginsHall {S : Type 0} (site : Site) (players : List Player) (now : Hall S) : Type 0 where
+-- Nobody is connected, and nothing was said. Entries are paused, or not.
+pub record BeginsHall {S : Type 0} (site : Site) (players : List Player) (is_paused : Bool) (now : Hall S) : Type 0 where
   pub site_is : now.site ≡ site
-  pub talk : Begins players now.talk
+  pub talk : Begins players is_paused now.talk
   pub guests : now.guests.items ≡ []
   pub server : now.server ≡ None
 

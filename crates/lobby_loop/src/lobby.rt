@@ -143,8 +143,7 @@ impl Lobby {
         players: Vec<Player>,
         is_paused: bool,
     ) -> io::Result<Lobby>
-        ensures begins { IfOk result (λ lobby. BeginsHall site players.items lobby.hall) }
-        ensures paused { IfOk result (λ lobby. lobby.hall.talk.desk.is_paused ≡ is_paused) }
+        ensures { IfOk result (λ lobby. BeginsHall site players.items is_paused lobby.hall) }
     {
         let Watched { poll, events } = watch_entrance(net, alloc, &mut entrance)?;
         Ok(Lobby {

@@ -1,1 +1,2 @@
 pub mod Players
+pub mod Lines

@@ -25,11 +25,6 @@ left_after left line = if left == 0 then lines_behind line else left - 1
 abbrev pub ended : List ℕ → List ℕ
 ended line = line ++ 10 ∷ []
 
--- lines, one behind the other
-abbrev pub bytes_of : List (List ℕ) → List ℕ
-bytes_of [] = []
-bytes_of (line ∷ lines) = ended line ++ bytes_of lines
-
 -- whether a line ends an answer where so many lines were still to come, and the answer behind these lines
 abbrev pub is_whole : ℕ → List ℕ → Bool
 is_whole left line = left_after left line == 0
