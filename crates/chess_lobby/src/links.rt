@@ -3,13 +3,12 @@ ghost use Rattle.std.specs.Prelude.{IfOk};
 ghost use Rattle.std.specs.String.{string_bytes};
 ghost use Rattle.lobby_roster.specs.Players.{IsRelinked};
 
-use crate::entries::Entries;
 use anyhow::Result;
 use lobby_desk::Order;
 use lobby_loop::Links;
 use lobby_players::{ChangedFile, new_token, relinked};
 use lobby_roster::{Linked, Player};
-use players_file::Hold;
+use players_file::{Entries, Hold};
 use std::fs::File;
 use std::random::RandomSource;
 use std::rt::Files;

@@ -2,7 +2,6 @@
 #![tactic(auto)]
 
 mod adding;
-mod entries;
 mod evidence;
 mod health;
 mod links;

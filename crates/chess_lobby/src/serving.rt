@@ -1,5 +1,4 @@
 //! The word that serves browsers.
-use crate::entries::Entries;
 use crate::health::Health;
 use crate::links::FileLinks;
 use crate::live::Live;
@@ -12,6 +11,7 @@ use lobby_commands::Serving;
 use lobby_loop::{ActLog, Entrance, Lobby, NoActLog, Turned};
 use lobby_roster::Player;
 use monotonic_clock::Moments;
+use players_file::Entries;
 use std::fs::File;
 use std::hash::RandomState;
 use std::net::{Net, SocketAddr};

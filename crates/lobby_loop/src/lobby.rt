@@ -132,7 +132,8 @@ fn earlier(a: Option<u64>, b: Option<u64>) -> Option<u64> {
 }
 
 impl Lobby {
-    /// A lobby whose server is at this address, which begins with entries paused, or not. The system's error where it cannot be watched.
+    /// A lobby whose server is at this address, which begins with entries paused, or not. The system's error where it cannot be
+    /// watched.
     pub fn new(
         net: &impl Net,
         alloc: Global,

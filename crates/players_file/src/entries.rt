@@ -1,6 +1,6 @@
 //! Whether entries are paused, for a lobby that begins anew: a file stands beside the players' file as long as they are.
+use crate::file::{put, take_away};
 use anyhow::{Context, Result};
-use players_file::{put, take_away};
 use std::fs::{self, File};
 use std::rt::Files;
 
