@@ -620,7 +620,7 @@ struct Once {
 }
 
 // Such a file that was asked nothing.
-fn once(alloc: Global) -> Once {
+fn unasked(alloc: Global) -> Once {
     Once {
         alloc,
         found: Vec::new(alloc),
@@ -670,7 +670,7 @@ fn a_link_is_told_once_it_is_made(rt: HostRuntime) {
     let browser = stream_of(alloc, LINKS.browser, LINKS.takes);
     let server = stream_of(alloc, LINKS.server, 1_000);
     let mut hall = begun(&rt, alloc, keys, browser, server);
-    let mut links = once(alloc);
+    let mut links = unasked(alloc);
     for at in 0..30 {
         hall.turn(at, &mut NoActLog, &mut links)
             .expect(&rt, "memory");
@@ -704,7 +704,7 @@ fn that_entries_are_paused_is_kept_before_it_is_told(rt: HostRuntime) {
     let browser = stream_of(alloc, PAUSE.browser, PAUSE.takes);
     let server = stream_of(alloc, PAUSE.server, 1_000);
     let mut hall = begun(&rt, alloc, keys, browser, server);
-    let mut links = once(alloc);
+    let mut links = unasked(alloc);
     for at in 0..30 {
         hall.turn(at, &mut NoActLog, &mut links)
             .expect(&rt, "memory");
