@@ -1,4 +1,6 @@
 //! Whether entries are paused, for a lobby that begins anew: a file stands beside the players' file as long as they are.
+ghost use Rattle.std.specs.Prelude.{◌≡◌};
+
 use crate::file::{put, take_away};
 use anyhow::{Context, Result};
 use std::fs::{self, File};
@@ -32,7 +34,9 @@ impl<'a, R: Files<File = File> + AllocGlobal + Eprint> Entries<'a, R> {
     }
 
     /// Whether they are paused.
-    pub fn is_paused(&self) -> bool {
+    pub fn is_paused(&self) -> bool
+        ensures { result ≡ self.now.is_paused }
+    {
         self.is_paused
     }
 
@@ -47,7 +51,9 @@ impl<'a, R: Files<File = File> + AllocGlobal + Eprint> Entries<'a, R> {
     }
 
     /// Keeps it, where it is another. It is on the disk then, or standard error tells that it is not.
-    pub fn keep(&mut self, is_paused: bool) {
+    pub fn keep(&mut self, is_paused: bool)
+        ensures { self.new.is_paused ≡ is_paused }
+    {
         if is_paused == self.is_paused {
             return;
         }
