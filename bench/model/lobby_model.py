@@ -107,7 +107,7 @@ class Lobby:
         self.silent = False
         self.delay = 0
         self.opened = collections.defaultdict(set)
-        self.paused = False
+        self.paused = os.path.exists(file + '.paused')
 
     # ---- one message
 
@@ -185,6 +185,12 @@ class Lobby:
         games = self.server.table.games
         return [n for n in self.opened[name] if n in games and self.server.fields(n).joined is None]
 
+    def keep_paused(self):
+        if self.paused:
+            open(self.file + '.paused', 'w').close()
+        elif os.path.exists(self.file + '.paused'):
+            os.remove(self.file + '.paused')
+
     def of_arbiters(self, c, text):
         if c.player is None:
             refuse(31)
@@ -194,6 +200,7 @@ class Lobby:
             return self.linked(*text.split(' ', 1)) if ' ' in text else refuse(38)
         if text != 'who':
             self.paused = text == 'pause entries'
+            self.keep_paused()
             return ['ok ' + text]
         acting = {one.player for one in self.connections}
         names = [row[0] for row in self.players.values() if row in acting]

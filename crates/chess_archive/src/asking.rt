@@ -2,7 +2,7 @@
 use act_log::{Record, Shown, clocks, shown_of};
 use anyhow::{Context, Result, bail};
 use archive_text::{Heading, archived};
-use lobby_desk::Player;
+use lobby_roster::Player;
 use players_file::full_name;
 use server_link::{Answer, Link, Row};
 use std::alloc::Global;

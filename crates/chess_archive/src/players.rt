@@ -1,7 +1,7 @@
 //! The players as they stand in their file.
 use crate::telling::Telling;
 use anyhow::{Context, Result, bail};
-use lobby_desk::Player;
+use lobby_roster::Player;
 use players_file::players_of;
 use std::fs;
 use std::rt::Files;

@@ -1,33 +1,36 @@
-//! Players' links, changed in the players' file.
+//! Players' links, changed in the players' file, and whether entries are paused, kept beside it.
 ghost use Rattle.std.specs.Prelude.{IfOk};
 ghost use Rattle.std.specs.String.{string_bytes};
-ghost use Rattle.lobby_desk.specs.Players.{IsRelinked};
+ghost use Rattle.lobby_roster.specs.Players.{IsRelinked};
 
 use anyhow::Result;
-use lobby_desk::{Linked, Order, Player};
+use lobby_desk::Order;
 use lobby_loop::Links;
 use lobby_players::{ChangedFile, new_token, relinked};
-use players_file::Hold;
+use lobby_roster::{Linked, Player};
+use players_file::{Entries, Hold};
 use std::fs::File;
 use std::random::RandomSource;
 use std::rt::Files;
 
-/// The links of a players' file.
+/// The links of a players' file, and what is kept beside it.
 #[derive(Drop)]
 pub struct FileLinks<'a, R> {
     rt: &'a R,
     file: &'a str,
     // The players of the file as it was read for the last change.
     found: Vec<Player>,
+    entries: Entries<'a, R>,
 }
 
 impl<'a, R: Files<File = File> + AllocGlobal + RandomSource> FileLinks<'a, R> {
     /// Those of this file.
-    pub fn new(rt: &'a R, file: &'a str) -> Self {
+    pub fn new(rt: &'a R, file: &'a str, entries: Entries<'a, R>) -> Self {
         FileLinks {
             rt,
             file,
             found: Vec::new(rt.alloc()),
+            entries,
         }
     }
 
@@ -65,5 +68,9 @@ impl<R: Files<File = File> + AllocGlobal + RandomSource + Eprint> Links for File
                 None
             }
         }
+    }
+
+    fn entries(&mut self, is_paused: bool) {
+        self.entries.keep(is_paused);
     }
 }

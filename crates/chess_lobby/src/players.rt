@@ -1,8 +1,8 @@
 //! The players as they stand in their file.
 use crate::mark::{Mark, mark_of};
 use anyhow::{Result, bail};
-use lobby_desk::Player;
 use lobby_loop::Lobby;
+use lobby_roster::Player;
 use players_file::players_of;
 use std::rt::Files;
 

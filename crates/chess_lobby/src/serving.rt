@@ -8,9 +8,10 @@ use crate::players::Players;
 use crate::table::Table;
 use anyhow::{Context, Result};
 use lobby_commands::Serving;
-use lobby_desk::Player;
 use lobby_loop::{ActLog, Entrance, Lobby, NoActLog, Turned};
+use lobby_roster::Player;
 use monotonic_clock::Moments;
+use players_file::Entries;
 use std::fs::File;
 use std::hash::RandomState;
 use std::net::{Net, SocketAddr};
@@ -79,7 +80,7 @@ where
     R: Files<File = File> + AllocGlobal + Clone + Drop + Clock + Eprint + Net + RandomSource,
 {
     // Nothing was looked at or told.
-    fn new(rt: &'a R, serving: &'a Serving<'a>) -> Result<Self> {
+    fn new(rt: &'a R, serving: &'a Serving<'a>, entries: Entries<'a, R>) -> Result<Self> {
         let health = Health::new(rt, serving.journals.as_slice())?;
         Ok(Beside {
             rt,
@@ -96,7 +97,7 @@ where
                 Some(file) => Some(Live::new(file)),
                 None => None,
             },
-            links: FileLinks::new(rt, serving.players),
+            links: FileLinks::new(rt, serving.players, entries),
         })
     }
 
@@ -120,6 +121,7 @@ fn take_turns<R, L: ActLog>(
     rt: &R,
     serving: &Serving<'_>,
     players: &mut Players<'_, R>,
+    entries: Entries<'_, R>,
     lobby: &mut Lobby,
     log: &mut L,
 ) -> Result<()>
@@ -127,7 +129,7 @@ where
     R: Files<File = File> + AllocGlobal + Clone + Drop + Clock + Eprint + Net + RandomSource,
 {
     let mut moments = Moments::new(rt)?;
-    let mut beside = Beside::new(rt, serving)?;
+    let mut beside = Beside::new(rt, serving, entries)?;
     for _ in 0..u64::MAX {
         let at = moments.next();
         players.look(lobby, at);
@@ -152,13 +154,23 @@ fn lobby_of<R>(
     entrance: Entrance,
     address: SocketAddr,
     known: Vec<Player>,
+    is_paused: bool,
 ) -> Result<Lobby>
 where
     R: Files<File = File> + AllocGlobal + Clone + Drop + Net + RandomSource,
 {
     let site = site_of(rt, serving.page, address, serving.hosts.as_slice())?;
     let keys = RandomState::new(rt)?;
-    Ok(Lobby::new(rt, rt.alloc(), keys, entrance, serving.server, site, known)?)
+    Ok(Lobby::new(
+        rt,
+        rt.alloc(),
+        keys,
+        entrance,
+        serving.server,
+        site,
+        known,
+        is_paused,
+    )?)
 }
 
 // Serves browsers, with a log of acts.
@@ -185,9 +197,10 @@ where
         serving.address
     ))?;
     let address = entrance.address()?;
-    let mut lobby = lobby_of(rt, serving, entrance, address, known)?;
+    let entries = Entries::new(rt, serving.players)?;
+    let mut lobby = lobby_of(rt, serving, entrance, address, known, entries.is_paused())?;
     tell_address(rt, address)?;
-    take_turns(rt, serving, players, &mut lobby, log)
+    take_turns(rt, serving, players, entries, &mut lobby, log)
 }
 
 /// Serves browsers, and first prints the page's address.

@@ -2,7 +2,7 @@
 use anyhow::{Context, Result, bail};
 use archive_file::{game_of, pgn_of};
 use archive_lines::lines_of;
-use lobby_desk::Player;
+use lobby_roster::Player;
 use pairing_commands::Source;
 use pairing_texts::{Pairing, Seats};
 use pgn_tags::{unescaped, value_in};

@@ -2,7 +2,7 @@
 use crate::outcomes::{Ended, Outcomes, check_halves};
 use crate::results_word::game_of;
 use anyhow::{Context, Result};
-use lobby_desk::Player;
+use lobby_roster::Player;
 use pairing_commands::{Reporting, Round};
 use pairing_texts::Pairing;
 use players_file::players_of;

@@ -1,7 +1,7 @@
 //! The word that writes the results of a round.
 use crate::outcomes::{Ended, Outcomes, check_halves};
 use anyhow::Result;
-use lobby_desk::Player;
+use lobby_roster::Player;
 use pairing_commands::Asking;
 use pairing_texts::{Note, Outcome, Pairing, game_in, last_of, results};
 use players_file::players_of;

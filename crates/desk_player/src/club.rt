@@ -1,6 +1,6 @@
 //! The players of the desk that is played.
 use anyhow::{Context, Result};
-use lobby_desk::Player;
+use lobby_roster::Player;
 use rec_codec::Name;
 use sha2::{Digest, Sha256};
 use std::alloc::{AllocError, Global};

@@ -1,7 +1,8 @@
 //! One line after another, and what comes of it.
 use crate::club::{Member, give_token, members_of, players_of};
 use anyhow::{Context, Result, bail};
-use lobby_desk::{Desk, Kind, Linked, Message};
+use lobby_desk::{Desk, Kind, Message};
+use lobby_roster::Linked;
 use std::alloc::Global;
 
 // The players of the desk at first: two, and an arbiter. The token of each is the name.
@@ -66,7 +67,7 @@ impl Play {
         Ok(Play {
             alloc,
             members,
-            desk: Desk::new(alloc, players),
+            desk: Desk::new(alloc, players, false),
             now: 0,
         })
     }

@@ -1,10 +1,11 @@
 //! Browsers and a server over streams that give and take little, or fail.
 use bytes::Bytes;
-use lobby_desk::{Linked, Order, Player};
+use lobby_desk::Order;
 use lobby_loop::{
     ActLog, Fault, Found, Hall, Links, Listens, NoActLog, NoLinks, Welcomed, welcome,
 };
 use lobby_players::relinked;
+use lobby_roster::{Linked, Player};
 use lobby_web::{File, Kind, Site};
 use rec_codec::Name;
 use std::alloc::Global;
@@ -118,7 +119,28 @@ fn players(rt: &impl Abort, alloc: Global) -> Vec<Player> {
     players_with(rt, alloc, SUM)
 }
 
-// A hall under the host `a:1`, with one browser that gives these, before a server that gives those.
+// A hall under the host `a:1`, with one browser that gives these, before a server that gives those, where entries are paused or
+// not.
+fn begun_with(
+    rt: &impl Abort,
+    alloc: Global,
+    keys: RandomState,
+    browser: Peer,
+    server: Peer,
+    is_paused: bool,
+) -> Hall<Peer> {
+    let mut hosts = Vec::new(alloc);
+    hosts
+        .push(b"a:1".to_vec(alloc).expect(rt, "memory"))
+        .expect(rt, "memory");
+    let site = Site::new(hosts, Vec::new(alloc));
+    let mut hall = Hall::new(alloc, keys, site, players(rt, alloc), is_paused);
+    hall.server_came(server).expect(rt, "memory");
+    hall.admit(browser, 2, 0);
+    hall
+}
+
+// The same, where they are not.
 fn begun(
     rt: &impl Abort,
     alloc: Global,
@@ -126,15 +148,7 @@ fn begun(
     browser: Peer,
     server: Peer,
 ) -> Hall<Peer> {
-    let mut hosts = Vec::new(alloc);
-    hosts
-        .push(b"a:1".to_vec(alloc).expect(rt, "memory"))
-        .expect(rt, "memory");
-    let site = Site::new(hosts, Vec::new(alloc));
-    let mut hall = Hall::new(alloc, keys, site, players(rt, alloc));
-    hall.server_came(server).expect(rt, "memory");
-    hall.admit(browser, 2, 0);
-    hall
+    begun_with(rt, alloc, keys, browser, server, false)
 }
 
 // So many turns with all sockets awake, so many milliseconds apart.
@@ -596,12 +610,23 @@ fn who_has_another_link_acts_no_more(rt: HostRuntime) {
     assert!(rt; is_asked(&other, b"") && is_told(&other, b"\x81\x0eno 31 NoToken\n"));
 }
 
-/// A players' file that changes a link once.
+/// A players' file that changes a link once, and what it was told of entries.
 #[derive(Drop)]
 struct Once {
     alloc: Global,
     found: Vec<Player>,
     is_done: bool,
+    is_paused: bool,
+}
+
+// Such a file that was asked nothing.
+fn unasked(alloc: Global) -> Once {
+    Once {
+        alloc,
+        found: Vec::new(alloc),
+        is_done: false,
+        is_paused: false,
+    }
 }
 
 // The file of ann, whose token is `t`, and of eve, whose token is `e`.
@@ -619,6 +644,10 @@ impl Links for Once {
         self.found = new.before;
         self.is_done = true;
         Some(new.linked)
+    }
+
+    fn entries(&mut self, is_paused: bool) {
+        self.is_paused = is_paused;
     }
 }
 
@@ -641,11 +670,7 @@ fn a_link_is_told_once_it_is_made(rt: HostRuntime) {
     let browser = stream_of(alloc, LINKS.browser, LINKS.takes);
     let server = stream_of(alloc, LINKS.server, 1_000);
     let mut hall = begun(&rt, alloc, keys, browser, server);
-    let mut links = Once {
-        alloc,
-        found: Vec::new(alloc),
-        is_done: false,
-    };
+    let mut links = unasked(alloc);
     for at in 0..30 {
         hall.turn(at, &mut NoActLog, &mut links)
             .expect(&rt, "memory");
@@ -659,4 +684,44 @@ fn a_link_is_told_once_it_is_made(rt: HostRuntime) {
             b"ok login eve arbiter eve\n\x81\x0fno 38 NoPlayer\n\x81\x2dok link ann 07070707070707070707070707070707\n\x81\x11no 40 NotWritten\n\x81\x12ok who open 1\neve\n",
         )
     );
+}
+
+// An arbiter who shows her token, and pauses entries.
+const PAUSE: Script = Script {
+    browser: &[
+        Gives::Bytes(UPGRADE),
+        Gives::Bytes(b"\x81\x87\0\0\0\0login e\x81\x8d\0\0\0\0pause entries"),
+        Gives::Nothing,
+    ],
+    server: &[Gives::Nothing],
+    takes: 1_000,
+};
+
+#[test]
+fn that_entries_are_paused_is_kept_before_it_is_told(rt: HostRuntime) {
+    let alloc = rt.alloc();
+    let keys = RandomState::new(&rt).expect(&rt, "keys");
+    let browser = stream_of(alloc, PAUSE.browser, PAUSE.takes);
+    let server = stream_of(alloc, PAUSE.server, 1_000);
+    let mut hall = begun(&rt, alloc, keys, browser, server);
+    let mut links = unasked(alloc);
+    for at in 0..30 {
+        hall.turn(at, &mut NoActLog, &mut links)
+            .expect(&rt, "memory");
+        assert!(rt; links.is_paused || !is_told(&hall, b"\x81\x11ok pause entries\n"));
+        hall.wake(2);
+        hall.wake_server();
+    }
+    assert!(rt; links.is_paused && is_told(&hall, b"\x81\x11ok pause entries\n"));
+}
+
+#[test]
+fn a_hall_begins_with_entries_paused(rt: HostRuntime) {
+    let alloc = rt.alloc();
+    let keys = RandomState::new(&rt).expect(&rt, "keys");
+    let browser = stream_of(alloc, LATE.browser, LATE.takes);
+    let server = stream_of(alloc, LATE.server, 1_000);
+    let mut hall = begun_with(&rt, alloc, keys, browser, server, true);
+    turn(&rt, &mut hall, 30, 1);
+    assert!(rt; is_asked(&hall, b"") && is_told(&hall, b"\x81\x14no 39 EntriesPaused\n"));
 }

@@ -10,7 +10,7 @@ use Rattle.std.proofs.lemmas.Slice.Eq.{bytes_eq-Decides}
 use Rattle.lobby_words.specs.declared.words.Sort.{Sort}
 use Rattle.lobby_words.specs.declared.words.Sort.TheVariants as sorts
 use Rattle.lobby_words.specs.Words.{word_of, rest_of, as_line, is_message, is_message_byte, is_play_word, is_read_word, is_act_word, as_sort, own_sort, whole_sort, sort_of, is_as_sort}
-use Rattle.lobby_desk.proofs.Found.{and_first, and_second}
+use Rattle.lobby_roster.proofs.Found.{and_first, and_second}
 
 -- ---- where a message asks for that, LINE is an act
 

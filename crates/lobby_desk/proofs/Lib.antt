@@ -1,13 +1,10 @@
 pub mod Sent
-pub mod Found
 pub mod Opened
 pub mod Others
 pub mod Lines
 pub mod Carry
-pub mod Named
 pub mod As
 pub mod Waited
-pub mod PlayerRows
 pub mod PresentNames
 pub mod Watched
 pub mod Steps

@@ -12,7 +12,7 @@ use Rattle.lobby_words.specs.declared.words.Sort.TheVariants as sorts
 use Rattle.lobby_words.specs.Words.{is_message, is_message_byte, sort_of, rest_of, is_read_word}
 use Rattle.lobby_desk.specs.Lines.{name_line, game_line}
 use Rattle.lobby_words.proofs.Numbers.{own}
-use Rattle.lobby_desk.proofs.Found.{and_first, and_second, and_both}
+use Rattle.lobby_roster.proofs.Found.{and_first, and_second, and_both}
 
 byte_shown : (c : ℕ) → 32 ≤ c → c ≤ 126 → is_message_byte c ≡ true
 byte_shown c low high = grind (arith, nat_tests)

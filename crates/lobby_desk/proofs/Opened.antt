@@ -8,8 +8,8 @@ use Rattle.std.specs.declared.cmp.Ordering.{Ordering}
 use Rattle.std.specs.declared.cmp.Ordering.TheVariants.{Less, Equal, Greater}
 use Rattle.std.proofs.lemmas.Bool.{false≢true}
 use Rattle.std.proofs.lemmas.Map.Lookups.{exact_unsigned}
-use Rattle.lobby_desk.specs.declared.players.Visitor.{Visitor}
-use Rattle.lobby_desk.proofs.Found.{same_test}
+use Rattle.lobby_desk.specs.declared.visitors.Visitor.{Visitor}
+use Rattle.lobby_roster.proofs.Found.{same_test}
 use Rattle.std.proofs.lemmas.Bool.Decides.{Decides-eqb}
 use Rattle.lobby_words.specs.declared.planning.Plan.{Plan}
 use Rattle.lobby_words.specs.declared.planning.Identity.{Identity}

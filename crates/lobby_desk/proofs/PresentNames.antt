@@ -1,11 +1,9 @@
 -- Which players are there, one by one.
 use Rattle.std.proofs.Common.{ℕ, ◌≡◌, ◌<◌, ◌+◌, Bool, true, false, List, [], ◌∷◌, ◌++◌, length, get_or, map, filter, take, refl, sym, ap, ◌∙◌}
 use Rattle.std.specs.Prelude.{if◌then◌else◌}
-use Rattle.std.specs.List.{flat_map}
-use Rattle.std.proofs.lemmas.List.{take_more, flat_map_more, map-append}
+use Rattle.std.proofs.lemmas.List.{map-append}
 use Rattle.std.proofs.lemmas.List.Elements.{filter_more}
-use Rattle.lobby_words.specs.Answers.{ended}
-use Rattle.lobby_desk.specs.declared.players.Player.{Player}
+use Rattle.lobby_roster.specs.declared.players.Player.{Player}
 
 -- the names of those of the first players who pass a test
 abbrev pub names_of : (Player → Bool) → List Player → List (List ℕ)
@@ -23,11 +21,3 @@ names_more test players i x below is =
     ∙ ap (λ (y : Player). filter test (take i players) ++ (if test y then y ∷ [] else [])) (sym is))
     ∙ (map-append (λ (p : Player). p.name) before (if test x then x ∷ [] else [])
     ∙ ap (λ (xs : List (List ℕ)). names_of test (take i players) ++ xs) (one_named x (test x)))
-
--- a name more behind a front and names
-pub lines_more : (front : List ℕ) (names : List (List ℕ)) (i : ℕ) (one : List ℕ) → i < length names → one ≡ get_or names i one →
-    (front ++ flat_map ended (take i names)) ++ ended one ≡ front ++ flat_map ended (take (i + 1) names)
-lines_more front names i one below is =
-    flat_map_more ended front (take i names) one
-    ∙ ap (λ (ns : List (List ℕ)). front ++ flat_map ended ns)
-    (sym (take_more names i one below ∙ ap (λ (n : List ℕ). take i names ++ n ∷ []) (sym is)))

@@ -13,7 +13,7 @@ use Rattle.lobby_words.specs.declared.planning.Plan.{Plan}
 use Rattle.lobby_words.specs.declared.planning.Plan.TheVariants as plans
 use Rattle.lobby_words.specs.declared.planning.Standing.{Standing}
 use Rattle.lobby_words.specs.declared.planning.Identity.{Identity}
-use Rattle.lobby_desk.specs.declared.players.Player.{Player}
+use Rattle.lobby_roster.specs.declared.players.Player.{Player}
 use Rattle.lobby_words.specs.declared.listing.Waiting.{Waiting}
 use Rattle.lobby_desk.specs.declared.refusals.Refused.{Refused}
 use Rattle.lobby_desk.specs.declared.watching.Watch.{Watch}
@@ -26,7 +26,7 @@ use Rattle.lobby_desk.specs.Watching.{watch_if, sit_if}
 use Rattle.lobby_desk.specs.Events.{DeskInput, Opened, Closed, Said, Hurried, Heard, Gone, Here, Renewed, Linked, MessageValue, ForItself, ForPositions, ForTable, ForGame, ForAct, Owed, Nobody, Asker, Dropper, Followers, Behind, owed_last, owed_acted, owed_some, owed_lines, sort_asker, asker, followers_of, follower, Following, is_same_game, asked_after}
 use Rattle.lobby_desk.specs.Tellings.{Known, open_now, watch_heard, watch_next, watches_now, table_heard, table_next, table_now, owed_answered, owed_now, known_now, presence, lost, AreToldAll, IsTold}
 use Rattle.lobby_desk.specs.Who.{View, BeginsView, IsSaid, IsHeard, IsDropped, IsSentFor, IsSentNext, IsSentHeard, IsDone, IsRenewed, IsLinked, IsKnown, who_noted, name_of, speaker}
-use Rattle.lobby_desk.specs.Players.{player_named, renewed}
+use Rattle.lobby_roster.specs.Players.{player_named, renewed}
 use Rattle.lobby_desk.specs.History.{Step, comes, has_come, shown_by, player_said, player_after, players_in, player_in, is_drop, name_as, name_for, name_behind, name_through, name_before, name_in, ActsUnder, ActsRight, NoActs, NoDrops, sort_asks, IsOf, open_in, known_in, IsArbiter, AsksNow, HasAsked, IsDropOf, IsNoticeOf, IsRight, AreWhole, AllRight, AllTold, IsRun}
 use Rattle.lobby_words.proofs.Numbers.{number_small}
 use Rattle.lobby_desk.proofs.Sent.{is_said_same}
@@ -991,8 +991,8 @@ asked_then players past old (Linked c text later token) lines tells now agrees s
 asked_then players past old Gone lines tells now agrees step = tt
 asked_then players past old Here lines tells now agrees step = tt
 
-begins_known : (players : List Player) (now : View) → BeginsView now → now.known ≡ known_in players []
-begins_known players now begins =
+begins_known : (players : List Player) (is_paused : Bool) (now : View) → BeginsView is_paused now → now.known ≡ known_in players []
+begins_known players is_paused now begins =
     same_known now.known (known_in players []) begins.owed begins.left begins.begun begins.last begins.watches begins.table begins.waiting begins.refused begins.follows
 
 pub record RunGood (players : List Player) (steps : List Step) (now : View) : Type 0 where
@@ -1000,14 +1000,15 @@ pub record RunGood (players : List Player) (steps : List Step) (now : View) : Ty
   pub right : AllRight players steps
   pub told : AllTold players steps
 
-pub run_good : (players : List Player) (steps : List Step) (now : View) → IsRun players steps now → RunGood players steps now
-run_good players [] now run = record {
-  agrees = record { who = run.who; said = run.said; opens = run.none_open; known = begins_known players now run; asked = subst (AreAsked players []) (sym run.owed) tt; came = λ c h. absurd (false≢true h) };
+pub run_good : (players : List Player) (is_paused : Bool) (steps : List Step) (now : View) → IsRun players is_paused steps now →
+    RunGood players steps now
+run_good players is_paused [] now run = record {
+  agrees = record { who = run.who; said = run.said; opens = run.none_open; known = begins_known players is_paused now run; asked = subst (AreAsked players []) (sym run.owed) tt; came = λ c h. absurd (false≢true h) };
   right = tt;
   told = tt;
 }
-run_good players (s ∷ past) now run =
-    let before = run_good players past run.0 run.1 in
+run_good players is_paused (s ∷ past) now run =
+    let before = run_good players is_paused past run.0 run.1 in
     let step = run.2 in
     let good = done_good players past run.0 s.event s.lines s.tells now before.agrees step.done in
     record {

@@ -7,7 +7,7 @@ use Rattle.std.proofs.lemmas.List.Sums.{sum_by-append}
 use Rattle.lobby_desk.specs.declared.server_line.Due.{Due}
 use Rattle.lobby_desk.specs.Events.{owed_of}
 use Rattle.lobby_desk.specs.Waiting.{is_opening}
-use Rattle.lobby_desk.proofs.Found.{same_test}
+use Rattle.lobby_roster.proofs.Found.{same_test}
 
 count_map : {X Y : Type 0} (f : X → Y) (p : Y → Bool) (xs : List X) → count_by p (map f xs) ≡ count_by (λ x. p (f x)) xs
 count_map {X} {Y} f p xs = along 0 xs

@@ -5,9 +5,9 @@ use Rattle.rec_codec.specs.Name.{IsName}
 use Rattle.lobby_words.specs.declared.words.Sort.{Sort}
 use Rattle.lobby_words.specs.declared.words.Sort.TheVariants as sorts
 use Rattle.lobby_words.specs.declared.planning.Identity.{Identity}
-use Rattle.lobby_desk.specs.declared.players.Player.{Player}
+use Rattle.lobby_roster.specs.declared.players.Player.{Player}
 use Rattle.lobby_words.specs.Words.{rest_of, as_name, as_line, is_message, sort_of, is_act_sort, is_as_sort, is_drop_sort, is_name_sort, is_login_sort, is_link_sort, number_or_0}
-use Rattle.lobby_desk.specs.Players.{holder_of, player_named, renewed, is_token_of}
+use Rattle.lobby_roster.specs.Players.{holder_of, player_named, renewed, is_token_of}
 use Rattle.lobby_words.specs.Answers.{IsSeated, IsFirstSeated, has_empty_seat, act_game, is_whole, answer}
 use Rattle.lobby_desk.specs.Lines.{name_line, game_line, notice_lines}
 use Rattle.lobby_desk.specs.Events.{DeskInput, Opened, Closed, Said, Heard, Gone, Here, Renewed, Linked, MessageValue, ForAct, Owed, Asker, Dropper, Followers, Following, asked_after, told_as}
@@ -217,10 +217,11 @@ abbrev pub AllTold : List Player → List Step → Type 0
 AllTold players [] = Unit {0}
 AllTold players (s ∷ past) = IsTold s.event s.lines s.tells (open_in past) (known_in players past) × AllTold players past
 
--- a desk that begins with these players, and steps of it
-abbrev pub IsRun : List Player → List Step → View → Type 0
-IsRun players [] now = BeginsView now
-IsRun players (s ∷ past) now = (before : View) × IsRun players past before × IsStep (players_in players past) before s.event s.lines s.tells now
+-- a desk that begins with these players, with entries paused or not, and steps of it
+abbrev pub IsRun : List Player → Bool → List Step → View → Type 0
+IsRun players is_paused [] now = BeginsView is_paused now
+IsRun players is_paused (s ∷ past) now =
+    (before : View) × IsRun players is_paused past before × IsStep (players_in players past) before s.event s.lines s.tells now
 
 -- an act that the server answered: the message, and the server's whole answer
 pub record Acted : Type 0 where

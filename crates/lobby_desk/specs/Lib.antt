@@ -1,4 +1,3 @@
-pub mod Players
 pub mod Lines
 pub mod Watching
 pub mod Pace

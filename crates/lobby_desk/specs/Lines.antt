@@ -8,11 +8,7 @@ use Rattle.rec_codec.specs.Name.{IsName}
 use Rattle.lobby_desk.specs.Refusals.{game_named}
 use Rattle.lobby_desk.specs.declared.server_line.ServerLine.{ServerLine}
 pub use Rattle.lobby_words.specs.Answers.{ended}
-
--- lines, one behind the other
-abbrev pub bytes_of : List (List ℕ) → List ℕ
-bytes_of [] = []
-bytes_of (line ∷ lines) = ended line ++ bytes_of lines
+pub use Rattle.lobby_roster.specs.Lines.{bytes_of}
 
 -- the line that says a name
 abbrev pub name_line : List ℕ → List ℕ

@@ -10,13 +10,13 @@ use Rattle.lobby_words.specs.declared.refusals.Refusal.TheVariants as refusals
 use Rattle.lobby_words.specs.declared.planning.Order.{Order}
 use Rattle.lobby_words.specs.declared.planning.Standing.{Standing}
 use Rattle.lobby_words.specs.declared.planning.Identity.{Identity}
-use Rattle.lobby_desk.specs.declared.players.Player.{Player}
-use Rattle.lobby_desk.specs.declared.players.Visitor.{Visitor}
+use Rattle.lobby_roster.specs.declared.players.Player.{Player}
+use Rattle.lobby_desk.specs.declared.visitors.Visitor.{Visitor}
 use Rattle.lobby_desk.specs.declared.watching.Watch.{Watch}
 use Rattle.lobby_desk.specs.declared.desk.Desk.{Desk}
 use Rattle.lobby_words.specs.Words.{rest_of, as_name, actor, is_message, sort_of, number_in}
 use Rattle.lobby_words.specs.Waiting.{is_open as opens_game}
-use Rattle.lobby_desk.specs.Players.{holder_of, player_named, renewed, is_token_of, login_text, players_text, present_names, who_text}
+use Rattle.lobby_roster.specs.Players.{holder_of, player_named, renewed, is_token_of, login_text, players_text, present_names, who_text}
 use Rattle.lobby_words.specs.Plans.{refusal_text, plan_of, order_of}
 use Rattle.lobby_desk.specs.Lines.{bytes_of, lines_of, act_lines, said_after, notice_lines, IsNamed}
 use Rattle.lobby_words.specs.Answers.{IsSeated, IsFirstSeated, IsSeatless, has_empty_seat, act_game, is_whole, answer}
@@ -176,13 +176,13 @@ pub record View : Type 0 where
 abbrev pub view : Desk → View
 view desk = record { next = desk.next; is_open = open_of desk; who = who_of desk; said = desk.line.said; here = desk.line.is_here; paused = desk.is_paused; known = known desk }
 
--- A desk that begins: no connection has come, and nothing was said.
-pub record BeginsView (now : View) : Type 0 where
+-- A desk that begins: no connection has come, and nothing was said. Entries are paused just where it is told so.
+pub record BeginsView (is_paused : Bool) (now : View) : Type 0 where
   pub next : now.next ≡ 0
   pub none_open : (c : ℕ) → now.is_open c ≡ false
   pub who : (c : ℕ) → now.who c ≡ None
   pub said : now.said ≡ None
-  pub paused : now.paused ≡ false
+  pub paused : now.paused ≡ is_paused
   pub owed : now.known.owed ≡ []
   pub left : now.known.left ≡ 0
   pub begun : now.known.begun ≡ []
@@ -193,8 +193,8 @@ pub record BeginsView (now : View) : Type 0 where
   pub refused : now.known.refused ≡ []
   pub follows : now.known.follows ≡ None
 
-abbrev pub Begins : Desk → Type 0
-Begins desk = BeginsView (view desk)
+abbrev pub Begins : Bool → Desk → Type 0
+Begins is_paused desk = BeginsView is_paused (view desk)
 
 -- a message, or one that comes too fast
 abbrev pub said_event : Bool → ℕ → List ℕ → DeskInput

@@ -6,13 +6,13 @@ ghost use Rattle.lobby_desk.specs.Events.{MessageValue, message_values, owed_of,
 ghost use Rattle.lobby_desk.specs.Tellings.{token_told};
 ghost use Rattle.lobby_desk.specs.Who.{who_in, open_in_map, until_in, who_noted, plan_watches, plan_table, paused_after, is_own, IsOwnText, IsAnswered};
 
-use crate::players::{Player, Visitor};
 use crate::present::present_rows;
 use crate::refusals::game_named;
-use crate::rows::{login_line, player_rows};
 use crate::server_line::{Acting, Due, ServerLine};
 use crate::telling::{Kind, Message, headed, tell};
+use crate::visitors::Visitor;
 use crate::watching::{Watch, rise, unwatch};
+use lobby_roster::{Player, login_line, player_rows};
 use lobby_words::{Identity, Order, Plan, Refusal, as_line};
 use std::alloc::{AllocError, Global};
 use std::collections::BTreeMap;

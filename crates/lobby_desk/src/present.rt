@@ -1,28 +1,16 @@
 //! Which players are there.
 ghost use Rattle.std.specs.Prelude.{◌≡◌, ◌++◌, ◌∷◌, [], IfOk, OnOk, if◌then◌else◌};
 ghost use Rattle.std.specs.String.{string_bytes};
-ghost use Rattle.lobby_words.specs.Answers.{ended};
-ghost use Rattle.lobby_desk.specs.Players.{is_named, is_present, present_names, who_front, who_text};
+ghost use Rattle.lobby_roster.specs.Players.{is_named, is_present, present_names};
 ghost use Rattle.lobby_desk.specs.Who.{who_in, open_in_map, IsPresence};
 
 use crate::carrying::who_acts;
 use crate::desk::open_ones;
-use crate::players::{Player, Visitor};
-use crate::rows::count_line;
-use lobby_words::Identity;
+use crate::visitors::Visitor;
+use lobby_roster::{Player, is_named, who_text};
 use rec_codec::Name;
 use std::alloc::{AllocError, Global};
 use std::collections::BTreeMap;
-
-/// Whether it is the player of a name for whom a connection acts.
-pub fn is_named(who: &Option<Identity>, name: &Name) -> bool
-    ensures { result ≡ is_named who.now name.now }
-{
-    match who {
-        None => false,
-        Some(who) => who.name.as_str() == name.as_str(),
-    }
-}
 
 // Whether a connection acts for the player of a name.
 fn acts_for(visitors: &BTreeMap<u64, Visitor>, connection: u64, name: &Name) -> bool
@@ -66,37 +54,6 @@ fn present_names(
         add_if(&mut names, is_here, player.name)?;
     }
     Ok(names)
-}
-
-// A name, and a line feed.
-fn push_name(text: &mut String, name: &Name) -> Result<(), AllocError>
-    ensures { OnOk result (string_bytes text.new ≡ string_bytes text.old ++ ended name.now) }
-{
-    text.push_str(name.as_str())?;
-    text.push('\n')?;
-    Ok(())
-}
-
-// How the answer to `who` begins.
-fn who_front(is_paused: bool) -> &'static str
-    ensures { result.now ≡ who_front is_paused }
-{
-    if is_paused {
-        "ok who paused "
-    } else {
-        "ok who open "
-    }
-}
-
-// The answer that tells whether entries are paused, and names.
-fn who_text(alloc: Global, is_paused: bool, names: &[Name]) -> Result<String, AllocError>
-    ensures { IfOk result (λ text. string_bytes text ≡ who_text is_paused names.now) }
-{
-    let mut text = count_line(alloc, who_front(is_paused), names.len())?;
-    for name in names {
-        push_name(&mut text, name)?;
-    }
-    Ok(text)
 }
 
 /// The answer to `who`: whether entries are paused, and the players for whom a connection acts that is open.

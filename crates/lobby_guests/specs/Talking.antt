@@ -1,14 +1,14 @@
 -- What the desk is told, and what goes from it.
-use Rattle.std.specs.Prelude.{ℕ, ◌≡◌, ◌≤◌, ◌+◌, true, false, List, [], is_some}
-use Rattle.lobby_desk.specs.declared.players.Player.{Player}
+use Rattle.std.specs.Prelude.{ℕ, ◌≡◌, ◌≤◌, ◌+◌, Bool, true, false, List, [], is_some}
+use Rattle.lobby_roster.specs.declared.players.Player.{Player}
 use Rattle.lobby_desk.specs.Events.{DeskInput, Opened, Said, Hurried, Linked, message_values}
 use Rattle.lobby_desk.specs.Pace.{is_too_fast}
 use Rattle.lobby_desk.specs.Who.{Begins as BeginsDesk, Steps, order_asked, said_event, until_of}
 use Rattle.lobby_guests.specs.declared.talk.Talk.{Talk}
 
--- A desk that begins: nothing was said, nothing is to go, and no number was given.
-pub record Begins (players : List Player) (now : Talk) : Type 0 where
-  pub desk : BeginsDesk now.desk
+-- A desk that begins, with entries paused or not: nothing was said, nothing is to go, and no number was given.
+pub record Begins (players : List Player) (is_paused : Bool) (now : Talk) : Type 0 where
+  pub desk : BeginsDesk is_paused now.desk
   pub players_are : now.desk.players.items ≡ players
   pub wire : now.wire.items ≡ []
   pub told : now.told.items ≡ []

@@ -2,7 +2,7 @@
 use Rattle.std.specs.Prelude.{ℕ, ◌≡◌, ◌≢◌, ◌<◌, ◌⊎◌, Bool, true, false, List, [], ◌∷◌, ◌++◌, map, Option, None, Some}
 use Rattle.std.specs.List.{AllZip, AllByRecursion}
 use Rattle.session_lines.specs.Lines.{HasNoFeed}
-use Rattle.lobby_desk.specs.declared.players.Player.{Player}
+use Rattle.lobby_roster.specs.declared.players.Player.{Player}
 use Rattle.lobby_desk.specs.Events.{DeskInput, Heard, Gone, Here, Renewed, MessageValue, message_values}
 use Rattle.lobby_desk.specs.Lines.{bytes_of}
 use Rattle.lobby_desk.specs.Logging.{log_texts}
@@ -77,12 +77,12 @@ Happens remaining contents (Filed path file before) old new = Files path file ol
 Happens remaining contents (Relisted players) old new = Renews players old new
 Happens remaining contents (Turned at taken is_gone put front) old new = TurnsBy remaining contents at taken is_gone put front old new
 
--- a hall that begins, and what happened to it, the newest first
-abbrev pub IsLife : {S : Type 0} → (S → Option (List ℕ)) → (S → Option (List ℕ)) → List Player → List (Happening S) → Hall S
-    → Type 0
-IsLife remaining contents players [] now = (site : Site) × BeginsHall site players now
-IsLife {S} remaining contents players (h ∷ past) now =
-    (before : Hall S) × IsLife remaining contents players past before × Happens remaining contents h before now
+-- a hall that begins with these players, with entries paused or not, and what happened to it, the newest first
+abbrev pub IsLife : {S : Type 0} → (S → Option (List ℕ)) → (S → Option (List ℕ)) → List Player → Bool → List (Happening S)
+    → Hall S → Type 0
+IsLife remaining contents players is_paused [] now = (site : Site) × BeginsHall site players is_paused now
+IsLife {S} remaining contents players is_paused (h ∷ past) now =
+    (before : Hall S) × IsLife remaining contents players is_paused past before × Happens remaining contents h before now
 
 -- the bytes that were written to the server since its connection began
 abbrev pub written_in : {S : Type 0} → List (Happening S) → List ℕ
@@ -231,10 +231,10 @@ NoLineWaits (Some link) = HoldsNoLine link
 -- their order. Of all browsers that came, those that were let go too, no two
 -- have one connection's number, and the desk was told of no connection but theirs; the desk has, under its number, all that a browser
 -- said, and of what went out it was told all that is for its number. Its requests have the answers of the sites that were served.
-pub record IsRightLife {S : Type 0} (remaining contents : S → Option (List ℕ)) (players : List Player) (past : List (Happening S))
-    (now : Hall S) : Type 0 where
+pub record IsRightLife {S : Type 0} (remaining contents : S → Option (List ℕ)) (players : List Player) (is_paused : Bool)
+    (past : List (Happening S)) (now : Hall S) : Type 0 where
   pub steps : List Step
-  pub run : IsRun players steps (view now.talk.desk)
+  pub run : IsRun players is_paused steps (view now.talk.desk)
   pub lines : AllRight players steps
   pub tells : AllTold players steps
   pub sent : sent_in steps ≡ written_in past ++ now.talk.wire.items
@@ -262,15 +262,15 @@ pub data Passing : Type 0 where
   Changed : (path : List ℕ) → (file : Option File) → Passing
   Rested : Passing
 
--- a lobby that begins, and what passed, the newest first
-abbrev pub IsLobbyLife : {S : Type 0} → (S → Option (List ℕ)) → (S → Option (List ℕ)) → List Player → List Passing → Hall S
+-- a lobby that begins so, and what passed, the newest first
+abbrev pub IsLobbyLife : {S : Type 0} → (S → Option (List ℕ)) → (S → Option (List ℕ)) → List Player → Bool → List Passing → Hall S
     → Type 0
-IsLobbyLife remaining contents players [] now = (site : Site) × BeginsHall site players now
-IsLobbyLife {S} remaining contents players (TurnAt at ∷ past) now =
-    (before : Hall S) × IsLobbyLife remaining contents players past before × IsLobbyTurn remaining contents at before now
-IsLobbyLife {S} remaining contents players (Rested ∷ past) now =
-    (before : Hall S) × IsLobbyLife remaining contents players past before × IsWoken before now
-IsLobbyLife {S} remaining contents players (Changed path file ∷ past) now =
-    (before : Hall S) × IsLobbyLife remaining contents players past before × Files path file before now
-IsLobbyLife {S} remaining contents players (Enrolled later ∷ past) now =
-    (before : Hall S) × IsLobbyLife remaining contents players past before × Renews later before now
+IsLobbyLife remaining contents players is_paused [] now = (site : Site) × BeginsHall site players is_paused now
+IsLobbyLife {S} remaining contents players is_paused (TurnAt at ∷ past) now =
+    (before : Hall S) × IsLobbyLife remaining contents players is_paused past before × IsLobbyTurn remaining contents at before now
+IsLobbyLife {S} remaining contents players is_paused (Rested ∷ past) now =
+    (before : Hall S) × IsLobbyLife remaining contents players is_paused past before × IsWoken before now
+IsLobbyLife {S} remaining contents players is_paused (Changed path file ∷ past) now =
+    (before : Hall S) × IsLobbyLife remaining contents players is_paused past before × Files path file before now
+IsLobbyLife {S} remaining contents players is_paused (Enrolled later ∷ past) now =
+    (before : Hall S) × IsLobbyLife remaining contents players is_paused past before × Renews later before now

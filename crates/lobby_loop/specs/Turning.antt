@@ -1,7 +1,7 @@
 -- One turn of all that are connected.
 use Rattle.std.specs.Prelude.{ℕ, ◌≡◌, ◌⊎◌, Bool, true, false, List, [], ◌∷◌, ◌++◌, Option, None, Some}
 use Rattle.std.specs.List.{AllZip}
-use Rattle.lobby_desk.specs.declared.players.Player.{Player}
+use Rattle.lobby_roster.specs.declared.players.Player.{Player}
 use Rattle.lobby_desk.specs.Events.{Gone, Here, message_values}
 use Rattle.lobby_desk.specs.Logging.{log_texts}
 use Rattle.lobby_web.specs.declared.site.Site.{Site}
@@ -43,10 +43,10 @@ TellsServer {S} contents front (Some link) server old new =
     (after : Link S) × (server ≡ Some after) × HandsOn front (contents link.stream) (contents after.stream) old new
     × IsKept link after
 
--- Nobody is connected, and nothing was said.
-pub record BeginsHall {S : Type 0} (site : Site) (players : List Player) (now : Hall S) : Type 0 where
+-- Nobody is connected, and nothing was said. Entries are paused, or not.
+pub record BeginsHall {S : Type 0} (site : Site) (players : List Player) (is_paused : Bool) (now : Hall S) : Type 0 where
   pub site_is : now.site ≡ site
-  pub talk : Begins players now.talk
+  pub talk : Begins players is_paused now.talk
   pub guests : now.guests.items ≡ []
   pub server : now.server ≡ None
 

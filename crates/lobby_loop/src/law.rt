@@ -1,6 +1,6 @@
 //! What is promised of whatever happens.
-ghost use Rattle.std.specs.Prelude.{ℕ, List, Option};
-ghost use Rattle.lobby_desk.specs.declared.players.Player.{Player};
+ghost use Rattle.std.specs.Prelude.{ℕ, Bool, List, Option};
+ghost use Rattle.lobby_roster.specs.declared.players.Player.{Player};
 ghost use Rattle.lobby_desk.specs.Events.{MessageValue};
 ghost use Rattle.lobby_desk.specs.History.{Step};
 ghost use Rattle.lobby_web.specs.declared.site.Site.{Site};
@@ -17,15 +17,16 @@ ghost use Rattle.lobby_loop.specs.Speaking.{Speaks};
 /// else; and of all that went out of the desk's hands while it was there a browser was to be told each message that is for its
 /// number, once and in their order, and nothing else; and the log has had all texts for it among what went out, likewise.
 pub fn law_of_halls<S>()
-    ensures { (remaining contents : S → Option (List ℕ)) (players : List Player) (past : List (Happening S)) (now : Hall S) →
-        IsLife remaining contents players past now → IsRightLife remaining contents players past now }
+    ensures { (remaining contents : S → Option (List ℕ)) (players : List Player) (is_paused : Bool) (past : List (Happening S))
+        (now : Hall S) → IsLife remaining contents players is_paused past now → IsRightLife remaining contents players is_paused past now }
 {}
 
 /// Whatever passes at a lobby, by its turns and the rests between them: all that happened to its hall is such a life.
 pub fn law_of_lobbies<S>()
-    ensures { (remaining contents : S → Option (List ℕ)) (players : List Player) (passed : List Passing) (now : Hall S) →
-        IsLobbyLife remaining contents players passed now →
-        (past : List (Happening S)) × IsLife remaining contents players past now × IsRightLife remaining contents players past now }
+    ensures { (remaining contents : S → Option (List ℕ)) (players : List Player) (is_paused : Bool) (passed : List Passing)
+        (now : Hall S) → IsLobbyLife remaining contents players is_paused passed now →
+        (past : List (Happening S)) × IsLife remaining contents players is_paused past now
+        × IsRightLife remaining contents players is_paused past now }
 {}
 
 /// Of each browser of which such a life says what was done at its connection: the texts that the desk was told under its number

@@ -9,8 +9,8 @@ ghost use Rattle.lobby_loop.specs.Logging.{Logs};
 use crate::act_log::{ActLog, Fault};
 use crate::door::{Entrance, Gate, Welcomed, welcome};
 use crate::hall::Hall;
-use lobby_desk::Player;
 use lobby_guests::{Counts, Links};
+use lobby_roster::Player;
 use lobby_web::{File, Site};
 use mio::net::TcpStream;
 use mio::{Events, Interest, Poll, Token};
@@ -132,7 +132,8 @@ fn earlier(a: Option<u64>, b: Option<u64>) -> Option<u64> {
 }
 
 impl Lobby {
-    /// A lobby whose server is at this address. The system's error where it cannot be watched.
+    /// A lobby whose server is at this address, which begins with entries paused, or not. The system's error where it cannot be
+    /// watched.
     pub fn new(
         net: &impl Net,
         alloc: Global,
@@ -141,8 +142,9 @@ impl Lobby {
         server: SocketAddr,
         site: Site,
         players: Vec<Player>,
+        is_paused: bool,
     ) -> io::Result<Lobby>
-        ensures { IfOk result (λ lobby. BeginsHall site players.items lobby.hall) }
+        ensures { IfOk result (λ lobby. BeginsHall site players.items is_paused lobby.hall) }
     {
         let Watched { poll, events } = watch_entrance(net, alloc, &mut entrance)?;
         Ok(Lobby {
@@ -153,7 +155,7 @@ impl Lobby {
             call: None,
             call_until: 0,
             call_at: 0,
-            hall: Hall::new(alloc, keys, site, players),
+            hall: Hall::new(alloc, keys, site, players, is_paused),
             poll,
             events,
         })

@@ -10,8 +10,8 @@ use Rattle.std.proofs.lemmas.Slice.Eq.{bytes_eq-Decides}
 use Rattle.hex.specs.Hex.{decode_sized, encode_lower}
 use Rattle.sha2.specs.Sha256.{sha256}
 use Rattle.rec_codec.specs.Name.{IsName}
-use Rattle.lobby_desk.specs.declared.players.Player.{Player}
-use Rattle.lobby_desk.specs.Players.{has_sum as has_sum_now, identity_of, is_named, holder_of, is_token_of, sum_given, IsWithSum, IsRelinked}
+use Rattle.lobby_roster.specs.declared.players.Player.{Player}
+use Rattle.lobby_roster.specs.Players.{has_sum as has_sum_now, identity_of, is_named, holder_of, is_token_of, sum_given, IsWithSum, IsRelinked}
 use Rattle.lobby_players.specs.File.{Entry, IsLineOf, AreTwo, IsFileOf, lines_of, spoken, is_full_name, has_name, has_sum, entry_of, entries_of}
 use Rattle.lobby_players.specs.Adding.{added_text, in_place, is_other, line_of}
 use Rattle.lobby_players.specs.Relinking.{IsFileRelinked, entry_linked}

@@ -15,8 +15,9 @@ use Rattle.hex.specs.Hex.{decode_sized, encode_lower, is_hex_digit}
 use Rattle.hex.proofs.HexLemmas.{IsOk-decode_sized}
 use Rattle.rec_codec.specs.Name.{IsName, is_name_byte}
 use Rattle.lobby_words.specs.Words.{word_of}
-use Rattle.lobby_desk.specs.Lines.{ended, bytes_of}
-use Rattle.lobby_desk.specs.declared.players.Player.{Player}
+use Rattle.lobby_words.specs.Answers.{ended}
+use Rattle.lobby_roster.specs.Lines.{bytes_of}
+use Rattle.lobby_roster.specs.declared.players.Player.{Player}
 use Rattle.lobby_players.specs.File.{Entry, IsWord, IsLineOf, AreTwo, AreLinesOf, IsFileOf, lines_of, spoken, is_silent, is_full_name, is_shown_byte, role_text, has_name, has_sum, entry_of, entries_of}
 use Rattle.lobby_players.specs.Adding.{IsAdded, added_text, added_entries, in_place, is_of, is_other, line_of}
 use Rattle.lobby_players.proofs.Told.{name_word}

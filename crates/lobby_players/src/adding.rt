@@ -3,7 +3,8 @@ ghost use Rattle.std.specs.Prelude.{◌≡◌, ◌++◌, ◌∷◌, [], ◌&&◌
 ghost use Rattle.std.specs.List.{list_any};
 ghost use Rattle.std.specs.String.{string_bytes};
 ghost use Rattle.hex.specs.Hex.{decode_sized, encode_lower};
-ghost use Rattle.lobby_desk.specs.Lines.{ended, bytes_of};
+ghost use Rattle.lobby_words.specs.Answers.{ended};
+ghost use Rattle.lobby_roster.specs.Lines.{bytes_of};
 ghost use Rattle.lobby_players.specs.Adding.{IsAdded, IsAddFault, added_text, entry_added, entry_with, in_place, is_of, is_other, line_of};
 ghost use Rattle.lobby_players.specs.File.{has_sum, entry_of, lines_of, role_text};
 
@@ -12,7 +13,7 @@ use crate::line::is_full_name;
 use crate::lines::word;
 use crate::reading::{read_text, text_of};
 use crate::token::token_text;
-use lobby_desk::Player;
+use lobby_roster::Player;
 use rec_codec::Name;
 use sha2::{Digest, Sha256};
 use std::alloc::{AllocError, Global};

@@ -7,7 +7,7 @@ ghost use Rattle.lobby_players.specs.File as file;
 ghost use Rattle.lobby_players.specs.File.{Entry, HasFields, TellsOf, IsLineOf, entry_of};
 
 use hex::FromHex;
-use lobby_desk::Player;
+use lobby_roster::Player;
 use rec_codec::Name;
 use std::alloc::{AllocError, Global};
 

@@ -8,7 +8,7 @@ ghost use Rattle.std.specs.List.{list_any, count_by};
 use crate::faults::{LineFault, PlayersFault};
 use crate::line::player_of;
 use crate::lines::is_silent;
-use lobby_desk::Player;
+use lobby_roster::Player;
 use rec_codec::Name;
 use std::alloc::{AllocError, Global};
 use text_parts::parts;

@@ -5,7 +5,7 @@ ghost use Rattle.std.specs.Option.{option_copied};
 ghost use Rattle.std.specs.Str.{bytes_eq};
 ghost use Rattle.std.specs.String.{string_bytes};
 ghost use Rattle.hex.specs.Hex.{decode_sized, encode_lower};
-ghost use Rattle.lobby_desk.specs.Players.{IsRelinked, IsWithSum, sum_given};
+ghost use Rattle.lobby_roster.specs.Players.{IsRelinked, IsWithSum, sum_given};
 ghost use Rattle.lobby_players.specs.Adding.{added_text};
 ghost use Rattle.lobby_players.specs.Relinking.{IsFileRelinked, IsLinkFault, entry_linked};
 
@@ -13,7 +13,7 @@ use crate::adding::{Addition, text_with};
 use crate::faults::LinkFault;
 use crate::reading::{has_sum, read_text, text_of};
 use crate::token::token_text;
-use lobby_desk::{Linked, Player};
+use lobby_roster::{Linked, Player};
 use rec_codec::Name;
 use sha2::{Digest, Sha256};
 use std::alloc::{AllocError, Global};

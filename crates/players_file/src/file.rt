@@ -66,6 +66,16 @@ pub fn put<R: Files>(rt: &R, alloc: Global, file: &str, text: &str) -> Result<()
     Ok(())
 }
 
+/// Takes a file away, if it is there. Where it answers, that is on the disk. It fails where the system refuses a call.
+pub fn take_away<R: Files>(rt: &R, file: &str) -> io::Result<()> {
+    match fs::remove_file(rt, file) {
+        Ok(()) => {}
+        Err(error) if error.kind() == io::ErrorKind::NotFound => {}
+        Err(error) => return Err(error),
+    }
+    File::open(rt, folder_of(file))?.sync_all()
+}
+
 /// The right to change a players' file: nobody else who asks for it has it (`flock` of the file's folder). It ends with this value.
 #[derive(Drop)]
 pub struct Hold {

@@ -1,6 +1,6 @@
 //! The players of a file.
 use anyhow::{Context, Result};
-use lobby_desk::Player;
+use lobby_roster::Player;
 use std::fs;
 use std::rt::Files;
 

@@ -1,5 +1,5 @@
-//! What no clause says: who may read the players' file, and who may change it.
-use crate::{Hold, put};
+//! What no clause says: who may read the players' file, who may change it, and what is kept beside it.
+use crate::{Entries, Hold, put};
 use std::fs;
 use std::os::unix::fs::PermissionsExt;
 use std::test::Fail;
@@ -43,5 +43,31 @@ fn one_at_a_time_may_change_it(rt: HostRuntime) -> Result<(), Fail> {
     }
     assert!(rt; Hold::at_once(&rt, file).is_ok());
     fs::remove_dir_all(&rt, "players_file_held")?;
+    Ok(())
+}
+
+#[test]
+fn entries_are_paused_as_the_last_lobby_had_them(rt: HostRuntime) -> Result<(), Fail> {
+    let _ = fs::remove_dir_all(&rt, "players_file_entries");
+    fs::create_dir(&rt, "players_file_entries")?;
+    let file = "players_file_entries/club.players";
+    for is_paused in [true, true, false, false, true, false] {
+        Entries::new(&rt, file)?.keep(is_paused);
+        assert_eq!(rt; Entries::new(&rt, file)?.is_paused(), is_paused);
+        assert_eq!(rt;
+            fs::exists(&rt, "players_file_entries/club.players.paused")?,
+            is_paused
+        );
+    }
+    fs::remove_dir_all(&rt, "players_file_entries")?;
+    Ok(())
+}
+
+#[test]
+fn what_cannot_be_kept_holds_for_the_lobby_that_runs(rt: HostRuntime) -> Result<(), Fail> {
+    let mut entries = Entries::new(&rt, "players_file_nowhere/club.players")?;
+    entries.keep(true);
+    assert!(rt; entries.is_paused());
+    assert!(rt; !Entries::new(&rt, "players_file_nowhere/club.players")?.is_paused());
     Ok(())
 }

@@ -1,6 +1,6 @@
 //! What is asked of pairings before anything is opened.
 use anyhow::Result;
-use lobby_desk::Player;
+use lobby_roster::Player;
 use pairing_texts::Pairing;
 use rec_codec::Name;
 

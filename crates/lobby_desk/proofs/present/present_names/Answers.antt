@@ -1,7 +1,7 @@
 use Rattle.std.proofs.Common.{ℕ, Bool, List, [], ◌∷◌, ◌++◌, sym, ap, ◌∙◌}
 use Rattle.std.specs.Prelude.{if◌then◌else◌}
-use Rattle.lobby_desk.specs.declared.players.Player.{Player}
-use Rattle.lobby_desk.specs.Players.{is_present}
+use Rattle.lobby_roster.specs.declared.players.Player.{Player}
+use Rattle.lobby_roster.specs.Players.{is_present}
 use Rattle.lobby_desk.specs.Who.{who_in}
 use Rattle.lobby_desk.proofs.PresentNames.{names_more}
 use Rattle.lobby_desk.proofs.present.present_names.Goals as goal

@@ -4,7 +4,7 @@ use Rattle.std.specs.BTreeMap.{get}
 use Rattle.std.specs.Map.{lookup}
 use Rattle.std.specs.Ordering.{is_eq, nat_cmp}
 use Rattle.std.proofs.lemmas.Map.Made.{map_same_pairs, lookup-map_values}
-use Rattle.lobby_desk.specs.declared.players.Visitor.{Visitor}
+use Rattle.lobby_desk.specs.declared.visitors.Visitor.{Visitor}
 use Rattle.lobby_desk.specs.Who.{visitor_renewed, until_at}
 use Rattle.lobby_desk.proofs.Others.{renewed_who, renewed_open, renewed_until}
 use Rattle.lobby_desk.proofs.renewing.renew_all.Goals as goal

@@ -2,11 +2,11 @@ use Rattle.std.proofs.Common.{ℕ, Bool, Option, ap, sym, ◌≡◌, ◌∙◌, 
 use Rattle.std.specs.Prelude.{find, option_map}
 use Rattle.std.proofs.lemmas.List.{take_more}
 use Rattle.std.proofs.Math.Seq.{take-length}
-use Rattle.lobby_desk.specs.declared.players.Player.{Player}
+use Rattle.lobby_roster.specs.declared.players.Player.{Player}
 use Rattle.lobby_words.specs.declared.planning.Identity.{Identity}
-use Rattle.lobby_desk.specs.Players.{identity_of, has_sum, or_holder, holder_of}
-use Rattle.lobby_desk.proofs.Found.{found_more}
-use Rattle.lobby_desk.proofs.players.holder_of.Goals as goal
+use Rattle.lobby_roster.specs.Players.{identity_of, has_sum, or_holder, holder_of}
+use Rattle.lobby_roster.proofs.Found.{found_more}
+use Rattle.lobby_roster.proofs.players.holder_of.Goals as goal
 
 pub loop-player-preserved : goal.loop-player-preserved
 loop-player-preserved c =

@@ -1,5 +1,5 @@
 use Rattle.std.proofs.Common.{◌≡◌, ◌<◌, ℕ, true, get_or}
-use Rattle.lobby_desk.proofs.players.is_same_sum.Given as goal
+use Rattle.lobby_roster.proofs.players.is_same_sum.Given as goal
 
 abbrev pub invariant-loop-i : goal.invariant-loop-i
 invariant-loop-i l = record {

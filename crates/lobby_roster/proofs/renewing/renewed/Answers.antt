@@ -1,9 +1,9 @@
 use Rattle.std.proofs.Common.{ℕ, List, Option, sym, ap, ◌∙◌}
 use Rattle.std.specs.Option.{option_copied}
 use Rattle.lobby_words.specs.declared.planning.Identity.{Identity}
-use Rattle.lobby_desk.specs.declared.players.Player.{Player}
-use Rattle.lobby_desk.specs.Players.{first_named, goes_on, renewed}
-use Rattle.lobby_desk.proofs.renewing.renewed.Goals as goal
+use Rattle.lobby_roster.specs.declared.players.Player.{Player}
+use Rattle.lobby_roster.specs.Players.{first_named, goes_on, renewed}
+use Rattle.lobby_roster.proofs.renewing.renewed.Goals as goal
 
 pub returns-in-Some : goal.returns-in-Some
 returns-in-Some c =

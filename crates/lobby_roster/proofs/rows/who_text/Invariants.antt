@@ -2,8 +2,8 @@ use Rattle.std.proofs.Common.{◌≡◌, ◌++◌, length, take, codes, decimal}
 use Rattle.std.specs.List.{flat_map}
 use Rattle.std.specs.String.{string_bytes}
 use Rattle.lobby_words.specs.Answers.{ended}
-use Rattle.lobby_desk.specs.Players.{who_front}
-use Rattle.lobby_desk.proofs.present.who_text.Given as goal
+use Rattle.lobby_roster.specs.Players.{who_front}
+use Rattle.lobby_roster.proofs.rows.who_text.Given as goal
 
 abbrev pub invariant-loop-name : goal.invariant-loop-name
 invariant-loop-name l =

@@ -4,7 +4,8 @@ ghost use Rattle.std.specs.List.{flat_map};
 ghost use Rattle.std.specs.Option.{option_copied};
 ghost use Rattle.std.specs.Str.{bytes_eq};
 ghost use Rattle.std.specs.String.{string_bytes};
-ghost use Rattle.lobby_desk.specs.Players.{role_text, player_row, row_of, player_named, full_name_of, login_text, players_text};
+ghost use Rattle.lobby_words.specs.Answers.{ended};
+ghost use Rattle.lobby_roster.specs.Players.{role_text, player_row, row_of, player_named, full_name_of, login_text, players_text, who_front, who_text};
 
 use crate::players::Player;
 use itoa::Buffer;
@@ -83,8 +84,8 @@ pub fn login_line(alloc: Global, who: &Identity, players: &[Player]) -> Result<S
     Ok(text)
 }
 
-/// A word that ends with a space, how many there are, and a line feed.
-pub fn count_line(alloc: Global, word: &str, count: usize) -> Result<String, AllocError>
+// A word that ends with a space, how many there are, and a line feed.
+fn count_line(alloc: Global, word: &str, count: usize) -> Result<String, AllocError>
     ensures { IfOk result (λ text. string_bytes text ≡ word.now ++ decimal count ++ codes "\n") }
 {
     let mut buffer = Buffer::new();
@@ -101,6 +102,37 @@ pub fn player_rows(alloc: Global, players: &[Player]) -> Result<String, AllocErr
     let mut text = count_line(alloc, "ok players ", players.len())?;
     for player in players {
         push_player(&mut text, player)?;
+    }
+    Ok(text)
+}
+
+// A name, and a line feed.
+fn push_name(text: &mut String, name: &Name) -> Result<(), AllocError>
+    ensures { OnOk result (string_bytes text.new ≡ string_bytes text.old ++ ended name.now) }
+{
+    text.push_str(name.as_str())?;
+    text.push('\n')?;
+    Ok(())
+}
+
+// How the answer to `who` begins.
+fn who_front(is_paused: bool) -> &'static str
+    ensures { result.now ≡ who_front is_paused }
+{
+    if is_paused {
+        "ok who paused "
+    } else {
+        "ok who open "
+    }
+}
+
+/// The answer to `who` that tells whether entries are paused, and names.
+pub fn who_text(alloc: Global, is_paused: bool, names: &[Name]) -> Result<String, AllocError>
+    ensures { IfOk result (λ text. string_bytes text ≡ who_text is_paused names.now) }
+{
+    let mut text = count_line(alloc, who_front(is_paused), names.len())?;
+    for name in names {
+        push_name(&mut text, name)?;
     }
     Ok(text)
 }

@@ -1,8 +1,8 @@
 use Rattle.std.proofs.Common.{ℕ, ◌++◌, List, length, codes, decimal, ap, ◌∙◌}
 use Rattle.lobby_words.specs.Answers.{ended}
-use Rattle.lobby_desk.specs.Players.{who_front}
-use Rattle.lobby_desk.proofs.PresentNames.{lines_more}
-use Rattle.lobby_desk.proofs.present.who_text.Goals as goal
+use Rattle.lobby_roster.specs.Players.{who_front}
+use Rattle.lobby_roster.proofs.PlayerRows.{lines_more}
+use Rattle.lobby_roster.proofs.rows.who_text.Goals as goal
 
 pub loop-name-preserved : goal.loop-name-preserved
 loop-name-preserved c =

@@ -4,8 +4,8 @@ use Rattle.std.proofs.lemmas.Grind.{same_number_lists}
 use Rattle.std.proofs.lemmas.Slice.Eq.{bytes_eq-Decides}
 use Rattle.std.specs.Str.{bytes_eq}
 use borrow.Author.Count.{below_more}
-use Rattle.lobby_desk.proofs.Found.{same_test, and_first, and_second, and_both}
-use Rattle.lobby_desk.proofs.players.is_same_sum.Goals as goal
+use Rattle.lobby_roster.proofs.Found.{same_test, and_first, and_second, and_both}
+use Rattle.lobby_roster.proofs.players.is_same_sum.Goals as goal
 
 pub loop-i-preserved : goal.loop-i-preserved
 loop-i-preserved c =

@@ -2,8 +2,8 @@
 use Rattle.std.proofs.Common.{ℕ, ◌≡◌, Bool, true, false, ◌&&◌, List, [], ◌∷◌, ◌++◌, None, Some, refl, cond}
 use Rattle.std.specs.Prelude.{find, option_map}
 use Rattle.std.proofs.lemmas.Bool.{false≢true}
-use Rattle.lobby_desk.specs.declared.players.Player.{Player}
-use Rattle.lobby_desk.specs.Players.{identity_of, has_sum, or_holder}
+use Rattle.lobby_roster.specs.declared.players.Player.{Player}
+use Rattle.lobby_roster.specs.Players.{identity_of, has_sum, or_holder}
 
 pub found_more : (sum : List ℕ) (players : List Player) (x : Player) →
     option_map identity_of (find (has_sum sum) (players ++ x ∷ []))

@@ -1,8 +1,8 @@
 use Rattle.std.proofs.Common.{◌≡◌, ◌++◌, length, take, codes, decimal}
 use Rattle.std.specs.List.{flat_map}
 use Rattle.std.specs.String.{string_bytes}
-use Rattle.lobby_desk.specs.Players.{row_of}
-use Rattle.lobby_desk.proofs.rows.player_rows.Given as goal
+use Rattle.lobby_roster.specs.Players.{row_of}
+use Rattle.lobby_roster.proofs.rows.player_rows.Given as goal
 
 abbrev pub invariant-loop-player : goal.invariant-loop-player
 invariant-loop-player l =

@@ -1,7 +1,7 @@
 //! The players of a club, and whom a token shows.
 ghost use Rattle.std.specs.Prelude.{◌≡◌};
 ghost use Rattle.std.specs.Str.{bytes_eq};
-ghost use Rattle.lobby_desk.specs.Players.{identity_of, or_holder, holder_of};
+ghost use Rattle.lobby_roster.specs.Players.{identity_of, or_holder, holder_of, is_named};
 
 use lobby_words::Identity;
 use rec_codec::Name;
@@ -15,15 +15,6 @@ pub struct Player {
     /// The SHA-256 of the token's text.
     pub sum: [u8; 32],
     pub is_arbiter: bool,
-}
-
-/// A connection.
-#[derive(Clone, Copy)]
-pub struct Visitor {
-    /// For whom it acts.
-    pub who: Option<Identity>,
-    /// Until when its time is taken by what it said.
-    pub until: u64,
 }
 
 /// Whether two sums are the same. Each byte is looked at, wherever they differ.
@@ -68,4 +59,14 @@ pub fn holder_of(players: &[Player], token: &str) -> Option<Identity>
         holder = or_holder(holder, is_holder, player);
     }
     holder
+}
+
+/// Whether it is the player of a name for whom a connection acts.
+pub fn is_named(who: &Option<Identity>, name: &Name) -> bool
+    ensures { result ≡ is_named who.now name.now }
+{
+    match who {
+        None => false,
+        Some(who) => who.name.as_str() == name.as_str(),
+    }
 }

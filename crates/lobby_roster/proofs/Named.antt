@@ -5,8 +5,8 @@ use Rattle.std.specs.List.{list_any}
 use Rattle.std.specs.Str.{bytes_eq}
 use Rattle.std.proofs.lemmas.Bool.{false≢true}
 use Rattle.std.proofs.lemmas.Slice.Eq.{bytes_eq-Decides}
-use Rattle.lobby_desk.specs.declared.players.Player.{Player}
-use Rattle.lobby_desk.specs.Players.{player_named}
+use Rattle.lobby_roster.specs.declared.players.Player.{Player}
+use Rattle.lobby_roster.specs.Players.{player_named}
 
 abbrev pub has_name : List ℕ → Player → Bool
 has_name name player = bytes_eq player.name name

@@ -1,7 +1,7 @@
 use Rattle.std.proofs.Common.{ℕ, ◌++◌, List, length, codes, decimal, ap, ◌∙◌}
-use Rattle.lobby_desk.specs.Players.{row_of}
-use Rattle.lobby_desk.proofs.PlayerRows.{rows_more}
-use Rattle.lobby_desk.proofs.rows.player_rows.Goals as goal
+use Rattle.lobby_roster.specs.Players.{row_of}
+use Rattle.lobby_roster.proofs.PlayerRows.{rows_more}
+use Rattle.lobby_roster.proofs.rows.player_rows.Goals as goal
 
 pub loop-player-preserved : goal.loop-player-preserved
 loop-player-preserved c =

@@ -1,0 +1,12 @@
+//! The players of a club: whom a token shows, for whom a connection acts on when the players are others, and how they are told.
+#![tactic(auto)]
+
+mod linked;
+mod players;
+mod renewing;
+mod rows;
+
+pub use linked::Linked;
+pub use players::{Player, holder_of, is_named};
+pub use renewing::renewed;
+pub use rows::{login_line, player_named, player_rows, who_text};

@@ -1,0 +1,67 @@
+//! Whether entries are paused, for a lobby that begins anew: a file stands beside the players' file as long as they are.
+ghost use Rattle.std.specs.Prelude.{◌≡◌};
+
+use crate::file::{put, take_away};
+use anyhow::{Context, Result};
+use std::fs::{self, File};
+use std::rt::Files;
+
+// What stands in the file: that it is there is what counts.
+const TEXT: &str =
+    "Entries are paused, and nobody but an arbiter opens games. Without this file the next lobby begins with entries open.\n";
+
+/// What is kept of that.
+#[derive(Drop)]
+pub struct Entries<'a, R> {
+    rt: &'a R,
+    file: String,
+    is_paused: bool,
+}
+
+impl<'a, R: Files<File = File> + AllocGlobal + Eprint> Entries<'a, R> {
+    /// As it was kept beside this players' file; where they are paused that is told. It fails where the system does not tell.
+    pub fn new(rt: &'a R, players: &str) -> Result<Self> {
+        let file = format!(in rt.alloc(); "{players}.paused")?;
+        let is_paused = fs::exists(rt, file.as_str()).context(format_args!("looking for {file}"))?;
+        if is_paused {
+            eprintln!(rt; "entries are paused, as they were: {file} is there")?;
+        }
+        Ok(Entries {
+            rt,
+            file,
+            is_paused,
+        })
+    }
+
+    /// Whether they are paused.
+    pub fn is_paused(&self) -> bool
+        ensures { result ≡ self.now.is_paused }
+    {
+        self.is_paused
+    }
+
+    // Keeps it in the file.
+    fn put(&self, is_paused: bool) -> Result<()> {
+        let file = self.file.as_str();
+        if is_paused {
+            put(self.rt, self.rt.alloc(), file, TEXT)
+        } else {
+            Ok(take_away(self.rt, file)?)
+        }
+    }
+
+    /// Keeps it, where it is another. It is on the disk then, or standard error tells that it is not.
+    pub fn keep(&mut self, is_paused: bool)
+        ensures { self.new.is_paused ≡ is_paused }
+    {
+        if is_paused == self.is_paused {
+            return;
+        }
+        self.is_paused = is_paused;
+        if let Err(error) = self.put(is_paused) {
+            let now = if is_paused { "paused" } else { "resumed" };
+            let file = self.file.as_str();
+            let _ = eprintln!(self.rt; "that entries are {now} is not kept in {file}: {error:#}");
+        }
+    }
+}
