@@ -684,6 +684,7 @@ fn a_link_is_told_once_it_is_made(rt: HostRuntime) {
             b"ok login eve arbiter eve\n\x81\x0fno 38 NoPlayer\n\x81\x2dok link ann 07070707070707070707070707070707\n\x81\x11no 40 NotWritten\n\x81\x12ok who open 1\neve\n",
         )
     );
+    assert!(rt; !links.is_paused);
 }
 
 // An arbiter who shows her token, and pauses entries.
@@ -713,6 +714,81 @@ fn that_entries_are_paused_is_kept_before_it_is_told(rt: HostRuntime) {
         hall.wake_server();
     }
     assert!(rt; links.is_paused && is_told(&hall, b"\x81\x11ok pause entries\n"));
+}
+
+// An arbiter who acts, and pauses entries some turns later.
+const PAUSE_LATER: &[Gives] = &[
+    Gives::Bytes(UPGRADE),
+    Gives::Bytes(b"\x81\x87\0\0\0\0login e\x81\x90\0\0\0\0open white 300 2"),
+    Gives::Nothing,
+    Gives::Nothing,
+    Gives::Nothing,
+    Gives::Nothing,
+    Gives::Nothing,
+    Gives::Nothing,
+    Gives::Nothing,
+    Gives::Nothing,
+    Gives::Bytes(b"\x81\x8d\0\0\0\0pause entries"),
+    Gives::Nothing,
+];
+
+// A server that accepts the act some turns later.
+const ACCEPT_LATER: [Gives; 18] = [
+    Gives::Nothing,
+    Gives::Nothing,
+    Gives::Nothing,
+    Gives::Nothing,
+    Gives::Nothing,
+    Gives::Nothing,
+    Gives::Nothing,
+    Gives::Nothing,
+    Gives::Nothing,
+    Gives::Nothing,
+    Gives::Nothing,
+    Gives::Nothing,
+    Gives::Nothing,
+    Gives::Nothing,
+    Gives::Nothing,
+    Gives::Nothing,
+    Gives::Bytes(b"ok name eve\nok open 1\n"),
+    Gives::Nothing,
+];
+
+// Whether the turn in which the log fails has kept that entries are paused, and none before it.
+fn keeps_though_the_log_fails(rt: &impl Abort, lab: &Lab, server: &'static [Gives]) -> bool {
+    let browser = stream_of(lab.alloc, PAUSE_LATER, 1_000);
+    let server = stream_of(lab.alloc, server, 1_000);
+    let mut hall = begun(rt, lab.alloc, lab.keys, browser, server);
+    let mut links = unasked(lab.alloc);
+    let mut log = Kept {
+        fails: true,
+        text: String::new(lab.alloc),
+    };
+    for at in 0..40 {
+        let was_paused = links.is_paused;
+        if hall.turn(at, &mut log, &mut links).is_err() {
+            return links.is_paused && !was_paused;
+        }
+        hall.wake(2);
+        hall.wake_server();
+    }
+    false
+}
+
+// (in one of these the order and the answer to the act come in one turn)
+#[test]
+fn that_entries_are_paused_is_kept_before_the_log_is_told(rt: HostRuntime) {
+    let lab = Lab {
+        alloc: rt.alloc(),
+        keys: RandomState::new(&rt).expect(&rt, "keys"),
+    };
+    let mut count: u32 = 0;
+    for from in 0..17 {
+        if keeps_though_the_log_fails(&rt, &lab, &ACCEPT_LATER[from..]) {
+            count = count.saturating_add(1);
+        }
+    }
+    assert!(rt; count > 0);
 }
 
 #[test]
