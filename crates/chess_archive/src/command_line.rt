@@ -4,7 +4,7 @@ use clap::builder::ValueParser;
 use clap::error::ErrorKind;
 use clap::{Arg, ArgAction, ArgMatches, Command, Error};
 use command_words::{VERSION, flag, option};
-use option_tables::{OptionText, with_options};
+use option_tables::{OptionText, read_or_fault, with_options};
 use pgn_tags::is_date;
 use std::alloc::{AllocError, Global};
 use std::net::SocketAddr;
@@ -288,21 +288,35 @@ pub fn command<'a>(alloc: Global) -> Result<Command<'a>, AllocError> {
 
 /// Reads the words, the program's own name first. An `Err` is a usage fault, or a request for help.
 pub fn read_words<'a>(alloc: Global, words: &'a [String]) -> Result<Word<'a>, Error> {
-    let mut command = command(alloc)?;
+    read_by(alloc, &mut command(alloc)?, words)
+}
+
+// (one function owns the command line, and one what was read by it: each call that may fail would drop both)
+fn read_by<'a>(
+    alloc: Global,
+    command: &mut Command<'a>,
+    words: &'a [String],
+) -> Result<Word<'a>, Error> {
     let matches = command.try_get_matches_from_mut(words)?;
-    if let Some(date) = no_date_of(&matches) {
-        let told = format!(in alloc;
-            "--date {date:?} is no date: it is YYYY.MM.DD, as 2026.11.27, with ?? for what is not known"
-        )?;
-        return Err(command.error(ErrorKind::InvalidValue, told.as_str())?);
-    }
-    match word_of(&matches) {
-        Some(word) => Ok(word),
-        None => Err(command.error(
-            ErrorKind::InvalidValue,
+    match no_date_told(alloc, &matches)? {
+        Some(told) => Err(command.error(ErrorKind::InvalidValue, told.as_str())?),
+        None => read_or_fault(
+            command,
+            word_of(&matches),
             "an address is none, a tag's value has a control character, --lobby stands without --drop, or export has two forms",
-        )?),
+        ),
     }
+}
+
+// What is said where a date is given, and is none.
+fn no_date_told(alloc: Global, matches: &ArgMatches<'_>) -> Result<Option<String>, AllocError> {
+    let Some(date) = no_date_of(matches) else {
+        return Ok(None);
+    };
+    let told = format!(in alloc;
+        "--date {date:?} is no date: it is YYYY.MM.DD, as 2026.11.27, with ?? for what is not known"
+    )?;
+    Ok(Some(told))
 }
 
 // What is given as a date, and is none.

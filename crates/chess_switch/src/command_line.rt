@@ -1,8 +1,8 @@
 //! The words of the command line, with the text of their help.
 use clap::builder::ValueParser;
-use clap::error::ErrorKind;
 use clap::{Arg, ArgAction, ArgMatches, Command, Error};
 use command_words::{VERSION, option};
+use option_tables::read_or_fault;
 use server_switch::SERVERS_MOST;
 use std::alloc::{AllocError, Global};
 use std::net::{IpAddr, Ipv4Addr, SocketAddr};
@@ -79,8 +79,7 @@ pub fn command<'a>(alloc: Global) -> Result<Command<'a>, AllocError> {
 
 /// Reads the words, the program's own name first. An `Err` is a usage fault, or a request for help.
 pub fn read_words(alloc: Global, words: &[String]) -> Result<Serving, Error> {
-    let mut command = command(alloc)?;
-    read_by(alloc, &mut command, words)
+    read_by(alloc, &mut command(alloc)?, words)
 }
 
 // (One function owns the command line, and one what was read by it: each call that may fail would drop both.)
@@ -90,21 +89,11 @@ fn read_by<'a>(
     words: &'a [String],
 ) -> Result<Serving, Error> {
     let matches = command.try_get_matches_from_mut(words)?;
-    serving_or_fault(alloc, command, &matches)
-}
-
-fn serving_or_fault(
-    alloc: Global,
-    command: &mut Command<'_>,
-    matches: &ArgMatches<'_>,
-) -> Result<Serving, Error> {
-    match serving_of(alloc, matches)? {
-        Some(serving) => Ok(serving),
-        None => Err(command.error(
-            ErrorKind::InvalidValue,
-            "an address is none, or a server's number is none or there twice",
-        )?),
-    }
+    read_or_fault(
+        command,
+        serving_of(alloc, &matches)?,
+        "an address is none, or a server's number is none or there twice",
+    )
 }
 
 // What the words ask for; none where an address or a server is none.

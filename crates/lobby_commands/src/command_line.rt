@@ -1,8 +1,8 @@
 //! The words of the command line, with the texts of their help.
 use clap::builder::ValueParser;
-use clap::error::ErrorKind;
 use clap::{Arg, ArgAction, ArgMatches, Command, Error};
 use command_words::{VERSION, flag, option};
+use option_tables::read_or_fault;
 use std::alloc::{AllocError, Global};
 use std::net::{IpAddr, Ipv4Addr, SocketAddr};
 
@@ -225,18 +225,27 @@ pub fn command<'a>(alloc: Global) -> Result<Command<'a>, AllocError> {
 
 /// Reads the words, the program's own name first. An `Err` is a usage fault, or a request for help.
 pub fn read_words<'a>(alloc: Global, words: &'a [String]) -> Result<Word<'a>, Error> {
-    let mut command = command(alloc)?;
+    read_by(alloc, &mut command(alloc)?, words)
+}
+
+// (one function owns the command line, and one what was read by it: each call that may fail would drop both)
+fn read_by<'a>(
+    alloc: Global,
+    command: &mut Command<'a>,
+    words: &'a [String],
+) -> Result<Word<'a>, Error> {
     let matches = command.try_get_matches_from_mut(words)?;
-    let word = match matches.subcommand() {
+    read_or_fault(command, word_of(alloc, &matches)?, "an address is none")
+}
+
+// What the words ask for; none where an address is none.
+fn word_of<'a>(alloc: Global, matches: &ArgMatches<'a>) -> Result<Option<Word<'a>>, AllocError> {
+    Ok(match matches.subcommand() {
         Some(("serve", values)) => serving_of(alloc, values)?.map(Word::Serve),
         Some(("player", values)) => adding_of(values).map(Word::Player),
         Some(("evidence", values)) => evidence_of(values).map(Word::Evidence),
         _ => None,
-    };
-    match word {
-        Some(word) => Ok(word),
-        None => Err(command.error(ErrorKind::InvalidValue, "an address is none")?),
-    }
+    })
 }
 
 // What `serve` asks for; none where an address is none.

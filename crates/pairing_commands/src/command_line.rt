@@ -3,7 +3,7 @@ use crate::days::is_day;
 use clap::error::ErrorKind;
 use clap::{ArgAction, ArgMatches, Command, Error};
 use command_words::{VERSION, flag, option};
-use option_tables::{OptionText, with_options};
+use option_tables::{OptionText, read_or_fault, with_options};
 use std::alloc::{AllocError, Global};
 use std::net::SocketAddr;
 use trf_texts::Tournament;
@@ -315,8 +315,7 @@ pub fn command<'a>(alloc: Global) -> Result<Command<'a>, AllocError> {
 
 /// Reads the words, the program's own name first. An `Err` is a usage fault, or a request for help.
 pub fn read_words<'a>(alloc: Global, words: &'a [String]) -> Result<Word<'a>, Error> {
-    let mut command = command(alloc)?;
-    read_by(alloc, &mut command, words)
+    read_by(alloc, &mut command(alloc)?, words)
 }
 
 // (One function owns the command line, and one what was read by it: each call that may fail would drop both.)
@@ -328,21 +327,11 @@ fn read_by<'a>(
     let matches = command.try_get_matches_from_mut(words)?;
     match no_day_told(alloc, &matches)? {
         Some(told) => Err(command.error(ErrorKind::InvalidValue, told.as_str())?),
-        None => word_or_fault(alloc, command, &matches),
-    }
-}
-
-fn word_or_fault<'a>(
-    alloc: Global,
-    command: &mut Command<'a>,
-    matches: &ArgMatches<'a>,
-) -> Result<Word<'a>, Error> {
-    match word_of(alloc, matches)? {
-        Some(word) => Ok(word),
-        None => Err(command.error(
-            ErrorKind::InvalidValue,
+        None => read_or_fault(
+            command,
+            word_of(alloc, &matches)?,
             "an address, a board, a game, a server or a round's files are none, or neither --archive nor --server is given",
-        )?),
+        ),
     }
 }
 
