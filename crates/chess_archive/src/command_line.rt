@@ -1,10 +1,8 @@
 //! The words of the command line, with the texts of their help.
 use archive_text::Heading;
-use clap::builder::ValueParser;
 use clap::error::ErrorKind;
-use clap::{Arg, ArgAction, ArgMatches, Command, Error};
-use command_words::{VERSION, flag, option};
-use option_tables::{OptionText, read_or_fault, with_options};
+use clap::{ArgMatches, Command, Error};
+use option_tables::{OptionText, OptionValue, WordText, command_line, read_or_fault};
 use pgn_tags::is_date;
 use std::alloc::{AllocError, Global};
 use std::net::SocketAddr;
@@ -126,17 +124,65 @@ pub struct Living<'a> {
 const KEEP: [OptionText; 2] = [
     OptionText {
         name: "server",
-        value: "A:P",
+        value: OptionValue::Text("A:P"),
         help: "Where the game server listens",
         is_required: true,
-        action: ArgAction::Set,
     },
     OptionText {
         name: "archive",
-        value: "FILE",
+        value: OptionValue::Text("FILE"),
         help: "The archive's file",
         is_required: true,
-        action: ArgAction::Set,
+    },
+];
+
+// What is done about the games that were kept, and whether it is done again.
+const KEEP_ON: [OptionText; 3] = [
+    OptionText {
+        name: "drop",
+        value: OptionValue::Nothing,
+        help: "Drops each game that is in the archive from the table",
+        is_required: false,
+    },
+    OptionText {
+        name: "lobby",
+        value: OptionValue::Text("A:P"),
+        help: "Where the lobby listens: with --drop, no game is dropped that is watched there",
+        is_required: false,
+    },
+    OptionText {
+        name: "every",
+        value: OptionValue::Number("SECONDS", 1, 3_600),
+        help: "After how many seconds it is done again, 1 to 3600; once without it",
+        is_required: false,
+    },
+];
+
+// Which archive's games are written, and how.
+const EXPORT: [OptionText; 4] = [
+    OptionText {
+        name: "archive",
+        value: OptionValue::Text("FILE"),
+        help: "The archive's file",
+        is_required: true,
+    },
+    OptionText {
+        name: "pgn",
+        value: OptionValue::Nothing,
+        help: "Writes the PGN of each game, as without it",
+        is_required: false,
+    },
+    OptionText {
+        name: "csv",
+        value: OptionValue::Nothing,
+        help: "Writes a row a game as CSV, and no PGN",
+        is_required: false,
+    },
+    OptionText {
+        name: "sqlite",
+        value: OptionValue::Nothing,
+        help: "Writes a database for SQLite, with a row a game and its PGN there",
+        is_required: false,
     },
 ];
 
@@ -144,146 +190,101 @@ const KEEP: [OptionText; 2] = [
 const LIVE: [OptionText; 3] = [
     OptionText {
         name: "server",
-        value: "A:P",
+        value: OptionValue::Text("A:P"),
         help: "Where the game server listens",
         is_required: true,
-        action: ArgAction::Set,
     },
     OptionText {
         name: "file",
-        value: "FILE",
+        value: OptionValue::Text("FILE"),
         help: "The file that is written",
         is_required: true,
-        action: ArgAction::Set,
     },
     OptionText {
         name: "archive",
-        value: "FILE",
+        value: OptionValue::Text("FILE"),
         help: "An archive whose games are written too; with --date those of this date",
         is_required: false,
-        action: ArgAction::Set,
     },
 ];
 
-// Which archive's games are written.
-const EXPORT: [OptionText; 1] = [OptionText {
-    name: "archive",
-    value: "FILE",
-    help: "The archive's file",
-    is_required: true,
-    action: ArgAction::Set,
+// Whether they are written again.
+const LIVE_ON: [OptionText; 1] = [OptionText {
+    name: "every",
+    value: OptionValue::Number("SECONDS", 1, 3_600),
+    help: "After how many seconds it is written again, 1 to 3600; once without it",
+    is_required: false,
 }];
 
 // What the tags are to say, who the players are, and what the log has.
 const KNOWLEDGE: [OptionText; 6] = [
     OptionText {
         name: "players",
-        value: "FILE",
+        value: OptionValue::Text("FILE"),
         help: "The players' file, for full names",
         is_required: false,
-        action: ArgAction::Set,
     },
     OptionText {
         name: "log",
-        value: "FILE",
+        value: OptionValue::Text("FILE"),
         help: "The lobby's log, for clocks",
         is_required: false,
-        action: ArgAction::Set,
     },
     OptionText {
         name: "event",
-        value: "TEXT",
+        value: OptionValue::Text("TEXT"),
         help: "The tag Event, ? without it",
         is_required: false,
-        action: ArgAction::Set,
     },
     OptionText {
         name: "site",
-        value: "TEXT",
+        value: OptionValue::Text("TEXT"),
         help: "The tag Site, ? without it",
         is_required: false,
-        action: ArgAction::Set,
     },
     OptionText {
         name: "date",
-        value: "DATE",
+        value: OptionValue::Text("DATE"),
         help: "The tag Date as YYYY.MM.DD, with ?? for what is not known; ????.??.?? without it",
         is_required: false,
-        action: ArgAction::Set,
     },
     OptionText {
         name: "round",
-        value: "TEXT",
+        value: OptionValue::Text("TEXT"),
         help: "The tag Round, ? without it",
         is_required: false,
-        action: ArgAction::Set,
     },
 ];
 
-// Who is asked before a game is dropped.
-const LOBBY: [OptionText; 1] = [OptionText {
-    name: "lobby",
-    value: "A:P",
-    help: "Where the lobby listens: with --drop, no game is dropped that is watched there",
-    is_required: false,
-    action: ArgAction::Set,
-}];
-
-fn every_option<'a>(alloc: Global, help: &'static str) -> Arg<'a> {
-    option(alloc, "every", "SECONDS", help).value_parser(ValueParser::Unsigned(1, 3_600))
-}
-
-fn keep_command<'a>(alloc: Global) -> Result<Command<'a>, AllocError> {
-    let command = Command::new(alloc, "keep")
-        .about("Keeps the games that are over")
-        .after_help(HELP_OF_KEEP);
-    let command = with_options(alloc, command, &KEEP)?;
-    let command = with_options(alloc, command, &KNOWLEDGE)?;
-    let command = command.arg(flag(
-        alloc,
-        "drop",
-        "Drops each game that is in the archive from the table",
-    ))?;
-    with_options(alloc, command, &LOBBY)?.arg(every_option(
-        alloc,
-        "After how many seconds it is done again, 1 to 3600; once without it",
-    ))
-}
-
-fn live_command<'a>(alloc: Global) -> Result<Command<'a>, AllocError> {
-    let command = Command::new(alloc, "live")
-        .about("Writes the games that are played to a file that others fetch")
-        .after_help(HELP_OF_LIVE);
-    let command = with_options(alloc, command, &LIVE)?;
-    with_options(alloc, command, &KNOWLEDGE)?.arg(every_option(
-        alloc,
-        "After how many seconds it is written again, 1 to 3600; once without it",
-    ))
-}
-
-fn export_command<'a>(alloc: Global) -> Result<Command<'a>, AllocError> {
-    let command = Command::new(alloc, "export")
-        .about("Writes the games of an archive as PGN, CSV or a database")
-        .after_help(HELP_OF_EXPORT);
-    with_options(alloc, command, &EXPORT)?
-        .arg(flag(alloc, "pgn", "Writes the PGN of each game, as without it"))?
-        .arg(flag(alloc, "csv", "Writes a row a game as CSV, and no PGN"))?
-        .arg(flag(
-            alloc,
-            "sqlite",
-            "Writes a database for SQLite, with a row a game and its PGN there",
-        ))
-}
+const WORDS: [WordText; 3] = [
+    WordText {
+        name: "keep",
+        about: "Keeps the games that are over",
+        help: HELP_OF_KEEP,
+        options: &[&KEEP, &KNOWLEDGE, &KEEP_ON],
+    },
+    WordText {
+        name: "export",
+        about: "Writes the games of an archive as PGN, CSV or a database",
+        help: HELP_OF_EXPORT,
+        options: &[&EXPORT],
+    },
+    WordText {
+        name: "live",
+        about: "Writes the games that are played to a file that others fetch",
+        help: HELP_OF_LIVE,
+        options: &[&LIVE, &KNOWLEDGE, &LIVE_ON],
+    },
+];
 
 /// The program's command line.
 pub fn command<'a>(alloc: Global) -> Result<Command<'a>, AllocError> {
-    let command = Command::new(alloc, "chess-archive")
-        .about("The archive of a chess club's games.")
-        .version(VERSION)
-        .subcommand_required(true);
-    let command = command.subcommand(keep_command(alloc)?)?;
-    let command = command.subcommand(export_command(alloc)?)?;
-    command.subcommand(live_command(alloc)?)
+    command_line(
+        alloc,
+        "chess-archive",
+        "The archive of a chess club's games.",
+        &WORDS,
+    )
 }
 
 /// Reads the words, the program's own name first. An `Err` is a usage fault, or a request for help.

@@ -1,8 +1,7 @@
 //! The words of the command line, with the text of their help.
-use clap::builder::ValueParser;
-use clap::{Arg, ArgAction, ArgMatches, Command, Error};
-use command_words::{VERSION, option};
-use option_tables::read_or_fault;
+use clap::{ArgMatches, Command, Error};
+use command_words::VERSION;
+use option_tables::{OptionText, OptionValue, read_or_fault, with_options};
 use server_switch::SERVERS_MOST;
 use std::alloc::{AllocError, Global};
 use std::net::{IpAddr, Ipv4Addr, SocketAddr};
@@ -34,47 +33,34 @@ pub struct Serving {
     pub address: SocketAddr,
 }
 
-// (Each argument is made where it is added: so a call that fails has the command alone to drop.)
-fn server_option<'a>(alloc: Global) -> Arg<'a> {
-    option(
-        alloc,
-        "server",
-        "[S=]A:P",
-        "Where a game server listens; it may be given several times",
-    )
-    .action(ArgAction::Append)
-    .required(true)
-}
-
-fn port_option<'a>(alloc: Global) -> Arg<'a> {
-    option(
-        alloc,
-        "port",
-        "P",
-        "The port, 0 to 65535; 0 leaves the choice to the system",
-    )
-    .value_parser(ValueParser::Unsigned(0, 65_535))
-    .required(true)
-}
-
-fn address_option<'a>(alloc: Global) -> Arg<'a> {
-    option(
-        alloc,
-        "address",
-        "A",
-        "The address of this machine, 127.0.0.1 without it",
-    )
-}
+const OPTIONS: [OptionText; 3] = [
+    OptionText {
+        name: "server",
+        value: OptionValue::Texts("[S=]A:P"),
+        help: "Where a game server listens; it may be given several times",
+        is_required: true,
+    },
+    OptionText {
+        name: "port",
+        value: OptionValue::Number("P", 0, 65_535),
+        help: "The port, 0 to 65535; 0 leaves the choice to the system",
+        is_required: true,
+    },
+    OptionText {
+        name: "address",
+        value: OptionValue::Text("A"),
+        help: "The address of this machine, 127.0.0.1 without it",
+        is_required: false,
+    },
+];
 
 /// The switch's command line.
 pub fn command<'a>(alloc: Global) -> Result<Command<'a>, AllocError> {
-    Command::new(alloc, "chess-switch")
+    let command = Command::new(alloc, "chess-switch")
         .about("Makes one game server of several.")
         .version(VERSION)
-        .after_help(HELP)
-        .arg(server_option(alloc))?
-        .arg(port_option(alloc))?
-        .arg(address_option(alloc))
+        .after_help(HELP);
+    with_options(alloc, command, &OPTIONS)
 }
 
 /// Reads the words, the program's own name first. An `Err` is a usage fault, or a request for help.

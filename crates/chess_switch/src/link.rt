@@ -2,11 +2,11 @@
 use crate::pieces::{PIECE_ROOM, Wire, give_up};
 use anyhow::Result;
 use mio::net::TcpStream;
-use mio::{Interest, Registry, Token};
+use mio::{Registry, Token};
+use server_calls::{call, is_made};
 use server_switch::Exchange;
 use session_lines::first_feed;
 use std::alloc::{AllocError, Global};
-use std::io::ErrorKind;
 use std::net::{Net, SocketAddr};
 use std::{mem, str};
 
@@ -47,38 +47,6 @@ pub struct Link {
     // By when an answer is to come, where one is due, and whether one was due in the last turn.
     until: u64,
     was_due: bool,
-}
-
-// Whether a connection is made; none where that is open.
-fn is_made(call: &TcpStream) -> Option<bool> {
-    match call.take_error() {
-        Ok(None) => {}
-        _ => return Some(false),
-    }
-    match call.peer_addr() {
-        Ok(_) => Some(true),
-        Err(error) if error.kind() == ErrorKind::NotConnected => None,
-        Err(_) => Some(false),
-    }
-}
-
-// A connection that begins.
-fn called(
-    net: &impl Net,
-    registry: &Registry,
-    address: SocketAddr,
-    token: Token,
-) -> Option<TcpStream> {
-    let Ok(mut call) = TcpStream::connect(net, address) else {
-        return None;
-    };
-    let interest = Interest::READABLE | Interest::WRITABLE;
-    let is_watched = registry.register(&mut call, token, interest).is_ok();
-    if is_watched && call.set_nodelay(true).is_ok() {
-        Some(call)
-    } else {
-        None
-    }
 }
 
 impl Link {
@@ -132,7 +100,7 @@ impl Link {
     fn call(&mut self, net: &impl Net, registry: &Registry, at: u64) {
         self.call_at = at.saturating_add(RETRY);
         self.until = at.saturating_add(PATIENCE);
-        if let Some(call) = called(net, registry, self.address, self.token) {
+        if let Some(call) = call(net, registry, self.address, self.token) {
             self.stage = Stage::Called(call);
         }
     }

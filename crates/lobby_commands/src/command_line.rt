@@ -1,8 +1,6 @@
 //! The words of the command line, with the texts of their help.
-use clap::builder::ValueParser;
-use clap::{Arg, ArgAction, ArgMatches, Command, Error};
-use command_words::{VERSION, flag, option};
-use option_tables::read_or_fault;
+use clap::{ArgMatches, Command, Error};
+use option_tables::{OptionText, OptionValue, WordText, command_line, read_or_fault};
 use std::alloc::{AllocError, Global};
 use std::net::{IpAddr, Ipv4Addr, SocketAddr};
 
@@ -110,117 +108,140 @@ pub struct Adding<'a> {
     pub page: &'a str,
 }
 
-// (Each argument is made where it is added: so a call that fails has the command alone to drop.)
-fn serve_command<'a>(alloc: Global) -> Result<Command<'a>, AllocError> {
-    let command = Command::new(alloc, "serve")
-        .about("Serves the page and its players, over a game server")
-        .after_help(HELP_OF_SERVE)
-        .arg(option(alloc, "players", "FILE", "The players' file").required(true))?
-        .arg(option(alloc, "server", "A:P", "Where the game server listens").required(true))?
-        .arg(port_option(alloc))?
-        .arg(option(
-            alloc,
-            "address",
-            "A",
-            "The address of this machine, 127.0.0.1 without it",
-        ))?;
-    with_files(alloc, command)
-}
+const SERVE: [OptionText; 9] = [
+    OptionText {
+        name: "players",
+        value: OptionValue::Text("FILE"),
+        help: "The players' file",
+        is_required: true,
+    },
+    OptionText {
+        name: "server",
+        value: OptionValue::Text("A:P"),
+        help: "Where the game server listens",
+        is_required: true,
+    },
+    OptionText {
+        name: "port",
+        value: OptionValue::Number("P", 0, 65_535),
+        help: "The port, 0 to 65535, 8080 without it; 0 leaves the choice to the system",
+        is_required: false,
+    },
+    OptionText {
+        name: "address",
+        value: OptionValue::Text("A"),
+        help: "The address of this machine, 127.0.0.1 without it",
+        is_required: false,
+    },
+    OptionText {
+        name: "page",
+        value: OptionValue::Text("FOLDER"),
+        help: "The folder of the page's files, page without it",
+        is_required: false,
+    },
+    OptionText {
+        name: "host",
+        value: OptionValue::Texts("NAME"),
+        help: "A name by which browsers reach it; it may be given several times",
+        is_required: false,
+    },
+    OptionText {
+        name: "live",
+        value: OptionValue::Text("FILE"),
+        help: "A file of games that is served as /live.pgn, as it stands",
+        is_required: false,
+    },
+    OptionText {
+        name: "log",
+        value: OptionValue::Text("FILE"),
+        help: "The file of a log of all acts, none without it",
+        is_required: false,
+    },
+    OptionText {
+        name: "journal",
+        value: OptionValue::Texts("FILE"),
+        help: "The server's journal, of which /health tells; once for each server behind a switch",
+        is_required: false,
+    },
+];
 
-fn port_option<'a>(alloc: Global) -> Arg<'a> {
-    option(
-        alloc,
-        "port",
-        "P",
-        "The port, 0 to 65535, 8080 without it; 0 leaves the choice to the system",
-    )
-    .value_parser(ValueParser::Unsigned(0, 65_535))
-}
+const PLAYER: [OptionText; 5] = [
+    OptionText {
+        name: "name",
+        value: OptionValue::Alone("NAME"),
+        help: "1 to 16 of A-Z a-z 0-9 _",
+        is_required: true,
+    },
+    OptionText {
+        name: "full-name",
+        value: OptionValue::Text("TEXT"),
+        help: "The name as it is shown",
+        is_required: true,
+    },
+    OptionText {
+        name: "players",
+        value: OptionValue::Text("FILE"),
+        help: "The players' file",
+        is_required: true,
+    },
+    OptionText {
+        name: "url",
+        value: OptionValue::Text("URL"),
+        help: "The page's address, http://127.0.0.1:8080/ without it",
+        is_required: false,
+    },
+    OptionText {
+        name: "arbiter",
+        value: OptionValue::Nothing,
+        help: "An arbiter, who may drop games",
+        is_required: false,
+    },
+];
 
-fn host_option<'a>(alloc: Global) -> Arg<'a> {
-    option(
-        alloc,
-        "host",
-        "NAME",
-        "A name by which browsers reach it; it may be given several times",
-    )
-    .action(ArgAction::Append)
-}
+const EVIDENCE: [OptionText; 2] = [
+    OptionText {
+        name: "game",
+        value: OptionValue::Number("G", 0, u32::MAX as u64),
+        help: "The game's number",
+        is_required: true,
+    },
+    OptionText {
+        name: "log",
+        value: OptionValue::Text("FILE"),
+        help: "The log",
+        is_required: true,
+    },
+];
 
-fn journal_option<'a>(alloc: Global) -> Arg<'a> {
-    option(
-        alloc,
-        "journal",
-        "FILE",
-        "The server's journal, of which /health tells; once for each server behind a switch",
-    )
-    .action(ArgAction::Append)
-}
-
-fn with_files<'a>(alloc: Global, command: Command<'a>) -> Result<Command<'a>, AllocError> {
-    command
-        .arg(option(
-            alloc,
-            "page",
-            "FOLDER",
-            "The folder of the page's files, page without it",
-        ))?
-        .arg(host_option(alloc))?
-        .arg(option(
-            alloc,
-            "live",
-            "FILE",
-            "A file of games that is served as /live.pgn, as it stands",
-        ))?
-        .arg(option(
-            alloc,
-            "log",
-            "FILE",
-            "The file of a log of all acts, none without it",
-        ))?
-        .arg(journal_option(alloc))
-}
-
-fn evidence_command<'a>(alloc: Global) -> Result<Command<'a>, AllocError> {
-    let game = option(alloc, "game", "G", "The game's number").value_parser(ValueParser::Unsigned(
-        0,
-        u64::from(u32::MAX),
-    ));
-    Command::new(alloc, "evidence")
-        .about("Tells what the log has of a game")
-        .after_help(HELP_OF_EVIDENCE)
-        .arg(game.required(true))?
-        .arg(option(alloc, "log", "FILE", "The log").required(true))
-}
-
-fn player_command<'a>(alloc: Global) -> Result<Command<'a>, AllocError> {
-    let name = Arg::new(alloc, "name")
-        .value_name("NAME")
-        .help("1 to 16 of A-Z a-z 0-9 _");
-    Command::new(alloc, "player")
-        .about("Puts a player into the players' file, and prints the personal link")
-        .after_help(HELP_OF_PLAYER)
-        .arg(name.required(true))?
-        .arg(option(alloc, "full-name", "TEXT", "The name as it is shown").required(true))?
-        .arg(option(alloc, "players", "FILE", "The players' file").required(true))?
-        .arg(option(
-            alloc,
-            "url",
-            "URL",
-            "The page's address, http://127.0.0.1:8080/ without it",
-        ))?
-        .arg(flag(alloc, "arbiter", "An arbiter, who may drop games"))
-}
+const WORDS: [WordText; 3] = [
+    WordText {
+        name: "serve",
+        about: "Serves the page and its players, over a game server",
+        help: HELP_OF_SERVE,
+        options: &[&SERVE],
+    },
+    WordText {
+        name: "player",
+        about: "Puts a player into the players' file, and prints the personal link",
+        help: HELP_OF_PLAYER,
+        options: &[&PLAYER],
+    },
+    WordText {
+        name: "evidence",
+        about: "Tells what the log has of a game",
+        help: HELP_OF_EVIDENCE,
+        options: &[&EVIDENCE],
+    },
+];
 
 /// The lobby's command line.
 pub fn command<'a>(alloc: Global) -> Result<Command<'a>, AllocError> {
-    let command = Command::new(alloc, "chess-lobby")
-        .about("The lobby of a chess club: players and spectators come by a browser.")
-        .version(VERSION)
-        .subcommand_required(true);
-    let command = command.subcommand(serve_command(alloc)?)?;
-    let command = command.subcommand(player_command(alloc)?)?;
-    command.subcommand(evidence_command(alloc)?)
+    command_line(
+        alloc,
+        "chess-lobby",
+        "The lobby of a chess club: players and spectators come by a browser.",
+        &WORDS,
+    )
 }
 
 /// Reads the words, the program's own name first. An `Err` is a usage fault, or a request for help.

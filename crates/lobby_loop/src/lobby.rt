@@ -14,10 +14,10 @@ use lobby_roster::Player;
 use lobby_web::{File, Site};
 use mio::net::TcpStream;
 use mio::{Events, Interest, Poll, Token};
+use server_calls::{call, is_made};
 use std::alloc::{AllocError, Global};
 use std::hash::RandomState;
 use std::io;
-use std::io::ErrorKind;
 use std::net::{Net, SocketAddr};
 use std::time::Duration;
 
@@ -78,19 +78,6 @@ fn watch_entrance(net: &impl Net, alloc: Global, entrance: &mut Entrance) -> io:
         poll,
         events: Events::with_capacity(alloc, EVENTS)?,
     })
-}
-
-// Whether a connection to the server is made; none where that is open.
-fn is_made(call: &TcpStream) -> Option<bool> {
-    match call.take_error() {
-        Ok(None) => {}
-        _ => return Some(false),
-    }
-    match call.peer_addr() {
-        Ok(_) => Some(true),
-        Err(error) if error.kind() == ErrorKind::NotConnected => None,
-        Err(_) => Some(false),
-    }
 }
 
 // The socket of this name may be ready. It tells whether that is the entrance.
@@ -242,17 +229,7 @@ impl Lobby {
     {
         self.call_at = at.saturating_add(RETRY);
         self.call_until = at.saturating_add(PATIENCE);
-        let Ok(mut call) = TcpStream::connect(net, self.server) else {
-            return;
-        };
-        let interest = Interest::READABLE | Interest::WRITABLE;
-        let watched = self
-            .poll
-            .registry()
-            .register(&mut call, Token(SERVER), interest);
-        if watched.is_ok() && call.set_nodelay(true).is_ok() {
-            self.call = Some(call);
-        }
+        self.call = call(net, self.poll.registry(), self.server, Token(SERVER));
     }
 
     // Goes on with the connection to the server that is being made.

@@ -52,6 +52,7 @@ fn web_config() -> Config
 }
 
 // The connection once the site has answered what came: on as HTTP, or handed over to a socket.
+// (What is let go is let go by a call: its parts are proved once then, and not at each way out.)
 fn answered(alloc: Global, site: &Site, mut connection: Connection) -> Stage
     ensures { Answers (config_of connection) site.now (history connection) result }
 {
@@ -62,6 +63,7 @@ fn answered(alloc: Global, site: &Site, mut connection: Connection) -> Stage
         _ => return Stage::Http(connection),
     }
     if !asked.has_switched() {
+        drop(connection);
         return Stage::Over;
     }
     let (input, output) = connection.into_buffers();
@@ -75,7 +77,10 @@ fn read_http(alloc: Global, site: &Site, mut connection: Connection, bytes: &[u8
     let mut left = bytes;
     match connection.read_from(&mut left) {
         Ok(count) if count == bytes.len() => answered(alloc, site, connection),
-        _ => Stage::Over,
+        _ => {
+            drop(connection);
+            Stage::Over
+        }
     }
 }
 
@@ -116,10 +121,8 @@ fn lightened(alloc: Global, site: &Site, stage: Stage, count: usize) -> Stage
 fn put(place: &mut Stage, stage: Stage)
     ensures { place.new ≡ stage }
 {
-    discard(mem::replace(place, stage));
+    drop(mem::replace(place, stage));
 }
-
-fn discard(_stage: Stage) {}
 
 impl Browser {
     /// A connection that begins. The keys are for the names of headers, which the peer chooses.
@@ -177,7 +180,7 @@ impl Browser {
         if wanted {
             put(&mut self.stage, taken(self.alloc, site, stage, bytes));
         } else {
-            discard(stage);
+            drop(stage);
         }
     }
 

@@ -1,9 +1,8 @@
 //! The words of the command line, with the texts of their help.
 use crate::days::is_day;
 use clap::error::ErrorKind;
-use clap::{ArgAction, ArgMatches, Command, Error};
-use command_words::{VERSION, flag, option};
-use option_tables::{OptionText, read_or_fault, with_options};
+use clap::{ArgMatches, Command, Error};
+use option_tables::{OptionText, OptionValue, WordText, command_line, read_or_fault};
 use std::alloc::{AllocError, Global};
 use std::net::SocketAddr;
 use trf_texts::Tournament;
@@ -130,187 +129,196 @@ pub struct Reporting<'a> {
     pub tournament: Tournament<'a>,
 }
 
-const PAIRINGS: OptionText = OptionText {
-    name: "pairings",
-    value: "FILE",
-    help: "The round's pairings, a CSV file",
-    is_required: true,
-    action: ArgAction::Set,
-};
-
-const ROUND_FILE: OptionText = OptionText {
-    name: "round-file",
-    value: "FILE",
-    help: "Which game is which board's",
-    is_required: true,
-    action: ArgAction::Set,
-};
-
-const SERVER: OptionText = OptionText {
-    name: "server",
-    value: "A:P",
-    help: "Where the game server listens",
-    is_required: false,
-    action: ArgAction::Set,
-};
-
-const ARCHIVE: OptionText = OptionText {
-    name: "archive",
-    value: "FILE",
-    help: "The archive of games that are over",
-    is_required: false,
-    action: ArgAction::Set,
-};
-
-// What `start` may be told several times.
-const TOLD_TO_START: [OptionText; 3] = [
+// Which round it is.
+const ROUND: [OptionText; 2] = [
     OptionText {
-        name: "take",
-        value: "BOARD=GAME",
-        help: "This game is the board's; it may be given several times",
-        is_required: false,
-        action: ArgAction::Append,
+        name: "pairings",
+        value: OptionValue::Text("FILE"),
+        help: "The round's pairings, a CSV file",
+        is_required: true,
     },
     OptionText {
-        name: "after",
-        value: "BOARD=GAME",
-        help: "No game up to this one of its server is the board's; it may be given several times",
-        is_required: false,
-        action: ArgAction::Append,
-    },
-    OptionText {
-        name: "without",
-        value: "SERVER",
-        help: "This server of a switch is not waited for; it may be given several times",
-        is_required: false,
-        action: ArgAction::Append,
+        name: "round-file",
+        value: OptionValue::Text("FILE"),
+        help: "Which game is which board's",
+        is_required: true,
     },
 ];
 
-const ROUNDS: OptionText = OptionText {
-    name: "rounds",
-    value: "CSV,GAMES",
-    help: "The two files of a round; it is given once for each round, in their order",
-    is_required: true,
-    action: ArgAction::Append,
-};
+// Where games are opened, and what is said of them.
+const START: [OptionText; 6] = [
+    OptionText {
+        name: "server",
+        value: OptionValue::Text("A:P"),
+        help: "Where the game server listens",
+        is_required: true,
+    },
+    OptionText {
+        name: "players",
+        value: OptionValue::Text("FILE"),
+        help: "The players' file: nothing is opened where a player is not in it",
+        is_required: false,
+    },
+    OptionText {
+        name: "take",
+        value: OptionValue::Texts("BOARD=GAME"),
+        help: "This game is the board's; it may be given several times",
+        is_required: false,
+    },
+    OptionText {
+        name: "after",
+        value: OptionValue::Texts("BOARD=GAME"),
+        help: "No game up to this one of its server is the board's; it may be given several times",
+        is_required: false,
+    },
+    OptionText {
+        name: "without",
+        value: OptionValue::Texts("SERVER"),
+        help: "This server of a switch is not waited for; it may be given several times",
+        is_required: false,
+    },
+    OptionText {
+        name: "short",
+        value: OptionValue::Nothing,
+        help: "Initial times of less than 60 seconds are meant",
+        is_required: false,
+    },
+];
 
-// What a report's head tells of the tournament, each with its help.
-const HEAD: [(&str, &str); 10] = [
-    ("name", "The tournament's name"),
-    ("city", "The city"),
-    ("federation", "The federation, as GER"),
-    ("begins", "The first day, YYYY/MM/DD"),
-    ("ends", "The last day, YYYY/MM/DD"),
-    ("kind", "As Individual: Swiss-System"),
-    ("arbiter", "The chief arbiter"),
-    ("deputy", "The deputy"),
-    ("times", "The times of a game"),
-    ("all-rounds", "How many rounds there are to be"),
+const RESULTS: [OptionText; 1] = [OptionText {
+    name: "players",
+    value: OptionValue::Text("FILE"),
+    help: "The players' file, with the full names that the archive has",
+    is_required: false,
+}];
+
+const REPORT: [OptionText; 2] = [
+    OptionText {
+        name: "players",
+        value: OptionValue::Text("FILE"),
+        help: "The players' file",
+        is_required: true,
+    },
+    OptionText {
+        name: "rounds",
+        value: OptionValue::Texts("CSV,GAMES"),
+        help: "The two files of a round; it is given once for each round, in their order",
+        is_required: true,
+    },
+];
+
+// Where results are looked for.
+const SOURCE: [OptionText; 2] = [
+    OptionText {
+        name: "archive",
+        value: OptionValue::Text("FILE"),
+        help: "The archive of games that are over",
+        is_required: false,
+    },
+    OptionText {
+        name: "server",
+        value: OptionValue::Text("A:P"),
+        help: "Where the game server listens",
+        is_required: false,
+    },
+];
+
+// What a report's head tells of the tournament.
+const HEAD: [OptionText; 10] = [
+    OptionText {
+        name: "name",
+        value: OptionValue::Text("TEXT"),
+        help: "The tournament's name",
+        is_required: false,
+    },
+    OptionText {
+        name: "city",
+        value: OptionValue::Text("TEXT"),
+        help: "The city",
+        is_required: false,
+    },
+    OptionText {
+        name: "federation",
+        value: OptionValue::Text("TEXT"),
+        help: "The federation, as GER",
+        is_required: false,
+    },
+    OptionText {
+        name: "begins",
+        value: OptionValue::Text("TEXT"),
+        help: "The first day, YYYY/MM/DD",
+        is_required: false,
+    },
+    OptionText {
+        name: "ends",
+        value: OptionValue::Text("TEXT"),
+        help: "The last day, YYYY/MM/DD",
+        is_required: false,
+    },
+    OptionText {
+        name: "kind",
+        value: OptionValue::Text("TEXT"),
+        help: "As Individual: Swiss-System",
+        is_required: false,
+    },
+    OptionText {
+        name: "arbiter",
+        value: OptionValue::Text("TEXT"),
+        help: "The chief arbiter",
+        is_required: false,
+    },
+    OptionText {
+        name: "deputy",
+        value: OptionValue::Text("TEXT"),
+        help: "The deputy",
+        is_required: false,
+    },
+    OptionText {
+        name: "times",
+        value: OptionValue::Text("TEXT"),
+        help: "The times of a game",
+        is_required: false,
+    },
+    OptionText {
+        name: "all-rounds",
+        value: OptionValue::Text("TEXT"),
+        help: "How many rounds there are to be",
+        is_required: false,
+    },
 ];
 
 // Which of these are days.
 const DAYS: [&str; 2] = ["begins", "ends"];
 
-fn players_option(help: &'static str) -> OptionText {
-    OptionText {
-        name: "players",
-        value: "FILE",
-        help,
-        is_required: false,
-        action: ArgAction::Set,
-    }
-}
-
-// The same option, where it is to be there.
-fn required(text: OptionText) -> OptionText {
-    OptionText {
-        is_required: true,
-        ..text
-    }
-}
-
-fn with_head<'a>(alloc: Global, command: Command<'a>) -> Result<Command<'a>, AllocError> {
-    let mut command = command;
-    for (name, help) in &HEAD {
-        command = command.arg(option(alloc, *name, "TEXT", *help))?;
-    }
-    Ok(command)
-}
-
-// (Without a clause: what a chain of calls says is carried no further.)
-fn word_command<'a>(
-    alloc: Global,
-    name: &'static str,
-    about: &'static str,
-    help: &'static str,
-) -> Command<'a> {
-    Command::new(alloc, name).about(about).after_help(help)
-}
-
-fn start_command<'a>(alloc: Global) -> Result<Command<'a>, AllocError> {
-    let command = word_command(alloc, "start", "Opens the games of a round", HELP_OF_START);
-    let players = players_option(
-        "The players' file: nothing is opened where a player is not in it",
-    );
-    let command = with_options(
-        alloc,
-        command,
-        &[PAIRINGS, ROUND_FILE, required(SERVER), players],
-    )?;
-    let command = with_options(alloc, command, &TOLD_TO_START)?;
-    command.arg(flag(
-        alloc,
-        "short",
-        "Initial times of less than 60 seconds are meant",
-    ))
-}
-
-fn results_command<'a>(alloc: Global) -> Result<Command<'a>, AllocError> {
-    let command = word_command(
-        alloc,
-        "results",
-        "Writes the results of a round as CSV",
-        HELP_OF_RESULTS,
-    );
-    let players = players_option("The players' file, with the full names that the archive has");
-    with_options(
-        alloc,
-        command,
-        &[PAIRINGS, ROUND_FILE, players, ARCHIVE, SERVER],
-    )
-}
-
-fn trf_command<'a>(alloc: Global) -> Result<Command<'a>, AllocError> {
-    let command = word_command(
-        alloc,
-        "trf",
-        "Writes the report of a tournament, TRF-16",
-        HELP_OF_TRF,
-    );
-    let players = required(players_option("The players' file"));
-    let command = with_options(alloc, command, &[players, ROUNDS])?;
-    let command = with_head(alloc, command)?;
-    with_options(alloc, command, &[ARCHIVE, SERVER])
-}
-
-// (A word is made before it is added, so that one call alone has the command to drop where that fails.)
-fn with_word<'a>(
-    command: Command<'a>,
-    word: Result<Command<'a>, AllocError>,
-) -> Result<Command<'a>, AllocError> {
-    command.subcommand(word?)
-}
+const WORDS: [WordText; 3] = [
+    WordText {
+        name: "start",
+        about: "Opens the games of a round",
+        help: HELP_OF_START,
+        options: &[&ROUND, &START],
+    },
+    WordText {
+        name: "results",
+        about: "Writes the results of a round as CSV",
+        help: HELP_OF_RESULTS,
+        options: &[&ROUND, &RESULTS, &SOURCE],
+    },
+    WordText {
+        name: "trf",
+        about: "Writes the report of a tournament, TRF-16",
+        help: HELP_OF_TRF,
+        options: &[&REPORT, &HEAD, &SOURCE],
+    },
+];
 
 /// The program's command line.
 pub fn command<'a>(alloc: Global) -> Result<Command<'a>, AllocError> {
-    let command = Command::new(alloc, "chess-pairings")
-        .about("The rounds of a chess league.")
-        .version(VERSION)
-        .subcommand_required(true);
-    let command = with_word(command, start_command(alloc))?;
-    let command = with_word(command, results_command(alloc))?;
-    with_word(command, trf_command(alloc))
+    command_line(
+        alloc,
+        "chess-pairings",
+        "The rounds of a chess league.",
+        &WORDS,
+    )
 }
 
 /// Reads the words, the program's own name first. An `Err` is a usage fault, or a request for help.
