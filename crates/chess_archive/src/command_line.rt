@@ -120,160 +120,157 @@ pub struct Living<'a> {
     pub every: Option<u32>,
 }
 
-// Which games are kept, and where.
-const KEEP: [OptionText; 2] = [
-    OptionText {
-        name: "server",
-        value: OptionValue::Text("A:P"),
-        help: "Where the game server listens",
-        is_required: true,
-    },
-    OptionText {
-        name: "archive",
-        value: OptionValue::Text("FILE"),
-        help: "The archive's file",
-        is_required: true,
-    },
-];
+const SERVER: OptionText = OptionText {
+    name: "server",
+    value: OptionValue::Text("A:P"),
+    help: "Where the game server listens",
+    is_required: true,
+};
 
-// What is done about the games that were kept, and whether it is done again.
-const KEEP_ON: [OptionText; 3] = [
-    OptionText {
-        name: "drop",
-        value: OptionValue::Nothing,
-        help: "Drops each game that is in the archive from the table",
-        is_required: false,
-    },
-    OptionText {
-        name: "lobby",
-        value: OptionValue::Text("A:P"),
-        help: "Where the lobby listens: with --drop, no game is dropped that is watched there",
-        is_required: false,
-    },
-    OptionText {
-        name: "every",
-        value: OptionValue::Number("SECONDS", 1, 3_600),
-        help: "After how many seconds it is done again, 1 to 3600; once without it",
-        is_required: false,
-    },
-];
+const ARCHIVE: OptionText = OptionText {
+    name: "archive",
+    value: OptionValue::Text("FILE"),
+    help: "The archive's file",
+    is_required: true,
+};
 
-// Which archive's games are written, and how.
-const EXPORT: [OptionText; 4] = [
-    OptionText {
-        name: "archive",
-        value: OptionValue::Text("FILE"),
-        help: "The archive's file",
-        is_required: true,
-    },
-    OptionText {
-        name: "pgn",
-        value: OptionValue::Nothing,
-        help: "Writes the PGN of each game, as without it",
-        is_required: false,
-    },
-    OptionText {
-        name: "csv",
-        value: OptionValue::Nothing,
-        help: "Writes a row a game as CSV, and no PGN",
-        is_required: false,
-    },
-    OptionText {
-        name: "sqlite",
-        value: OptionValue::Nothing,
-        help: "Writes a database for SQLite, with a row a game and its PGN there",
-        is_required: false,
-    },
-];
+const PLAYERS: OptionText = OptionText {
+    name: "players",
+    value: OptionValue::Text("FILE"),
+    help: "The players' file, for full names",
+    is_required: false,
+};
 
-// Which games are written, and where.
-const LIVE: [OptionText; 3] = [
-    OptionText {
-        name: "server",
-        value: OptionValue::Text("A:P"),
-        help: "Where the game server listens",
-        is_required: true,
-    },
-    OptionText {
-        name: "file",
-        value: OptionValue::Text("FILE"),
-        help: "The file that is written",
-        is_required: true,
-    },
-    OptionText {
-        name: "archive",
-        value: OptionValue::Text("FILE"),
-        help: "An archive whose games are written too; with --date those of this date",
-        is_required: false,
-    },
-];
+const LOG: OptionText = OptionText {
+    name: "log",
+    value: OptionValue::Text("FILE"),
+    help: "The lobby's log, for clocks",
+    is_required: false,
+};
 
-// Whether they are written again.
-const LIVE_ON: [OptionText; 1] = [OptionText {
+const EVENT: OptionText = OptionText {
+    name: "event",
+    value: OptionValue::Text("TEXT"),
+    help: "The tag Event, ? without it",
+    is_required: false,
+};
+
+const SITE: OptionText = OptionText {
+    name: "site",
+    value: OptionValue::Text("TEXT"),
+    help: "The tag Site, ? without it",
+    is_required: false,
+};
+
+const DATE: OptionText = OptionText {
+    name: "date",
+    value: OptionValue::Text("DATE"),
+    help: "The tag Date as YYYY.MM.DD, with ?? for what is not known; ????.??.?? without it",
+    is_required: false,
+};
+
+const ROUND: OptionText = OptionText {
+    name: "round",
+    value: OptionValue::Text("TEXT"),
+    help: "The tag Round, ? without it",
+    is_required: false,
+};
+
+const DROP: OptionText = OptionText {
+    name: "drop",
+    value: OptionValue::Nothing,
+    help: "Drops each game that is in the archive from the table",
+    is_required: false,
+};
+
+const LOBBY: OptionText = OptionText {
+    name: "lobby",
+    value: OptionValue::Text("A:P"),
+    help: "Where the lobby listens: with --drop, no game is dropped that is watched there",
+    is_required: false,
+};
+
+const KEEP_EVERY: OptionText = OptionText {
+    name: "every",
+    value: OptionValue::Number("SECONDS", 1, 3_600),
+    help: "After how many seconds it is done again, 1 to 3600; once without it",
+    is_required: false,
+};
+
+const PGN: OptionText = OptionText {
+    name: "pgn",
+    value: OptionValue::Nothing,
+    help: "Writes the PGN of each game, as without it",
+    is_required: false,
+};
+
+const CSV: OptionText = OptionText {
+    name: "csv",
+    value: OptionValue::Nothing,
+    help: "Writes a row a game as CSV, and no PGN",
+    is_required: false,
+};
+
+const SQLITE: OptionText = OptionText {
+    name: "sqlite",
+    value: OptionValue::Nothing,
+    help: "Writes a database for SQLite, with a row a game and its PGN there",
+    is_required: false,
+};
+
+const FILE: OptionText = OptionText {
+    name: "file",
+    value: OptionValue::Text("FILE"),
+    help: "The file that is written",
+    is_required: true,
+};
+
+const LIVE_ARCHIVE: OptionText = OptionText {
+    name: "archive",
+    value: OptionValue::Text("FILE"),
+    help: "An archive whose games are written too; with --date those of this date",
+    is_required: false,
+};
+
+const LIVE_EVERY: OptionText = OptionText {
     name: "every",
     value: OptionValue::Number("SECONDS", 1, 3_600),
     help: "After how many seconds it is written again, 1 to 3600; once without it",
     is_required: false,
-}];
+};
 
-// What the tags are to say, who the players are, and what the log has.
-const KNOWLEDGE: [OptionText; 6] = [
-    OptionText {
-        name: "players",
-        value: OptionValue::Text("FILE"),
-        help: "The players' file, for full names",
-        is_required: false,
-    },
-    OptionText {
-        name: "log",
-        value: OptionValue::Text("FILE"),
-        help: "The lobby's log, for clocks",
-        is_required: false,
-    },
-    OptionText {
-        name: "event",
-        value: OptionValue::Text("TEXT"),
-        help: "The tag Event, ? without it",
-        is_required: false,
-    },
-    OptionText {
-        name: "site",
-        value: OptionValue::Text("TEXT"),
-        help: "The tag Site, ? without it",
-        is_required: false,
-    },
-    OptionText {
-        name: "date",
-        value: OptionValue::Text("DATE"),
-        help: "The tag Date as YYYY.MM.DD, with ?? for what is not known; ????.??.?? without it",
-        is_required: false,
-    },
-    OptionText {
-        name: "round",
-        value: OptionValue::Text("TEXT"),
-        help: "The tag Round, ? without it",
-        is_required: false,
-    },
-];
-
-const WORDS: [WordText; 3] = [
+// In the order in which help lists them.
+const WORDS: &[WordText] = &[
     WordText {
         name: "keep",
         about: "Keeps the games that are over",
         help: HELP_OF_KEEP,
-        options: &[&KEEP, &KNOWLEDGE, &KEEP_ON],
+        options: &[
+            SERVER, ARCHIVE, PLAYERS, LOG, EVENT, SITE, DATE, ROUND, DROP, LOBBY, KEEP_EVERY,
+        ],
     },
     WordText {
         name: "export",
         about: "Writes the games of an archive as PGN, CSV or a database",
         help: HELP_OF_EXPORT,
-        options: &[&EXPORT],
+        options: &[ARCHIVE, PGN, CSV, SQLITE],
     },
     WordText {
         name: "live",
         about: "Writes the games that are played to a file that others fetch",
         help: HELP_OF_LIVE,
-        options: &[&LIVE, &KNOWLEDGE, &LIVE_ON],
+        options: &[
+            SERVER,
+            FILE,
+            LIVE_ARCHIVE,
+            PLAYERS,
+            LOG,
+            EVENT,
+            SITE,
+            DATE,
+            ROUND,
+            LIVE_EVERY,
+        ],
     },
 ];
 
@@ -283,7 +280,7 @@ pub fn command<'a>(alloc: Global) -> Result<Command<'a>, AllocError> {
         alloc,
         "chess-archive",
         "The archive of a chess club's games.",
-        &WORDS,
+        WORDS,
     )
 }
 
@@ -292,18 +289,28 @@ pub fn read_words<'a>(alloc: Global, words: &'a [String]) -> Result<Word<'a>, Er
     read_by(alloc, &mut command(alloc)?, words)
 }
 
-// (one function owns the command line, and one what was read by it: each call that may fail would drop both)
+// (One function owns the command line, and one what was read by it, which goes by a call: each way out would let go of all parts.)
 fn read_by<'a>(
     alloc: Global,
     command: &mut Command<'a>,
     words: &'a [String],
 ) -> Result<Word<'a>, Error> {
     let matches = command.try_get_matches_from_mut(words)?;
-    match no_date_told(alloc, &matches)? {
+    let word = word_given(alloc, command, &matches);
+    drop(matches);
+    word
+}
+
+fn word_given<'a>(
+    alloc: Global,
+    command: &mut Command<'a>,
+    matches: &ArgMatches<'a>,
+) -> Result<Word<'a>, Error> {
+    match no_date_told(alloc, matches)? {
         Some(told) => Err(command.error(ErrorKind::InvalidValue, told.as_str())?),
         None => read_or_fault(
             command,
-            word_of(&matches),
+            word_of(matches),
             "an address is none, a tag's value has a control character, --lobby stands without --drop, or export has two forms",
         ),
     }

@@ -1,7 +1,7 @@
 //! The words of the command line, with the text of their help.
 use clap::{ArgMatches, Command, Error};
 use command_words::VERSION;
-use option_tables::{OptionText, OptionValue, read_or_fault, with_options};
+use option_tables::{OptionText, OptionValue, arguments, read_or_fault};
 use server_switch::SERVERS_MOST;
 use std::alloc::{AllocError, Global};
 use std::net::{IpAddr, Ipv4Addr, SocketAddr};
@@ -33,34 +33,35 @@ pub struct Serving {
     pub address: SocketAddr,
 }
 
-const OPTIONS: [OptionText; 3] = [
-    OptionText {
-        name: "server",
-        value: OptionValue::Texts("[S=]A:P"),
-        help: "Where a game server listens; it may be given several times",
-        is_required: true,
-    },
-    OptionText {
-        name: "port",
-        value: OptionValue::Number("P", 0, 65_535),
-        help: "The port, 0 to 65535; 0 leaves the choice to the system",
-        is_required: true,
-    },
-    OptionText {
-        name: "address",
-        value: OptionValue::Text("A"),
-        help: "The address of this machine, 127.0.0.1 without it",
-        is_required: false,
-    },
-];
+const SERVER: OptionText = OptionText {
+    name: "server",
+    value: OptionValue::Texts("[S=]A:P"),
+    help: "Where a game server listens; it may be given several times",
+    is_required: true,
+};
+
+const PORT: OptionText = OptionText {
+    name: "port",
+    value: OptionValue::Number("P", 0, 65_535),
+    help: "The port, 0 to 65535; 0 leaves the choice to the system",
+    is_required: true,
+};
+
+const ADDRESS: OptionText = OptionText {
+    name: "address",
+    value: OptionValue::Text("A"),
+    help: "The address of this machine, 127.0.0.1 without it",
+    is_required: false,
+};
 
 /// The switch's command line.
 pub fn command<'a>(alloc: Global) -> Result<Command<'a>, AllocError> {
-    let command = Command::new(alloc, "chess-switch")
+    let arguments = arguments(alloc, &[SERVER, PORT, ADDRESS])?;
+    Command::new(alloc, "chess-switch")
         .about("Makes one game server of several.")
         .version(VERSION)
-        .after_help(HELP);
-    with_options(alloc, command, &OPTIONS)
+        .after_help(HELP)
+        .args(arguments)
 }
 
 /// Reads the words, the program's own name first. An `Err` is a usage fault, or a request for help.
@@ -68,16 +69,18 @@ pub fn read_words(alloc: Global, words: &[String]) -> Result<Serving, Error> {
     read_by(alloc, &mut command(alloc)?, words)
 }
 
-// (One function owns the command line, and one what was read by it: each call that may fail would drop both.)
+// (One function owns the command line, and one what was read by it, which goes by a call: each way out would let go of all parts.)
 fn read_by<'a>(
     alloc: Global,
     command: &mut Command<'a>,
     words: &'a [String],
 ) -> Result<Serving, Error> {
     let matches = command.try_get_matches_from_mut(words)?;
+    let serving = serving_of(alloc, &matches);
+    drop(matches);
     read_or_fault(
         command,
-        serving_of(alloc, &matches)?,
+        serving?,
         "an address is none, or a server's number is none or there twice",
     )
 }

@@ -108,129 +108,132 @@ pub struct Adding<'a> {
     pub page: &'a str,
 }
 
-const SERVE: [OptionText; 9] = [
-    OptionText {
-        name: "players",
-        value: OptionValue::Text("FILE"),
-        help: "The players' file",
-        is_required: true,
-    },
-    OptionText {
-        name: "server",
-        value: OptionValue::Text("A:P"),
-        help: "Where the game server listens",
-        is_required: true,
-    },
-    OptionText {
-        name: "port",
-        value: OptionValue::Number("P", 0, 65_535),
-        help: "The port, 0 to 65535, 8080 without it; 0 leaves the choice to the system",
-        is_required: false,
-    },
-    OptionText {
-        name: "address",
-        value: OptionValue::Text("A"),
-        help: "The address of this machine, 127.0.0.1 without it",
-        is_required: false,
-    },
-    OptionText {
-        name: "page",
-        value: OptionValue::Text("FOLDER"),
-        help: "The folder of the page's files, page without it",
-        is_required: false,
-    },
-    OptionText {
-        name: "host",
-        value: OptionValue::Texts("NAME"),
-        help: "A name by which browsers reach it; it may be given several times",
-        is_required: false,
-    },
-    OptionText {
-        name: "live",
-        value: OptionValue::Text("FILE"),
-        help: "A file of games that is served as /live.pgn, as it stands",
-        is_required: false,
-    },
-    OptionText {
-        name: "log",
-        value: OptionValue::Text("FILE"),
-        help: "The file of a log of all acts, none without it",
-        is_required: false,
-    },
-    OptionText {
-        name: "journal",
-        value: OptionValue::Texts("FILE"),
-        help: "The server's journal, of which /health tells; once for each server behind a switch",
-        is_required: false,
-    },
-];
+const PLAYERS: OptionText = OptionText {
+    name: "players",
+    value: OptionValue::Text("FILE"),
+    help: "The players' file",
+    is_required: true,
+};
 
-const PLAYER: [OptionText; 5] = [
-    OptionText {
-        name: "name",
-        value: OptionValue::Alone("NAME"),
-        help: "1 to 16 of A-Z a-z 0-9 _",
-        is_required: true,
-    },
-    OptionText {
-        name: "full-name",
-        value: OptionValue::Text("TEXT"),
-        help: "The name as it is shown",
-        is_required: true,
-    },
-    OptionText {
-        name: "players",
-        value: OptionValue::Text("FILE"),
-        help: "The players' file",
-        is_required: true,
-    },
-    OptionText {
-        name: "url",
-        value: OptionValue::Text("URL"),
-        help: "The page's address, http://127.0.0.1:8080/ without it",
-        is_required: false,
-    },
-    OptionText {
-        name: "arbiter",
-        value: OptionValue::Nothing,
-        help: "An arbiter, who may drop games",
-        is_required: false,
-    },
-];
+const SERVER: OptionText = OptionText {
+    name: "server",
+    value: OptionValue::Text("A:P"),
+    help: "Where the game server listens",
+    is_required: true,
+};
 
-const EVIDENCE: [OptionText; 2] = [
-    OptionText {
-        name: "game",
-        value: OptionValue::Number("G", 0, u32::MAX as u64),
-        help: "The game's number",
-        is_required: true,
-    },
-    OptionText {
-        name: "log",
-        value: OptionValue::Text("FILE"),
-        help: "The log",
-        is_required: true,
-    },
-];
+const AT_PORT: OptionText = OptionText {
+    name: "port",
+    value: OptionValue::Number("P", 0, 65_535),
+    help: "The port, 0 to 65535, 8080 without it; 0 leaves the choice to the system",
+    is_required: false,
+};
 
-const WORDS: [WordText; 3] = [
+const ADDRESS: OptionText = OptionText {
+    name: "address",
+    value: OptionValue::Text("A"),
+    help: "The address of this machine, 127.0.0.1 without it",
+    is_required: false,
+};
+
+const PAGE: OptionText = OptionText {
+    name: "page",
+    value: OptionValue::Text("FOLDER"),
+    help: "The folder of the page's files, page without it",
+    is_required: false,
+};
+
+const HOST: OptionText = OptionText {
+    name: "host",
+    value: OptionValue::Texts("NAME"),
+    help: "A name by which browsers reach it; it may be given several times",
+    is_required: false,
+};
+
+const LIVE: OptionText = OptionText {
+    name: "live",
+    value: OptionValue::Text("FILE"),
+    help: "A file of games that is served as /live.pgn, as it stands",
+    is_required: false,
+};
+
+const LOG: OptionText = OptionText {
+    name: "log",
+    value: OptionValue::Text("FILE"),
+    help: "The file of a log of all acts, none without it",
+    is_required: false,
+};
+
+const JOURNAL: OptionText = OptionText {
+    name: "journal",
+    value: OptionValue::Texts("FILE"),
+    help: "The server's journal, of which /health tells; once for each server behind a switch",
+    is_required: false,
+};
+
+const NAME: OptionText = OptionText {
+    name: "name",
+    value: OptionValue::Alone("NAME"),
+    help: "1 to 16 of A-Z a-z 0-9 _",
+    is_required: true,
+};
+
+const FULL_NAME: OptionText = OptionText {
+    name: "full-name",
+    value: OptionValue::Text("TEXT"),
+    help: "The name as it is shown",
+    is_required: true,
+};
+
+const URL: OptionText = OptionText {
+    name: "url",
+    value: OptionValue::Text("URL"),
+    help: "The page's address, http://127.0.0.1:8080/ without it",
+    is_required: false,
+};
+
+const ARBITER: OptionText = OptionText {
+    name: "arbiter",
+    value: OptionValue::Nothing,
+    help: "An arbiter, who may drop games",
+    is_required: false,
+};
+
+const GAME: OptionText = OptionText {
+    name: "game",
+    value: OptionValue::Number("G", 0, 4_294_967_295),
+    help: "The game's number",
+    is_required: true,
+};
+
+const ITS_LOG: OptionText = OptionText {
+    name: "log",
+    value: OptionValue::Text("FILE"),
+    help: "The log",
+    is_required: true,
+};
+
+// In the order in which help lists them.
+const WORDS: &[WordText] = &[
     WordText {
         name: "serve",
         about: "Serves the page and its players, over a game server",
         help: HELP_OF_SERVE,
-        options: &[&SERVE],
+        options: &[
+            PLAYERS, SERVER, AT_PORT, ADDRESS, PAGE, HOST, LIVE, LOG, JOURNAL,
+        ],
     },
     WordText {
         name: "player",
         about: "Puts a player into the players' file, and prints the personal link",
         help: HELP_OF_PLAYER,
-        options: &[&PLAYER],
+        options: &[NAME, FULL_NAME, PLAYERS, URL, ARBITER],
     },
     WordText {
         name: "evidence",
         about: "Tells what the log has of a game",
         help: HELP_OF_EVIDENCE,
-        options: &[&EVIDENCE],
+        options: &[GAME, ITS_LOG],
     },
 ];
 
@@ -240,7 +243,7 @@ pub fn command<'a>(alloc: Global) -> Result<Command<'a>, AllocError> {
         alloc,
         "chess-lobby",
         "The lobby of a chess club: players and spectators come by a browser.",
-        &WORDS,
+        WORDS,
     )
 }
 
@@ -249,14 +252,16 @@ pub fn read_words<'a>(alloc: Global, words: &'a [String]) -> Result<Word<'a>, Er
     read_by(alloc, &mut command(alloc)?, words)
 }
 
-// (one function owns the command line, and one what was read by it: each call that may fail would drop both)
+// (One function owns the command line, and one what was read by it, which goes by a call: each way out would let go of all parts.)
 fn read_by<'a>(
     alloc: Global,
     command: &mut Command<'a>,
     words: &'a [String],
 ) -> Result<Word<'a>, Error> {
     let matches = command.try_get_matches_from_mut(words)?;
-    read_or_fault(command, word_of(alloc, &matches)?, "an address is none")
+    let word = word_of(alloc, &matches);
+    drop(matches);
+    read_or_fault(command, word?, "an address is none")
 }
 
 // What the words ask for; none where an address is none.

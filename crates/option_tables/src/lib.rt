@@ -4,5 +4,5 @@
 mod options;
 mod reading;
 
-pub use options::{OptionText, OptionValue, WordText, command_line, with_options};
+pub use options::{OptionText, OptionValue, WordText, arguments, command_line};
 pub use reading::read_or_fault;

@@ -28,14 +28,14 @@ pub struct OptionText {
     pub is_required: bool,
 }
 
-/// A word of a program, with its options in groups, in their order.
+/// A word of a program, with its options in the order in which help lists them.
 #[derive(Clone, Copy)]
 pub struct WordText {
     pub name: &'static str,
     pub about: &'static str,
-    /// What stands behind the list of its options in its help.
+    /// What its help has behind the list of its options.
     pub help: &'static str,
-    pub options: &'static [&'static [OptionText]],
+    pub options: &'static [OptionText],
 }
 
 // An option as an argument.
@@ -54,52 +54,44 @@ fn argument<'a>(alloc: Global, text: &OptionText) -> Arg<'a> {
     made.required(text.is_required)
 }
 
-/// A command with these options behind those that it has, in their order. It fails where memory is refused.
-// (A loop over a table is proved once, and each call in a chain over what all calls before it say.)
-pub fn with_options<'a>(
-    alloc: Global,
-    command: Command<'a>,
-    options: &[OptionText],
-) -> Result<Command<'a>, AllocError> {
-    let mut command = command;
+/// Options as arguments, in their order. It fails where memory is refused.
+pub fn arguments<'a>(alloc: Global, options: &[OptionText]) -> Result<Vec<Arg<'a>>, AllocError> {
+    let mut arguments = Vec::new(alloc);
     for text in options {
-        command = command.arg(argument(alloc, text))?;
+        arguments.push(argument(alloc, text))?;
     }
-    Ok(command)
+    Ok(arguments)
 }
 
-// A word with its options.
 fn word_command<'a>(alloc: Global, text: &WordText) -> Result<Command<'a>, AllocError> {
-    let mut word = Command::new(alloc, text.name)
+    // Before the command, which is then never given up half made.
+    let arguments = arguments(alloc, text.options)?;
+    Command::new(alloc, text.name)
         .about(text.about)
-        .after_help(text.help);
-    for options in text.options {
-        word = with_options(alloc, word, options)?;
+        .after_help(text.help)
+        .args(arguments)
+}
+
+fn word_commands<'a>(alloc: Global, words: &[WordText]) -> Result<Vec<Command<'a>>, AllocError> {
+    let mut commands = Vec::new(alloc);
+    for text in words {
+        commands.push(word_command(alloc, text)?)?;
     }
-    Ok(word)
+    Ok(commands)
 }
 
-// (A word is made before it is added, so that one call alone has the command to drop where that fails.)
-fn with_word<'a>(
-    command: Command<'a>,
-    word: Result<Command<'a>, AllocError>,
-) -> Result<Command<'a>, AllocError> {
-    command.subcommand(word?)
-}
-
-/// The command line of a program that does what a word asks for: of one of these. It fails where memory is refused.
+/// The command line of a program that is given one of these words, in the order in which help lists them. It fails where memory is
+/// refused.
 pub fn command_line<'a>(
     alloc: Global,
     name: &'static str,
     about: &'static str,
     words: &[WordText],
 ) -> Result<Command<'a>, AllocError> {
-    let mut command = Command::new(alloc, name)
+    let commands = word_commands(alloc, words)?;
+    Command::new(alloc, name)
         .about(about)
         .version(VERSION)
-        .subcommand_required(true);
-    for word in words {
-        command = with_word(command, word_command(alloc, word))?;
-    }
-    Ok(command)
+        .subcommand_required(true)
+        .subcommands(commands)
 }

@@ -129,187 +129,203 @@ pub struct Reporting<'a> {
     pub tournament: Tournament<'a>,
 }
 
-// Which round it is.
-const ROUND: [OptionText; 2] = [
-    OptionText {
-        name: "pairings",
-        value: OptionValue::Text("FILE"),
-        help: "The round's pairings, a CSV file",
-        is_required: true,
-    },
-    OptionText {
-        name: "round-file",
-        value: OptionValue::Text("FILE"),
-        help: "Which game is which board's",
-        is_required: true,
-    },
-];
+const PAIRINGS: OptionText = OptionText {
+    name: "pairings",
+    value: OptionValue::Text("FILE"),
+    help: "The round's pairings, a CSV file",
+    is_required: true,
+};
 
-// Where games are opened, and what is said of them.
-const START: [OptionText; 6] = [
-    OptionText {
-        name: "server",
-        value: OptionValue::Text("A:P"),
-        help: "Where the game server listens",
-        is_required: true,
-    },
-    OptionText {
-        name: "players",
-        value: OptionValue::Text("FILE"),
-        help: "The players' file: nothing is opened where a player is not in it",
-        is_required: false,
-    },
-    OptionText {
-        name: "take",
-        value: OptionValue::Texts("BOARD=GAME"),
-        help: "This game is the board's; it may be given several times",
-        is_required: false,
-    },
-    OptionText {
-        name: "after",
-        value: OptionValue::Texts("BOARD=GAME"),
-        help: "No game up to this one of its server is the board's; it may be given several times",
-        is_required: false,
-    },
-    OptionText {
-        name: "without",
-        value: OptionValue::Texts("SERVER"),
-        help: "This server of a switch is not waited for; it may be given several times",
-        is_required: false,
-    },
-    OptionText {
-        name: "short",
-        value: OptionValue::Nothing,
-        help: "Initial times of less than 60 seconds are meant",
-        is_required: false,
-    },
-];
+const ROUND_FILE: OptionText = OptionText {
+    name: "round-file",
+    value: OptionValue::Text("FILE"),
+    help: "Which game is which board's",
+    is_required: true,
+};
 
-const RESULTS: [OptionText; 1] = [OptionText {
+const SERVER_ASKED: OptionText = OptionText {
+    name: "server",
+    value: OptionValue::Text("A:P"),
+    help: "Where the game server listens",
+    is_required: true,
+};
+
+const PLAYERS_OPENED: OptionText = OptionText {
+    name: "players",
+    value: OptionValue::Text("FILE"),
+    help: "The players' file: nothing is opened where a player is not in it",
+    is_required: false,
+};
+
+const TAKE: OptionText = OptionText {
+    name: "take",
+    value: OptionValue::Texts("BOARD=GAME"),
+    help: "This game is the board's; it may be given several times",
+    is_required: false,
+};
+
+const AFTER: OptionText = OptionText {
+    name: "after",
+    value: OptionValue::Texts("BOARD=GAME"),
+    help: "No game up to this one of its server is the board's; it may be given several times",
+    is_required: false,
+};
+
+const WITHOUT: OptionText = OptionText {
+    name: "without",
+    value: OptionValue::Texts("SERVER"),
+    help: "This server of a switch is not waited for; it may be given several times",
+    is_required: false,
+};
+
+const SHORT: OptionText = OptionText {
+    name: "short",
+    value: OptionValue::Nothing,
+    help: "Initial times of less than 60 seconds are meant",
+    is_required: false,
+};
+
+const PLAYERS_NAMED: OptionText = OptionText {
     name: "players",
     value: OptionValue::Text("FILE"),
     help: "The players' file, with the full names that the archive has",
     is_required: false,
-}];
+};
 
-const REPORT: [OptionText; 2] = [
-    OptionText {
-        name: "players",
-        value: OptionValue::Text("FILE"),
-        help: "The players' file",
-        is_required: true,
-    },
-    OptionText {
-        name: "rounds",
-        value: OptionValue::Texts("CSV,GAMES"),
-        help: "The two files of a round; it is given once for each round, in their order",
-        is_required: true,
-    },
-];
+const PLAYERS: OptionText = OptionText {
+    name: "players",
+    value: OptionValue::Text("FILE"),
+    help: "The players' file",
+    is_required: true,
+};
 
-// Where results are looked for.
-const SOURCE: [OptionText; 2] = [
-    OptionText {
-        name: "archive",
-        value: OptionValue::Text("FILE"),
-        help: "The archive of games that are over",
-        is_required: false,
-    },
-    OptionText {
-        name: "server",
-        value: OptionValue::Text("A:P"),
-        help: "Where the game server listens",
-        is_required: false,
-    },
-];
+const ROUNDS: OptionText = OptionText {
+    name: "rounds",
+    value: OptionValue::Texts("CSV,GAMES"),
+    help: "The two files of a round; it is given once for each round, in their order",
+    is_required: true,
+};
 
-// What a report's head tells of the tournament.
-const HEAD: [OptionText; 10] = [
-    OptionText {
-        name: "name",
-        value: OptionValue::Text("TEXT"),
-        help: "The tournament's name",
-        is_required: false,
-    },
-    OptionText {
-        name: "city",
-        value: OptionValue::Text("TEXT"),
-        help: "The city",
-        is_required: false,
-    },
-    OptionText {
-        name: "federation",
-        value: OptionValue::Text("TEXT"),
-        help: "The federation, as GER",
-        is_required: false,
-    },
-    OptionText {
-        name: "begins",
-        value: OptionValue::Text("TEXT"),
-        help: "The first day, YYYY/MM/DD",
-        is_required: false,
-    },
-    OptionText {
-        name: "ends",
-        value: OptionValue::Text("TEXT"),
-        help: "The last day, YYYY/MM/DD",
-        is_required: false,
-    },
-    OptionText {
-        name: "kind",
-        value: OptionValue::Text("TEXT"),
-        help: "As Individual: Swiss-System",
-        is_required: false,
-    },
-    OptionText {
-        name: "arbiter",
-        value: OptionValue::Text("TEXT"),
-        help: "The chief arbiter",
-        is_required: false,
-    },
-    OptionText {
-        name: "deputy",
-        value: OptionValue::Text("TEXT"),
-        help: "The deputy",
-        is_required: false,
-    },
-    OptionText {
-        name: "times",
-        value: OptionValue::Text("TEXT"),
-        help: "The times of a game",
-        is_required: false,
-    },
-    OptionText {
-        name: "all-rounds",
-        value: OptionValue::Text("TEXT"),
-        help: "How many rounds there are to be",
-        is_required: false,
-    },
-];
+const ARCHIVE: OptionText = OptionText {
+    name: "archive",
+    value: OptionValue::Text("FILE"),
+    help: "The archive of games that are over",
+    is_required: false,
+};
 
-// Which of these are days.
-const DAYS: [&str; 2] = ["begins", "ends"];
+const SERVER: OptionText = OptionText {
+    name: "server",
+    value: OptionValue::Text("A:P"),
+    help: "Where the game server listens",
+    is_required: false,
+};
 
-const WORDS: [WordText; 3] = [
+const NAME: OptionText = OptionText {
+    name: "name",
+    value: OptionValue::Text("TEXT"),
+    help: "The tournament's name",
+    is_required: false,
+};
+
+const CITY: OptionText = OptionText {
+    name: "city",
+    value: OptionValue::Text("TEXT"),
+    help: "The city",
+    is_required: false,
+};
+
+const FEDERATION: OptionText = OptionText {
+    name: "federation",
+    value: OptionValue::Text("TEXT"),
+    help: "The federation, as GER",
+    is_required: false,
+};
+
+const BEGINS: OptionText = OptionText {
+    name: "begins",
+    value: OptionValue::Text("TEXT"),
+    help: "The first day, YYYY/MM/DD",
+    is_required: false,
+};
+
+const ENDS: OptionText = OptionText {
+    name: "ends",
+    value: OptionValue::Text("TEXT"),
+    help: "The last day, YYYY/MM/DD",
+    is_required: false,
+};
+
+const KIND: OptionText = OptionText {
+    name: "kind",
+    value: OptionValue::Text("TEXT"),
+    help: "As Individual: Swiss-System",
+    is_required: false,
+};
+
+const ARBITER: OptionText = OptionText {
+    name: "arbiter",
+    value: OptionValue::Text("TEXT"),
+    help: "The chief arbiter",
+    is_required: false,
+};
+
+const DEPUTY: OptionText = OptionText {
+    name: "deputy",
+    value: OptionValue::Text("TEXT"),
+    help: "The deputy",
+    is_required: false,
+};
+
+const TIMES: OptionText = OptionText {
+    name: "times",
+    value: OptionValue::Text("TEXT"),
+    help: "The times of a game",
+    is_required: false,
+};
+
+const ALL_ROUNDS: OptionText = OptionText {
+    name: "all-rounds",
+    value: OptionValue::Text("TEXT"),
+    help: "How many rounds there are to be",
+    is_required: false,
+};
+
+// In the order in which help lists them.
+const WORDS: &[WordText] = &[
     WordText {
         name: "start",
         about: "Opens the games of a round",
         help: HELP_OF_START,
-        options: &[&ROUND, &START],
+        options: &[
+            PAIRINGS,
+            ROUND_FILE,
+            SERVER_ASKED,
+            PLAYERS_OPENED,
+            TAKE,
+            AFTER,
+            WITHOUT,
+            SHORT,
+        ],
     },
     WordText {
         name: "results",
         about: "Writes the results of a round as CSV",
         help: HELP_OF_RESULTS,
-        options: &[&ROUND, &RESULTS, &SOURCE],
+        options: &[PAIRINGS, ROUND_FILE, PLAYERS_NAMED, ARCHIVE, SERVER],
     },
     WordText {
         name: "trf",
         about: "Writes the report of a tournament, TRF-16",
         help: HELP_OF_TRF,
-        options: &[&REPORT, &HEAD, &SOURCE],
+        options: &[
+            PLAYERS, ROUNDS, NAME, CITY, FEDERATION, BEGINS, ENDS, KIND, ARBITER, DEPUTY, TIMES,
+            ALL_ROUNDS, ARCHIVE, SERVER,
+        ],
     },
 ];
+
+// Which options are days.
+const DAYS: [&str; 2] = ["begins", "ends"];
 
 /// The program's command line.
 pub fn command<'a>(alloc: Global) -> Result<Command<'a>, AllocError> {
@@ -317,7 +333,7 @@ pub fn command<'a>(alloc: Global) -> Result<Command<'a>, AllocError> {
         alloc,
         "chess-pairings",
         "The rounds of a chess league.",
-        &WORDS,
+        WORDS,
     )
 }
 
@@ -326,18 +342,28 @@ pub fn read_words<'a>(alloc: Global, words: &'a [String]) -> Result<Word<'a>, Er
     read_by(alloc, &mut command(alloc)?, words)
 }
 
-// (One function owns the command line, and one what was read by it: each call that may fail would drop both.)
+// (One function owns the command line, and one what was read by it, which goes by a call: each way out would let go of all parts.)
 fn read_by<'a>(
     alloc: Global,
     command: &mut Command<'a>,
     words: &'a [String],
 ) -> Result<Word<'a>, Error> {
     let matches = command.try_get_matches_from_mut(words)?;
-    match no_day_told(alloc, &matches)? {
+    let word = word_given(alloc, command, &matches);
+    drop(matches);
+    word
+}
+
+fn word_given<'a>(
+    alloc: Global,
+    command: &mut Command<'a>,
+    matches: &ArgMatches<'a>,
+) -> Result<Word<'a>, Error> {
+    match no_day_told(alloc, matches)? {
         Some(told) => Err(command.error(ErrorKind::InvalidValue, told.as_str())?),
         None => read_or_fault(
             command,
-            word_of(alloc, &matches)?,
+            word_of(alloc, matches)?,
             "an address, a board, a game, a server or a round's files are none, or neither --archive nor --server is given",
         ),
     }

@@ -1,7 +1,6 @@
 //! The command line: each word with its values and its help.
-use clap::builder::ValueParser;
-use clap::{Arg, ArgAction, Command};
-use command_words::VERSION;
+use clap::Command;
+use option_tables::{OptionText, OptionValue, WordText, command_line};
 use std::alloc::{AllocError, Global};
 
 const HELP_OF_BOARD: &str = "\
@@ -192,206 +191,127 @@ does not know.
 Example:
   chess_server show --journal club.journal >night.pgn";
 
-/// What an argument reads behind its name.
-struct Value {
-    name: &'static str,
-    is_required: bool,
-    parser: ValueParser<'static>,
-}
-
-/// An argument of a word: `--NAME VALUE`, or `--NAME` alone where it has no value.
-struct Argument {
-    name: &'static str,
-    value: Option<Value>,
-    help: &'static str,
-}
-
-/// A word with the texts of its help.
-struct Entry {
-    name: &'static str,
-    about: &'static str,
-    help: &'static str,
-    arguments: &'static [Argument],
-}
-
-const JOURNAL: Argument = Argument {
+const JOURNAL: OptionText = OptionText {
     name: "journal",
-    value: Some(Value {
-        name: "F",
-        is_required: true,
-        parser: ValueParser::String,
-    }),
+    value: OptionValue::Text("F"),
     help: "The journal's file",
+    is_required: true,
 };
 
-const TO: Argument = Argument {
+const TO: OptionText = OptionText {
     name: "to",
-    value: Some(Value {
-        name: "G",
-        is_required: true,
-        parser: ValueParser::String,
-    }),
+    value: OptionValue::Text("G"),
     help: "The file that is to be the copy",
+    is_required: true,
 };
 
-const GAMES: Argument = Argument {
+const GAMES: OptionText = OptionText {
     name: "games",
-    value: Some(Value {
-        name: "G",
-        is_required: true,
-        parser: ValueParser::Unsigned(1, 4_096),
-    }),
+    value: OptionValue::Number("G", 1, 4_096),
     help: "How many games the table holds, 1 to 4096",
+    is_required: true,
 };
 
-const PLIES: Argument = Argument {
+const PLIES: OptionText = OptionText {
     name: "plies",
-    value: Some(Value {
-        name: "P",
-        is_required: true,
-        parser: ValueParser::Unsigned(1, 20_000),
-    }),
+    value: OptionValue::Number("P", 1, 20_000),
     help: "How many moves a game may have, 1 to 20000",
+    is_required: true,
 };
 
-const PORT: Argument = Argument {
+const PORT: OptionText = OptionText {
     name: "port",
-    value: Some(Value {
-        name: "P",
-        is_required: true,
-        parser: ValueParser::Unsigned(0, 65_535),
-    }),
+    value: OptionValue::Number("P", 0, 65_535),
     help: "The port on 127.0.0.1, 0 to 65535; 0 leaves the choice to the system",
+    is_required: true,
 };
 
-const TURNS: Argument = Argument {
+const TURNS: OptionText = OptionText {
     name: "turns",
-    value: Some(Value {
-        name: "N",
-        is_required: false,
-        parser: ValueParser::Unsigned(1, 4_294_967_295),
-    }),
+    value: OptionValue::Number("N", 1, 4_294_967_295),
     help: "After how many turns it ends, 1 to 4294967295; without it, it goes on",
+    is_required: false,
 };
 
-const IDLE: Argument = Argument {
+const IDLE: OptionText = OptionText {
     name: "idle",
-    value: Some(Value {
-        name: "S",
-        is_required: false,
-        parser: ValueParser::Unsigned(1, 4_294_967_295),
-    }),
+    value: OptionValue::Number("S", 1, 4_294_967_295),
     help: "After how many seconds of silence a client is closed, 1 to 4294967295",
+    is_required: false,
 };
 
-const FORCE: Argument = Argument {
+const FORCE: OptionText = OptionText {
     name: "force",
-    value: None,
+    value: OptionValue::Nothing,
     help: "Also a file that has other bytes than zeros at its front, and is no journal",
+    is_required: false,
 };
 
-const QUIET: Argument = Argument {
+const QUIET: OptionText = OptionText {
     name: "quiet",
-    value: None,
+    value: OptionValue::Nothing,
     help: "Tells nothing on standard error but fault NAME",
+    is_required: false,
 };
 
-/// The words, in the order in which help lists them.
-const WORDS: &[Entry] = &[
-    Entry {
+// In the order in which help lists them.
+const WORDS: &[WordText] = &[
+    WordText {
         name: "board",
         about: "Answers the lines of standard input, over one board in memory",
         help: HELP_OF_BOARD,
-        arguments: &[],
+        options: &[],
     },
-    Entry {
+    WordText {
         name: "format",
         about: "Makes a file a journal without games",
         help: HELP_OF_FORMAT,
-        arguments: &[JOURNAL, GAMES, PLIES, FORCE],
+        options: &[JOURNAL, GAMES, PLIES, FORCE],
     },
-    Entry {
+    WordText {
         name: "run",
         about: "Answers the lines of standard input, over the games of a journal",
         help: HELP_OF_RUN,
-        arguments: &[JOURNAL],
+        options: &[JOURNAL],
     },
-    Entry {
+    WordText {
         name: "serve",
         about: "Serves players on a port, over the games of a journal",
         help: HELP_OF_SERVE,
-        arguments: &[JOURNAL, PORT, TURNS, IDLE, QUIET],
+        options: &[JOURNAL, PORT, TURNS, IDLE, QUIET],
     },
-    Entry {
+    WordText {
         name: "drill",
         about: "Plays every crash of one batch on a device in memory",
         help: HELP_OF_DRILL,
-        arguments: &[],
+        options: &[],
     },
-    Entry {
+    WordText {
         name: "widen",
         about: "Raises the limits of a journal's table",
         help: HELP_OF_WIDEN,
-        arguments: &[JOURNAL, GAMES, PLIES],
+        options: &[JOURNAL, GAMES, PLIES],
     },
-    Entry {
+    WordText {
         name: "copy",
         about: "Copies a journal, also one in which a server plays",
         help: HELP_OF_COPY,
-        arguments: &[JOURNAL, TO],
+        options: &[JOURNAL, TO],
     },
-    Entry {
+    WordText {
         name: "show",
         about: "Writes the PGN of every game of a journal",
         help: HELP_OF_SHOW,
-        arguments: &[JOURNAL],
+        options: &[JOURNAL],
     },
 ];
 
-fn arg_of<'a>(alloc: Global, argument: &Argument) -> Arg<'a> {
-    let arg = Arg::new(alloc, argument.name)
-        .long(argument.name)
-        .help(argument.help);
-    match &argument.value {
-        Some(value) => arg
-            .value_name(value.name)
-            .required(value.is_required)
-            .value_parser(value.parser),
-        None => arg.action(ArgAction::SetTrue),
-    }
-}
-
-fn args_of<'a>(alloc: Global, arguments: &[Argument]) -> Result<Vec<Arg<'a>>, AllocError> {
-    let mut args = Vec::new(alloc);
-    for argument in arguments {
-        args.push(arg_of(alloc, argument))?;
-    }
-    Ok(args)
-}
-
-fn command_of<'a>(alloc: Global, entry: &Entry) -> Result<Command<'a>, AllocError> {
-    // Before the command, which is then never given up half made.
-    let args = args_of(alloc, entry.arguments)?;
-    Command::new(alloc, entry.name)
-        .about(entry.about)
-        .after_help(entry.help)
-        .args(args)
-}
-
-fn commands<'a>(alloc: Global) -> Result<Vec<Command<'a>>, AllocError> {
-    let mut commands = Vec::new(alloc);
-    for entry in WORDS {
-        commands.push(command_of(alloc, entry)?)?;
-    }
-    Ok(commands)
-}
-
 /// The program's command line.
 pub fn command<'a>(alloc: Global) -> Result<Command<'a>, AllocError> {
-    let commands = commands(alloc)?;
-    Command::new(alloc, "chess_server")
-        .about("A chess game server whose games last. Each word has its own --help.")
-        .version(VERSION)
-        .subcommand_required(true)
-        .subcommands(commands)
+    command_line(
+        alloc,
+        "chess_server",
+        "A chess game server whose games last. Each word has its own --help.",
+        WORDS,
+    )
 }
