@@ -101,6 +101,22 @@ where
         })
     }
 
+    // Takes turns until something is at fault.
+    fn take_turns<L: ActLog>(
+        &mut self,
+        players: &mut Players<'_, R>,
+        lobby: &mut Lobby,
+        log: &mut L,
+    ) -> Result<()> {
+        let mut moments = Moments::new(self.rt)?;
+        for _ in 0..u64::MAX {
+            let at = moments.next();
+            players.look(lobby, at);
+            self.turn(lobby, log, at)?;
+        }
+        Ok(())
+    }
+
     // Takes a turn of the lobby.
     fn turn<L: ActLog>(&mut self, lobby: &mut Lobby, log: &mut L, at: u64) -> Result<()> {
         self.table.look(self.rt, lobby, at)?;
@@ -114,28 +130,6 @@ where
         lobby.rest(within(turned, self.table.rest(at)))?;
         Ok(())
     }
-}
-
-// Takes turns until something is at fault.
-fn take_turns<R, L: ActLog>(
-    rt: &R,
-    serving: &Serving<'_>,
-    players: &mut Players<'_, R>,
-    entries: Entries<'_, R>,
-    lobby: &mut Lobby,
-    log: &mut L,
-) -> Result<()>
-where
-    R: Files<File = File> + AllocGlobal + Clone + Drop + Clock + Eprint + Net + RandomSource,
-{
-    let mut moments = Moments::new(rt)?;
-    let mut beside = Beside::new(rt, serving, entries)?;
-    for _ in 0..u64::MAX {
-        let at = moments.next();
-        players.look(lobby, at);
-        beside.turn(lobby, log, at)?;
-    }
-    Ok(())
 }
 
 // Prints the page's address.
@@ -173,6 +167,35 @@ where
     )?)
 }
 
+// Prints the page's address, and takes turns until something is at fault. (What is large goes by a call: each way out would let go of
+// all its parts.)
+fn serve_lobby<R, L: ActLog>(
+    rt: &R,
+    serving: &Serving<'_>,
+    players: &mut Players<'_, R>,
+    entries: Entries<'_, R>,
+    address: SocketAddr,
+    lobby: &mut Lobby,
+    log: &mut L,
+) -> Result<()>
+where
+    R: Files<File = File>
+        + AllocGlobal
+        + Clone
+        + Drop
+        + Clock
+        + Print
+        + Eprint
+        + Net
+        + RandomSource,
+{
+    tell_address(rt, address)?;
+    let mut beside = Beside::new(rt, serving, entries)?;
+    let served = beside.take_turns(players, lobby, log);
+    drop(beside);
+    served
+}
+
 // Serves browsers, with a log of acts.
 fn serve_with<R, L: ActLog>(
     rt: &R,
@@ -199,8 +222,9 @@ where
     let address = entrance.address()?;
     let entries = Entries::new(rt, serving.players)?;
     let mut lobby = lobby_of(rt, serving, entrance, address, known, entries.is_paused())?;
-    tell_address(rt, address)?;
-    take_turns(rt, serving, players, entries, &mut lobby, log)
+    let served = serve_lobby(rt, serving, players, entries, address, &mut lobby, log);
+    drop(lobby);
+    served
 }
 
 /// Serves browsers, and first prints the page's address.
