@@ -1,3 +1,4 @@
 pub mod Cuts
 pub mod Cases
 pub mod Ascii
+pub mod Numbers

@@ -1,5 +1,5 @@
 //! The fields of a line.
-ghost use Rattle.std.specs.Prelude.{◌≡◌, ◌≢◌, ◌↔◌, ℕ, List, ◌∷◌, ◌++◌, Bool, Option, Some, None, EachIndex, IsTrue, IfSome, IsSome, IsSomeAnd, option_map, slice_index, length, decimal};
+ghost use Rattle.std.specs.Prelude.{◌≡◌, ◌≢◌, ◌↔◌, ◌<◌, ◌^◌, ℕ, List, ◌∷◌, ◌++◌, Bool, Option, Some, None, EachIndex, IsTrue, IfSome, IsSome, IsSomeAnd, SomeIff, option_map, slice_index, length, decimal};
 ghost use Rattle.std.specs.Option.{MatchOption};
 ghost use Rattle.chess_bits.specs.declared.men.Colour.{Colour};
 ghost use Rattle.chess_line.specs.Fields.{IsNumber, IsField, IsRest, colour_word, claim_word, times_text, AreTimes};
@@ -10,7 +10,6 @@ ghost use Rattle.chess_line.specs.Cut.{Unspaced, joined, rest_of};
 
 use chess_bits::Colour;
 use chess_entry::Text;
-use itoa::Buffer;
 
 /// The text up to its first space and what follows that space; the whole text where it has none.
 pub fn cut(text: &str) -> (&str, Option<&str>)
@@ -23,20 +22,22 @@ pub fn cut(text: &str) -> (&str, Option<&str>)
     }
 }
 
-/// The number that a field tells: it is read, and must be what is written for it.
+/// The number that a field tells, in its one spelling.
 pub fn number_named(text: &str) -> Option<u32>
     ensures some { IfSome result (λ n. IsNumber n × (text.now ≡ decimal n)) }
     ensures every { (n : ℕ) → IsNumber n → text.now ≡ decimal n → result ≡ Some n }
 {
-    let Ok(number) = text.parse::<u32>() else {
-        return None;
-    };
-    let mut buffer = Buffer::new();
-    if buffer.format(number) == text {
-        Some(number)
-    } else {
-        None
+    match decimal_text::number_named(text) {
+        Some(number) => below_32_bits(number),
+        None => None,
     }
+}
+
+// A number, where 32 bits have it.
+fn below_32_bits(number: u64) -> Option<u32>
+    ensures { SomeIff result (number < 2 ^ 32) number }
+{
+    u32::try_from(number).ok()
 }
 
 /// The number of the first field, and what follows the space after it.

@@ -32,13 +32,8 @@ impl<R: Eprint, I: Read> Read for TellingReader<'_, R, I> {
     ghost remaining = { λ telling. I.remaining telling.reader };
 
     fn read(&mut self, buf: &mut [u8]) -> io::Result<usize> {
-        match self.reader.read(buf) {
-            Ok(count) => Ok(count),
-            Err(error) => {
-                self.teller.stream_failed(INPUT, "a read failed", &error);
-                Err(error)
-            }
-        }
+        let read = self.reader.read(buf);
+        self.teller.told_of_stream(INPUT, "a read failed", read)
     }
 }
 
@@ -63,22 +58,14 @@ impl<R: Eprint, O: Write> Write for TellingWriter<'_, R, O> {
     ghost contents = { λ telling. O.contents telling.writer };
 
     fn write(&mut self, buf: &[u8]) -> io::Result<usize> {
-        match self.writer.write(buf) {
-            Ok(count) => Ok(count),
-            Err(error) => {
-                self.teller.stream_failed(OUTPUT, "a write failed", &error);
-                Err(error)
-            }
-        }
+        let written = self.writer.write(buf);
+        self.teller
+            .told_of_stream(OUTPUT, "a write failed", written)
     }
 
     fn flush(&mut self) -> io::Result<()> {
-        match self.writer.flush() {
-            Ok(()) => Ok(()),
-            Err(error) => {
-                self.teller.stream_failed(OUTPUT, "a write failed", &error);
-                Err(error)
-            }
-        }
+        let flushed = self.writer.flush();
+        self.teller
+            .told_of_stream(OUTPUT, "a write failed", flushed)
     }
 }

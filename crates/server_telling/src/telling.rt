@@ -106,11 +106,21 @@ impl<'a, R: Eprint> Teller<'a, R> {
         }
     }
 
-    /// The same of a stream, unless the call was only interrupted.
-    pub fn stream_failed(&self, name: &str, what: &str, error: &io::Error) {
-        if error.kind() != ErrorKind::Interrupted {
+    /// What a call of a stream gave, of whose failure is told, unless the call was only interrupted.
+    pub(crate) fn told_of_stream<T>(
+        &self,
+        name: &str,
+        what: &str,
+        gave: io::Result<T>,
+    ) -> io::Result<T>
+        ensures { result ≡ gave }
+    {
+        if let Err(error) = &gave
+            && error.kind() != ErrorKind::Interrupted
+        {
             self.file_failed(name, what, error);
         }
+        gave
     }
 
     /// Why a word's work on a file or a stream broke off, where the system has not said it.

@@ -1,28 +1,21 @@
-use Rattle.std.proofs.Common.{◌≡◌, ◌∙◌, ap, sym, Ok, Some, decimal, arith}
-use Rattle.std.proofs.lemmas.Bool.{false≢true}
-use Rattle.std.proofs.lemmas.Fmt.{parse-decimal}
-use Rattle.std.proofs.lemmas.Slice.Eq.{bytes_eq-Decides}
+use Rattle.std.proofs.Common.{◌∙◌, ◌^◌, sym, arith}
+use Rattle.decimal_text.proofs.Spelled.{none_lower, some_lower}
+use Rattle.chess_line.proofs.Numbers.{every_told, some_told}
 use Rattle.chess_line.proofs.fields.number_named.Goals as goal
 
-pub returns-in_default-clause-every : goal.returns-in_default-clause-every
-returns-in_default-clause-every c = λ n small e.
-    absurd (c.in_default.not-Ok n (parse-decimal 32 n c.args.text.now c.parse.result (omega arith) (omega arith) e
-    c.parse.ensures.value.0))
+pub returns-in-Some-clause-some : goal.returns-in-Some-clause-some
+returns-in-Some-clause-some c =
+    some_told c.args.text.now c.below_32_bits.result
+    (some_lower (2 ^ 32) c.in-Some.number c.args.text.now c.below_32_bits.result (omega arith)
+    (sym c.in-Some.is ∙ c.number_named.ensures) c.below_32_bits.ensures)
 
-pub returns-then-eq-clause-every : goal.returns-then-eq-clause-every
-returns-then-eq-clause-every c = λ n small e.
-    let read : c.parse.result ≡ Ok n =
-    parse-decimal 32 n c.args.text.now c.parse.result (omega arith) (omega arith) e c.parse.ensures.value.0 in
-    let is : c.parse.result ≡ Ok c.in-Ok.number = c.in-Ok.is in
-    let same : c.in-Ok.number ≡ n = cc in
-    ap Some same
+pub returns-in-Some-clause-every : goal.returns-in-Some-clause-every
+returns-in-Some-clause-every c =
+    every_told c.args.text.now c.below_32_bits.result
+    (some_lower (2 ^ 32) c.in-Some.number c.args.text.now c.below_32_bits.result (omega arith)
+    (sym c.in-Some.is ∙ c.number_named.ensures) c.below_32_bits.ensures)
 
-pub returns-else-eq-clause-every : goal.returns-else-eq-clause-every
-returns-else-eq-clause-every c = λ n small e.
-    let read : c.parse.result ≡ Ok n =
-    parse-decimal 32 n c.args.text.now c.parse.result (omega arith) (omega arith) e c.parse.ensures.value.0 in
-    let is : c.parse.result ≡ Ok c.in-Ok.number = c.in-Ok.is in
-    let same : c.in-Ok.number ≡ n = cc in
-    let written : c.format.result.now ≡ c.args.text.now = c.format.ensures.text ∙ (ap decimal same ∙ sym e) in
-    absurd (false≢true (sym c.if-eq.false ∙ (c.eq.ensures
-    ∙ (bytes_eq-Decides c.format.result.now c.args.text.now).1 written)))
+pub returns-in-None-clause-every : goal.returns-in-None-clause-every
+returns-in-None-clause-every c =
+    every_told c.args.text.now _
+    (none_lower (2 ^ 32) c.args.text.now (omega arith) (sym c.in-None.is ∙ c.number_named.ensures))

@@ -1,5 +1,7 @@
 use Rattle.std.proofs.Common.{◌≡◌, ◌∙◌, ◌+◌, ◌++◌, [], ◌∷◌, Some, Result, ap, sym, subst, arith, List, length, length-append, take, IfOk, IfErr}
 use Rattle.std.proofs.lemmas.List.{take_all}
+use Rattle.rec_codec.specs.declared.limits.Limits.{Limits}
+use Rattle.rec_codec.specs.declared.record.Entry.{Entry}
 use Rattle.chess_entry.specs.State.{TableState}
 use Rattle.chess_entry.specs.Games.{table_of}
 use Rattle.chess_store.specs.declared.fault.StoreFault.{StoreFault}
@@ -13,6 +15,8 @@ use Rattle.chess_lives.specs.Stops.{IsStopped, IsCutShort, IsLivesFault}
 use Rattle.chess_lives.specs.Serving.{IsShown, EndsUnopened}
 use Rattle.chess_lives.proofs.LivesLemmas.{AreOver, are_over-none, are_over-more, cut_short, cut_at_start, cut_at_end, is_report, IfOk-both, IfOk-map, IfErr-map, take-more_at, around-one}
 use Rattle.chess_lives.proofs.ServingLemmas.{risen-fault}
+use Rattle.chess_lives.proofs.living.lives.Given.{Over}
+use Rattle.chess_lives.proofs.living.lives.Goals.{After-show}
 use Rattle.chess_lives.proofs.living.lives.Goals as goal
 
 pub returns-in_default-clause-returned : goal.returns-in_default-clause-returned
@@ -124,6 +128,22 @@ returns-in-Err-clause-model g c =
 pub returns-in-Err-clause-sectors : goal.returns-in-Err-clause-sectors
 returns-in-Err-clause-sectors g c = c.live-device.ensures.sectors ∙ c.loop-life.invariant.sectors
 
+-- all lives of the plan are over
+all_over : (g : Over) (c : After-show g) (limits : Limits) (k : List Entry)
+    → IsBegun limits k (g.D.Device.state c.args.device)
+    → AreOver limits k (g.D.Device.failures c.args.device) c.args.plan.now.lives.items c.loop-life.reports.items
+    (g.D.Device.state c.loop-life.left) (g.D.Device.failures c.loop-life.left)
+all_over g c limits k begun =
+    let state = g.D.Device.state in
+    let failures = g.D.Device.failures in
+    let left = c.loop-life.left in
+    let whole : take c.loop-life.life-index c.deref-life-items.result.now ≡ c.args.plan.now.lives.items =
+    take_all c.loop-life.life-index c.deref-life-items.result.now c.loop-life-test.false
+    ∙ c.deref-life-items.ensures.value in
+    subst (λ (ls : List Life). AreOver limits k (failures c.args.device) ls c.loop-life.reports.items (state left)
+    (failures left))
+    whole (c.loop-life.invariant.over limits k begun)
+
 pub returns-clause-reported : goal.returns-clause-reported
 returns-clause-reported g c = λ limits k begun.
     let state = g.D.Device.state in
@@ -133,11 +153,7 @@ returns-clause-reported g c = λ limits k begun.
     let left = c.loop-life.left in
     let new = c.show.result.device in
     let reports = c.loop-life.reports.items in
-    let whole : take c.loop-life.life-index c.deref-life-items.result.now ≡ lives =
-    take_all c.loop-life.life-index c.deref-life-items.result.now c.loop-life-test.false
-    ∙ c.deref-life-items.ensures.value in
-    let so_far = subst (λ (ls : List Life). AreOver limits k (failures device) ls reports (state left) (failures left))
-    whole (c.loop-life.invariant.over limits k begun) in
+    let so_far = all_over g (goal.at.returns-clause-reported g c).After-show limits k begun in
     let table = table_of limits so_far.last in
     IfOk-both c.show.result.report
     (λ report. IsShown table (failures left) report.table report.kept (failures new))
@@ -152,16 +168,10 @@ pub returns-clause-images : goal.returns-clause-images
 returns-clause-images g c = λ limits k begun.
     let state = g.D.Device.state in
     let failures = g.D.Device.failures in
-    let device = c.args.device in
-    let lives = c.args.plan.now.lives.items in
     let left = c.loop-life.left in
     let new = c.show.result.device in
     let reports = c.loop-life.reports.items in
-    let whole : take c.loop-life.life-index c.deref-life-items.result.now ≡ lives =
-    take_all c.loop-life.life-index c.deref-life-items.result.now c.loop-life-test.false
-    ∙ c.deref-life-items.ensures.value in
-    let so_far = subst (λ (ls : List Life). AreOver limits k (failures device) ls reports (state left) (failures left))
-    whole (c.loop-life.invariant.over limits k begun) in
+    let so_far = all_over g (goal.at.returns-clause-images g c).After-show limits k begun in
     let table = table_of limits so_far.last in
     IfOk-both c.show.result.report
     (λ report. IsShown table (failures left) report.table report.kept (failures new))
@@ -181,11 +191,7 @@ returns-clause-returned g c = λ limits k begun.
     let left = c.loop-life.left in
     let new = c.show.result.device in
     let reports = c.loop-life.reports.items in
-    let whole : take c.loop-life.life-index c.deref-life-items.result.now ≡ lives =
-    take_all c.loop-life.life-index c.deref-life-items.result.now c.loop-life-test.false
-    ∙ c.deref-life-items.ensures.value in
-    let so_far = subst (λ (ls : List Life). AreOver limits k (failures device) ls reports (state left) (failures left))
-    whole (c.loop-life.invariant.over limits k begun) in
+    let so_far = all_over g (goal.at.returns-clause-returned g c).After-show limits k begun in
     let table = table_of limits so_far.last in
     IfErr-map c.show.result.report
     (λ fault. EndsUnopened (Some fault) (failures left) (failures new))

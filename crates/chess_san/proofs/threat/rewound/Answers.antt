@@ -11,6 +11,7 @@ use Rattle.chess_board.specs.RightsOf.{rights_of}
 use Rattle.chess_san.specs.Boards.{DiffersInCounters}
 use Rattle.chess_board.proofs.Broken.{none_broken}
 use Rattle.chess_san.proofs.Counters.{recounted-is, IsValid-like, same_men}
+use Rattle.chess_san.proofs.threat.rewound.Goals.{After-target}
 use Rattle.chess_san.proofs.threat.rewound.Goals as goal
 
 pub loop-number-preserved : goal.loop-number-preserved
@@ -46,29 +47,28 @@ Made men side flags target = record {
   fullmove = 1;
 }
 
-pub unreachable-requires : goal.unreachable-requires
-unreachable-requires c =
+abbrev made_of : After-target → Position
+made_of c = Made c.loop-number.men c.side.result c.rights.result c.target.result
+
+differs : (c : After-target) → DiffersInCounters c.args.board.now (made_of c)
+differs c =
     let p : Position = c.args.board.now in
-    let made : Position = Made c.loop-number.men c.side.result c.rights.result c.target.result in
-    let differs : DiffersInCounters p made = record {
+    record {
       placement = same_men c.loop-number.men p.placement c.loop-number.invariant.whole c.rights.ensures.valid.whole
           (λ k below. c.loop-number.invariant.placed k (omega arith));
       side = c.side.ensures;
       rights = c.rights.ensures.rights;
       target = c.target.ensures;
-    } in
-    none_broken made c.in-Err.field-0
-    (IsValid-like p made differs c.rights.ensures.valid (lit≤ tt, lit≤ tt, lit≤ tt)) c.in-Err.ensures.err
+    }
+
+pub unreachable-requires : goal.unreachable-requires
+unreachable-requires c =
+    let at = (goal.at.unreachable-requires c).After-target in
+    none_broken (made_of at) c.in-Err.field-0
+    (IsValid-like c.args.board.now (made_of at) (differs at) c.rights.ensures.valid (lit≤ tt, lit≤ tt, lit≤ tt))
+    c.in-Err.ensures.err
 
 pub returns : goal.returns
 returns c =
-    let p : Position = c.args.board.now in
-    let made : Position = Made c.loop-number.men c.side.result c.rights.result c.target.result in
-    let differs : DiffersInCounters p made = record {
-      placement = same_men c.loop-number.men p.placement c.loop-number.invariant.whole c.rights.ensures.valid.whole
-          (λ k below. c.loop-number.invariant.placed k (omega arith));
-      side = c.side.ensures;
-      rights = c.rights.ensures.rights;
-      target = c.target.ensures;
-    } in
-    c.in-Ok.ensures.ok ∙ recounted-is p made differs
+    let at = (goal.at.returns c).After-target in
+    c.in-Ok.ensures.ok ∙ recounted-is c.args.board.now (made_of at) (differs at)
