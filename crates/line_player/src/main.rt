@@ -50,6 +50,19 @@ impl<'a> Playing<'a> {
             _ => Err(Fault::Input),
         }
     }
+
+    // What a line answers.
+    fn play(&mut self, line: &str) -> Result<String, Fault> {
+        match self {
+            Playing::Nothing => Err(Fault::Input),
+            Playing::Table(player) => player.play(line),
+            Playing::Store(player) => player.play(line),
+            Playing::Lives(player) => player.play(line),
+            Playing::Hub(player) => player.play(line),
+            Playing::Sockets(player) => player.play(line),
+            Playing::Files(player) => player.play(line),
+        }
+    }
 }
 
 /// Plays the lines of the whole input.
@@ -65,15 +78,7 @@ impl<'a> LinePlayer for Player<'a> {
             self.playing = Playing::begin(self.rt, word)?;
             return Ok(String::new(self.rt.alloc()));
         }
-        match &mut self.playing {
-            Playing::Nothing => Err(Fault::Input),
-            Playing::Table(player) => player.play(line),
-            Playing::Store(player) => player.play(line),
-            Playing::Lives(player) => player.play(line),
-            Playing::Hub(player) => player.play(line),
-            Playing::Sockets(player) => player.play(line),
-            Playing::Files(player) => player.play(line),
-        }
+        self.playing.play(line)
     }
 }
 

@@ -34,7 +34,7 @@ use player_lines::{
 };
 use rec_codec::Limits;
 use sector_dev::{CrashDevice, MemoryDevice, OnceDevice};
-use sector_journal::{Opened, open};
+use sector_journal::open;
 use std::alloc::Global;
 use store_opening::Refused;
 use texts::{fault_text, journal_text, replies_text};

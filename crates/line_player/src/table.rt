@@ -78,8 +78,8 @@ impl TablePlayer {
                 Ok(String::new(self.alloc))
             }
             "records" => self.store(),
-            "reopen" => Ok(text_line(self.alloc, self.reopen(read_limits(rest)?)?)?),
-            "changed" => Ok(text_line(self.alloc, self.read_changed(&read_change(rest)?)?)?),
+            "reopen" => self.reopen(read_limits(rest)?),
+            "changed" => self.read_changed(&read_change(rest)?),
             _ => match read_sent(line) {
                 Some(sent) => self.answer_text(&sent),
                 None => Err(Fault::Input),
@@ -108,25 +108,28 @@ impl TablePlayer {
 
     // Goes on with the table that the records mean under limits; where they mean none, the table stays. `Input`: they were
     // not taken.
-    fn reopen(&mut self, limits: Limits) -> Result<&'static str, Fault> {
+    fn reopen(&mut self, limits: Limits) -> Result<String, Fault> {
         let Some(stored) = &self.stored else {
             return Err(Fault::Input);
         };
         match stored.read(self.alloc, limits)? {
             Some(table) => {
                 self.table = table;
-                Ok("reopened")
+                Ok(text_line(self.alloc, "reopened")?)
             }
-            None => Ok("damaged"),
+            None => Ok(text_line(self.alloc, "damaged")?),
         }
     }
 
     // What is read from the records where a byte is another: a table, `damaged`, or no record.
-    fn read_changed(&mut self, change: &Change) -> Result<&'static str, Fault> {
+    fn read_changed(&mut self, change: &Change) -> Result<String, Fault> {
         let limits = self.table.limits();
         match &mut self.stored {
             None => Err(Fault::Input),
-            Some(stored) => stored.read_changed(self.alloc, limits, change),
+            Some(stored) => {
+                let word = stored.read_changed(self.alloc, limits, change)?;
+                Ok(text_line(self.alloc, word)?)
+            }
         }
     }
 

@@ -62,6 +62,14 @@ impl Stored {
         }
     }
 
+    // Whether the records mean a table.
+    fn is_table(&self, alloc: Global, limits: Limits) -> Result<bool, Fault> {
+        match self.read(alloc, limits) {
+            Ok(table) => Ok(table.is_some()),
+            Err(fault) => Err(fault),
+        }
+    }
+
     /// What is read where a byte of a record of the snapshot is another.
     pub fn read_changed(
         &mut self,
@@ -76,11 +84,8 @@ impl Stored {
             return Ok("no record");
         };
         self.base[change.record] = new;
-        let read = self.read(alloc, limits);
+        let is_table = self.is_table(alloc, limits);
         self.base[change.record] = old;
-        match read? {
-            Some(_) => Ok("a table"),
-            None => Ok("damaged"),
-        }
+        Ok(if is_table? { "a table" } else { "damaged" })
     }
 }
