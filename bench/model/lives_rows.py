@@ -1,5 +1,6 @@
 #!/usr/bin/env python3
-"""The stored run of `lives_player`: `lives_rows.py stdin` prints its plans, `lives_rows.py stdout` what came of them.
+"""The part `lives` of `line_player`'s stored run: `lives_rows.py stdin` prints its plans, `lives_rows.py stdout` what
+came of them.
 
 What came is worked out here by the calls of docs/DISK.md, and never taken from the program. An opening syncs and reads
 the two header slots and each sector of the journal; a commit of w sectors, of four entries at most, makes w writes, a

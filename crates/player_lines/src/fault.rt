@@ -1,6 +1,7 @@
 //! Why playing ends before the input does.
 use sector_dev::DeviceFault;
 use std::alloc::{AllocError, Global};
+use std::num::ParseIntError;
 use std::{fmt, io};
 
 /// Why playing ends before the input does.
@@ -31,6 +32,12 @@ impl Fault {
 impl From<DeviceFault> for Fault {
     fn from(_: DeviceFault) -> Fault {
         Fault::Device
+    }
+}
+
+impl From<ParseIntError> for Fault {
+    fn from(_: ParseIntError) -> Fault {
+        Fault::Input
     }
 }
 

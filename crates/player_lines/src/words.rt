@@ -1,5 +1,5 @@
 //! Words that several players read.
-ghost use Rattle.std.specs.Prelude.{IfSome};
+ghost use Rattle.std.specs.Prelude.{IfOk};
 ghost use Rattle.rec_codec.specs.declared.limits.Version.TheVariants.{Two};
 ghost use Rattle.rec_codec.specs.Limits.{IsInRange};
 
@@ -34,42 +34,50 @@ pub struct Sent<'a> {
     pub line: &'a str,
 }
 
+/// A word, and what comes behind it, which may be nothing.
+pub fn split(text: &str) -> (&str, &str) {
+    match text.split_once(' ') {
+        Some(parts) => parts,
+        None => (text, ""),
+    }
+}
+
 /// `GAMES PLIES`, both in the range of version 2.
-pub fn read_limits(text: &str) -> Option<Limits>
-    ensures { IfSome result (IsInRange Two) }
+pub fn read_limits(text: &str) -> Result<Limits, Fault>
+    ensures { IfOk result (IsInRange Two) }
 {
-    let (games, plies) = text.split_once(' ')?;
+    let (games, plies) = split(text);
     let limits = Limits {
-        games: games.parse::<u32>().ok()?,
-        plies: plies.parse::<u32>().ok()?,
+        games: games.parse::<u32>()?,
+        plies: plies.parse::<u32>()?,
     };
     if limits.is_in_range(Version::Two) {
-        Some(limits)
+        Ok(limits)
     } else {
-        None
+        Err(Fault::Input)
     }
 }
 
 /// `SECTORS GAMES PLIES`, the limits in range.
-pub fn read_size(text: &str) -> Option<Size>
-    ensures { IfSome result (λ size. IsInRange Two size.limits) }
+pub fn read_size(text: &str) -> Result<Size, Fault>
+    ensures { IfOk result (λ size. IsInRange Two size.limits) }
 {
-    let (sectors, limits) = text.split_once(' ')?;
-    Some(Size {
-        sectors: sectors.parse::<u32>().ok()?,
+    let (sectors, limits) = split(text);
+    Ok(Size {
+        sectors: sectors.parse::<u32>()?,
         limits: read_limits(limits)?,
     })
 }
 
 /// `CALLS`, so many that a device serves, or `-` for any number.
-pub fn read_calls(text: &str) -> Option<Option<u64>> {
+pub fn read_calls(text: &str) -> Result<Option<u64>, Fault> {
     match text {
-        "-" => Some(None),
-        _ => Some(Some(text.parse::<u64>().ok()?)),
+        "-" => Ok(None),
+        _ => Ok(Some(text.parse::<u64>()?)),
     }
 }
 
-/// `MOMENT NAME LINE`, NAME `-` for a session without a name.
+/// `MOMENT NAME LINE`, NAME `-` for a session without a name; `None` where a text has not that form.
 pub fn read_sent(text: &str) -> Option<Sent<'_>> {
     let (at, rest) = text.split_once(' ')?;
     let (name, line) = rest.split_once(' ')?;
@@ -85,17 +93,17 @@ pub fn read_sent(text: &str) -> Option<Sent<'_>> {
 }
 
 /// The same where LINE is a command's.
-pub fn read_command(text: &str) -> Option<Command> {
+pub fn read_command(text: &str) -> Result<Command, Fault> {
     let Some(sent) = read_sent(text) else {
-        return None;
+        return Err(Fault::Input);
     };
-    match parse(sent.line.as_bytes())? {
-        Request::Act(act) => Some(Command {
+    match parse(sent.line.as_bytes()) {
+        Some(Request::Act(act)) => Ok(Command {
             moment: sent.at,
             who: sent.who,
             act,
         }),
-        Request::Called(_) => None,
+        _ => Err(Fault::Input),
     }
 }
 
