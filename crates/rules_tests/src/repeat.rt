@@ -1,5 +1,4 @@
 //! Games in which positions come again.
-use chess_bits::Square;
 use chess_board::Board;
 use chess_fen::fen_read;
 use chess_moves::after_legal;
@@ -60,39 +59,34 @@ fn begun(rt: &impl Abort, alloc: Global, start: &Board) -> History {
     }
 }
 
-// Out and back.
-const KNIGHTS: &str = "g8f6 g1f3 f6g8 f3g1";
+// What `key` and `is_same` say of two positions: the bytes of the target in their keys, and whether they are the same.
+fn compared(first: &Board, second: &Board) -> ([u8; 2], bool, bool) {
+    let (a, b) = (key(first), key(second));
+    ([a[33], b[33]], a == b, is_same(first, second))
+}
 
-const KINGS: &str = "e8e7 e1e2 e7e8 e2e1";
-
-// After 1. e4 no pawn can take on e3, so that the position is the same as each time that the knights have come back.
+// After 1. e4 no pawn can take on e3, so that the position is the same as where the knights have come back twice. How often
+// it counts, and that of the next test, claims show in the stored run of `table_player`.
 #[test]
 fn a_target_without_a_capture_does_not_count(rt: HostRuntime) {
     let start = Board::initial();
-    let mut history = begun(&rt, rt.alloc(), &start);
-    let first = push_all(&rt, &mut history, &start, "e2e4");
-    let fifth = push_all(&rt, &mut history, &first, KNIGHTS);
-    let ninth = push_all(&rt, &mut history, &fifth, KNIGHTS);
-    assert!(rt; seen(&history, &ninth) == [10, 3, 8] && history.times(&start) == 1);
-    let targets = [first.target(), fifth.target(), ninth.target()];
-    assert!(rt; targets == [Some(Square::at(5, 3)), None, None]);
-    assert!(rt; [key(&fifth), key(&ninth)] == [key(&first); 2]);
-    assert!(rt; is_same(&first, &ninth) && !is_same(&first, &start));
+    let first = after(&rt, &start, "e2e4");
+    let ninth = "rnbqkbnr/pppppppp/8/8/4P3/8/PPPP1PPP/RNBQKBNR b KQkq - 8 5";
+    let ninth = fen_read(ninth).expect(&rt, "a FEN");
+    assert!(rt; first.target().is_some() && ninth.target().is_none());
+    assert!(rt; compared(&first, &ninth) == ([64, 64], true, true));
+    assert!(rt; compared(&first, &start) == ([64, 64], false, false));
 }
 
-// After e4 Black could take on e3, and after the kings have come back no more: so that position stands a second time after
-// 9 moves, and a third time after 13.
+// After e4 Black could take on e3, and after the kings have come back no more.
 #[test]
 fn a_target_with_a_capture_counts(rt: HostRuntime) {
     let start = fen_read("4k3/8/8/8/3p4/8/4P3/4K3 w - - 0 1").expect(&rt, "a FEN");
-    let mut history = begun(&rt, rt.alloc(), &start);
-    let first = push_all(&rt, &mut history, &start, "e2e4");
-    let fifth = push_all(&rt, &mut history, &first, KINGS);
-    let ninth = push_all(&rt, &mut history, &fifth, KINGS);
-    assert!(rt; history.times(&ninth) == 2 && is_same(&fifth, &ninth));
-    let last = push_all(&rt, &mut history, &ninth, KINGS);
-    assert!(rt; seen(&history, &last) == [14, 3, 12] && history.times(&first) == 1);
-    assert!(rt; [key(&first)[33], key(&fifth)[33]] == [20, 64] && !is_same(&first, &fifth));
+    let first = after(&rt, &start, "e2e4");
+    let fifth = fen_read("4k3/8/8/8/3pP3/8/8/4K3 b - - 4 3").expect(&rt, "a FEN");
+    let ninth = fen_read("4k3/8/8/8/3pP3/8/8/4K3 b - - 8 5").expect(&rt, "a FEN");
+    assert!(rt; compared(&first, &fifth) == ([20, 64], false, false));
+    assert!(rt; compared(&fifth, &ninth) == ([64, 64], true, true));
 }
 
 // A rook, a knight and so on from a1, low four bits first; all four rights with White to move; and no target.
