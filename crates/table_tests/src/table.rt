@@ -52,8 +52,14 @@ fn limits_hold_until_they_are_widened(rt: HostRuntime) {
         refusal(&rt, &mut table, "bob", e5),
         refusal(&rt, &mut table, "cyd", OPEN),
     ];
-    let refusals = [Some(Refusal::TooLong), Some(Refusal::TooManyGames)];
-    assert!(rt; found[..3] == [None; 3] && found[3..] == refusals);
+    let wanted = [
+        None,
+        None,
+        None,
+        Some(Refusal::TooLong),
+        Some(Refusal::TooManyGames),
+    ];
+    assert!(rt; found == wanted);
     limits = table.limits();
     assert!(rt; limits.games <= 2 && limits.plies <= 60);
     table.widen(Limits {
