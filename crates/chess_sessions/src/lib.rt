@@ -8,6 +8,3 @@ mod taking;
 
 pub use sessions::{ConnectFault, SESSION_ROOM, Session, Sessions, Sid};
 pub use taking::Taken;
-
-#[cfg(test)]
-mod tests;

@@ -95,7 +95,7 @@ fn are_zeros(bytes: &[u8]) -> bool
 }
 
 /// Whether what a reader gives begins with zeros alone.
-pub(crate) fn is_blank<R: Read + Drop>(alloc: Global, reader: R) -> io::Result<bool>
+pub fn is_blank<R: Read + Drop>(alloc: Global, reader: R) -> io::Result<bool>
     ensures { IfOk result (λ blank. IfSome (R.remaining reader) (λ bytes.
         IsTrue blank ↔ All (λ b. b ≡ 0) (take 1024 bytes))) }
 {
@@ -168,7 +168,7 @@ fn stays_blank_at<D: Device>(device: &mut D, at: u32) -> Result<(), Fault>
 
 /// `Exists` where one of a device's first two sectors is not blank. Of a file this is asked once it is locked: another
 /// program may have made it a journal meanwhile.
-pub(crate) fn stays_blank<D: Device>(device: &mut D) -> Result<(), Fault>
+pub fn stays_blank<D: Device>(device: &mut D) -> Result<(), Fault>
     ensures blank { (D.state device.old).keeps_model
         → OnOk result (IsBlankAt (D.state device.old).reads (D.sector_count device.old) 0
         × IsBlankAt (D.state device.old).reads (D.sector_count device.old) 1) }

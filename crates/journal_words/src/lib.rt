@@ -3,8 +3,6 @@
 
 mod journals;
 mod reading;
-#[cfg(test)]
-mod tests;
 
-pub use journals::{format, widen};
-pub use reading::{copy_journal, show_games};
+pub use journals::{format, is_blank, stays_blank, widen};
+pub use reading::{copy_journal, show_games, write_games};

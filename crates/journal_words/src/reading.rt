@@ -173,11 +173,7 @@ fn write_game<W: Write>(alloc: Global, game: &Game, output: &mut W) -> Result<()
 }
 
 /// Writes the games of a table.
-pub(crate) fn write_games<W: Write>(
-    alloc: Global,
-    table: &Table,
-    output: &mut W,
-) -> Result<(), Fault>
+pub fn write_games<W: Write>(alloc: Global, table: &Table, output: &mut W) -> Result<(), Fault>
     ensures written { OnOk result (WritesGames (W.contents output.old) (W.contents output.new) table.now.games
         (length table.now.games)) }
     ensures fault { IfErr result IsShowFault }

@@ -1,94 +1,50 @@
-//! Boards and their parts.
+//! Boards and their parts. What else breaks the conditions of a board is in the stored run of `perft`.
 use bitflags::Flags;
-use chess_bits::{Colour, Kind, Square};
-use chess_board::{BadBoard, Board, CastlingRights, INITIAL, Parts, Wing};
+use chess_bits::Colour::{Black, White};
+use chess_bits::{Kind, Square};
+use chess_board::{BadBoard, Board, CastlingRights, Parts, Wing};
 
 #[test]
 fn a_game_starts(rt: HostRuntime) {
     let board = Board::initial();
-    assert!(rt; board.piece_at(Square::at(5, 1)) == Some((Colour::White, Kind::King)));
-    assert!(rt; board.piece_at(Square::at(4, 8)) == Some((Colour::Black, Kind::Queen)));
-    assert!(rt; board.piece_at(Square::at(4, 4)) == None);
+    let men = [
+        board.piece_at(Square::at(5, 1)),
+        board.piece_at(Square::at(4, 8)),
+        board.piece_at(Square::at(4, 4)),
+    ];
+    assert!(rt; men == [Some((White, Kind::King)), Some((Black, Kind::Queen)), None]);
     assert!(rt; board.men().occupied().count() == 32);
-    assert!(rt; board.side() == Colour::White);
-    assert!(rt; board.rights().allows(Colour::Black, Wing::Queen));
-    assert!(rt; board.target() == None);
-    assert!(rt; board.halfmove() == 0);
-    assert!(rt; board.fullmove() == 1);
-    assert!(rt; !board.in_check());
+    assert!(rt; (board.side(), board.target()) == (White, None));
+    assert!(rt; [board.halfmove(), board.fullmove()] == [0, 1]);
+    assert!(rt; board.rights().allows(Black, Wing::Queen) && !board.in_check());
 }
 
-// What try_new answers of the parts.
-fn fault_of(parts: Parts) -> Option<BadBoard> {
-    Board::try_new(parts).err()
-}
-
-// The parts of the initial board, which no caller sees as 64 squares.
-fn initial() -> Parts {
-    INITIAL
-}
-
-// The initial parts with a man, or none, on a square.
-fn with(number: usize, man: Option<(Colour, Kind)>) -> Parts {
-    let mut parts = initial();
-    if number < 64 {
-        parts.men[number] = man;
+// Kings and rooks at home, and each flag of castling set, also those that mean nothing.
+fn at_home(fullmove: u16) -> Parts {
+    let mut men = [None; 64];
+    men[0] = Some((White, Kind::Rook));
+    men[4] = Some((White, Kind::King));
+    men[7] = Some((White, Kind::Rook));
+    men[56] = Some((Black, Kind::Rook));
+    men[60] = Some((Black, Kind::King));
+    men[63] = Some((Black, Kind::Rook));
+    Parts {
+        men,
+        side: White,
+        rights: CastlingRights::from_bits_retain(255),
+        target: None,
+        halfmove: 0,
+        fullmove,
     }
-    parts
-}
-
-// A white queen on e7 beside the king on e8, and none on d1.
-fn with_check() -> Parts {
-    let mut parts = with(12, None);
-    parts.men[52] = Some((Colour::White, Kind::Queen));
-    parts.men[3] = None;
-    parts
-}
-
-fn with_target(target: Square) -> Parts {
-    let mut parts = initial();
-    parts.target = Some(target);
-    parts
-}
-
-fn with_fullmove(fullmove: u16) -> Parts {
-    let mut parts = initial();
-    parts.fullmove = fullmove;
-    parts
-}
-
-#[test]
-fn a_man_breaks_the_conditions(rt: HostRuntime) {
-    let rook = Some((Colour::White, Kind::Rook));
-    let pawn = Some((Colour::White, Kind::Pawn));
-    for (number, man, fault) in [
-        (4, None, Some(BadBoard::Kings)),
-        // Also with a fault that comes later.
-        (4, rook, Some(BadBoard::Kings)),
-        (24, rook, Some(BadBoard::Pieces)),
-        (0, pawn, Some(BadBoard::Pawns)),
-        (12, None, None),
-        (7, None, Some(BadBoard::Rights)),
-    ] {
-        assert!(rt; fault_of(with(number, man)) == fault);
-    }
-}
-
-#[test]
-fn the_first_broken_condition_is_named(rt: HostRuntime) {
-    assert!(rt; fault_of(initial()).is_none());
-    assert!(rt; fault_of(with_check()) == Some(BadBoard::Check));
-    assert!(rt; fault_of(with_target(Square::at(5, 6))) == Some(BadBoard::Target));
-    assert!(rt; fault_of(with_fullmove(0)) == Some(BadBoard::Counter));
 }
 
 #[test]
 fn unknown_flags_are_left_out(rt: HostRuntime) {
-    let rights = CastlingRights::from_bits_retain(255);
-    let mut parts = initial();
-    parts.rights = rights;
-    match Board::try_new(parts) {
-        Ok(board) => assert!(rt; board.rights().bits() == 15),
-        Err(_) => assert!(rt; false),
-    }
+    let board = Board::try_new(at_home(1)).expect(&rt, "a board");
+    assert!(rt; board.rights().bits() == 15);
+}
+
+#[test]
+fn no_game_has_a_move_0(rt: HostRuntime) {
+    assert!(rt; Board::try_new(at_home(0)).err() == Some(BadBoard::Counter));
 }

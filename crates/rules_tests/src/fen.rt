@@ -1,72 +1,6 @@
-//! Positions as other sources give them.
-
-use chess_board::{BadBoard, Board};
+//! FENs that are read and written again. The faults of others are in the stored run of `perft`.
+use chess_board::BadBoard;
 use chess_fen::{FenError, fen_read, fen_write};
-
-#[test]
-fn writes_the_initial_position(rt: HostRuntime) {
-    let text = fen_write(&Board::initial());
-    assert!(rt; text.as_str() == "rnbqkbnr/pppppppp/8/8/8/8/PPPPPPPP/RNBQKBNR w KQkq - 0 1");
-}
-
-#[test]
-fn tells_the_first_fault_of_a_text(rt: HostRuntime) {
-    for (text, fault) in [
-        ("", FenError::Shape),
-        ("8/8/8/8/8/8/8/8 w -", FenError::Shape),
-        ("8/8/44/8/8/8/8/8 w - - 0 1", FenError::Placement),
-        (
-            "rnbqkbnr/pppppppp/8/8/8/8/PPPPPPPP/RNBQKBNR x KQkq - 0 1",
-            FenError::Side,
-        ),
-        (
-            "rnbqkbnr/pppppppp/8/8/8/8/PPPPPPPP/RNBQKBNR w QK - 0 1",
-            FenError::Castling,
-        ),
-        (
-            "rnbqkbnr/pppppppp/8/8/8/8/PPPPPPPP/RNBQKBNR w KQkq e9 0 1",
-            FenError::Target,
-        ),
-        (
-            "rnbqkbnr/pppppppp/8/8/8/8/PPPPPPPP/RNBQKBNR w KQkq - 00 1",
-            FenError::Counter,
-        ),
-        (
-            "rnbqkbnr/pppppppp/8/8/8/8/PPPPPPPP/RNBQKBNR w KQkq - 0 0",
-            FenError::Counter,
-        ),
-        (
-            "rnbqkbnr/pppppppp/8/8/8/8/PPPPPPPP/RNBQKBNR w KQkq - 65536 1",
-            FenError::Counter,
-        ),
-        (
-            "8/8/8/8/8/8/8/8 w - - 0 1",
-            FenError::Board(BadBoard::Kings),
-        ),
-        (
-            "4k3/8/8/8/8/P7/PPPPPPPP/RNBQKBNR w - - 0 1",
-            FenError::Board(BadBoard::Pieces),
-        ),
-        (
-            "4k3/8/8/8/8/8/8/4K2P w - - 0 1",
-            FenError::Board(BadBoard::Pawns),
-        ),
-        (
-            "4k3/8/8/8/8/8/4R3/4K3 w - - 0 1",
-            FenError::Board(BadBoard::Check),
-        ),
-        (
-            "4k3/8/8/8/8/8/8/4K3 w K - 0 1",
-            FenError::Board(BadBoard::Rights),
-        ),
-        (
-            "rnbqkbnr/pppppppp/8/8/8/8/PPPPPPPP/RNBQKBNR w KQkq e6 0 1",
-            FenError::Board(BadBoard::Target),
-        ),
-    ] {
-        assert!(rt; fen_read(text).err() == Some(fault));
-    }
-}
 
 #[test]
 fn reads_what_it_writes(rt: HostRuntime) {
@@ -78,4 +12,20 @@ fn reads_what_it_writes(rt: HostRuntime) {
     ] {
         assert!(rt; fen_write(&fen_read(text).expect(&rt, "a FEN")).as_str() == text);
     }
+}
+
+// `perft` tells both faults of a target alike, and so those of a counter.
+#[test]
+fn a_text_has_faults_before_its_board(rt: HostRuntime) {
+    let found = [
+        fen_read("rnbqkbnr/pppppppp/8/8/8/8/PPPPPPPP/RNBQKBNR w KQkq e9 0 1").err(),
+        fen_read("rnbqkbnr/pppppppp/8/8/8/8/PPPPPPPP/RNBQKBNR w KQkq e6 0 1").err(),
+        fen_read("rnbqkbnr/pppppppp/8/8/8/8/PPPPPPPP/RNBQKBNR w KQkq - 0 0").err(),
+    ];
+    let wanted = [
+        Some(FenError::Target),
+        Some(FenError::Board(BadBoard::Target)),
+        Some(FenError::Counter),
+    ];
+    assert!(rt; found == wanted);
 }

@@ -1,4 +1,5 @@
-//! Tests of the crates of the rules, by what these export alone: so none of them is proved twice.
+//! Tests of the crates that know chess, by what these export alone: so none of them is proved twice. Positions, moves and
+//! games by their texts are in the stored runs of `perft` and of `line_player`.
 #![tactic(auto)]
 
 #[cfg(test)]
@@ -7,10 +8,6 @@ mod attacks;
 mod bits;
 #[cfg(test)]
 mod board;
-#[cfg(test)]
-mod boards;
-#[cfg(test)]
-mod end;
 #[cfg(test)]
 mod fen;
 #[cfg(test)]

@@ -31,7 +31,7 @@ pub(crate) fn milliseconds_since(clock: &impl Clock, begun: Option<Instant>) -> 
 /// The system's clock as it was once, in milliseconds since 1970 and 0 before, and what has passed since by the monotonic
 /// clock: a jump of the system's clock changes nothing. The moments never fall.
 #[derive(Drop)]
-pub(crate) struct SteadyClock<'a, R> {
+pub struct SteadyClock<'a, R> {
     clock: &'a R,
     begun: Option<Instant>,
     start: u64,
@@ -40,7 +40,7 @@ pub(crate) struct SteadyClock<'a, R> {
 
 impl<'a, R: Clock> SteadyClock<'a, R> {
     /// The clock as it is now.
-    pub(crate) fn new(clock: &'a R) -> Self
+    pub fn new(clock: &'a R) -> Self
         ensures { result.last ≡ result.start }
     {
         let start = clock.since_1970().map_or(0, milliseconds);

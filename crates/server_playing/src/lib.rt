@@ -5,9 +5,8 @@ mod clock;
 mod drilling;
 mod running;
 mod serving;
-#[cfg(test)]
-mod tests;
 
+pub use clock::SteadyClock;
 pub use drilling::tell_drill;
 pub use running::run_journal;
-pub use serving::serve;
+pub use serving::{serve, serve_store};

@@ -64,8 +64,8 @@ where
     }
 }
 
-// Serves players on a port, over the games of a store.
-pub(crate) fn serve_store<R, D: Device + Drop>(
+/// Serves players on a port, over the games of a store whose opening took so many milliseconds, as `serve` does.
+pub fn serve_store<R, D: Device + Drop>(
     rt: &R,
     alloc: Global,
     teller: &Teller<'_, R>,

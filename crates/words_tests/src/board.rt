@@ -32,15 +32,17 @@ impl Read for Trickle<'_> {
     }
 }
 
-/// Takes one byte a write. Once it has `fails_at` bytes, one write fails, or takes nothing.
+/// Takes so many bytes a write at most. Once it has `fails_at` bytes, one write fails, or takes nothing.
 #[derive(Drop)]
-struct Narrow {
+struct Sink {
     taken: Vec<u8>,
+    most: usize,
+    writes: usize,
     fails_at: Option<usize>,
     kind: Option<ErrorKind>,
 }
 
-impl Write for Narrow {
+impl Write for Sink {
     fn write(&mut self, buf: &[u8]) -> io::Result<usize> {
         if self.fails_at == Some(self.taken.len()) {
             self.fails_at = None;
@@ -49,13 +51,14 @@ impl Write for Narrow {
                 None => Ok(0),
             };
         }
-        match buf.first() {
-            Some(byte) => {
-                self.taken.push(*byte)?;
-                Ok(1)
-            }
-            None => Ok(0),
-        }
+        let count = if buf.len() < self.most {
+            buf.len()
+        } else {
+            self.most
+        };
+        self.taken.extend_from_slice(&buf[..count])?;
+        self.writes = self.writes.saturating_add(1);
+        Ok(count)
     }
 
     fn flush(&mut self) -> io::Result<()> {
@@ -71,9 +74,11 @@ fn read_bytewise(input: &[u8]) -> Trickle<'_> {
     }
 }
 
-fn write_bytewise(alloc: Global) -> Narrow {
-    Narrow {
+fn sink_of(alloc: Global, most: usize) -> Sink {
+    Sink {
         taken: Vec::new(alloc),
+        most,
+        writes: 0,
         fails_at: None,
         kind: None,
     }
@@ -81,109 +86,85 @@ fn write_bytewise(alloc: Global) -> Narrow {
 
 // The input is answered so, whether it comes and goes whole or byte by byte.
 fn expect_text(rt: &impl Abort, alloc: Global, input: &[u8], text: &str) {
-    let mut written = Vec::new(alloc);
-    let ended = board(&mut ReaderSource::new(input), &mut written);
-    assert!(rt; ended == Ok(()) && written.as_slice() == text.as_bytes());
-    let mut writer = write_bytewise(alloc);
+    let mut writer = sink_of(alloc, usize::MAX);
+    let ended = board(&mut ReaderSource::new(input), &mut writer);
+    assert!(rt; ended == Ok(()) && writer.taken.as_slice() == text.as_bytes());
+    let mut writer = sink_of(alloc, 1);
     let ended = board(&mut ReaderSource::new(read_bytewise(input)), &mut writer);
     assert!(rt; ended == Ok(()) && writer.taken.as_slice() == text.as_bytes());
 }
 
+const BAD_LINE: &str = "no 1 BadLine\n";
+
+const BAD_LINES: &str = "no 1 BadLine\nno 1 BadLine\n";
+
 #[test]
 fn answers_lines(rt: HostRuntime) {
     let alloc = rt.alloc();
-    for (input, text) in [
-        (b"".as_slice(), ""),
-        (b"hello".as_slice(), ""),
-        (b"\n".as_slice(), "no 1 BadLine\n"),
-        (b"\r\n".as_slice(), "no 1 BadLine\n"),
-        (b"move e2e4\n".as_slice(), AFTER_E4),
-        (b"move e2e4\r\n".as_slice(), AFTER_E4),
-        (b"move e2e4\r\r\n".as_slice(), "no 1 BadLine\n"),
-        (b"move e2e4\nmove e2e4".as_slice(), AFTER_E4),
-        (
-            b"move\nmove \nMove e2e4\n".as_slice(),
-            "no 1 BadLine\nno 1 BadLine\nno 1 BadLine\n",
-        ),
-        (
-            b" move e2e4\nmove  e2e4\n".as_slice(),
-            "no 1 BadLine\nno 1 BadLine\n",
-        ),
-        (
-            b"move e2e4 x\nmove e2e4 \n".as_slice(),
-            "no 1 BadLine\nno 1 BadLine\n",
-        ),
-        (
-            b"move \0\nmove \xc8\nmove \x7f\n".as_slice(),
-            "no 1 BadLine\nno 1 BadLine\nno 1 BadLine\n",
-        ),
-        (
-            b"move !\nmove ~\n".as_slice(),
-            "no 9 BadMove\nno 9 BadMove\n",
-        ),
-    ] {
-        expect_text(&rt, alloc, input, text);
-    }
+    expect_text(&rt, alloc, b"", "");
+    expect_text(&rt, alloc, b"hello", "");
+    expect_text(&rt, alloc, b"\n", BAD_LINE);
+    expect_text(&rt, alloc, b"\r\n", BAD_LINE);
+    expect_text(&rt, alloc, b"move e2e4\n", AFTER_E4);
+    expect_text(&rt, alloc, b"move e2e4\r\n", AFTER_E4);
+    expect_text(&rt, alloc, b"move e2e4\r\r\n", BAD_LINE);
+    expect_text(&rt, alloc, b"move e2e4\nmove e2e4", AFTER_E4);
+}
+
+#[test]
+fn answers_lines_without_a_form(rt: HostRuntime) {
+    let alloc = rt.alloc();
+    expect_text(&rt, alloc, b"move\nmove \n", BAD_LINES);
+    expect_text(&rt, alloc, b"Move e2e4\n", BAD_LINE);
+    expect_text(&rt, alloc, b" move e2e4\nmove  e2e4\n", BAD_LINES);
+    expect_text(&rt, alloc, b"move e2e4 x\nmove e2e4 \n", BAD_LINES);
+    expect_text(&rt, alloc, b"move \0\nmove \xc8\n", BAD_LINES);
+    expect_text(&rt, alloc, b"move \x7f\n", BAD_LINE);
+    let bad_moves = "no 9 BadMove\nno 9 BadMove\n";
+    expect_text(&rt, alloc, b"move !\nmove ~\n", bad_moves);
+}
+
+// So many bytes `x` and this end are answered so.
+fn expect_long(rt: &impl Abort, alloc: Global, length: usize, end: &str, text: &str) {
+    let mut input = repeated(rt, alloc, b"x", length);
+    assert!(rt; input.extend_from_slice(end.as_bytes()).is_ok());
+    expect_text(rt, alloc, input.as_slice(), text);
 }
 
 #[test]
 fn ends_at_a_long_line(rt: HostRuntime) {
     let alloc = rt.alloc();
-    for (length, end, text) in [
-        (255, "", ""),
-        (255, "\n", "no 1 BadLine\n"),
-        (254, "\r\n", "no 1 BadLine\n"),
-        (255, "\r\n", "bye LineTooLong\n"),
-        (256, "", "bye LineTooLong\n"),
-        (256, "\nmove e2e4\n", "bye LineTooLong\n"),
-        (5000, "\n", "bye LineTooLong\n"),
-    ] {
-        let mut input = repeated(&rt, alloc, b"x", length);
-        assert!(rt; input.extend_from_slice(end.as_bytes()).is_ok());
-        expect_text(&rt, alloc, input.as_slice(), text);
-    }
+    let bye = "bye LineTooLong\n";
+    expect_long(&rt, alloc, 255, "", "");
+    expect_long(&rt, alloc, 255, "\n", BAD_LINE);
+    expect_long(&rt, alloc, 254, "\r\n", BAD_LINE);
+    expect_long(&rt, alloc, 255, "\r\n", bye);
+    expect_long(&rt, alloc, 256, "", bye);
+    expect_long(&rt, alloc, 256, "\nmove e2e4\n", bye);
+    expect_long(&rt, alloc, 5000, "\n", bye);
 }
 
-/// Counts its writes.
-#[derive(Drop)]
-struct Counted {
-    taken: Vec<u8>,
-    writes: usize,
+// How many bytes answer so many lines that come at once, and in how many writes.
+fn written(rt: &impl Abort, alloc: Global, lines: usize) -> (usize, usize) {
+    let input = repeated(rt, alloc, b"\n", lines);
+    let mut writer = sink_of(alloc, usize::MAX);
+    let ended = board(&mut ReaderSource::new(input.as_slice()), &mut writer);
+    assert!(rt; ended == Ok(()));
+    (writer.taken.len(), writer.writes)
 }
 
-impl Write for Counted {
-    fn write(&mut self, buf: &[u8]) -> io::Result<usize> {
-        self.taken.extend_from_slice(buf)?;
-        self.writes = self.writes.saturating_add(1);
-        Ok(buf.len())
-    }
-
-    fn flush(&mut self) -> io::Result<()> {
-        Ok(())
-    }
-}
-
+// 4,096 lines are one read, and their answers 53,248 bytes.
 #[test]
 fn writes_once_what_is_at_hand(rt: HostRuntime) {
-    let alloc = rt.alloc();
-    // 4,096 lines are one read, and their answers 53,248 bytes.
-    for (lines, length, writes) in [
-        (0, 0, 0),
-        (1, 13, 1),
-        (4096, 53_248, 1),
-        (4097, 53_261, 2),
-        (8192, 106_496, 2),
-    ] {
-        let input = repeated(&rt, alloc, b"\n", lines);
-        let mut rest = ReaderSource::new(input.as_slice());
-        let mut writer = Counted {
-            taken: Vec::new(alloc),
-            writes: 0,
-        };
-        assert!(rt; board(&mut rest, &mut writer) == Ok(()));
-        assert!(rt; writer.taken.len() == length);
-        assert!(rt; writer.writes == writes);
-    }
+    let found = [
+        written(&rt, rt.alloc(), 0),
+        written(&rt, rt.alloc(), 1),
+        written(&rt, rt.alloc(), 4_096),
+        written(&rt, rt.alloc(), 4_097),
+        written(&rt, rt.alloc(), 8_192),
+    ];
+    let wanted = [(0, 0), (13, 1), (53_248, 1), (53_261, 2), (106_496, 2)];
+    assert!(rt; found == wanted);
 }
 
 /// So many copies of a text.
@@ -208,51 +189,55 @@ fn answers_after_many_reads(rt: HostRuntime) {
     assert!(rt; written.as_slice() == text.as_slice());
 }
 
+// A read fails so within the second line.
+fn expect_read(
+    rt: &impl Abort,
+    alloc: Global,
+    kind: ErrorKind,
+    wanted: Result<(), BoardFault>,
+    text: &str,
+) {
+    let mut reader = read_bytewise(b"hello\nmove x\n");
+    reader.fails_at = Some(4);
+    reader.kind = kind;
+    let mut writer = sink_of(alloc, usize::MAX);
+    let mut source = ReaderSource::new(reader);
+    let ended = board(&mut source, &mut writer);
+    assert!(rt; ended == wanted && source.has_failed() == wanted.is_err());
+    assert!(rt; writer.taken.as_slice() == text.as_bytes());
+}
+
 #[test]
 fn breaks_off_where_a_read_fails(rt: HostRuntime) {
-    let alloc = rt.alloc();
-    for (kind, result, text) in [
-        (ErrorKind::Other, Err(BoardFault::Read), "no 1 BadLine\n"),
-        (
-            ErrorKind::Interrupted,
-            Ok(()),
-            "no 1 BadLine\nno 9 BadMove\n",
-        ),
-    ] {
-        let mut reader = read_bytewise(b"hello\nmove x\n");
-        reader.fails_at = Some(4);
-        reader.kind = kind;
-        let mut written = Vec::new(alloc);
-        let mut source = ReaderSource::new(reader);
-        let ended = board(&mut source, &mut written);
-        assert!(rt; ended == result);
-        assert!(rt; source.has_failed() == result.is_err());
-        assert!(rt; written.as_slice() == text.as_bytes());
-    }
+    let both = "no 1 BadLine\nno 9 BadMove\n";
+    let failed = Err(BoardFault::Read);
+    expect_read(&rt, rt.alloc(), ErrorKind::Other, failed, BAD_LINE);
+    expect_read(&rt, rt.alloc(), ErrorKind::Interrupted, Ok(()), both);
+}
+
+// A write fails so, or takes nothing, within the second answer.
+fn expect_write(
+    rt: &impl Abort,
+    alloc: Global,
+    kind: Option<ErrorKind>,
+    wanted: Result<(), BoardFault>,
+    text: &str,
+) {
+    let mut writer = sink_of(alloc, 1);
+    writer.fails_at = Some(17);
+    writer.kind = kind;
+    let mut input = ReaderSource::new(b"hello\nmove x\n\n".as_slice());
+    let ended = board(&mut input, &mut writer);
+    assert!(rt; ended == wanted && writer.taken.as_slice() == text.as_bytes());
 }
 
 #[test]
 fn breaks_off_where_a_write_fails(rt: HostRuntime) {
     let alloc = rt.alloc();
-    for (kind, result, text) in [
-        (
-            Some(ErrorKind::Other),
-            Err(BoardFault::Write),
-            "no 1 BadLine\nno 9",
-        ),
-        (None, Err(BoardFault::Write), "no 1 BadLine\nno 9"),
-        (
-            Some(ErrorKind::Interrupted),
-            Ok(()),
-            "no 1 BadLine\nno 9 BadMove\nno 1 BadLine\n",
-        ),
-    ] {
-        let mut writer = write_bytewise(alloc);
-        writer.fails_at = Some(17);
-        writer.kind = kind;
-        let mut input = ReaderSource::new(b"hello\nmove x\n\n".as_slice());
-        let ended = board(&mut input, &mut writer);
-        assert!(rt; ended == result);
-        assert!(rt; writer.taken.as_slice() == text.as_bytes());
-    }
+    let front = "no 1 BadLine\nno 9";
+    let whole = "no 1 BadLine\nno 9 BadMove\nno 1 BadLine\n";
+    let failed = Err(BoardFault::Write);
+    expect_write(&rt, alloc, Some(ErrorKind::Other), failed, front);
+    expect_write(&rt, alloc, None, failed, front);
+    expect_write(&rt, alloc, Some(ErrorKind::Interrupted), Ok(()), whole);
 }

@@ -20,136 +20,123 @@ fn push_word(rt: &impl Abort, alloc: Global, words: &mut Vec<String>, word: &str
     assert!(rt; words.push(word).is_ok());
 }
 
-// Why a command line is refused, if it is.
-fn refusal(rt: &impl Abort, alloc: Global, line: &str) -> Option<ErrorKind> {
+/// What a word asks for: its place among the words, whether it is forced or quiet, the turns, and the silence.
+type Said = (u8, bool, Option<u32>, Option<u64>);
+
+// What a word asks for. `None` where it names another journal than j, another copy than k, other limits than four games of
+// 60 moves, or another port than 7.
+fn said_by(word: &Word<'_>) -> Option<Said> {
+    let (is_as_wanted, said) = match word {
+        Word::Board => (true, (0, false, None, None)),
+        Word::Drill => (true, (1, false, None, None)),
+        Word::Run(journal) => (*journal == "j", (2, false, None, None)),
+        Word::Show(journal) => (*journal == "j", (3, false, None, None)),
+        Word::Copy(Copying { journal, copy }) => {
+            (*journal == "j" && *copy == "k", (4, false, None, None))
+        }
+        Word::Format(Formatting { tables, is_forced }) => {
+            let limits = tables.limits;
+            let is_as_wanted = tables.journal == "j" && limits.games == 4 && limits.plies == 60;
+            (is_as_wanted, (5, *is_forced, None, None))
+        }
+        Word::Serve(serving) => {
+            let is_as_wanted = serving.journal == "j" && serving.port == 7;
+            let Serving { turns, silence, .. } = *serving;
+            (is_as_wanted, (6, serving.is_quiet, turns, silence))
+        }
+        Word::Widen(_) => (false, (7, false, None, None)),
+    };
+    is_as_wanted.then_some(said)
+}
+
+// What a command line asks for, or why it is refused.
+fn read(rt: &impl Abort, alloc: Global, line: &str) -> Result<Option<Said>, ErrorKind> {
     let words = words_of(rt, alloc, line);
     match read_words(alloc, words.as_slice()) {
-        Ok(_) => None,
-        Err(error) => Some(error.kind()),
+        Ok(word) => Ok(said_by(&word)),
+        Err(error) => Err(error.kind()),
+    }
+}
+
+// Each of these command lines, with `|` between, is refused so.
+fn refuses(rt: &impl Abort, alloc: Global, lines: &str, kind: ErrorKind) {
+    for line in lines.split('|') {
+        assert!(rt; read(rt, alloc, line) == Err(kind));
     }
 }
 
 #[test]
 fn reads_no_other_words(rt: HostRuntime) {
-    for (line, kind) in [
-        ("lead", ErrorKind::InvalidSubcommand),
-        ("--journal", ErrorKind::UnknownArgument),
-        ("", ErrorKind::InvalidSubcommand),
-        ("--help", ErrorKind::DisplayHelp),
-        ("--version", ErrorKind::DisplayVersion),
-        (
-            "format --journal j --games 4",
-            ErrorKind::MissingRequiredArgument,
-        ),
-        (
-            "format --journal j --games 4097 --plies 1",
-            ErrorKind::ValueValidation,
-        ),
-        ("run", ErrorKind::MissingRequiredArgument),
-        ("serve --journal j", ErrorKind::MissingRequiredArgument),
-        (
-            "serve --journal j --port 0 --turns 0",
-            ErrorKind::ValueValidation,
-        ),
-        (
-            "serve --journal j --port 0 --force",
-            ErrorKind::UnknownArgument,
-        ),
-        ("copy --journal j", ErrorKind::MissingRequiredArgument),
-        ("show --to j", ErrorKind::UnknownArgument),
-    ] {
-        assert!(rt; refusal(&rt, rt.alloc(), line) == Some(kind));
-    }
+    let alloc = rt.alloc();
+    refuses(&rt, alloc, "lead|", ErrorKind::InvalidSubcommand);
+    refuses(
+        &rt,
+        alloc,
+        "--journal|serve --journal j --port 0 --force|show --to j",
+        ErrorKind::UnknownArgument,
+    );
+    refuses(&rt, alloc, "--help", ErrorKind::DisplayHelp);
+    refuses(&rt, alloc, "--version", ErrorKind::DisplayVersion);
+    refuses(
+        &rt,
+        alloc,
+        "format --journal j --games 4|run|serve --journal j|copy --journal j",
+        ErrorKind::MissingRequiredArgument,
+    );
+    refuses(
+        &rt,
+        alloc,
+        "format --journal j --games 4097 --plies 1|serve --journal j --port 0 --turns 0",
+        ErrorKind::ValueValidation,
+    );
     assert!(rt; VERSION.contains("rattle-kit-"));
 }
 
-// Which of the words without flags a command line asks for, by its place, and the journal and the copy that it names.
-fn told<'a>(word: &Word<'a>) -> Option<(u8, &'a str, &'a str)> {
-    match word {
-        Word::Board => Some((0, "", "")),
-        Word::Drill => Some((1, "", "")),
-        Word::Run(journal) => Some((2, *journal, "")),
-        Word::Show(journal) => Some((3, *journal, "")),
-        Word::Copy(Copying { journal, copy }) => Some((4, *journal, *copy)),
-        _ => None,
-    }
+fn reads(rt: &impl Abort, alloc: Global, line: &str, said: Said) {
+    assert!(rt; read(rt, alloc, line) == Ok(Some(said)));
 }
 
 #[test]
-fn reads_words_without_flags(rt: HostRuntime) {
-    for (line, wanted) in [
-        ("board", (0, "", "")),
-        ("drill", (1, "", "")),
-        ("run --journal j", (2, "j", "")),
-        ("show --journal j", (3, "j", "")),
-        ("copy --journal j --to k", (4, "j", "k")),
-    ] {
-        let words = words_of(&rt, rt.alloc(), line);
-        match read_words(rt.alloc(), words.as_slice()) {
-            Ok(word) => assert!(rt; told(&word) == Some(wanted)),
-            Err(_) => assert!(rt; false),
-        }
-    }
-}
-
-// Whether a `format` of four games of 60 moves in j is asked for, and whether it is forced.
-fn is_formatting(word: &Word<'_>, forced: bool) -> bool {
-    match word {
-        Word::Format(Formatting { tables, is_forced }) => {
-            let limits = tables.limits;
-            tables.journal == "j" && limits.games == 4 && limits.plies == 60 && *is_forced == forced
-        }
-        _ => false,
-    }
-}
-
-// Whether a `serve` of j on port 7 is asked for, with these turns, this silence and this quiet.
-fn is_serving(word: &Word<'_>, wanted: (Option<u32>, Option<u64>, bool)) -> bool {
-    match word {
-        Word::Serve(
-            Serving {
-                journal,
-                port,
-                turns,
-                silence,
-                is_quiet,
-            },
-        ) => *journal == "j" && *port == 7 && (*turns, *silence, *is_quiet) == wanted,
-        _ => false,
-    }
-}
-
-#[test]
-fn reads_flags_of_format(rt: HostRuntime) {
-    for (line, forced) in [
-        ("format --journal j --games 4 --plies 60", false),
-        ("format --force --journal j --games 4 --plies 60", true),
-    ] {
-        let words = words_of(&rt, rt.alloc(), line);
-        match read_words(rt.alloc(), words.as_slice()) {
-            Ok(word) => assert!(rt; is_formatting(&word, forced)),
-            Err(_) => assert!(rt; false),
-        }
-    }
-}
-
-#[test]
-fn reads_flags_of_serve(rt: HostRuntime) {
-    for (line, wanted) in [
-        ("serve --journal j --port 7", (None, None, false)),
-        (
-            "serve --journal j --port 7 --turns 4294967295",
-            (Some(4_294_967_295), None, false),
-        ),
-        (
-            "serve --journal j --port 7 --idle 2 --quiet",
-            (None, Some(2_000), true),
-        ),
-    ] {
-        let words = words_of(&rt, rt.alloc(), line);
-        match read_words(rt.alloc(), words.as_slice()) {
-            Ok(word) => assert!(rt; is_serving(&word, wanted)),
-            Err(_) => assert!(rt; false),
-        }
-    }
+fn reads_words_and_flags(rt: HostRuntime) {
+    let alloc = rt.alloc();
+    reads(&rt, alloc, "board", (0, false, None, None));
+    reads(&rt, alloc, "drill", (1, false, None, None));
+    reads(&rt, alloc, "run --journal j", (2, false, None, None));
+    reads(&rt, alloc, "show --journal j", (3, false, None, None));
+    reads(
+        &rt,
+        alloc,
+        "copy --journal j --to k",
+        (4, false, None, None),
+    );
+    reads(
+        &rt,
+        alloc,
+        "format --journal j --games 4 --plies 60",
+        (5, false, None, None),
+    );
+    reads(
+        &rt,
+        alloc,
+        "format --force --journal j --games 4 --plies 60",
+        (5, true, None, None),
+    );
+    reads(
+        &rt,
+        alloc,
+        "serve --journal j --port 7",
+        (6, false, None, None),
+    );
+    reads(
+        &rt,
+        alloc,
+        "serve --journal j --port 7 --turns 4294967295",
+        (6, false, Some(4_294_967_295), None),
+    );
+    reads(
+        &rt,
+        alloc,
+        "serve --journal j --port 7 --idle 2 --quiet",
+        (6, true, None, Some(2_000)),
+    );
 }

@@ -4,4 +4,12 @@
 #[cfg(test)]
 mod board;
 #[cfg(test)]
+mod clock;
+#[cfg(test)]
 mod command_line;
+#[cfg(test)]
+mod journals;
+#[cfg(test)]
+mod reading;
+#[cfg(test)]
+mod serving;

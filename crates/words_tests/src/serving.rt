@@ -1,7 +1,7 @@
 //! That what is asked for reaches the server, over loopback.
-use crate::serving::serve_store;
 use rec_codec::Limits;
 use sector_dev::MemoryDevice;
+use server_playing::serve_store;
 use server_telling::Teller;
 use server_words::Serving;
 use std::alloc::Global;
@@ -9,6 +9,7 @@ use std::cell::Cell;
 use std::fmt::Display;
 use std::io;
 use std::net::{Ipv4Addr, Net, SocketAddr, TcpListener, TcpStream};
+use std::process::Abort;
 use std::rt::Clock;
 use std::time::{Duration, Instant};
 
@@ -90,27 +91,20 @@ impl Eprint for Machine<'_> {
 /// So many turns are taken, nearly all of which find nothing to do.
 const TURNS: u32 = 30;
 
-/// What came of serving.
-#[derive(Clone, Copy)]
-struct Outcome {
-    /// Whether the client's connection was closed while the server served.
-    has_closed: bool,
-    /// Whether the turns took 200 ms: a rest takes 10.
-    has_rested: bool,
-}
+const LIMITS: Limits = Limits {
+    games: 4,
+    plies: 60,
+};
 
-// Serves a store in memory for some turns, in which a client may be silent for so many milliseconds. `None` where memory was
-// refused, and at a fault.
-fn served(rt: &HostRuntime, silence: Option<u64>) -> Option<Outcome> {
+// Serves a store in memory for some turns, in which a client may be silent for so many milliseconds. Whether its connection
+// was closed while the server served, and whether the turns took 200 ms: a rest takes 10.
+fn served(stop: &impl Abort, rt: &HostRuntime, silence: Option<u64>) -> (bool, bool) {
     let alloc: Global = rt.alloc();
-    let limits = Limits {
-        games: 4,
-        plies: 60,
+    let device = MemoryDevice::new(alloc, 212).expect(stop, "memory");
+    let Ok(store) = store_opening::create(alloc, device, LIMITS) else {
+        panic!(stop; "no journal");
     };
-    let Ok(store) = store_opening::create(alloc, MemoryDevice::new(alloc, 212).ok()?, limits) else {
-        return None;
-    };
-    let machine = on_loopback(rt).ok()?;
+    let machine = on_loopback(rt).expect(stop, "a connection");
     let teller = Teller::new(&machine, true);
     let serving = Serving {
         journal: "",
@@ -119,19 +113,18 @@ fn served(rt: &HostRuntime, silence: Option<u64>) -> Option<Outcome> {
         silence,
         is_quiet: true,
     };
-    let begun = Instant::now(rt).ok()?;
-    serve_store(&machine, alloc, &teller, &serving, store, 0).ok()?;
-    Some(Outcome {
-        has_closed: machine.has_end.get(),
-        has_rested: begun.elapsed(rt).ok()? >= Duration::from_millis(200),
-    })
+    let begun = Instant::now(rt).expect(stop, "a clock");
+    assert!(stop; serve_store(&machine, alloc, &teller, &serving, store, 0).is_ok());
+    let took = begun.elapsed(rt).expect(stop, "a clock");
+    (machine.has_end.get(), took >= Duration::from_millis(200))
 }
 
 #[test]
 fn closes_the_silent_and_rests(rt: HostRuntime) {
-    for (silence, has_closed) in [(Some(5), true), (Some(60_000), false), (None, false)] {
-        let outcome = served(&rt, silence).expect(&rt, "an outcome");
-        assert!(rt; outcome.has_closed == has_closed);
-        assert!(rt; outcome.has_rested);
-    }
+    let found = [
+        served(&rt, &rt, Some(5)),
+        served(&rt, &rt, Some(60_000)),
+        served(&rt, &rt, None),
+    ];
+    assert!(rt; found == [(true, true), (false, true), (false, true)]);
 }

@@ -1,6 +1,6 @@
 //! Whether a file may be made a journal.
-use crate::journals::{is_blank, stays_blank};
 use chess_store::StoreFault;
+use journal_words::{is_blank, stays_blank};
 use sector_dev::{CrashDevice, Device, MemoryDevice};
 use server_work::Fault;
 use std::alloc::Global;
@@ -23,29 +23,33 @@ fn looks_at_the_front(rt: HostRuntime) {
     check_front(&rt, rt.alloc(), &bytes[..1], false);
 }
 
-// A byte that is not zero stands in this sector.
-fn spoil(rt: &impl Abort, device: &mut MemoryDevice, at: u32) {
+// What is said of a device of so many sectors before and after a byte that is not zero stands in this one.
+fn said_of(rt: &impl Abort, alloc: Global, sectors: u32, at: u32) -> [Result<(), Fault>; 2] {
+    let mut device = MemoryDevice::new(alloc, sectors).expect(rt, "memory");
+    let before = stays_blank(&mut device);
     let mut bytes = [0; 512];
     bytes[511] = 1;
     assert!(rt; at < device.sectors());
     assert!(rt; device.write(at, &bytes).is_ok());
+    [before, stays_blank(&mut device)]
 }
 
 #[test]
 fn looks_at_a_device(rt: HostRuntime) {
     let exists = Err(Fault::Store(StoreFault::Exists));
-    let cases = [
-        (1, 0, exists),
-        (3, 0, exists),
-        (3, 1, exists),
-        (3, 2, Ok(())),
+    let found = [
+        said_of(&rt, rt.alloc(), 1, 0),
+        said_of(&rt, rt.alloc(), 3, 0),
+        said_of(&rt, rt.alloc(), 3, 1),
+        said_of(&rt, rt.alloc(), 3, 2),
     ];
-    for (sectors, at, wanted) in cases {
-        let mut device = MemoryDevice::new(rt.alloc(), sectors).expect(&rt, "memory");
-        assert!(rt; stays_blank(&mut device) == Ok(()));
-        spoil(&rt, &mut device, at);
-        assert!(rt; stays_blank(&mut device) == wanted);
-    }
+    let wanted = [
+        [Ok(()), exists],
+        [Ok(()), exists],
+        [Ok(()), exists],
+        [Ok(()), Ok(())],
+    ];
+    assert!(rt; found == wanted);
 }
 
 #[test]

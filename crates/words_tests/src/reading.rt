@@ -1,9 +1,9 @@
 //! What is shown of a copy of a journal.
-use crate::reading::write_games;
 use chess_bits::Colour;
 use chess_entry::{Act, Command, Limits, Name};
 use chess_store::Store;
 use journal_copy::{Copied, Still, copy};
+use journal_words::write_games;
 use sector_dev::MemoryDevice;
 use server_work::open_on;
 use std::alloc::Global;
@@ -37,22 +37,25 @@ fn command(who: &str, act: Act) -> Command {
 }
 
 // Submits a command, which is answered.
-fn submit(alloc: Global, store: &mut Store<MemoryDevice>, who: &str, act: Act) -> Option<()> {
-    let mut commands = Vec::new(alloc);
-    commands.push(command(who, act)).ok()?;
-    let replies = store.submit(commands.as_slice()).ok()?;
-    (replies.len() == 1).then_some(())
+fn submit(rt: &impl Abort, store: &mut Store<MemoryDevice>, who: &str, act: Act) {
+    let replies = store
+        .submit(&[command(who, act)])
+        .ok()
+        .expect(rt, "a reply");
+    assert!(rt; replies.len() == 1);
 }
 
 // A device with a journal of two games, of which one is over and one that nobody has joined.
-fn played(alloc: Global) -> Option<MemoryDevice> {
-    let device = MemoryDevice::new(alloc, 212).ok()?;
-    let mut store = store_opening::create(alloc, device, LIMITS).ok()?;
-    submit(alloc, &mut store, "ann", opening(Colour::White))?;
-    submit(alloc, &mut store, "bob", JOIN)?;
-    submit(alloc, &mut store, "bob", opening(Colour::Black))?;
-    submit(alloc, &mut store, "bob", RESIGN)?;
-    Some(store.into_device())
+fn played(rt: &impl Abort, alloc: Global) -> MemoryDevice {
+    let device = MemoryDevice::new(alloc, 212).expect(rt, "memory");
+    let Ok(mut store) = store_opening::create(alloc, device, LIMITS) else {
+        panic!(rt; "no journal");
+    };
+    submit(rt, &mut store, "ann", opening(Colour::White));
+    submit(rt, &mut store, "bob", JOIN);
+    submit(rt, &mut store, "bob", opening(Colour::Black));
+    submit(rt, &mut store, "bob", RESIGN);
+    store.into_device()
 }
 
 const SHOWN: &str = "\
@@ -96,7 +99,7 @@ fn check_shown(rt: &impl Abort, alloc: Global, device: MemoryDevice) {
 
 #[test]
 fn shows_the_games_of_a_copy(rt: HostRuntime) {
-    let mut source = Still::new(played(rt.alloc()).expect(&rt, "a journal"));
+    let mut source = Still::new(played(&rt, rt.alloc()));
     let mut target = MemoryDevice::new(rt.alloc(), 212).expect(&rt, "memory");
     assert!(rt; copy(&mut source, &mut target, 1) == Ok(Copied::Whole));
     check_shown(&rt, rt.alloc(), source.into_device());

@@ -1,6 +1,6 @@
 //! The moments of a clock whose system's clock jumps.
-use crate::clock::SteadyClock;
 use chess_run::Moments;
+use server_playing::SteadyClock;
 use std::cell::Cell;
 use std::io;
 use std::rt::Clock;
@@ -30,6 +30,13 @@ impl Clock for Hands {
     }
 }
 
+// The next moment, once the hands are set so.
+fn next_at(clock: &mut SteadyClock<'_, Hands>, hands: &Hands, system: u64, monotonic: u64) -> u64 {
+    hands.system.set(system);
+    hands.monotonic.set(monotonic);
+    clock.next()
+}
+
 #[test]
 fn goes_on_evenly(rt: HostRuntime) {
     let hands = Hands {
@@ -37,22 +44,21 @@ fn goes_on_evenly(rt: HostRuntime) {
         monotonic: Cell::new(5_000),
     };
     let mut clock = SteadyClock::new(&hands);
-    assert!(rt; clock.next() == 1_000_000);
-    let cases = [
+    let moments = [
+        clock.next(),
         // The system's clock jumps ahead, and back, and cannot be read.
-        (9_000_000, 5_001, 1_000_001),
-        (0, 6_500, 1_001_500),
-        (u64::MAX, 6_501, 1_001_501),
+        next_at(&mut clock, &hands, 9_000_000, 5_001),
+        next_at(&mut clock, &hands, 0, 6_500),
+        next_at(&mut clock, &hands, u64::MAX, 6_501),
         // The other does not go back, and a reading that fails brings no time.
-        (0, 6_000, 1_001_501),
-        (0, u64::MAX, 1_001_501),
-        (0, 7_000, 1_002_000),
+        next_at(&mut clock, &hands, 0, 6_000),
+        next_at(&mut clock, &hands, 0, u64::MAX),
+        next_at(&mut clock, &hands, 0, 7_000),
     ];
-    for (system, monotonic, wanted) in cases {
-        hands.system.set(system);
-        hands.monotonic.set(monotonic);
-        assert!(rt; clock.next() == wanted);
-    }
+    let wanted = [
+        1_000_000, 1_000_001, 1_001_500, 1_001_501, 1_001_501, 1_001_501, 1_002_000,
+    ];
+    assert!(rt; moments == wanted);
 }
 
 #[test]
@@ -62,7 +68,6 @@ fn begins_where_a_clock_fails(rt: HostRuntime) {
         monotonic: Cell::new(u64::MAX),
     };
     let mut clock = SteadyClock::new(&hands);
-    assert!(rt; clock.next() == 0);
-    hands.monotonic.set(10_000);
-    assert!(rt; clock.next() == 0);
+    let moments = [clock.next(), next_at(&mut clock, &hands, u64::MAX, 10_000)];
+    assert!(rt; moments == [0, 0]);
 }

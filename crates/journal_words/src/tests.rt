@@ -1,2 +1,0 @@
-mod journals;
-mod reading;

@@ -1,2 +1,0 @@
-mod clock;
-mod serving;
