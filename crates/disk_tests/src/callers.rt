@@ -1,35 +1,17 @@
 //! What the callers of a device leave, by the fates of a crash.
-use sector_dev::{CrashDevice, Device, Fate, Got, MemoryDevice};
+use crate::sectors::{NOTHING, check_first};
+use sector_dev::{CrashDevice, Device, Fate, MemoryDevice};
 use sector_dev_callers::{write_one, write_two, write_two_and_crash, written_and_crashed};
 use std::process::Abort;
-
-// What the sector is filled with, or `None` where it is unreadable.
-fn filled<D: Device>(rt: &impl Abort, device: &mut D, at: u32) -> Option<u8> {
-    assert!(rt; device.sectors() > at);
-    let mut sector = [9; 512];
-    let got = device.read(at, &mut sector);
-    assert!(rt; sector == [sector[0]; 512]);
-    match got.expect(rt, "a read") {
-        Got::Whole => Some(sector[0]),
-        Got::Unreadable => {
-            assert!(rt; sector[0] == 0);
-            None
-        }
-    }
-}
-
-fn both<D: Device>(rt: &impl Abort, device: &mut D) -> (Option<u8>, Option<u8>) {
-    (filled(rt, device, 0), filled(rt, device, 1))
-}
 
 fn write_both<D: CrashDevice>(rt: &impl Abort, device: &mut D) {
     assert!(rt; device.sectors() >= 2);
     assert!(rt; write_one(device, 1, &[5; 512]).is_ok());
-    assert!(rt; both(rt, device) == (Some(0), Some(5)));
+    check_first(rt, device, &[0, 5]);
     assert!(rt; device.sectors() >= 2);
     assert!(rt; write_two(device, 0, &[6; 512], 1, &[7; 512]).is_ok());
     device.crash(&[]);
-    assert!(rt; both(rt, device) == (Some(6), Some(7)));
+    check_first(rt, device, &[6, 7]);
 }
 
 #[test]
@@ -39,57 +21,62 @@ fn what_was_answered_lasts(rt: HostRuntime) {
 }
 
 // What a life of so many calls leaves of two zeroed sectors.
-fn left<D: CrashDevice>(
+fn check_life<D: CrashDevice>(
     rt: &impl Abort,
     device: &mut D,
     calls: u64,
     fates: &[Fate],
-) -> (Option<u8>, Option<u8>) {
+    bytes: &[u8],
+) {
     assert!(rt; device.sectors() >= 2);
     let written = write_two_and_crash(device, calls, 0, &[1; 512], 1, &[2; 512], fates);
     assert!(rt; written.is_ok() == (calls >= 3));
-    both(rt, device)
+    check_first(rt, device, bytes);
 }
 
+const LOST: Fate = Fate::Lost;
+
+const KEPT: Fate = Fate::Kept;
+
+const RUINED: Fate = Fate::Unreadable;
+
 // A write that fails as the first is pending; the sync is the third call.
+const LIVES: [(u64, [Fate; 2], [u8; 2]); 13] = [
+    (0, [LOST, LOST], [0, 0]),
+    (0, [KEPT, KEPT], [1, 0]),
+    (0, [RUINED, RUINED], [NOTHING, 0]),
+    (1, [LOST, LOST], [0, 0]),
+    (1, [KEPT, RUINED], [1, NOTHING]),
+    (1, [LOST, KEPT], [0, 2]),
+    (1, [RUINED, KEPT], [NOTHING, 2]),
+    (2, [LOST, RUINED], [0, NOTHING]),
+    (2, [KEPT, LOST], [1, 0]),
+    (2, [RUINED, RUINED], [NOTHING, NOTHING]),
+    (2, [KEPT, KEPT], [1, 2]),
+    (3, [LOST, LOST], [1, 2]),
+    (4, [RUINED, RUINED], [1, 2]),
+];
+
 #[test]
 fn a_life_leaves_what_the_fates_say(rt: HostRuntime) {
-    let (lost, kept, ruined) = (Fate::Lost, Fate::Kept, Fate::Unreadable);
-    for (calls, fates, bytes) in [
-        (0, [lost, lost], (Some(0), Some(0))),
-        (0, [kept, kept], (Some(1), Some(0))),
-        (0, [ruined, ruined], (None, Some(0))),
-        (1, [lost, lost], (Some(0), Some(0))),
-        (1, [kept, ruined], (Some(1), None)),
-        (1, [lost, kept], (Some(0), Some(2))),
-        (1, [ruined, kept], (None, Some(2))),
-        (2, [lost, ruined], (Some(0), None)),
-        (2, [kept, lost], (Some(1), Some(0))),
-        (2, [ruined, ruined], (None, None)),
-        (2, [kept, kept], (Some(1), Some(2))),
-        (3, [lost, lost], (Some(1), Some(2))),
-        (4, [ruined, ruined], (Some(1), Some(2))),
-    ] {
+    for (calls, fates, bytes) in &LIVES {
         let mut device = MemoryDevice::new(rt.alloc(), 2).expect(&rt, "memory");
-        assert!(rt; left(&rt, &mut device, calls, &fates) == bytes);
+        check_life(&rt, &mut device, *calls, fates, bytes);
     }
 }
 
+const LISTS: [([Fate; 3], [u8; 4]); 4] = [
+    ([LOST, LOST, LOST], [0, 0, 0, 0]),
+    ([KEPT, KEPT, KEPT], [1, 2, 3, 0]),
+    ([KEPT, LOST, RUINED], [1, 0, NOTHING, 0]),
+    ([RUINED, KEPT, LOST], [NOTHING, 2, 0, 0]),
+];
+
 #[test]
 fn a_list_is_written_in_its_order(rt: HostRuntime) {
-    let (lost, kept, ruined) = (Fate::Lost, Fate::Kept, Fate::Unreadable);
     let sectors = [[1; 512], [2; 512], [3; 512]];
-    for (fates, bytes) in [
-        ([lost, lost, lost], [Some(0), Some(0), Some(0)]),
-        ([kept, kept, kept], [Some(1), Some(2), Some(3)]),
-        ([kept, lost, ruined], [Some(1), Some(0), None]),
-        ([ruined, kept, lost], [None, Some(2), Some(0)]),
-    ] {
-        let made = written_and_crashed(rt.alloc(), 4, &sectors, &fates);
-        let mut device = made.expect(&rt, "memory");
-        for (at, byte) in (0..3u32).zip(bytes) {
-            assert!(rt; filled(&rt, &mut device, at) == byte);
-        }
-        assert!(rt; filled(&rt, &mut device, 3) == Some(0));
+    for (fates, bytes) in &LISTS {
+        let made = written_and_crashed(rt.alloc(), 4, &sectors, fates);
+        check_first(&rt, &mut made.expect(&rt, "memory"), bytes);
     }
 }

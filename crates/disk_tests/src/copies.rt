@@ -1,16 +1,18 @@
 //! What copies are made, and when none is.
+use crate::sectors::sector;
 use journal_copy::{Copied, CopyFault, Slots, Source, Still, copy};
 use rec_bytes::write_header;
 use rec_codec::{Half, Header, Limits, Version};
-use sector_dev::{CrashDevice, Device, DeviceFault, Got, MemoryDevice};
+use sector_dev::{CrashDevice, DeviceFault, Got, MemoryDevice};
 use std::alloc::Global;
 use std::process::Abort;
 
-/// A source whose headers go through a list, of which the last stays, and whose sectors have their number in each byte.
+/// A source that has one header when it is asked first and another later, and whose sectors have their number in each byte.
 #[derive(Drop)]
 struct Scripted {
-    slots: Vec<Slots>,
-    next: usize,
+    first: Slots,
+    later: Slots,
+    is_read: bool,
     sectors: u32,
 }
 
@@ -30,10 +32,11 @@ impl Source for Scripted {
     }
 
     fn read_slots(&mut self) -> Result<Slots, DeviceFault> {
-        if self.next < self.slots.len().saturating_sub(1) {
-            self.next += 1;
+        if self.is_read {
+            return Ok(self.later);
         }
-        self.slots.get(self.next).copied().ok_or(DeviceFault)
+        self.is_read = true;
+        Ok(self.first)
     }
 
     fn read(&mut self, at: u32, into: &mut [u8; 512]) -> Result<(), DeviceFault> {
@@ -58,34 +61,27 @@ fn header_of(seq: u64, half: Half, journal: u32) -> Header {
     }
 }
 
+const NO_HEADER: Slots = Slots {
+    zero: [0; 512],
+    one: [0; 512],
+};
+
 // The slots in which a header stands, beside nothing.
 fn slots_of(header: &Header) -> Slots {
-    let bytes = write_header(header);
+    let mut slots = NO_HEADER;
     if header.seq % 2 == 0 {
-        Slots {
-            zero: bytes,
-            one: [0; 512],
-        }
+        slots.zero = write_header(header);
     } else {
-        Slots {
-            zero: [0; 512],
-            one: bytes,
-        }
+        slots.one = write_header(header);
     }
+    slots
 }
 
-// The source of these headers, one after the other; before the first reading stands the first.
-fn source_of(rt: &impl Abort, alloc: Global, headers: &[Header]) -> Scripted {
-    let mut slots = Vec::new(alloc);
-    for header in headers {
-        if slots.is_empty() {
-            assert!(rt; slots.push(slots_of(header)).is_ok());
-        }
-        assert!(rt; slots.push(slots_of(header)).is_ok());
-    }
+fn source_of(first: &Header, later: &Header) -> Scripted {
     Scripted {
-        slots,
-        next: 0,
+        first: slots_of(first),
+        later: slots_of(later),
+        is_read: false,
         sectors: 212,
     }
 }
@@ -95,51 +91,46 @@ fn blank(rt: &impl Abort, alloc: Global, sectors: u32) -> MemoryDevice {
     MemoryDevice::new(alloc, sectors).expect(rt, "memory")
 }
 
-// A sector of a device.
-fn sector_of(rt: &impl Abort, device: &mut MemoryDevice, at: u32) -> [u8; 512] {
-    let mut bytes = [9; 512];
-    assert!(rt; at < device.sectors());
-    assert!(rt; device.read(at, &mut bytes) == Ok(Got::Whole));
-    bytes
-}
-
-// Whether a device has this header, nothing in the other slot, and the sectors that the header names.
-fn is_copy(
+// The device after a copy of such a source in so many tries, which is answered so.
+fn copied(
     rt: &impl Abort,
-    device: &mut MemoryDevice,
-    header: &Header,
-    from: u32,
-    to: u32,
-) -> bool {
-    let slots = slots_of(header);
-    let mut same = sector_of(rt, device, 0) == slots.zero && sector_of(rt, device, 1) == slots.one;
-    for at in 2..212 {
-        let wanted = if from <= at && at < to {
-            (at % 256) as u8
-        } else {
-            0
-        };
-        same &= sector_of(rt, device, at) == [wanted; 512];
-    }
-    same
+    alloc: Global,
+    first: &Header,
+    later: &Header,
+    tries: u32,
+    wanted: Copied,
+) -> MemoryDevice {
+    let mut target = blank(rt, alloc, 212);
+    assert!(rt; copy(&mut source_of(first, later), &mut target, tries) == Ok(wanted));
+    target
 }
 
+// Whether each byte of a sector is this.
+fn is_filled(rt: &impl Abort, device: &mut MemoryDevice, at: u32, byte: u8) -> bool {
+    sector(rt, device, at) == Ok((Got::Whole, [byte; 512]))
+}
+
+fn has_slots(rt: &impl Abort, device: &mut MemoryDevice, slots: &Slots) -> bool {
+    sector(rt, device, 0) == Ok((Got::Whole, slots.zero))
+        && sector(rt, device, 1) == Ok((Got::Whole, slots.one))
+}
+
+// The same header, and the next commit in the same half.
 #[test]
 fn copies_what_stands_still(rt: HostRuntime) {
-    let alloc = rt.alloc();
     let first = header_of(8, Half::Zero, 100);
-    // The same header, and the next commit in the same half.
-    for second in [first, header_of(9, Half::Zero, 101)] {
-        let mut source = source_of(&rt, alloc, &[first, second]);
-        let mut target = blank(&rt, alloc, 212);
-        assert!(rt; copy(&mut source, &mut target, 1) == Ok(Copied::Whole));
-        assert!(rt; is_copy(&rt, &mut target, &first, 2, 105));
+    for later in [first, header_of(9, Half::Zero, 101)] {
+        let mut target = copied(&rt, rt.alloc(), &first, &later, 1, Copied::Whole);
+        assert!(rt; has_slots(&rt, &mut target, &slots_of(&first)));
+        for at in 2..212 {
+            let byte = if at < 105 { at as u8 } else { 0 };
+            assert!(rt; is_filled(&rt, &mut target, at, byte));
+        }
     }
 }
 
 #[test]
 fn begins_anew_where_it_moved(rt: HostRuntime) {
-    let alloc = rt.alloc();
     let first = header_of(8, Half::Zero, 100);
     let other = header_of(9, Half::One, 7);
     for moved in [
@@ -149,18 +140,13 @@ fn begins_anew_where_it_moved(rt: HostRuntime) {
         header_of(7, Half::Zero, 101),
         header_of(9, Half::Zero, 99),
     ] {
-        let mut source = source_of(&rt, alloc, &[first, moved]);
-        let mut target = blank(&rt, alloc, 212);
-        assert!(rt; copy(&mut source, &mut target, 1) == Ok(Copied::Changed));
-        assert!(rt; sector_of(&rt, &mut target, 0) == [0; 512]);
-        assert!(rt; sector_of(&rt, &mut target, 1) == [0; 512]);
+        let mut target = copied(&rt, rt.alloc(), &first, &moved, 1, Copied::Changed);
+        assert!(rt; has_slots(&rt, &mut target, &NO_HEADER));
     }
     // It moved once, and then stood still.
-    let mut source = source_of(&rt, alloc, &[first, other]);
-    let mut target = blank(&rt, alloc, 212);
-    assert!(rt; copy(&mut source, &mut target, 2) == Ok(Copied::Whole));
-    assert!(rt; sector_of(&rt, &mut target, 1) == write_header(&other));
-    assert!(rt; sector_of(&rt, &mut target, 107) == [107; 512]);
+    let mut target = copied(&rt, rt.alloc(), &first, &other, 2, Copied::Whole);
+    assert!(rt; has_slots(&rt, &mut target, &slots_of(&other)));
+    assert!(rt; is_filled(&rt, &mut target, 107, 107));
 }
 
 // Why there is no copy of a source on a device of so many sectors.
@@ -181,15 +167,13 @@ fn tells_why_there_is_no_copy(rt: HostRuntime) {
         assert!(rt; fault_of(&rt, alloc, &mut nothing, 212) == Some(CopyFault::NotOurs));
     }
     let first = header_of(8, Half::Zero, 100);
-    let mut source = source_of(&rt, alloc, &[first]);
+    let mut source = source_of(&first, &first);
     assert!(rt; fault_of(&rt, alloc, &mut source, 211) == Some(CopyFault::TooSmall));
     source.sectors = 211;
     assert!(rt; fault_of(&rt, alloc, &mut source, 212) == Some(CopyFault::TooSmall));
     source.sectors = 212;
     // The eight bytes alone.
-    for slots in source.slots.iter_mut() {
-        slots.zero[12] = 0;
-    }
+    source.later.zero[12] = 0;
     assert!(rt; fault_of(&rt, alloc, &mut source, 212) == Some(CopyFault::Damaged));
 }
 
@@ -198,10 +182,9 @@ fn tells_why_there_is_no_copy(rt: HostRuntime) {
 fn tells_of_a_failing_device(rt: HostRuntime) {
     let first = header_of(8, Half::Zero, 2);
     for calls in 0..9 {
-        let mut source = source_of(&rt, rt.alloc(), &[first]);
         let mut target = blank(&rt, rt.alloc(), 212);
         target.arm(calls);
-        let copied = copy(&mut source, &mut target, 1);
+        let copied = copy(&mut source_of(&first, &first), &mut target, 1);
         let wanted = if calls < 8 {
             Err(CopyFault::Device)
         } else {

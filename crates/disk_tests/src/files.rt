@@ -1,6 +1,7 @@
-//! Files as devices of sectors: the system's under their names, and those that stand for them.
-use file_device::{FileDevice, PositionedFile, SectorFile, Standing};
-use sector_dev::{CrashDevice, Device, Fate, Got, MemoryDevice, OnceDevice};
+//! The system's files as devices of sectors, under their names.
+use crate::sectors::{byte_at, fill, sector};
+use file_device::{FileDevice, PositionedFile};
+use sector_dev::{Device, Got};
 use std::fs::{File, OpenOptions};
 use std::io::{self, ErrorKind};
 use std::os::fd::AsRawFd;
@@ -10,80 +11,23 @@ use std::process::Abort;
 use std::rt::Files;
 use std::{env, fs};
 
-// Makes a file of so many sectors, where there was none.
-fn created<R: Files<File = File> + Abort>(rt: &R, path: &str, sectors: u32) -> FileDevice {
-    let _ = fs::remove_file(rt, path);
-    FileDevice::create(rt, path, sectors).expect(rt, "a file")
-}
-
-fn opened<R: Files<File = File> + Abort>(rt: &R, path: &str) -> FileDevice {
-    FileDevice::open(rt, path).expect(rt, "a file")
-}
-
-fn remove<R: Files + Abort>(rt: &R, path: &str) {
-    assert!(rt; fs::remove_file(rt, path).is_ok());
-}
-
-fn rename<R: Files + Abort>(rt: &R, from: &str, to: &str) {
-    assert!(rt; fs::rename(rt, from, to).is_ok());
-}
-
-// The absolute name of a file in this folder.
-fn absolute(rt: &HostRuntime, name: &str) -> io::Result<PathBuf> {
-    Ok(env::current_dir(rt)?.join(rt.alloc(), name)?)
-}
-
-// A file has these bytes.
-fn check_bytes<R: Files + AllocGlobal + Abort>(rt: &R, path: &str, bytes: &[u8]) {
-    let found = fs::read(rt, path).expect(rt, "a file to read");
-    assert!(rt; found.as_slice() == bytes);
-}
-
-fn length<R: Files + Abort>(rt: &R, path: &str) -> u64 {
-    fs::metadata(rt, path).expect(rt, "a file").len()
-}
-
-// The bytes of a sector, if they can be read: then they are whole.
-fn read_sector<D: Device>(rt: &impl Abort, device: &mut D, at: u32) -> Option<[u8; 512]> {
-    assert!(rt; at < device.sectors());
-    let mut sector = [0xee; 512];
-    let got = device.read(at, &mut sector).ok()?;
-    assert!(rt; got == Got::Whole);
-    Some(sector)
-}
-
-// Whether a sector is written.
-fn writes<D: Device>(rt: &impl Abort, device: &mut D, at: u32, value: &[u8; 512]) -> bool {
-    assert!(rt; at < device.sectors());
-    device.write(at, value).is_ok()
-}
-
-// A sector, and the byte with which it is filled.
-type Filled = (u32, u8);
-
-fn fill<D: Device>(rt: &impl Abort, device: &mut D, filled: Filled) {
-    assert!(rt; writes(rt, device, filled.0, &[filled.1; 512]));
-}
-
-fn check_filled<D: Device>(rt: &impl Abort, device: &mut D, filled: &[Filled]) {
-    for (at, byte) in filled {
-        assert!(rt; read_sector(rt, device, *at) == Some([*byte; 512]));
-    }
-}
-
-// How opening failed.
-fn refusal(opened: io::Result<FileDevice>) -> Option<ErrorKind> {
-    opened.err().map(|error| error.kind())
-}
-
-#[test]
-fn a_new_file_holds_zeros(rt: HostRuntime) {
-    let path = "disk_tests-new";
-    let mut device = created(&rt, path, 3);
-    assert!(rt; device.sectors() == 3);
-    check_filled(&rt, &mut device, &[(0, 0), (1, 0), (2, 0)]);
-    assert!(rt; length(&rt, path) == 1536);
-    remove(&rt, path);
+/// A call of a device, and what is to come of it.
+#[derive(Clone, Copy)]
+pub enum Call {
+    /// A sector is filled with a byte.
+    Fill(u32, u8),
+    /// A sector is filled so.
+    Filled(u32, u8),
+    /// A sector gets bytes of which the first and the last are unlike the others.
+    Mark(u32),
+    /// A sector has these.
+    Marked(u32),
+    /// A sector cannot be read.
+    Lost(u32),
+    /// A sync, and the kind of its error where it fails.
+    Sync(Option<ErrorKind>),
+    /// A barrier, and the kind of the last error where it fails.
+    Barrier(Option<ErrorKind>),
 }
 
 // A sector whose first and last bytes are unlike the others.
@@ -94,92 +38,304 @@ fn marked() -> [u8; 512] {
     value
 }
 
-#[test]
-fn a_later_opening_reads_what_was_written(rt: HostRuntime) {
-    let path = "disk_tests-written";
-    let mut device = created(&rt, path, 4);
-    fill(&rt, &mut device, (3, 9));
-    assert!(rt; writes(&rt, &mut device, 2, &marked()));
-    assert!(rt; device.sync().is_ok());
-    drop(device);
-    let mut device = opened(&rt, path);
-    assert!(rt; device.sectors() == 4);
-    check_filled(&rt, &mut device, &[(1, 0), (3, 9)]);
-    assert!(rt; read_sector(&rt, &mut device, 2) == Some(marked()));
-    // Where sector 2 stands.
-    let bytes = fs::read(&rt, path).expect(&rt, "a file to read");
-    assert!(rt; bytes.get(1024..1536) == Some(marked().as_slice()));
-    remove(&rt, path);
+/// The kind of a device's last error.
+pub fn last_kind<F: PositionedFile>(device: &FileDevice<F>) -> Option<ErrorKind> {
+    device.last_error().map(|error| error.kind())
 }
 
-// These bytes, and zeros up to the end of the second sector.
-fn lengthened(old: &[u8; 1000]) -> [u8; 1024] {
-    let mut whole = [0u8; 1024];
-    whole[..1000].copy_from_slice(old);
-    whole
-}
-
-#[test]
-fn what_is_there_stays(rt: HostRuntime) {
-    let path = "disk_tests-longer";
-    let old = [5u8; 1000];
-    assert!(rt; fs::write(&rt, path, old.as_slice()).is_ok());
-    assert!(rt; opened(&rt, path).sectors() == 1);
-    check_bytes(&rt, path, &old);
-    for sectors in [2, 1] {
-        let device = FileDevice::create(&rt, path, sectors).expect(&rt, "a file");
-        assert!(rt; device.sectors() == 2);
-        check_bytes(&rt, path, &lengthened(&old));
+/// Makes a call.
+pub fn make<F: PositionedFile>(rt: &impl Abort, device: &mut FileDevice<F>, call: Call) {
+    match call {
+        Call::Fill(at, byte) => assert!(rt; fill(rt, device, at, byte).is_ok()),
+        Call::Filled(at, byte) => assert!(rt; byte_at(rt, device, at) == Ok(byte)),
+        Call::Mark(at) => {
+            assert!(rt; at < device.sectors());
+            assert!(rt; device.write(at, &marked()).is_ok());
+        }
+        Call::Marked(at) => {
+            let (got, bytes) = sector(rt, device, at).expect(rt, "a read");
+            assert!(rt; got == Got::Whole && bytes == marked());
+        }
+        Call::Lost(at) => {
+            assert!(rt; last_kind(device) == None);
+            assert!(rt; sector(rt, device, at).is_err());
+            assert!(rt; last_kind(device).is_some());
+        }
+        Call::Sync(kind) => {
+            assert!(rt; device.sync().is_ok() == kind.is_none());
+            assert!(rt; last_kind(device) == kind);
+        }
+        Call::Barrier(kind) => {
+            assert!(rt; device.barrier().is_ok() == kind.is_none());
+            assert!(rt; last_kind(device) == kind);
+        }
     }
-    remove(&rt, path);
 }
 
-// 50,000 sectors take many writes of zeros; no hole is left in the file.
-#[test]
-fn a_long_file_is_written(rt: HostRuntime) {
-    let path = "disk_tests-long";
-    assert!(rt; fs::write(&rt, path, [7u8; 700].as_slice()).is_ok());
-    let mut device = FileDevice::create(&rt, path, 50_000).expect(&rt, "a file");
-    assert!(rt; device.sectors() == 50_000);
-    let filled = [(0, 7), (2, 0), (31, 0), (32, 0), (33, 0), (49_999, 0)];
-    check_filled(&rt, &mut device, &filled);
-    let bytes = fs::read(&rt, path).expect(&rt, "a file to read");
-    assert!(rt; bytes.len() == 25_600_000);
-    assert!(rt; bytes.iter().skip(700).all(|byte| *byte == 0));
-    remove(&rt, path);
+/// What is done with a file, and what is to come of it.
+#[derive(Clone, Copy)]
+enum Act<'a> {
+    /// It is made with these bytes.
+    Write(&'a [u8]),
+    /// It has these bytes, and zeros behind them.
+    Has(&'a [u8]),
+    /// It has so many bytes.
+    Length(u64),
+    /// It has blocks for so many sectors.
+    Blocks(u64),
+    Shorten(u64),
+    /// It gets another name too.
+    Link(&'a str),
+    /// Its name becomes a link to another file.
+    LinkTo(&'a str),
+    /// A copy of it gets its name.
+    Replace(&'a str),
+    /// It gets another name.
+    Rename(&'a str),
+    /// Another file gets its name.
+    TakeName(&'a str),
+    Remove,
+    /// It cannot be opened, or lengthened.
+    Refused(ErrorKind),
+    /// It is read beside its device.
+    Read,
 }
 
-// Opening a file and lengthening it are refused so.
+fn check_bytes<R: Files + AllocGlobal + Abort>(rt: &R, path: &str, front: &[u8]) {
+    let found = fs::read(rt, path).expect(rt, "a file to read");
+    assert!(rt; front.len() <= found.len());
+    let (head, rest) = found.as_slice().split_at(front.len());
+    assert!(rt; head == front);
+    for byte in rest {
+        assert!(rt; *byte == 0);
+    }
+}
+
+fn done(rt: &impl Abort, answer: io::Result<()>) {
+    answer.expect(rt, "what the system does");
+}
+
+fn writable<R: Files<File = File> + Abort>(rt: &R, path: &str) -> File {
+    let file = OpenOptions::new().write(true).open(rt, path);
+    file.expect(rt, "a file")
+}
+
+// How opening failed.
+fn refusal(opened: io::Result<FileDevice>) -> Option<ErrorKind> {
+    opened.err().map(|error| error.kind())
+}
+
 fn check_refused<R: Files<File = File> + Abort>(rt: &R, path: &str, kind: ErrorKind) {
     assert!(rt; refusal(FileDevice::open(rt, path)) == Some(kind));
     assert!(rt; refusal(FileDevice::create(rt, path, 9)) == Some(kind));
 }
 
+fn do_act<R: Files<File = File> + AllocGlobal + Abort>(rt: &R, path: &str, act: Act<'_>) {
+    match act {
+        Act::Write(bytes) => done(rt, fs::write(rt, path, bytes)),
+        Act::Has(bytes) => check_bytes(rt, path, bytes),
+        Act::Length(length) => {
+            let found = fs::metadata(rt, path).expect(rt, "a file");
+            assert!(rt; found.len() == length);
+        }
+        Act::Blocks(sectors) => {
+            let found = fs::metadata(rt, path).expect(rt, "a file");
+            assert!(rt; found.blocks() >= sectors);
+        }
+        Act::Shorten(length) => done(rt, writable(rt, path).set_len(length)),
+        Act::Link(name) => done(rt, fs::hard_link(rt, path, name)),
+        Act::LinkTo(file) => done(rt, symlink(rt, file, path)),
+        Act::Replace(copy) => {
+            fs::copy(rt, path, copy).expect(rt, "a copy");
+            done(rt, fs::rename(rt, copy, path));
+        }
+        Act::Rename(name) => done(rt, fs::rename(rt, path, name)),
+        Act::TakeName(file) => done(rt, fs::rename(rt, file, path)),
+        Act::Remove => done(rt, fs::remove_file(rt, path)),
+        Act::Refused(kind) => check_refused(rt, path, kind),
+        Act::Read => check_reader(rt, path),
+    }
+}
+
+/// What is done with a file and with its device, and what is to come of it.
+#[derive(Clone, Copy)]
+enum Step<'a> {
+    /// A file of so many sectors is made, and is the device.
+    New(u32),
+    /// It is lengthened to so many sectors, and the device has so many.
+    Lengthen(u32, u32),
+    /// It is opened, and the device has so many sectors.
+    Open(u32),
+    Close,
+    Device(Call),
+    File(Act<'a>),
+}
+
+// A device that was opened, and has so many sectors.
+fn opened(rt: &impl Abort, device: io::Result<FileDevice>, sectors: u32) -> Option<FileDevice> {
+    let device = device.expect(rt, "a file");
+    assert!(rt; device.sectors() == sectors);
+    Some(device)
+}
+
+fn take<R: Files<File = File> + AllocGlobal + Abort>(
+    rt: &R,
+    path: &str,
+    device: &mut Option<FileDevice>,
+    step: Step<'_>,
+) {
+    match step {
+        Step::New(sectors) => {
+            let _ = fs::remove_file(rt, path);
+            *device = opened(rt, FileDevice::create(rt, path, sectors), sectors);
+        }
+        Step::Lengthen(least, sectors) => {
+            *device = opened(rt, FileDevice::create(rt, path, least), sectors);
+        }
+        Step::Open(sectors) => *device = opened(rt, FileDevice::open(rt, path), sectors),
+        Step::Close => *device = None,
+        Step::Device(call) => match device {
+            Some(device) => make(rt, device, call),
+            None => assert!(rt; false),
+        },
+        Step::File(act) => do_act(rt, path, act),
+    }
+}
+
+// Makes steps.
+fn play<R: Files<File = File> + AllocGlobal + Abort>(rt: &R, path: &str, steps: &[Step<'_>]) {
+    let mut device = None;
+    for step in steps {
+        take(rt, path, &mut device, *step);
+    }
+}
+
+const REMOVE: Step<'static> = Step::File(Act::Remove);
+
+const SYNCED: Step<'static> = Step::Device(Call::Sync(None));
+
+const CUT: Step<'static> = Step::Device(Call::Sync(Some(ErrorKind::UnexpectedEof)));
+
+const GONE: Step<'static> = Step::Device(Call::Sync(Some(ErrorKind::NotFound)));
+
+const NEW: [Step<'static>; 6] = [
+    Step::New(3),
+    Step::Device(Call::Filled(0, 0)),
+    Step::Device(Call::Filled(1, 0)),
+    Step::Device(Call::Filled(2, 0)),
+    Step::File(Act::Length(1536)),
+    REMOVE,
+];
+
+#[test]
+fn a_new_file_holds_zeros(rt: HostRuntime) {
+    play(&rt, "disk_tests-new", &NEW);
+}
+
+// Four sectors, of which sector 2 is marked and sector 3 has nines.
+fn written() -> [u8; 2048] {
+    let mut whole = [0; 2048];
+    whole[1024..1536].copy_from_slice(&marked());
+    whole[1536..].copy_from_slice(&[9; 512]);
+    whole
+}
+
+const WRITTEN: [Step<'static>; 10] = [
+    Step::New(4),
+    Step::Device(Call::Fill(3, 9)),
+    Step::Device(Call::Mark(2)),
+    SYNCED,
+    Step::Close,
+    Step::Open(4),
+    Step::Device(Call::Filled(1, 0)),
+    Step::Device(Call::Filled(3, 9)),
+    Step::Device(Call::Marked(2)),
+    Step::File(Act::Length(2048)),
+];
+
+#[test]
+fn a_later_opening_reads_what_was_written(rt: HostRuntime) {
+    let path = "disk_tests-written";
+    play(&rt, path, &WRITTEN);
+    check_bytes(&rt, path, &written());
+    done(&rt, fs::remove_file(&rt, path));
+}
+
+const OLD: Step<'static> = Step::File(Act::Has(&[5; 1000]));
+
+const LENGTHENED: [Step<'static>; 13] = [
+    Step::File(Act::Write(&[5; 1000])),
+    Step::Open(1),
+    Step::Close,
+    OLD,
+    Step::File(Act::Length(1000)),
+    // With zeros up to the end of the second sector.
+    Step::Lengthen(2, 2),
+    OLD,
+    Step::File(Act::Length(1024)),
+    Step::Close,
+    Step::Lengthen(1, 2),
+    OLD,
+    Step::File(Act::Length(1024)),
+    REMOVE,
+];
+
+#[test]
+fn what_is_there_stays(rt: HostRuntime) {
+    play(&rt, "disk_tests-longer", &LENGTHENED);
+}
+
+// 50,000 sectors take many writes of zeros; no hole is left in the file.
+const LONG: [Step<'static>; 11] = [
+    Step::File(Act::Write(&[7; 700])),
+    Step::Lengthen(50_000, 50_000),
+    Step::Device(Call::Filled(0, 7)),
+    Step::Device(Call::Filled(2, 0)),
+    Step::Device(Call::Filled(31, 0)),
+    Step::Device(Call::Filled(32, 0)),
+    Step::Device(Call::Filled(33, 0)),
+    Step::Device(Call::Filled(49_999, 0)),
+    Step::File(Act::Has(&[7; 700])),
+    Step::File(Act::Length(25_600_000)),
+    REMOVE,
+];
+
+#[test]
+fn a_long_file_is_written(rt: HostRuntime) {
+    play(&rt, "disk_tests-long", &LONG);
+}
+
+const IN_USE: Step<'static> = Step::File(Act::Refused(ErrorKind::WouldBlock));
+
+const LOCKED: [Step<'static>; 10] = [
+    Step::New(1),
+    IN_USE,
+    Step::File(Act::Length(512)),
+    Step::Close,
+    Step::Open(1),
+    IN_USE,
+    Step::Close,
+    Step::Lengthen(2, 2),
+    Step::File(Act::Length(1024)),
+    REMOVE,
+];
+
 #[test]
 fn a_file_has_one_device_at_a_time(rt: HostRuntime) {
-    let path = "disk_tests-locked";
-    let device = created(&rt, path, 1);
-    check_refused(&rt, path, ErrorKind::WouldBlock);
-    assert!(rt; length(&rt, path) == 512);
-    drop(device);
-    let device = opened(&rt, path);
-    check_refused(&rt, path, ErrorKind::WouldBlock);
-    drop(device);
-    assert!(rt; FileDevice::create(&rt, path, 2).is_ok());
-    assert!(rt; length(&rt, path) == 1024);
-    remove(&rt, path);
+    play(&rt, "disk_tests-locked", &LOCKED);
 }
 
 // What is missing, what is a folder, and what can be opened and is no file. No file is made among the devices.
+const NO_FILES: [(&str, ErrorKind); 4] = [
+    ("disk_tests-missing/file", ErrorKind::NotFound),
+    (".", ErrorKind::IsADirectory),
+    ("/dev/null", ErrorKind::InvalidInput),
+    ("/dev/disk_tests-no-such-device", ErrorKind::NotFound),
+];
+
 #[test]
 fn what_is_no_file_is_refused(rt: HostRuntime) {
-    let cases = [
-        ("disk_tests-missing/file", ErrorKind::NotFound),
-        (".", ErrorKind::IsADirectory),
-        ("/dev/null", ErrorKind::InvalidInput),
-        ("/dev/disk_tests-no-such-device", ErrorKind::NotFound),
-    ];
-    for (path, kind) in cases {
+    for (path, kind) in NO_FILES {
         check_refused(&rt, path, kind);
     }
     let missing = "disk_tests-missing";
@@ -210,292 +366,122 @@ fn a_sync_that_the_system_refuses_fails(rt: HostRuntime) {
     assert!(rt; number_of(opened.as_ref()) == Some(22));
 }
 
-fn shorten<R: Files<File = File> + Abort>(rt: &R, path: &str, length: u64) {
-    let file = OpenOptions::new().write(true).open(rt, path);
-    assert!(rt; file.expect(rt, "a file").set_len(length).is_ok());
-}
+const SHORT: [Step<'static>; 7] = [
+    Step::New(2),
+    Step::Device(Call::Fill(0, 3)),
+    Step::File(Act::Shorten(1023)),
+    Step::Device(Call::Filled(0, 3)),
+    Step::Device(Call::Lost(1)),
+    Step::Device(Call::Filled(0, 3)),
+    REMOVE,
+];
 
 #[test]
 fn a_short_read_fails(rt: HostRuntime) {
-    let path = "disk_tests-short";
-    let mut device = created(&rt, path, 2);
-    fill(&rt, &mut device, (0, 3));
-    shorten(&rt, path, 1023);
-    check_filled(&rt, &mut device, &[(0, 3)]);
-    assert!(rt; device.last_error().is_none());
-    assert!(rt; read_sector(&rt, &mut device, 1).is_none());
-    assert!(rt; device.last_error().is_some());
-    check_filled(&rt, &mut device, &[(0, 3)]);
-    remove(&rt, path);
+    play(&rt, "disk_tests-short", &SHORT);
 }
 
-// A file that notes where it was last read or written, and of which this is known.
-#[derive(Drop)]
-struct FakeFile {
-    offset: u64,
-    standing: Option<Standing>,
-}
-
-impl PositionedFile for FakeFile {
-    ghost use Rattle.std.specs.Prelude.{None};
-    ghost use Rattle.file_device.specs.Unknown.{unknown, unknown_is_coherent};
-
-    ghost state = { λ _. unknown };
-
-    ghost sector_count = { λ _. 0 };
-
-    ghost known_standing = { λ _. None };
-
-    ghost coherent = { λ _. unknown_is_coherent 0 };
-
-    fn read_at(&mut self, into: &mut [u8; 512], offset: u64) -> io::Result<()> {
-        self.offset = offset;
-        *into = [6; 512];
-        Ok(())
-    }
-
-    fn write_at(&mut self, _from: &[u8; 512], offset: u64) -> io::Result<()> {
-        self.offset = offset;
-        Ok(())
-    }
-
-    fn sync(&mut self) -> io::Result<()> {
-        Ok(())
-    }
-
-    fn standing(&self) -> io::Result<Standing> {
-        self.standing.ok_or(io::Error::from(ErrorKind::Other))
-    }
-}
-
-// A device of so many sectors over such a file.
-fn over_fake(standing: Option<Standing>, sectors: u32) -> FileDevice<FakeFile> {
-    let file = FakeFile {
-        offset: 0,
-        standing,
-    };
-    FileDevice::over(file, sectors)
-}
-
-#[test]
-fn the_last_sector_stands_before_two_tebibytes(rt: HostRuntime) {
-    let mut device = over_fake(None, u32::MAX);
-    fill(&rt, &mut device, (4_294_967_294, 1));
-    assert!(rt; device.into_file().offset == 2_199_023_254_528);
-    let mut device = over_fake(None, u32::MAX);
-    check_filled(&rt, &mut device, &[(8_388_608, 6)]);
-    assert!(rt; device.into_file().offset == 4_294_967_296);
-}
-
-// The kind of a device's last error.
-fn last_kind<F: PositionedFile>(device: &FileDevice<F>) -> Option<ErrorKind> {
-    device.last_error().map(|error| error.kind())
-}
-
-#[test]
-fn a_sync_finds_a_file_that_was_cut_or_lost(rt: HostRuntime) {
-    let cut = Some(ErrorKind::UnexpectedEof);
-    let cases = [
-        (Some(Standing::Named(1024)), None),
-        (Some(Standing::Named(u64::MAX)), None),
-        (Some(Standing::Named(1023)), cut),
-        (Some(Standing::Named(0)), cut),
-        (Some(Standing::Lost), Some(ErrorKind::NotFound)),
-        (None, Some(ErrorKind::Other)),
-    ];
-    for (standing, kind) in cases {
-        let mut device = over_fake(standing, 2);
-        assert!(rt; device.sync().is_ok() == kind.is_none());
-        assert!(rt; last_kind(&device) == kind);
-    }
-}
-
-// A barrier asks nothing of the file's place, and the sync behind it does; after that a barrier fails too.
-#[test]
-fn a_barrier_leaves_the_look_to_the_sync(rt: HostRuntime) {
-    let mut device = over_fake(Some(Standing::Lost), 2);
-    assert!(rt; device.barrier().is_ok());
-    assert!(rt; device.last_error().is_none());
-    assert!(rt; device.sync().is_err());
-    assert!(rt; device.barrier().is_err());
-}
-
-// A device on a file whose bytes are the sectors of this device.
-fn on_sectors<D: Device>(device: D) -> FileDevice<SectorFile<D>> {
-    let sectors = device.sectors();
-    FileDevice::over(SectorFile::new(device), sectors)
-}
-
-// Four calls, and which of them failed.
-fn four_calls<D: Device>(rt: &impl Abort, device: &mut D) -> [bool; 4] {
-    [
-        !writes(rt, device, 0, &[1; 512]),
-        !writes(rt, device, 1, &[2; 512]),
-        read_sector(rt, device, 0).is_none(),
-        device.sync().is_err(),
-    ]
-}
-
-// What is seen after one of four calls failed, and what a crash leaves of it then.
-fn after_failure(rt: &impl Abort, memory: MemoryDevice, call: u64, seen: [u8; 2], left: [u8; 2]) {
-    let mut once = OnceDevice::new(memory);
-    once.fail_at(call, false);
-    let mut device = on_sectors(once);
-    let failed = four_calls(rt, &mut device);
-    assert!(rt; failed == [call == 1, call == 2, call == 3, call == 4]);
-    assert!(rt; last_kind(&device) == Some(ErrorKind::Other));
-    assert!(rt; device.sync().is_err() == (call == 4));
-    check_filled(rt, &mut device, &[(0, seen[0]), (1, seen[1])]);
-    let mut memory = device.into_file().into_device().into_device();
-    memory.crash(&[]);
-    check_filled(rt, &mut memory, &[(0, left[0]), (1, left[1])]);
-}
-
-// The calls after one that failed are served, but for a sync after a sync that failed.
-#[test]
-fn one_call_of_the_file_fails(rt: HostRuntime) {
-    let cases = [
-        (1, [0, 2], [0, 2]),
-        (2, [1, 0], [1, 0]),
-        (3, [1, 2], [1, 2]),
-        (4, [1, 2], [0, 0]),
-    ];
-    for (call, seen, left) in cases {
-        let memory = MemoryDevice::new(rt.alloc(), 2).expect(&rt, "memory");
-        after_failure(&rt, memory, call, seen, left);
-    }
-}
-
-// What a file cannot read is a failure of its device, and no sector without bytes.
-#[test]
-fn a_sector_that_the_file_lost_is_a_failure(rt: HostRuntime) {
-    let mut memory = MemoryDevice::new(rt.alloc(), 2).expect(&rt, "memory");
-    fill(&rt, &mut memory, (1, 3));
-    memory.crash_as(&[Fate::Unreadable]);
-    let mut device = on_sectors(memory);
-    assert!(rt; read_sector(&rt, &mut device, 1).is_none());
-    assert!(rt; device.last_error().is_some());
-    check_filled(&rt, &mut device, &[(0, 0)]);
-    fill(&rt, &mut device, (1, 4));
-    check_filled(&rt, &mut device, &[(1, 4)]);
-}
-
-// How a call failed.
-fn failure(answer: io::Result<()>) -> Option<ErrorKind> {
-    answer.err().map(|error| error.kind())
-}
-
-// A call past the sectors, or between two of them, is refused.
-#[test]
-fn a_file_of_sectors_has_no_other_bytes(rt: HostRuntime) {
-    let memory = MemoryDevice::new(rt.alloc(), 2).expect(&rt, "memory");
-    let mut file = SectorFile::new(memory);
-    let past = Some(ErrorKind::UnexpectedEof);
-    for offset in [1, 511, 513, 1024, 2_199_023_255_552] {
-        assert!(rt; failure(file.read_at(&mut [0; 512], offset)) == past);
-        assert!(rt; failure(file.write_at(&[1; 512], offset)) == past);
-    }
-}
-
-// A sync fails, and the error is of this kind.
-fn check_sync_fails(rt: &impl Abort, device: &mut FileDevice, kind: ErrorKind) {
-    assert!(rt; device.sync().is_err());
-    assert!(rt; last_kind(device) == Some(kind));
-}
+const SHORTENED: [Step<'static>; 6] = [
+    Step::New(2),
+    Step::File(Act::Shorten(1024)),
+    SYNCED,
+    Step::File(Act::Shorten(1023)),
+    CUT,
+    REMOVE,
+];
 
 #[test]
 fn a_cut_file_fails_to_sync(rt: HostRuntime) {
-    let path = "disk_tests-cut";
-    let mut device = created(&rt, path, 2);
-    shorten(&rt, path, 1024);
-    assert!(rt; device.sync().is_ok());
-    shorten(&rt, path, 1023);
-    check_sync_fails(&rt, &mut device, ErrorKind::UnexpectedEof);
-    remove(&rt, path);
+    play(&rt, "disk_tests-cut", &SHORTENED);
 }
 
-// A file that is removed.
-fn check_removed<R: Files<File = File> + Abort>(rt: &R, path: &str) {
-    let mut device = created(rt, path, 2);
-    assert!(rt; device.sync().is_ok());
-    remove(rt, path);
-    check_sync_fails(rt, &mut device, ErrorKind::NotFound);
-}
-
-#[test]
-fn a_removed_file_fails_to_sync(rt: HostRuntime) {
-    let path = absolute(&rt, "disk_tests-removed").expect(&rt, "a path");
-    check_removed(&rt, path.as_str());
-    check_removed(&rt, "disk_tests-gone");
-}
+const REMOVED: [Step<'static>; 4] = [Step::New(2), SYNCED, REMOVE, GONE];
 
 // A file of the same bytes at the same name is another one.
-fn check_replaced<R: Files<File = File> + AllocGlobal + Abort>(rt: &R, path: &str) {
-    let copy = "disk_tests-copy";
-    let mut device = created(rt, path, 2);
-    assert!(rt; device.sync().is_ok());
-    assert!(rt; fs::copy(rt, path, copy).is_ok());
-    rename(rt, copy, path);
-    check_sync_fails(rt, &mut device, ErrorKind::NotFound);
-    remove(rt, path);
-}
+const REPLACED: [Step<'static>; 5] = [
+    Step::New(2),
+    SYNCED,
+    Step::File(Act::Replace("disk_tests-copy")),
+    GONE,
+    REMOVE,
+];
 
-#[test]
-fn a_replaced_file_fails_to_sync(rt: HostRuntime) {
-    let path = absolute(&rt, "disk_tests-replaced").expect(&rt, "a path");
-    check_replaced(&rt, path.as_str());
-    check_replaced(&rt, "disk_tests-other");
-}
+const LINK: &str = "disk_tests-link";
+
+const AWAY: &str = "disk_tests-away";
 
 // Another link does not change it, and it may be away while nobody syncs.
-fn check_renamed<R: Files<File = File> + Abort>(rt: &R, path: &str) {
-    let (link, away) = ("disk_tests-link", "disk_tests-away");
-    let mut device = created(rt, path, 2);
-    assert!(rt; fs::hard_link(rt, path, link).is_ok());
-    assert!(rt; device.sync().is_ok());
-    rename(rt, path, away);
-    rename(rt, away, path);
-    assert!(rt; device.sync().is_ok());
-    rename(rt, path, away);
-    check_sync_fails(rt, &mut device, ErrorKind::NotFound);
-    remove(rt, away);
-    remove(rt, link);
+const RENAMED: [Step<'static>; 8] = [
+    Step::New(2),
+    Step::File(Act::Link(LINK)),
+    SYNCED,
+    Step::File(Act::Rename(AWAY)),
+    Step::File(Act::TakeName(AWAY)),
+    SYNCED,
+    Step::File(Act::Rename(AWAY)),
+    GONE,
+];
+
+// The absolute name of a file in this folder.
+fn absolute(rt: &HostRuntime, name: &str) -> io::Result<PathBuf> {
+    Ok(env::current_dir(rt)?.join(rt.alloc(), name)?)
 }
 
+fn check_gone<R: Files<File = File> + AllocGlobal + Abort>(rt: &R, path: &str) {
+    play(rt, path, &REMOVED);
+    play(rt, path, &REPLACED);
+    play(rt, path, &RENAMED);
+    done(rt, fs::remove_file(rt, AWAY));
+    done(rt, fs::remove_file(rt, LINK));
+}
+
+// Under an absolute name and under another.
 #[test]
-fn a_renamed_file_fails_to_sync(rt: HostRuntime) {
-    let path = absolute(&rt, "disk_tests-renamed").expect(&rt, "a path");
-    check_renamed(&rt, path.as_str());
-    check_renamed(&rt, "disk_tests-moved");
+fn a_file_that_is_gone_fails_to_sync(rt: HostRuntime) {
+    let path = absolute(&rt, "disk_tests-absolute").expect(&rt, "a path");
+    check_gone(&rt, path.as_str());
+    check_gone(&rt, "disk_tests-gone");
 }
 
 // A name may be a link: then it leads where the link does at that time.
+const LINKED: [Step<'static>; 7] = [
+    Step::File(Act::LinkTo(ONE)),
+    Step::Open(2),
+    SYNCED,
+    REMOVE,
+    Step::File(Act::LinkTo(TWO)),
+    GONE,
+    REMOVE,
+];
+
+const ONE: &str = "disk_tests-one";
+
+const TWO: &str = "disk_tests-two";
+
 #[test]
 fn a_link_that_is_changed_fails_to_sync(rt: HostRuntime) {
-    let (one, two) = ("disk_tests-one", "disk_tests-two");
     let link = "disk_tests-to-one";
-    drop(created(&rt, one, 2));
-    drop(created(&rt, two, 2));
     let _ = fs::remove_file(&rt, link);
-    assert!(rt; symlink(&rt, one, link).is_ok());
-    let mut device = opened(&rt, link);
-    assert!(rt; device.sync().is_ok());
-    remove(&rt, link);
-    assert!(rt; symlink(&rt, two, link).is_ok());
-    check_sync_fails(&rt, &mut device, ErrorKind::NotFound);
-    for path in [one, two, link] {
-        remove(&rt, path);
-    }
+    play(&rt, ONE, &[Step::New(2)]);
+    play(&rt, TWO, &[Step::New(2)]);
+    play(&rt, link, &LINKED);
+    play(&rt, ONE, &[REMOVE]);
+    play(&rt, TWO, &[REMOVE]);
 }
 
 // Three pages: a hole, bytes that are not zero, and a hole with a part of a page behind it.
 fn make_holes<R: Files<File = File> + Abort>(rt: &R, path: &str) {
-    assert!(rt; fs::write(rt, path, [0u8; 0].as_slice()).is_ok());
-    let file = OpenOptions::new().write(true).open(rt, path);
-    let file = file.expect(rt, "a file");
-    assert!(rt; file.set_len(12_388).is_ok());
-    assert!(rt; file.write_all_at(&[7; 100], 6_000).is_ok());
+    done(rt, fs::write(rt, path, [0u8; 0].as_slice()));
+    let file = writable(rt, path);
+    done(rt, file.set_len(12_388));
+    done(rt, file.write_all_at(&[7; 100], 6_000));
 }
+
+const FILLED: [Step<'static>; 3] = [
+    Step::Lengthen(32, 32),
+    Step::File(Act::Length(16_384)),
+    Step::File(Act::Blocks(32)),
+];
 
 // A file that is long enough may have no room on the disk. The bytes that are not zero stay, and there are zeros up to the
 // end of 32 sectors.
@@ -503,26 +489,33 @@ fn make_holes<R: Files<File = File> + Abort>(rt: &R, path: &str) {
 fn what_is_zeros_is_written_again(rt: HostRuntime) {
     let path = "disk_tests-holes";
     make_holes(&rt, path);
-    assert!(rt; FileDevice::create(&rt, path, 32).is_ok());
-    let mut whole = [0u8; 16_384];
-    whole[6_000..6_100].copy_from_slice(&[7; 100]);
-    check_bytes(&rt, path, &whole);
-    assert!(rt; fs::metadata(&rt, path).expect(&rt, "a file").blocks() >= 32);
-    remove(&rt, path);
+    let mut front = [0; 6_100];
+    front[6_000..].copy_from_slice(&[7; 100]);
+    play(&rt, path, &FILLED);
+    check_bytes(&rt, path, &front);
+    done(&rt, fs::remove_file(&rt, path));
 }
 
-// It reads what another has locked, and writes nothing: EBADF.
+// A file of two sectors, the second of eights, is read beside its device and not written: EBADF.
+fn check_reader<R: Files<File = File> + Abort>(rt: &R, path: &str) {
+    let mut reader = FileDevice::open_to_read(rt, path).expect(rt, "a file");
+    assert!(rt; reader.sectors() == 2);
+    make(rt, &mut reader, Call::Sync(None));
+    make(rt, &mut reader, Call::Filled(0, 0));
+    make(rt, &mut reader, Call::Filled(1, 8));
+    assert!(rt; fill(rt, &mut reader, 1, 3).is_err());
+    assert!(rt; number_of(reader.last_error()) == Some(9));
+}
+
+const READ: [Step<'static>; 5] = [
+    Step::New(2),
+    Step::Device(Call::Fill(1, 8)),
+    Step::File(Act::Read),
+    Step::Device(Call::Filled(1, 8)),
+    REMOVE,
+];
+
 #[test]
 fn a_file_is_read_beside_its_device(rt: HostRuntime) {
-    let path = "disk_tests-read";
-    let mut device = created(&rt, path, 2);
-    fill(&rt, &mut device, (1, 8));
-    let mut reader = FileDevice::open_to_read(&rt, path).expect(&rt, "a file");
-    assert!(rt; reader.sectors() == 2);
-    assert!(rt; reader.sync().is_ok());
-    check_filled(&rt, &mut reader, &[(0, 0), (1, 8)]);
-    assert!(rt; !writes(&rt, &mut reader, 1, &[3; 512]));
-    assert!(rt; number_of(reader.last_error()) == Some(9));
-    check_filled(&rt, &mut device, &[(1, 8)]);
-    remove(&rt, path);
+    play(&rt, "disk_tests-read", &READ);
 }

@@ -8,6 +8,8 @@ mod callers;
 #[cfg(test)]
 mod copies;
 #[cfg(test)]
+mod fake_files;
+#[cfg(test)]
 mod files;
 #[cfg(test)]
 mod memory_device;
@@ -15,3 +17,5 @@ mod memory_device;
 mod names;
 #[cfg(test)]
 mod once_device;
+#[cfg(test)]
+mod sectors;

@@ -1,78 +1,47 @@
 //! One call that fails.
-use sector_dev::{CrashDevice, Device, DeviceFault, Got, MemoryDevice, OnceDevice};
+use crate::sectors::{byte_at, check_first, four_calls};
+use sector_dev::{CrashDevice, MemoryDevice, OnceDevice};
 use std::process::Abort;
 
-fn fill<D: Device>(device: &mut D, at: u32, byte: u8) -> Result<(), DeviceFault> {
-    if at >= device.sectors() {
-        return Err(DeviceFault);
-    }
-    device.write(at, &[byte; 512])
-}
-
-fn byte_at<D: Device>(rt: &impl Abort, device: &mut D, at: u32) -> Result<u8, DeviceFault> {
-    if at >= device.sectors() {
-        return Err(DeviceFault);
-    }
-    let mut sector = [255; 512];
-    let got = device.read(at, &mut sector)?;
-    assert!(rt; got == Got::Whole);
-    Ok(sector[0])
-}
-
-fn bytes<D: Device>(rt: &impl Abort, device: &mut D) -> Result<[u8; 2], DeviceFault> {
-    Ok([byte_at(rt, device, 0)?, byte_at(rt, device, 1)?])
-}
-
-// Four calls, and which of them failed.
-fn four_calls<D: Device>(rt: &impl Abort, device: &mut D) -> [bool; 4] {
-    [
-        fill(device, 0, 1).is_err(),
-        byte_at(rt, device, 0).is_err(),
-        fill(device, 1, 2).is_err(),
-        device.sync().is_err(),
-    ]
-}
-
-// What the two sectors have after four calls of which one failed, at once and after a crash that keeps nothing.
-fn seen_and_left(
+// What two sectors have after four calls of which one failed, at once and after a crash that keeps nothing.
+fn check_failure(
     rt: &impl Abort,
-    device: MemoryDevice,
+    memory: MemoryDevice,
     call: u64,
     pending: bool,
-) -> Result<([u8; 2], [u8; 2]), DeviceFault> {
-    let mut once = OnceDevice::new(device);
+    seen: &[u8],
+    left: &[u8],
+) {
+    let mut once = OnceDevice::new(memory);
     once.fail_at(call, pending);
     let failed = four_calls(rt, &mut once);
     assert!(rt; failed == [call == 1, call == 2, call == 3, call == 4]);
-    let seen = bytes(rt, &mut once)?;
-    let mut device = once.into_device();
-    device.crash(&[]);
-    Ok((seen, bytes(rt, &mut device)?))
+    // The fifth call.
+    assert!(rt; byte_at(rt, &mut once, 0).is_err() == (call == 5));
+    check_first(rt, &mut once, seen);
+    let mut memory = once.into_device();
+    memory.crash(&[]);
+    check_first(rt, &mut memory, left);
 }
+
+const FAILURES: [(u64, bool, [u8; 2], [u8; 2]); 9] = [
+    (0, true, [1, 2], [1, 2]),
+    (1, false, [0, 2], [0, 2]),
+    (1, true, [1, 2], [1, 2]),
+    (2, true, [1, 2], [1, 2]),
+    (3, false, [1, 0], [1, 0]),
+    (3, true, [1, 2], [1, 2]),
+    // A sync that fails leaves what is pending.
+    (4, false, [1, 2], [0, 0]),
+    (4, true, [1, 2], [0, 0]),
+    (5, false, [1, 2], [1, 2]),
+];
 
 #[test]
 fn one_call_fails(rt: HostRuntime) {
-    for (call, pending, seen, left) in [
-        (0, true, [1, 2], [1, 2]),
-        (1, false, [0, 2], [0, 2]),
-        (1, true, [1, 2], [1, 2]),
-        (2, true, [1, 2], [1, 2]),
-        (3, false, [1, 0], [1, 0]),
-        (3, true, [1, 2], [1, 2]),
-        // A sync that fails leaves what is pending.
-        (4, false, [1, 2], [0, 0]),
-        (4, true, [1, 2], [0, 0]),
-        (5, false, [1, 2], [1, 2]),
-    ] {
-        let device = MemoryDevice::new(rt.alloc(), 2).expect(&rt, "memory");
-        let outcome = seen_and_left(&rt, device, call, pending);
-        // The fifth call is the first read after the four.
-        let wanted = if call == 5 {
-            Err(DeviceFault)
-        } else {
-            Ok((seen, left))
-        };
-        assert!(rt; outcome == wanted);
+    for (call, pending, seen, left) in &FAILURES {
+        let memory = MemoryDevice::new(rt.alloc(), 2).expect(&rt, "memory");
+        check_failure(&rt, memory, *call, *pending, seen, left);
     }
 }
 

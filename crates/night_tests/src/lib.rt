@@ -10,6 +10,8 @@ mod cuts;
 #[cfg(test)]
 mod database;
 #[cfg(test)]
+mod dates;
+#[cfg(test)]
 mod report;
 #[cfg(test)]
 mod rounds;
