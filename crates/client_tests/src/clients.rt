@@ -51,16 +51,10 @@ const PART: &[Gives] = &[Gives::Text("na"), Gives::Nothing];
 
 const PART_BEHIND: &[Gives] = &[Gives::Text("name a\nna"), Gives::Nothing];
 
-/// What came of turns in which one connection was served beside another, which says its name in each.
-#[derive(Clone, Copy, PartialEq, Eq)]
-struct Outcome {
-    is_open: bool,
-    /// How many whole lines it was written, all of them the one that is wanted.
-    lines: Option<usize>,
-    reads: usize,
-    /// How many the other was.
-    others: Option<usize>,
-}
+/// What came of turns in which one connection was served beside another, which says its name in each: whether it is open,
+/// how many whole lines it was written, all of them the one that is wanted, how often it was read, and how many lines the
+/// other was written.
+type Outcome = (bool, Option<usize>, usize, Option<usize>);
 
 fn outcome_of(
     rt: &impl Abort,
@@ -70,12 +64,12 @@ fn outcome_of(
 ) -> Outcome {
     assert!(rt; clients.len() == 2);
     let (odd, other) = (&clients[0], &clients[1]);
-    Outcome {
-        is_open: hub.is_open(odd.sid()),
-        lines: lines_of(odd, line),
-        reads: odd.stream().reads,
-        others: lines_of(other, NAMED),
-    }
+    (
+        hub.is_open(odd.sid()),
+        lines_of(odd, line),
+        odd.stream().reads,
+        lines_of(other, NAMED),
+    )
 }
 
 // What comes of a connection in these turns.
@@ -89,177 +83,163 @@ fn played(rt: &impl Abort, alloc: Global, peer: Peer, line: &str, turns: Turns) 
     outcome_of(rt, &clients, &hub, line)
 }
 
-/// What a connection gives and takes, and the line of which its answers are; so many turns, one a millisecond, and for how
-/// long it may be silent; and then whether it is open, how many answers it has, and how often it was read.
-type Row = (
-    (&'static [Gives], Takes, &'static str),
-    (usize, Option<u64>),
-    (bool, Option<usize>, usize),
-);
+// What a connection gives and takes, and the line of which its answers are.
+type Odd = (&'static [Gives], Takes, &'static str);
 
-fn check_row(rt: &impl Abort, alloc: Global, row: &Row) {
-    let ((gives, takes, line), (count, silence), (is_open, lines, reads)) = *row;
+// What is wanted of it: whether it is open, how many answers it has, and how often it was read.
+type Wanted = (bool, Option<usize>, usize);
+
+// This comes of a connection in so many turns, one a millisecond, where it may be silent for so long.
+fn check_odd(
+    rt: &impl Abort,
+    alloc: Global,
+    (gives, takes, line): Odd,
+    (count, silence): (usize, Option<u64>),
+    (is_open, lines, reads): Wanted,
+) {
     let turns = Turns {
         count: count as u64,
         step: 1,
         are_calm: false,
         silence,
     };
-    let wanted = Outcome {
-        is_open,
-        lines,
-        reads,
-        others: Some(count),
-    };
+    let wanted = (is_open, lines, reads, Some(count));
     assert!(rt; played(rt, alloc, made(alloc, gives, takes), line, turns) == wanted);
 }
 
-const PIECES: [Row; 3] = [
-    ((TWO, Takes::Some(3), NAMED), (3, None), (true, None, 1)),
-    (
-        (TWO, Takes::Some(3), NAMED),
-        (20, None),
-        (true, Some(2), 14),
-    ),
-    // Sixteen lines of 255 bytes.
-    (
-        (&[Gives::Most, Gives::Nothing], Takes::All, BAD_LINE),
-        (3, None),
-        (true, Some(16), 3),
-    ),
-];
+fn check(rt: &impl Abort, alloc: Global, odd: Odd, count: usize, wanted: Wanted) {
+    check_odd(rt, alloc, odd, (count, None), wanted);
+}
+
+// The same where it may be silent for 100 ms.
+fn check_within(rt: &impl Abort, alloc: Global, odd: Odd, count: usize, wanted: Wanted) {
+    check_odd(rt, alloc, odd, (count, Some(100)), wanted);
+}
 
 #[test]
 fn answers_go_in_pieces(rt: HostRuntime) {
-    for row in &PIECES {
-        check_row(&rt, rt.alloc(), row);
-    }
+    let alloc = rt.alloc();
+    let slow: Odd = (TWO, Takes::Some(3), NAMED);
+    check(&rt, alloc, slow, 3, (true, None, 1));
+    check(&rt, alloc, slow, 20, (true, Some(2), 14));
+    // Sixteen lines of 255 bytes.
+    check(
+        &rt,
+        alloc,
+        (&[Gives::Most, Gives::Nothing], Takes::All, BAD_LINE),
+        3,
+        (true, Some(16), 3),
+    );
 }
-
-const BROKEN: [Row; 2] = [
-    (
-        (&[Gives::Text("name a\n"), Gives::Reset], Takes::All, NAMED),
-        (5, None),
-        (false, Some(1), 2),
-    ),
-    ((ONE, Takes::Fails(4), NAMED), (5, None), (false, None, 1)),
-];
 
 #[test]
 fn broken_connections_are_closed(rt: HostRuntime) {
-    for row in &BROKEN {
-        check_row(&rt, rt.alloc(), row);
-    }
+    let alloc = rt.alloc();
+    check(
+        &rt,
+        alloc,
+        (&[Gives::Text("name a\n"), Gives::Reset], Takes::All, NAMED),
+        5,
+        (false, Some(1), 2),
+    );
+    check(
+        &rt,
+        alloc,
+        (ONE, Takes::Fails(4), NAMED),
+        5,
+        (false, None, 1),
+    );
 }
-
-const AT_ENDS: [Row; 3] = [
-    ((ENDS, Takes::All, NAMED), (1, None), (true, Some(16), 1)),
-    ((ENDS, Takes::All, NAMED), (9, None), (false, Some(40), 3)),
-    (
-        (ENDS, Takes::Some(7), NAMED),
-        (200, None),
-        (false, Some(40), 3),
-    ),
-];
 
 #[test]
 fn all_lines_before_an_end_are_answered(rt: HostRuntime) {
-    for row in &AT_ENDS {
-        check_row(&rt, rt.alloc(), row);
-    }
+    let alloc = rt.alloc();
+    let ends: Odd = (ENDS, Takes::All, NAMED);
+    check(&rt, alloc, ends, 1, (true, Some(16), 1));
+    check(&rt, alloc, ends, 9, (false, Some(40), 3));
+    check(
+        &rt,
+        alloc,
+        (ENDS, Takes::Some(7), NAMED),
+        200,
+        (false, Some(40), 3),
+    );
 }
-
-const ON: [Row; 2] = [
-    (
-        (SPEAKS, Takes::All, NAMED),
-        (2_000, None),
-        (true, Some(2_000), 2_000),
-    ),
-    // Who takes nothing is read no further.
-    (
-        (&[Gives::Text(NAMES)], Takes::Nothing, NAMED),
-        (50, None),
-        (true, Some(0), 1),
-    ),
-];
 
 #[test]
 fn who_sends_on_is_served_on(rt: HostRuntime) {
-    for row in &ON {
-        check_row(&rt, rt.alloc(), row);
-    }
+    let alloc = rt.alloc();
+    check(
+        &rt,
+        alloc,
+        (SPEAKS, Takes::All, NAMED),
+        2_000,
+        (true, Some(2_000), 2_000),
+    );
+    // Who takes nothing is read no further.
+    check(
+        &rt,
+        alloc,
+        (&[Gives::Text(NAMES)], Takes::Nothing, NAMED),
+        50,
+        (true, Some(0), 1),
+    );
 }
-
-const TOO_LONG: [Row; 3] = [
-    (
-        (FLOODS, Takes::All, BYE),
-        (300, None),
-        (false, Some(1), 255),
-    ),
-    // Who reads slowly is given its farewell.
-    ((FLOODS, Takes::Some(3), BYE), (5, None), (true, None, 1)),
-    (
-        (FLOODS, Takes::Some(3), BYE),
-        (300, None),
-        (false, Some(1), 255),
-    ),
-];
 
 #[test]
 fn who_sends_a_long_line_is_closed(rt: HostRuntime) {
-    for row in &TOO_LONG {
-        check_row(&rt, rt.alloc(), row);
-    }
+    let alloc = rt.alloc();
+    let slow: Odd = (FLOODS, Takes::Some(3), BYE);
+    check(
+        &rt,
+        alloc,
+        (FLOODS, Takes::All, BYE),
+        300,
+        (false, Some(1), 255),
+    );
+    // Who reads slowly is given its farewell.
+    check(&rt, alloc, slow, 5, (true, None, 1));
+    check(&rt, alloc, slow, 300, (false, Some(1), 255));
 }
-
-const SILENT: [Row; 6] = [
-    (
-        (ONE, Takes::All, NAMED),
-        (100, Some(100)),
-        (true, Some(1), 100),
-    ),
-    (
-        (ONE, Takes::All, NAMED),
-        (101, Some(100)),
-        (false, Some(1), 101),
-    ),
-    // A part of a line makes nobody less silent.
-    (
-        (PART, Takes::All, NAMED),
-        (101, Some(100)),
-        (false, Some(0), 101),
-    ),
-    (
-        (PART_BEHIND, Takes::All, NAMED),
-        (101, Some(100)),
-        (false, Some(1), 101),
-    ),
-    // Who has answers to take is not, nor is anybody where no limit is set.
-    (
-        (ONE, Takes::Nothing, NAMED),
-        (200, Some(100)),
-        (true, Some(0), 1),
-    ),
-    ((ONE, Takes::All, NAMED), (200, None), (true, Some(1), 200)),
-];
 
 #[test]
 fn the_silent_are_closed(rt: HostRuntime) {
-    for row in &SILENT {
-        check_row(&rt, rt.alloc(), row);
-    }
+    let alloc = rt.alloc();
+    let waits: Odd = (ONE, Takes::All, NAMED);
+    check_within(&rt, alloc, waits, 100, (true, Some(1), 100));
+    check_within(&rt, alloc, waits, 101, (false, Some(1), 101));
+    // A part of a line makes nobody less silent.
+    check_within(
+        &rt,
+        alloc,
+        (PART, Takes::All, NAMED),
+        101,
+        (false, Some(0), 101),
+    );
+    check_within(
+        &rt,
+        alloc,
+        (PART_BEHIND, Takes::All, NAMED),
+        101,
+        (false, Some(1), 101),
+    );
+    // Who has answers to take is not, nor is anybody where no limit is set.
+    check_within(
+        &rt,
+        alloc,
+        (ONE, Takes::Nothing, NAMED),
+        200,
+        (true, Some(0), 1),
+    );
+    check(&rt, alloc, waits, 200, (true, Some(1), 200));
 }
-
-const LISTED_IN_TURN: [Row; 2] = [
-    ((ASKS, Takes::All, LISTED), (7, None), (true, Some(7), 1)),
-    ((ASKS, Takes::All, LISTED), (50, None), (true, Some(40), 11)),
-];
 
 #[test]
 fn lists_are_answered_one_a_turn(rt: HostRuntime) {
-    for row in &LISTED_IN_TURN {
-        check_row(&rt, rt.alloc(), row);
-    }
+    let alloc = rt.alloc();
+    let asks: Odd = (ASKS, Takes::All, LISTED);
+    check(&rt, alloc, asks, 7, (true, Some(7), 1));
+    check(&rt, alloc, asks, 50, (true, Some(40), 11));
 }
 
 // What comes of a connection that speaks twice or on and on, where it may be silent for 150 ms.
@@ -270,36 +250,34 @@ const AGAIN: &[Gives] = &[
     Gives::Nothing,
 ];
 
-/// What it gives; so many turns, so many milliseconds apart, and whether all is calm; and whether it is open then, and how many
-/// answers it has, and how often it was read.
-type Late = (&'static [Gives], (usize, u64, bool), (bool, usize, usize));
+// It takes so many turns, so many milliseconds apart, which may be calm; then it is open or closed, has so many answers, and
+// was read so often.
+fn check_late(
+    rt: &impl Abort,
+    alloc: Global,
+    gives: &'static [Gives],
+    (count, step, are_calm): (usize, u64, bool),
+    (is_open, lines, reads): (bool, usize, usize),
+) {
+    let turns = Turns {
+        count: count as u64,
+        step,
+        are_calm,
+        silence: Some(150),
+    };
+    let peer = made(alloc, gives, Takes::All);
+    let wanted = (is_open, Some(lines), reads, Some(count));
+    assert!(rt; played(rt, alloc, peer, NAMED, turns) == wanted);
+}
 
 // What has come is read before a client counts as silent, also where it is passed over for as long as all is calm. A server that
 // was held up for long reads first.
-const LATE: [Late; 3] = [
-    (AGAIN, (4, 100, true), (true, 2, 4)),
-    (AGAIN, (6, 100, true), (false, 2, 5)),
-    (SPEAKS, (4, 1_000_000, false), (true, 4, 4)),
-];
-
 #[test]
 fn who_has_sent_is_not_silent(rt: HostRuntime) {
-    for (gives, (count, step, are_calm), (is_open, lines, reads)) in &LATE {
-        let turns = Turns {
-            count: *count as u64,
-            step: *step,
-            are_calm: *are_calm,
-            silence: Some(150),
-        };
-        let wanted = Outcome {
-            is_open: *is_open,
-            lines: Some(*lines),
-            reads: *reads,
-            others: Some(*count),
-        };
-        let peer = made(rt.alloc(), gives, Takes::All);
-        assert!(rt; played(&rt, rt.alloc(), peer, NAMED, turns) == wanted);
-    }
+    let alloc = rt.alloc();
+    check_late(&rt, alloc, AGAIN, (4, 100, true), (true, 2, 4));
+    check_late(&rt, alloc, AGAIN, (6, 100, true), (false, 2, 5));
+    check_late(&rt, alloc, SPEAKS, (4, 1_000_000, false), (true, 4, 4));
 }
 
 const PORTIONS: &[Gives] = &[
@@ -314,39 +292,15 @@ show 1\nshow 2\nshow 3\nshow 4\nshow 5\nshow 6\nshow 7\nshow 8\npgn 1\npgn 1\nsh
 const NO_GAME: &str = "no 3 NoGame\n";
 
 // Sixteen lines, the one that is left before a line that asks for much, each of those alone, and no part of a line.
-const IN_PORTIONS: [Row; 5] = [
-    (
-        (PORTIONS, Takes::All, NO_GAME),
-        (1, None),
-        (true, Some(16), 1),
-    ),
-    (
-        (PORTIONS, Takes::All, NO_GAME),
-        (2, None),
-        (true, Some(17), 1),
-    ),
-    (
-        (PORTIONS, Takes::All, NO_GAME),
-        (3, None),
-        (true, Some(18), 1),
-    ),
-    (
-        (PORTIONS, Takes::All, NO_GAME),
-        (4, None),
-        (true, Some(19), 1),
-    ),
-    (
-        (PORTIONS, Takes::All, NO_GAME),
-        (5, None),
-        (true, Some(19), 2),
-    ),
-];
-
 #[test]
 fn lines_go_on_in_portions(rt: HostRuntime) {
-    for row in &IN_PORTIONS {
-        check_row(&rt, rt.alloc(), row);
-    }
+    let alloc = rt.alloc();
+    let portions: Odd = (PORTIONS, Takes::All, NO_GAME);
+    check(&rt, alloc, portions, 1, (true, Some(16), 1));
+    check(&rt, alloc, portions, 2, (true, Some(17), 1));
+    check(&rt, alloc, portions, 3, (true, Some(18), 1));
+    check(&rt, alloc, portions, 4, (true, Some(19), 1));
+    check(&rt, alloc, portions, 5, (true, Some(19), 2));
 }
 
 // A game is opened, and its position is asked for: 16 answers of 66 bytes.

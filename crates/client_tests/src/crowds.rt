@@ -53,48 +53,39 @@ fn turn(rt: &impl Abort, crowd: &mut Crowd, count: u64) {
     take_turns(rt, &mut crowd.clients, &mut crowd.hub, turns);
 }
 
-// What the first of five connections takes, and so many turns; and then whether it is open, and how many whole answers each was
-// written.
-type Five = (Takes, u64, bool, [Option<usize>; 5]);
-
-// Each sends 16 lines at once, more than a turn answers, and the first then ends.
-const FIVE: [Five; 5] = [
-    (
-        Takes::All,
-        1,
-        true,
-        [Some(13), Some(13), Some(13), Some(13), Some(12)],
-    ),
-    (Takes::All, 2, true, [Some(16); 5]),
-    (Takes::All, 3, false, [Some(16); 5]),
-    // The end is heard in the second turn, when three answers are to come.
-    (
-        Takes::SlowsAt(130),
-        4,
-        true,
-        [None, Some(16), Some(16), Some(16), Some(16)],
-    ),
-    (Takes::SlowsAt(130), 20, false, [Some(16); 5]),
-];
-
-fn check_five(rt: &impl Abort, alloc: Global, five: &Five) {
-    let (takes, count, is_open, answers) = five;
+// Each of five sends 16 lines at once, more than a turn answers, and the first, which takes this, then ends. After so many
+// turns it is open or closed, and each was written so many whole answers.
+fn check_five(
+    rt: &impl Abort,
+    alloc: Global,
+    takes: Takes,
+    count: u64,
+    is_open: bool,
+    answers: [Option<usize>; 5],
+) {
     let mut crowd = nobody(rt, alloc);
-    come(rt, alloc, &mut crowd, 1, ENDS, *takes);
+    come(rt, alloc, &mut crowd, 1, ENDS, takes);
     come(rt, alloc, &mut crowd, 4, STAYS, Takes::All);
-    turn(rt, &mut crowd, *count);
-    for (client, wanted) in crowd.clients.iter().zip(answers) {
+    turn(rt, &mut crowd, count);
+    for (client, wanted) in crowd.clients.iter().zip(&answers) {
         assert!(rt; lines_of(client, NAMED) == *wanted);
     }
     let first = crowd.clients.first().expect(rt, "a client");
-    assert!(rt; crowd.hub.is_open(first.sid()) == *is_open);
+    assert!(rt; crowd.hub.is_open(first.sid()) == is_open);
 }
 
 #[test]
 fn lines_that_wait_at_an_end_are_answered(rt: HostRuntime) {
-    for five in &FIVE {
-        check_five(&rt, rt.alloc(), five);
-    }
+    let alloc = rt.alloc();
+    let all = [Some(16); 5];
+    let one_less = [Some(13), Some(13), Some(13), Some(13), Some(12)];
+    check_five(&rt, alloc, Takes::All, 1, true, one_less);
+    check_five(&rt, alloc, Takes::All, 2, true, all);
+    check_five(&rt, alloc, Takes::All, 3, false, all);
+    // The end is heard in the second turn, when three answers are to come.
+    let but_the_first = [None, Some(16), Some(16), Some(16), Some(16)];
+    check_five(&rt, alloc, Takes::SlowsAt(130), 4, true, but_the_first);
+    check_five(&rt, alloc, Takes::SlowsAt(130), 20, false, all);
 }
 
 // The fewest and the most answers that a client has.
@@ -108,16 +99,24 @@ fn least_and_most(rt: &impl Abort, crowd: &Crowd) -> (usize, usize) {
     (least, most)
 }
 
-// 64 clients who ask for the list again and again.
+// 64 clients ask for the list again and again. How many answers each has after so many turns, at least and at most.
+fn answered(rt: &impl Abort, alloc: Global, count: u64) -> (usize, usize) {
+    let mut crowd = nobody(rt, alloc);
+    let asks = &[Gives::Text(LISTS)];
+    come(rt, alloc, &mut crowd, 64, asks, Takes::All);
+    turn(rt, &mut crowd, count);
+    least_and_most(rt, &crowd)
+}
+
 #[test]
 fn who_asks_for_much_is_answered_in_turn(rt: HostRuntime) {
-    for (count, wanted) in [(63, (0, 1)), (64, (1, 1)), (2_000, (31, 32))] {
-        let mut crowd = nobody(&rt, rt.alloc());
-        let asks = &[Gives::Text(LISTS)];
-        come(&rt, rt.alloc(), &mut crowd, 64, asks, Takes::All);
-        turn(&rt, &mut crowd, count);
-        assert!(rt; least_and_most(&rt, &crowd) == wanted);
-    }
+    let alloc = rt.alloc();
+    let found = [
+        answered(&rt, alloc, 63),
+        answered(&rt, alloc, 64),
+        answered(&rt, alloc, 2_000),
+    ];
+    assert!(rt; found == [(0, 1), (1, 1), (31, 32)]);
 }
 
 // Two clients were given 40 lists each and are idle. A third comes and asks for the list.

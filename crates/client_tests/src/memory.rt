@@ -39,7 +39,7 @@ const BOB: &[Gives] = &[
 const ANSWERS: [usize; 2] = [4, 8];
 
 /// What was seen of a refusal.
-#[derive(Clone, Copy, Debug, PartialEq, Eq)]
+#[derive(Clone, Copy, PartialEq)]
 struct Seen {
     /// How many turns ended by want of memory.
     refusals: u64,
