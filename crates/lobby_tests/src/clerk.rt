@@ -4,7 +4,6 @@ use std::alloc::Global;
 use std::process::Abort;
 
 // What happens, and what is decided then.
-#[derive(Clone, Copy)]
 enum Row {
     Over(u32, bool, bool),
     Came(u32, bool, bool),
@@ -91,7 +90,6 @@ fn a_clerk_decides_so(rt: HostRuntime) {
 }
 
 // What happens to games 1, 2 and 3, which are over.
-#[derive(Clone, Copy)]
 enum Step {
     Over(u32),
     Came(u32),

@@ -4,9 +4,13 @@
 #[cfg(test)]
 mod archive;
 #[cfg(test)]
+mod browser;
+#[cfg(test)]
 mod clerk;
 #[cfg(test)]
 mod figures;
+#[cfg(test)]
+mod frames;
 #[cfg(test)]
 mod moves;
 #[cfg(test)]
@@ -14,4 +18,4 @@ mod players;
 #[cfg(test)]
 mod positions;
 #[cfg(test)]
-mod web;
+mod requests;
