@@ -2,7 +2,7 @@
 use lobby_players::{
     AddFault, Addition, LineFault, PlayersFault, added, link_text, read, token_text,
 };
-use std::alloc::{AllocError, Global};
+use std::alloc::Global;
 
 const ANN: &str =
     "ann player ba7816bf8f01cfea414140de5dae2223b00361a396177a9cb410ff61f20015ad Ann Lee\n";
