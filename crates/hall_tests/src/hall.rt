@@ -1,18 +1,19 @@
 //! Browsers and a server over streams that give and take little, or fail.
-use bytes::Bytes;
+use crate::browser::{file_of, site_of};
+use crate::frames::UPGRADE;
 use lobby_desk::Order;
 use lobby_loop::{
     ActLog, Fault, Found, Hall, Links, Listens, NoActLog, NoLinks, Welcomed, welcome,
 };
 use lobby_players::relinked;
 use lobby_roster::{Linked, Player};
-use lobby_web::{File, Kind, Site};
+use lobby_web::Kind;
 use rec_codec::Name;
 use std::alloc::Global;
 use std::hash::RandomState;
-use std::io;
 use std::io::{Error, ErrorKind, Read, Write};
 use std::process::Abort;
+use std::{io, mem};
 
 /// What a stream gives at a read.
 #[derive(Clone, Copy)]
@@ -79,7 +80,11 @@ impl Write for Peer {
         if !self.is_full {
             return Err(Error::from(ErrorKind::WouldBlock));
         }
-        let count = buf.len().min(self.takes);
+        let count = if buf.len() < self.takes {
+            buf.len()
+        } else {
+            self.takes
+        };
         self.written.extend_from_slice(&buf[..count])?;
         Ok(count)
     }
@@ -121,10 +126,7 @@ type Script = (Gifts, Gifts);
 
 // A hall under the host `a:1`.
 fn hall_of(rt: &impl Abort, alloc: Global, keys: RandomState, is_paused: bool) -> Hall<Peer> {
-    let mut hosts = Vec::new(alloc);
-    let host = b"a:1".to_vec(alloc).expect(rt, "memory");
-    hosts.push(host).expect(rt, "memory");
-    let site = Site::new(hosts, Vec::new(alloc));
+    let site = site_of(rt, alloc, Vec::new(alloc));
     Hall::new(alloc, keys, site, players(rt, alloc, SUM), is_paused)
 }
 
@@ -160,7 +162,9 @@ impl Lab {
     // Begins a script, where so many bytes the browser's socket takes at a write, and entries are paused or not.
     fn begin(&mut self, rt: &impl Abort, script: Script, takes: usize, is_paused: bool) {
         let (browser, server) = script;
-        self.hall = hall_of(rt, self.alloc, self.keys, is_paused);
+        // (a call drops the one before: in its place all its fields would be proved to be dropped)
+        let hall = hall_of(rt, self.alloc, self.keys, is_paused);
+        drop(mem::replace(&mut self.hall, hall));
         let server = Peer::new(self.alloc, server, 1_000);
         self.hall.server_came(server).expect(rt, "memory");
         self.hall.admit(Peer::new(self.alloc, browser, takes), 2, 0);
@@ -187,7 +191,7 @@ impl Lab {
         self.turn(rt, turns, apart);
     }
 
-    // How what was written to the browser ends, where it is there.
+    // Whether the browser is there, and what was written to it ends so.
     fn is_told(&self, end: &[u8]) -> bool {
         match self.hall.guest_stream() {
             Some(peer) => peer.written.as_slice().ends_with(end),
@@ -203,9 +207,6 @@ impl Lab {
         }
     }
 }
-
-const UPGRADE: &[u8] =
-    b"GET /ws HTTP/1.1\r\nHost: a:1\r\nOrigin: http://a:1\r\nConnection: Upgrade\r\nUpgrade: websocket\r\nSec-WebSocket-Version: 13\r\nSec-WebSocket-Key: AAAAAAAAAAAAAAAAAAAAAA==\r\n\r\n";
 
 // A message with a line feed in it, one of 256 bytes, one that is no ASCII, and one without a byte.
 const NONE: &[u8] =
@@ -383,10 +384,8 @@ fn a_file_changes_between_turns(rt: &impl Abort, lab: &mut Lab) {
     );
     lab.begin(rt, asks, 1_000, false);
     for bytes in [b"one".as_slice(), b"another"] {
-        let path = b"/live.pgn".to_vec(lab.alloc).expect(rt, "memory");
-        let file = File::new(lab.alloc, path, Kind::Pgn, Bytes::from_static(bytes));
-        let is_put = lab.hall.put_file(file.expect(rt, "memory"));
-        is_put.expect(rt, "memory");
+        let file = file_of(rt, lab.alloc, b"/live.pgn", Kind::Pgn, bytes);
+        lab.hall.put_file(file).expect(rt, "memory");
         lab.turn(rt, 2, 1);
         assert!(rt; lab.is_told(bytes));
     }
@@ -671,4 +670,5 @@ fn halls(rt: HostRuntime) {
     a_link_is_told_once_it_is_made(&rt, &mut lab);
     that_entries_are_paused_is_kept_before_it_is_told(&rt, &mut lab);
     that_entries_are_paused_is_kept_before_the_log_is_told(&rt, &mut lab);
+    drop(lab);
 }

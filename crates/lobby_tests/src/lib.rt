@@ -4,18 +4,12 @@
 #[cfg(test)]
 mod archive;
 #[cfg(test)]
-mod browser;
-#[cfg(test)]
 mod clerk;
 #[cfg(test)]
 mod figures;
-#[cfg(test)]
-mod frames;
 #[cfg(test)]
 mod moves;
 #[cfg(test)]
 mod players;
 #[cfg(test)]
 mod positions;
-#[cfg(test)]
-mod requests;

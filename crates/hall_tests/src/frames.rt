@@ -1,10 +1,9 @@
 //! Browsers that speak frames behind an upgrade, well and badly.
 use crate::browser::{Lab, MOST, add};
 use lobby_web::Unsaid;
-use std::hash::RandomState;
 use std::process::Abort;
 
-const UPGRADE: &[u8] =
+pub const UPGRADE: &[u8] =
     b"GET /ws HTTP/1.1\r\nHost: a:1\r\nOrigin: http://a:1\r\nConnection: Upgrade\r\nUpgrade: websocket\r\nSec-WebSocket-Version: 13\r\nSec-WebSocket-Key: dGhlIHNhbXBsZSBub25jZQ==\r\n\r\n";
 
 // (the key and its answer stand in RFC 6455, section 1.3)
@@ -19,14 +18,7 @@ fn has_switched(lab: &Lab, said: &[u8], answer: &[u8], is_over: bool) -> bool {
 }
 
 // What these frames bring behind an upgrade is this, in whatever pieces they come, also right behind the head.
-fn check_frames(
-    rt: &impl Abort,
-    lab: &mut Lab,
-    frames: &[u8],
-    said: &[u8],
-    answer: &[u8],
-    is_over: bool,
-) {
+fn check(rt: &impl Abort, lab: &mut Lab, frames: &[u8], said: &[u8], answer: &[u8], is_over: bool) {
     let mut bytes = lab.long(rt, UPGRADE, UPGRADE.len());
     add(rt, &mut bytes, frames);
     lab.whole(rt, &bytes);
@@ -112,13 +104,13 @@ const FRAMES: [Frames; 25] = [
 
 fn frames_are_heard_or_refused(rt: &impl Abort, lab: &mut Lab) {
     for (frames, said, answer, is_over) in &FRAMES {
-        check_frames(rt, lab, frames, said, answer, *is_over);
+        check(rt, lab, frames, said, answer, *is_over);
     }
 }
 
 fn a_control_frame_too_long_is_refused(rt: &impl Abort, lab: &mut Lab) {
     let ping = lab.long(rt, b"\x89\xfe\0\x7e\0\0\0\0", 8 + 126);
-    check_frames(rt, lab, &ping, b"", b"\x88\x02\x03\xea", true);
+    check(rt, lab, &ping, b"", b"\x88\x02\x03\xea", true);
 }
 
 // It is told a text of so many bytes so often; true where it took all.
@@ -175,12 +167,10 @@ fn who_pings_and_takes_nothing_is_not_read(rt: &impl Abort, lab: &mut Lab) {
     assert!(rt; lab.written.len() == SWITCH.len() + 76_200 && lab.browser.wants_read());
 }
 
-#[test]
-fn frames(rt: HostRuntime) {
-    let mut lab = Lab::new(&rt, rt.alloc(), RandomState::new(&rt).expect(&rt, "keys"));
-    frames_are_heard_or_refused(&rt, &mut lab);
-    a_control_frame_too_long_is_refused(&rt, &mut lab);
-    who_takes_nothing_is_closed(&rt, &mut lab);
-    a_flood_is_not_taken(&rt, &mut lab);
-    who_pings_and_takes_nothing_is_not_read(&rt, &mut lab);
+pub fn check_frames(rt: &impl Abort, lab: &mut Lab) {
+    frames_are_heard_or_refused(rt, lab);
+    a_control_frame_too_long_is_refused(rt, lab);
+    who_takes_nothing_is_closed(rt, lab);
+    a_flood_is_not_taken(rt, lab);
+    who_pings_and_takes_nothing_is_not_read(rt, lab);
 }

@@ -1,8 +1,11 @@
 //! A browser that is tried before a site: the same bytes at once, and one by one.
+use crate::frames::check_frames;
+use crate::requests::check_requests;
 use bytes::Bytes;
 use lobby_web::{Browser, File, Heard, Kind, Site};
 use std::alloc::Global;
 use std::hash::RandomState;
+use std::mem;
 use std::process::Abort;
 
 /// So many things at most are heard of a browser, and written to it, at once.
@@ -20,34 +23,50 @@ pub struct Lab {
     pub written: Vec<u8>,
 }
 
+pub fn file_of(
+    rt: &impl Abort,
+    alloc: Global,
+    path: &[u8],
+    kind: Kind,
+    bytes: &'static [u8],
+) -> File {
+    let path = path.to_vec(alloc).expect(rt, "memory");
+    File::new(alloc, path, kind, Bytes::from_static(bytes)).expect(rt, "memory")
+}
+
+// These files under the host `a:1`.
+pub fn site_of(rt: &impl Abort, alloc: Global, files: Vec<File>) -> Site {
+    let mut hosts = Vec::new(alloc);
+    let host = b"a:1".to_vec(alloc).expect(rt, "memory");
+    hosts.push(host).expect(rt, "memory");
+    Site::new(hosts, files)
+}
+
 impl Lab {
-    pub fn new(rt: &impl Abort, alloc: Global, keys: RandomState) -> Lab {
-        let mut hosts = Vec::new(alloc);
-        let host = b"a:1".to_vec(alloc).expect(rt, "memory");
-        hosts.push(host).expect(rt, "memory");
-        let mut lab = Lab {
+    fn new(rt: &impl Abort, alloc: Global, keys: RandomState) -> Lab {
+        let mut files = Vec::new(alloc);
+        let page = file_of(rt, alloc, b"/", Kind::Html, b"the page");
+        files.push(page).expect(rt, "memory");
+        Lab {
             alloc,
             keys,
-            site: Site::new(hosts, Vec::new(alloc)),
+            site: site_of(rt, alloc, files),
             browser: Browser::new(alloc, keys),
             said: Vec::new(alloc),
             written: Vec::new(alloc),
-        };
-        lab.put(rt, b"/", Kind::Html, b"the page");
-        lab
+        }
     }
 
     /// From now on a path has these bytes.
     pub fn put(&mut self, rt: &impl Abort, path: &[u8], kind: Kind, bytes: &'static [u8]) {
-        let path = path.to_vec(self.alloc).expect(rt, "memory");
-        let file = File::new(self.alloc, path, kind, Bytes::from_static(bytes));
-        let is_put = self.site.put(file.expect(rt, "memory"));
-        is_put.expect(rt, "memory");
+        let file = file_of(rt, self.alloc, path, kind, bytes);
+        self.site.put(file).expect(rt, "memory");
     }
 
-    // Another browser comes.
+    // Another browser comes. (A call drops the one before: in its place all its fields would be proved to be dropped.)
     fn begin(&mut self) {
-        self.browser = Browser::new(self.alloc, self.keys);
+        let browser = Browser::new(self.alloc, self.keys);
+        drop(mem::replace(&mut self.browser, browser));
         self.said.clear();
         self.written.clear();
     }
@@ -141,4 +160,13 @@ impl Lab {
 /// One behind the other.
 pub fn add(rt: &impl Abort, all: &mut Vec<u8>, more: &[u8]) {
     all.extend_from_slice(more).expect(rt, "memory");
+}
+
+#[test]
+fn browsers_are_answered(rt: HostRuntime) {
+    let keys = RandomState::new(&rt).expect(&rt, "keys");
+    let mut lab = Lab::new(&rt, rt.alloc(), keys);
+    check_requests(&rt, &mut lab);
+    check_frames(&rt, &mut lab);
+    drop(lab);
 }

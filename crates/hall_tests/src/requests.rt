@@ -1,7 +1,6 @@
 //! Browsers that speak HTTP, well and badly.
 use crate::browser::{Lab, add};
 use lobby_web::{Kind, MOST_AT_ONCE};
-use std::hash::RandomState;
 use std::process::Abort;
 
 // A request, how its answer begins, and whether the connection is over then.
@@ -313,13 +312,11 @@ fn half_a_head_and_then_nothing_is_the_end(rt: &impl Abort, lab: &mut Lab) {
     assert!(rt; lab.has(b"", b"HTTP/1.1 400 ", true));
 }
 
-#[test]
-fn requests(rt: HostRuntime) {
-    let mut lab = Lab::new(&rt, rt.alloc(), RandomState::new(&rt).expect(&rt, "keys"));
-    a_request_is_answered_or_refused(&rt, &mut lab);
-    files_come_and_go(&rt, &mut lab);
-    who_has_the_page_is_not_sent_it(&rt, &mut lab);
-    boards_have_one_page(&rt, &mut lab);
-    a_head_too_long_is_refused(&rt, &mut lab);
-    half_a_head_and_then_nothing_is_the_end(&rt, &mut lab);
+pub fn check_requests(rt: &impl Abort, lab: &mut Lab) {
+    a_request_is_answered_or_refused(rt, lab);
+    files_come_and_go(rt, lab);
+    who_has_the_page_is_not_sent_it(rt, lab);
+    boards_have_one_page(rt, lab);
+    a_head_too_long_is_refused(rt, lab);
+    half_a_head_and_then_nothing_is_the_end(rt, lab);
 }
