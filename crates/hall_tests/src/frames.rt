@@ -126,7 +126,8 @@ fn say_often(lab: &mut Lab, text: &[u8], count: usize) -> bool {
 fn who_takes_nothing_is_closed(rt: &impl Abort, lab: &mut Lab) {
     let text = lab.long(rt, b"", 65_536);
     // 16 frames of 65,546 bytes are more than 1,048,576.
-    for (count, said) in [(15, Ok(())), (16, Err(Unsaid::Slow))] {
+    let cases: [(usize, Result<(), Unsaid>); 2] = [(15, Ok(())), (16, Err(Unsaid::Slow))];
+    for (count, said) in cases {
         lab.whole(rt, UPGRADE);
         assert!(rt; say_often(lab, &text, count));
         assert!(rt; lab.browser.say(b"more") == said && lab.browser.is_over() == said.is_err());

@@ -241,11 +241,14 @@ const HALF_A_HEAD: Script = (
 );
 
 // A browser that shows ann's token, and some turns later opens a game.
-const LATE: Gifts = &[
-    (0, Gives::Bytes(UPGRADE)),
-    (1, Gives::Bytes(b"\x81\x87\0\0\0\0login t")),
-    (10, Gives::Bytes(b"\x81\x90\0\0\0\0open white 300 2")),
-];
+const LATE: Script = (
+    &[
+        (0, Gives::Bytes(UPGRADE)),
+        (1, Gives::Bytes(b"\x81\x87\0\0\0\0login t")),
+        (10, Gives::Bytes(b"\x81\x90\0\0\0\0open white 300 2")),
+    ],
+    &[],
+);
 
 const CASES: [Case; 11] = [
     // three messages, of which the first is not answered
@@ -366,23 +369,24 @@ fn what_comes_in_pieces_is_told(rt: &impl Abort, lab: &mut Lab) {
 }
 
 fn a_hall_begins_with_entries_paused(rt: &impl Abort, lab: &mut Lab) {
-    lab.begin(rt, (LATE, &[]), 1_000, true);
+    lab.begin(rt, LATE, 1_000, true);
     lab.turn(rt, 30, 1);
     check(rt, lab, Some(b""), Some(b"\x81\x14no 39 EntriesPaused\n"));
 }
 
 const LIVE: &[u8] = b"GET /live.pgn HTTP/1.1\r\nHost: a:1\r\n\r\n";
 
+const ASKS: Script = (
+    &[
+        (0, Gives::Bytes(LIVE)),
+        (2, Gives::Bytes(LIVE)),
+        (4, Gives::Bytes(LIVE)),
+    ],
+    &[],
+);
+
 fn a_file_changes_between_turns(rt: &impl Abort, lab: &mut Lab) {
-    let asks: Script = (
-        &[
-            (0, Gives::Bytes(LIVE)),
-            (2, Gives::Bytes(LIVE)),
-            (4, Gives::Bytes(LIVE)),
-        ],
-        &[],
-    );
-    lab.begin(rt, asks, 1_000, false);
+    lab.begin(rt, ASKS, 1_000, false);
     for bytes in [b"one".as_slice(), b"another"] {
         let file = file_of(rt, lab.alloc, b"/live.pgn", Kind::Pgn, bytes);
         lab.hall.put_file(file).expect(rt, "memory");
@@ -437,8 +441,10 @@ impl Listens for Door {
     }
 }
 
+const ENDS: Script = (&[(0, Gives::End)], &[]);
+
 fn a_failed_accept_ends_the_turn_at_the_door(rt: &impl Abort, lab: &mut Lab) {
-    lab.play(rt, (&[(0, Gives::End)], &[]), 90, 1);
+    lab.play(rt, ENDS, 90, 1);
     let mut door = Door {
         finds: &[ErrorKind::ConnectionAborted, ErrorKind::OutOfMemory],
         tries: 0,
@@ -449,11 +455,11 @@ fn a_failed_accept_ends_the_turn_at_the_door(rt: &impl Abort, lab: &mut Lab) {
 }
 
 fn who_has_another_link_acts_no_more(rt: &impl Abort, lab: &mut Lab) {
-    lab.play(rt, (LATE, &[]), 6, 1);
+    lab.play(rt, LATE, 6, 1);
     lab.hall.renew(players(rt, lab.alloc, SUM));
     lab.turn(rt, 30, 1);
     assert!(rt; lab.asked() == Some(b"name ann\nopen white 300 2\n"));
-    lab.play(rt, (LATE, &[]), 6, 1);
+    lab.play(rt, LATE, 6, 1);
     lab.hall.renew(players(rt, lab.alloc, [0; 32]));
     lab.turn(rt, 30, 1);
     assert!(rt; lab.asked() == Some(b"") && lab.is_told(b"\x81\x0eno 31 NoToken\n"));

@@ -247,10 +247,10 @@ fn check_known(rt: &impl Abort, lab: &mut Lab, known: [&str; 3], has: bool) {
 
 fn who_has_the_page_is_not_sent_it(rt: &impl Abort, lab: &mut Lab) {
     for (front, end, has) in &ASKED {
-        check_known(rt, lab, [front, TAG, end], *has);
+        check_known(rt, lab, [*front, TAG, *end], *has);
     }
     for (known, has) in &OTHERS {
-        check_known(rt, lab, [known, "", ""], *has);
+        check_known(rt, lab, [*known, "", ""], *has);
     }
 }
 

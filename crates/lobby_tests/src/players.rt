@@ -88,7 +88,7 @@ const ADDED: [Added; 7] = [
 #[test]
 fn adds_a_player_and_gives_a_new_token(rt: HostRuntime) {
     let token = [0, 1, 2, 3, 4, 5, 6, 7, 8, 9, 10, 11, 12, 13, 14, 15];
-    for (text, name, full_name, wanted) in &ADDED {
+    for (text, name, full_name, wanted) in ADDED {
         let who = Addition {
             name,
             full_name,
@@ -99,7 +99,7 @@ fn adds_a_player_and_gives_a_new_token(rt: HostRuntime) {
             Ok(new) => Ok(new.as_str()),
             Err(fault) => Err(*fault),
         };
-        assert!(rt; told == *wanted);
+        assert!(rt; told == wanted);
     }
 }
 
