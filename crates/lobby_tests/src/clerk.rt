@@ -90,6 +90,7 @@ fn a_clerk_decides_so(rt: HostRuntime) {
 }
 
 // What happens to games 1, 2 and 3, which are over.
+#[derive(Clone, Copy)]
 enum Step {
     Over(u32),
     Came(u32),
