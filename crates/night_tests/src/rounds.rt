@@ -159,6 +159,11 @@ fn games_of_a_board(rt: HostRuntime) {
     assert!(rt; games.as_slice() == [17, 18, 20].as_slice());
 }
 
+// The step about a board of ann and bob.
+fn step(rt: &impl Abort, stage: Option<&Stage>, games: &[u32], seats: Option<Seats>) -> Step {
+    step_of(&name(rt, "ann"), &name(rt, "bob"), stage, &[], games, seats)
+}
+
 fn seats(white: &str, black: &str) -> Option<Seats> {
     Some(Seats {
         white: Name::try_new(white),
@@ -166,52 +171,46 @@ fn seats(white: &str, black: &str) -> Option<Seats> {
     })
 }
 
-// What stands noted of a board of ann and bob, the servers that are away, the games that may be its, and who sits at its game.
-type Board<'a> = (Option<&'a Stage>, &'a [u32], &'a [u32], Option<Seats>);
-
-fn step(rt: &impl Abort, board: Board) -> Step {
-    let (stage, away, games, seats) = board;
-    step_of(
-        &name(rt, "ann"),
-        &name(rt, "bob"),
-        stage,
-        away,
-        games,
-        seats,
-    )
+// The step about a board that is about to be opened, by the games that may be its.
+fn step_at_opening(rt: &impl Abort, alloc: Global, games: &[u32]) -> Step {
+    let (ann, bob) = (name(rt, "ann"), name(rt, "bob"));
+    let opening = Stage::Opening(Vec::new(alloc));
+    step_of(&ann, &bob, Some(&opening), &[], games, None)
 }
 
 #[test]
-fn servers_that_are_away(rt: HostRuntime) {
-    let away = unheard(rt.alloc(), &[1, 2, 3], &[20_000_003, 40_000_001], &[1, 2]);
-    let away = away.expect(&rt, "memory");
+fn steps_before_a_game(rt: HostRuntime) {
+    assert!(rt; step(&rt, None, &[], None) == Step::Begin);
+    assert!(rt; step_at_opening(&rt, rt.alloc(), &[]) == Step::Open);
+    assert!(rt; step_at_opening(&rt, rt.alloc(), &[17]) == Step::Take(17));
+    assert!(rt; step_at_opening(&rt, rt.alloc(), &[17, 19]) == Step::Ask);
+}
+
+#[test]
+fn steps_while_a_server_is_away(rt: HostRuntime) {
+    let alloc = rt.alloc();
+    let away = unheard(alloc, &[1, 2, 3], &[20_000_003, 40_000_001], &[1, 2]).expect(&rt, "memory");
     assert!(rt; away.as_slice() == [3, 4].as_slice());
-    assert!(rt; step(&rt, (None, &away, &[], None)) == Step::LookAgain);
+    let (ann, bob) = (name(&rt, "ann"), name(&rt, "bob"));
+    assert!(rt; step_of(&ann, &bob, None, &away, &[], None) == Step::LookAgain);
+    let opening = Stage::Opening(Vec::new(alloc));
+    assert!(rt; step_of(&ann, &bob, Some(&opening), &[3], &[17], None) == Step::LookAgain);
 }
 
 #[test]
-fn steps(rt: HostRuntime) {
-    let opening = Stage::Opening(Vec::new(rt.alloc()));
+fn steps_of_a_game(rt: HostRuntime) {
     let opened = Stage::Opened(17);
-    let joined = Stage::Joined(17);
-    let cases: [(Board, Step); 10] = [
-        ((None, &[], &[], None), Step::Begin),
-        ((Some(&opening), &[], &[], None), Step::Open),
-        ((Some(&opening), &[], &[17], None), Step::Take(17)),
-        ((Some(&opening), &[], &[17, 19], None), Step::Ask),
-        ((Some(&opening), &[3], &[17], None), Step::LookAgain),
-        ((Some(&opened), &[], &[], seats("ann", "")), Step::Join(17)),
-        (
-            (Some(&opened), &[], &[], seats("ann", "bob")),
-            Step::Note(17),
-        ),
-        ((Some(&opened), &[], &[], seats("ann", "ann")), Step::Ask),
-        ((Some(&opened), &[], &[], None), Step::Ask),
-        ((Some(&joined), &[], &[], None), Step::Has(17)),
+    let cases = [
+        (seats("ann", ""), Step::Join(17)),
+        (seats("ann", "bob"), Step::Note(17)),
+        (seats("ann", "ann"), Step::Ask),
+        (None, Step::Ask),
     ];
-    for (board, wanted) in cases {
-        assert!(rt; step(&rt, board) == wanted);
+    for (seats, wanted) in cases {
+        assert!(rt; step(&rt, Some(&opened), &[], seats) == wanted);
     }
+    let joined = Stage::Joined(17);
+    assert!(rt; step(&rt, Some(&joined), &[], None) == Step::Has(17));
 }
 
 #[test]
