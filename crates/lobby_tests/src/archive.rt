@@ -1,5 +1,7 @@
 //! Games of a club.
 use archive_text::{Heading, Outcome, TextFault, archived, results};
+use std::alloc::Global;
+use std::process::Abort;
 
 const CLUB: Heading<'static> = Heading {
     event: "Club \"A\"",
@@ -20,27 +22,23 @@ const GAME: &str =
 const ARCHIVED_TAGS: &str =
     "[Event \"Club \\\"A\\\"\"]\n[Site \"Town\"]\n[Date \"2026.11.25\"]\n[Round \"3\"]\n[White \"Ann Lee\"]\n[Black \"Bo\\\\b\"]\n[Result \"0-1\"]\n[Article \"5.1.1\"]\n[Termination \"normal\"]\n[TimeControl \"300+2\"]\n\n";
 
-// The clock behind the last move, and how the moves stand there: the line has 79 characters, and with a tenth hour the result
-// does not fit any more.
-const CLOCKS: [(u64, &str); 2] = [
-    (
-        3_609_000,
-        "1. f3 {[%clk 0:05:01]} 1... e5 {[%clk 0:04:59]} 2. g4 Qh4# {[%clk 1:00:09]} 0-1\n\n",
-    ),
-    (
-        36_000_000,
-        "1. f3 {[%clk 0:05:01]} 1... e5 {[%clk 0:04:59]} 2. g4 Qh4# {[%clk 10:00:00]}\n0-1\n\n",
-    ),
-];
+// With this clock behind the last move, the moves stand so.
+fn check_moves(rt: &impl Abort, alloc: Global, last: u64, moves: &str) {
+    let clocks = [Some(301_999), Some(299_000), None, Some(last)];
+    let text = archived(alloc, &CLUB, GAME, &clocks).expect(rt, "a game");
+    let told = text.as_slice().strip_prefix(ARCHIVED_TAGS.as_bytes());
+    assert!(rt; told == Some(moves.as_bytes()));
+}
 
+// The line has 79 characters, and with a tenth hour the result does not fit any more.
 #[test]
 fn a_game_is_archived_so(rt: HostRuntime) {
-    for (last, moves) in &CLOCKS {
-        let clocks = [Some(301_999), Some(299_000), None, Some(*last)];
-        let text = archived(rt.alloc(), &CLUB, GAME, &clocks).expect(&rt, "a game");
-        let told = text.as_slice().strip_prefix(ARCHIVED_TAGS.as_bytes());
-        assert!(rt; told == Some(moves.as_bytes()));
-    }
+    let moves =
+        "1. f3 {[%clk 0:05:01]} 1... e5 {[%clk 0:04:59]} 2. g4 Qh4# {[%clk 1:00:09]} 0-1\n\n";
+    check_moves(&rt, rt.alloc(), 3_609_000, moves);
+    let moves =
+        "1. f3 {[%clk 0:05:01]} 1... e5 {[%clk 0:04:59]} 2. g4 Qh4# {[%clk 10:00:00]}\n0-1\n\n";
+    check_moves(&rt, rt.alloc(), 36_000_000, moves);
 }
 
 #[test]
