@@ -1,5 +1,11 @@
-//! Tests of the lobby's loop, by what it exports alone: so it is not proved twice.
+//! Tests of the lobby's browsers and of its loop, by what their crates export alone: so none of them is proved twice.
 #![tactic(auto)]
 
 #[cfg(test)]
+mod browser;
+#[cfg(test)]
+mod frames;
+#[cfg(test)]
 mod hall;
+#[cfg(test)]
+mod requests;

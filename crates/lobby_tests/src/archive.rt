@@ -1,5 +1,7 @@
 //! Games of a club.
 use archive_text::{Heading, Outcome, TextFault, archived, results};
+use std::alloc::Global;
+use std::process::Abort;
 
 const CLUB: Heading<'static> = Heading {
     event: "Club \"A\"",
@@ -16,39 +18,39 @@ const TAGS: &str =
 const GAME: &str =
     "[Event \"?\"]\n[Site \"?\"]\n[Date \"????.??.??\"]\n[Round \"?\"]\n[White \"ann\"]\n[Black \"bob\"]\n[Result \"0-1\"]\n[Article \"5.1.1\"]\n[Termination \"normal\"]\n[TimeControl \"300+2\"]\n\n1. f3 e5 2. g4 Qh4# 0-1\n\n";
 
-// The line of moves has 79 characters.
-const ARCHIVED: &str =
-    "[Event \"Club \\\"A\\\"\"]\n[Site \"Town\"]\n[Date \"2026.11.25\"]\n[Round \"3\"]\n[White \"Ann Lee\"]\n[Black \"Bo\\\\b\"]\n[Result \"0-1\"]\n[Article \"5.1.1\"]\n[Termination \"normal\"]\n[TimeControl \"300+2\"]\n\n1. f3 {[%clk 0:05:01]} 1... e5 {[%clk 0:04:59]} 2. g4 Qh4# {[%clk 1:00:09]} 0-1\n\n";
+// How GAME stands in the archive up to its moves.
+const ARCHIVED_TAGS: &str =
+    "[Event \"Club \\\"A\\\"\"]\n[Site \"Town\"]\n[Date \"2026.11.25\"]\n[Round \"3\"]\n[White \"Ann Lee\"]\n[Black \"Bo\\\\b\"]\n[Result \"0-1\"]\n[Article \"5.1.1\"]\n[Termination \"normal\"]\n[TimeControl \"300+2\"]\n\n";
 
-// With a tenth hour the result does not fit any more.
-const IN_TWO_LINES: &str =
-    "[Event \"Club \\\"A\\\"\"]\n[Site \"Town\"]\n[Date \"2026.11.25\"]\n[Round \"3\"]\n[White \"Ann Lee\"]\n[Black \"Bo\\\\b\"]\n[Result \"0-1\"]\n[Article \"5.1.1\"]\n[Termination \"normal\"]\n[TimeControl \"300+2\"]\n\n1. f3 {[%clk 0:05:01]} 1... e5 {[%clk 0:04:59]} 2. g4 Qh4# {[%clk 10:00:00]}\n0-1\n\n";
+// With this clock behind the last move, the moves stand so.
+fn check_moves(rt: &impl Abort, alloc: Global, last: u64, moves: &str) {
+    let clocks = [Some(301_999), Some(299_000), None, Some(last)];
+    let text = archived(alloc, &CLUB, GAME, &clocks).expect(rt, "a game");
+    let told = text.as_slice().strip_prefix(ARCHIVED_TAGS.as_bytes());
+    assert!(rt; told == Some(moves.as_bytes()));
+}
 
+// The line has 79 characters, and with a tenth hour the result does not fit any more.
 #[test]
 fn a_game_is_archived_so(rt: HostRuntime) {
-    let clocks = [Some(301_999), Some(299_000), None, Some(3_609_000)];
-    let text = archived(rt.alloc(), &CLUB, GAME, &clocks).expect(&rt, "a game");
-    assert!(rt; text.as_slice() == ARCHIVED.as_bytes());
-    let clocks = [Some(301_999), Some(299_000), None, Some(36_000_000)];
-    let text = archived(rt.alloc(), &CLUB, GAME, &clocks).expect(&rt, "a game");
-    assert!(rt; text.as_slice() == IN_TWO_LINES.as_bytes());
+    let moves =
+        "1. f3 {[%clk 0:05:01]} 1... e5 {[%clk 0:04:59]} 2. g4 Qh4# {[%clk 1:00:09]} 0-1\n\n";
+    check_moves(&rt, rt.alloc(), 3_609_000, moves);
+    let moves =
+        "1. f3 {[%clk 0:05:01]} 1... e5 {[%clk 0:04:59]} 2. g4 Qh4# {[%clk 10:00:00]}\n0-1\n\n";
+    check_moves(&rt, rt.alloc(), 36_000_000, moves);
 }
 
 #[test]
 fn what_is_no_game_is_refused(rt: HostRuntime) {
-    assert!(rt;
-        matches!(
-            archived(rt.alloc(), &CLUB, TAGS, &[]),
-            Err(TextFault::NoPgn)
-        )
-    );
-    assert!(rt;
-        matches!(
-            archived(rt.alloc(), &CLUB, "1.  e4 *\n", &[]),
-            Err(TextFault::NoPgn)
-        )
-    );
-    assert!(rt; archived(rt.alloc(), &CLUB, "*\n", &[]).is_ok());
+    let cases = [
+        (TAGS, Some(TextFault::NoPgn)),
+        ("1.  e4 *\n", Some(TextFault::NoPgn)),
+        ("*\n", None),
+    ];
+    for (text, wanted) in cases {
+        assert!(rt; archived(rt.alloc(), &CLUB, text, &[]).err() == wanted);
+    }
 }
 
 #[test]

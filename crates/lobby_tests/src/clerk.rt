@@ -4,7 +4,6 @@ use std::alloc::Global;
 use std::process::Abort;
 
 // What happens, and what is decided then.
-#[derive(Clone, Copy)]
 enum Row {
     Over(u32, bool, bool),
     Came(u32, bool, bool),

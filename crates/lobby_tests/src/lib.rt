@@ -13,5 +13,3 @@ mod moves;
 mod players;
 #[cfg(test)]
 mod positions;
-#[cfg(test)]
-mod web;

@@ -2,7 +2,7 @@
 use lobby_players::{
     AddFault, Addition, LineFault, PlayersFault, added, link_text, read, token_text,
 };
-use std::alloc::{AllocError, Global};
+use std::alloc::Global;
 
 const ANN: &str =
     "ann player ba7816bf8f01cfea414140de5dae2223b00361a396177a9cb410ff61f20015ad Ann Lee\n";
@@ -36,60 +36,70 @@ fn reads_players_and_names_the_first_fault(rt: HostRuntime) {
     }
 }
 
-// The file with one more player, who has the token of the bytes 0 to 15.
-fn more(alloc: Global, text: &str, name: &str, full_name: &str) -> Result<String, AddFault> {
-    let token = [0, 1, 2, 3, 4, 5, 6, 7, 8, 9, 10, 11, 12, 13, 14, 15];
-    let who = Addition {
-        name,
-        full_name,
-        is_arbiter: true,
-    };
-    added(alloc, text.as_bytes(), &who, &token)
-}
+// A file, the name and the full name of an arbiter who is to have the token of the bytes 0 to 15, and the file with her.
+type Added = (
+    &'static str,
+    &'static str,
+    &'static str,
+    Result<&'static str, AddFault>,
+);
 
-// A text that was made, or none.
-fn or_none(made: Result<String, AddFault>, alloc: Global) -> String {
-    match made {
-        Ok(text) => text,
-        Err(_) => String::new(alloc),
-    }
-}
+const CLUB: &str =
+    "# club\nann player ba7816bf8f01cfea414140de5dae2223b00361a396177a9cb410ff61f20015ad Ann Lee\n";
+
+const NEW_CLUB: &str =
+    "# club\nann arbiter d65df89f702eec58ca3c7bf2001c9ffc7cd80553ae01d42a799ba26756142d96 Ann M. Lee\n";
+
+const GUESTS: &str =
+    "ann player ba7816bf8f01cfea414140de5dae2223b00361a396177a9cb410ff61f20015ad Ann Lee\n# guests\n\nbob player 0000000000000000000000000000000000000000000000000000000000000001 Bo";
+
+const ADDED: [Added; 7] = [
+    (CLUB, "ann", "Ann M. Lee", Ok(NEW_CLUB)),
+    (ANN, "a b", "A", Err(AddFault::BadName)),
+    (ANN, "bob", " B", Err(AddFault::BadFullName)),
+    (NEW_CLUB, "bob", "B", Err(AddFault::TokenTaken)),
+    // a new link keeps its place, and a new player is the last
+    (
+        GUESTS,
+        "ann",
+        "X",
+        Ok(
+            "ann arbiter d65df89f702eec58ca3c7bf2001c9ffc7cd80553ae01d42a799ba26756142d96 X\n# guests\n\nbob player 0000000000000000000000000000000000000000000000000000000000000001 Bo\n",
+        ),
+    ),
+    (
+        GUESTS,
+        "bob",
+        "X",
+        Ok(
+            "ann player ba7816bf8f01cfea414140de5dae2223b00361a396177a9cb410ff61f20015ad Ann Lee\n# guests\n\nbob arbiter d65df89f702eec58ca3c7bf2001c9ffc7cd80553ae01d42a799ba26756142d96 X\n",
+        ),
+    ),
+    (
+        GUESTS,
+        "cid",
+        "X",
+        Ok(
+            "ann player ba7816bf8f01cfea414140de5dae2223b00361a396177a9cb410ff61f20015ad Ann Lee\n# guests\n\nbob player 0000000000000000000000000000000000000000000000000000000000000001 Bo\ncid arbiter d65df89f702eec58ca3c7bf2001c9ffc7cd80553ae01d42a799ba26756142d96 X\n",
+        ),
+    ),
+];
 
 #[test]
 fn adds_a_player_and_gives_a_new_token(rt: HostRuntime) {
-    let alloc = rt.alloc();
-    let wanted =
-        "# club\nann arbiter d65df89f702eec58ca3c7bf2001c9ffc7cd80553ae01d42a799ba26756142d96 Ann M. Lee\n";
-    let mut before = String::from_str(alloc, "# club\n").expect(&rt, "memory");
-    assert!(rt; before.push_str(ANN).is_ok());
-    let new = or_none(more(alloc, before.as_str(), "ann", "Ann M. Lee"), alloc);
-    assert!(rt; new.as_str() == wanted);
-    assert!(rt; more(alloc, ANN, "a b", "A").err() == Some(AddFault::BadName));
-    assert!(rt; more(alloc, ANN, "bob", " B").err() == Some(AddFault::BadFullName));
-    assert!(rt; more(alloc, new.as_str(), "bob", "B").err() == Some(AddFault::TokenTaken));
-}
-
-#[test]
-fn a_new_link_keeps_its_place_and_a_new_player_is_the_last(rt: HostRuntime) {
-    let before =
-        "ann player ba7816bf8f01cfea414140de5dae2223b00361a396177a9cb410ff61f20015ad Ann Lee\n# guests\n\nbob player 0000000000000000000000000000000000000000000000000000000000000001 Bo";
-    let cases: [(&str, &str); 3] = [
-        (
-            "ann",
-            "ann arbiter d65df89f702eec58ca3c7bf2001c9ffc7cd80553ae01d42a799ba26756142d96 X\n# guests\n\nbob player 0000000000000000000000000000000000000000000000000000000000000001 Bo\n",
-        ),
-        (
-            "bob",
-            "ann player ba7816bf8f01cfea414140de5dae2223b00361a396177a9cb410ff61f20015ad Ann Lee\n# guests\n\nbob arbiter d65df89f702eec58ca3c7bf2001c9ffc7cd80553ae01d42a799ba26756142d96 X\n",
-        ),
-        (
-            "cid",
-            "ann player ba7816bf8f01cfea414140de5dae2223b00361a396177a9cb410ff61f20015ad Ann Lee\n# guests\n\nbob player 0000000000000000000000000000000000000000000000000000000000000001 Bo\ncid arbiter d65df89f702eec58ca3c7bf2001c9ffc7cd80553ae01d42a799ba26756142d96 X\n",
-        ),
-    ];
-    for (name, wanted) in cases {
-        let new = or_none(more(rt.alloc(), before, name, "X"), rt.alloc());
-        assert!(rt; new.as_str() == wanted);
+    let token = [0, 1, 2, 3, 4, 5, 6, 7, 8, 9, 10, 11, 12, 13, 14, 15];
+    for (text, name, full_name, wanted) in ADDED {
+        let who = Addition {
+            name,
+            full_name,
+            is_arbiter: true,
+        };
+        let made = added(rt.alloc(), text.as_bytes(), &who, &token);
+        let told = match &made {
+            Ok(new) => Ok(new.as_str()),
+            Err(fault) => Err(*fault),
+        };
+        assert!(rt; told == wanted);
     }
 }
 

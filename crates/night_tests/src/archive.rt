@@ -38,48 +38,70 @@ fn are_first(games: &[u32], least: usize) -> bool {
             .all(|game| all.next().map(|one| one.0) == Some(*game))
 }
 
-// An archive that is killed after so many calls, and of which a crash leaves this. It tells how many were answered, if it could be
-// opened.
-fn killed(
-    rt: &impl Abort,
-    alloc: Global,
-    calls: u32,
-    fates: &[Fate],
-) -> Option<(usize, MemoryFile)> {
-    let mut archive = Archive::open(alloc, MemoryFile::new(alloc, Some(calls))).ok()?;
-    let answered = keep_all(alloc, &mut archive);
-    let file = archive.into_file().crash(fates, None).expect(rt, "memory");
-    Some((answered, file))
+// An archive that is killed after so many calls, and of which a crash leaves this, has what was answered in its next life, and
+// keeps all once, if it could be opened.
+fn check_killed(rt: &impl Abort, alloc: Global, calls: u32, fates: &[Fate]) {
+    if let Ok(mut archive) = Archive::open(alloc, MemoryFile::new(alloc, Some(calls))) {
+        let answered = keep_all(alloc, &mut archive);
+        let file = archive.into_file().crash(fates, None).expect(rt, "memory");
+        let mut again = Archive::open(alloc, file).expect(rt, "an archive");
+        check_next_life(rt, alloc, &mut again, answered);
+    }
 }
 
-// The next life has what was answered, and keeps all once.
-fn check_next_life(rt: &impl Abort, alloc: Global, answered: usize, file: MemoryFile) {
-    let mut archive = Archive::open(alloc, file).expect(rt, "an archive");
+fn check_next_life(
+    rt: &impl Abort,
+    alloc: Global,
+    archive: &mut Archive<MemoryFile>,
+    answered: usize,
+) {
     assert!(rt; are_first(archive.games(), answered));
-    assert!(rt; keep_all(alloc, &mut archive) == 3);
-    assert!(rt; archive.games().len() == 3);
-    assert!(rt; are_first(archive.games(), 3));
+    assert!(rt; keep_all(alloc, archive) == 3);
+    assert!(rt; archive.games().len() == 3 && are_first(archive.games(), 3));
 }
 
 #[test]
 fn keeps_each_game_once(rt: HostRuntime) {
     for calls in 0..10 {
         for fates in &CUTS {
-            if let Some((answered, file)) = killed(&rt, rt.alloc(), calls, fates) {
-                check_next_life(&rt, rt.alloc(), answered, file);
-            }
+            check_killed(&rt, rt.alloc(), calls, fates);
         }
     }
 }
 
+// Whether game 7 was put into an archive now, or why not.
+fn kept(
+    alloc: Global,
+    archive: &mut Archive<MemoryFile>,
+    pgn: &[u8],
+) -> Result<bool, &'static str> {
+    match archive.keep(alloc, 7, pgn) {
+        Ok(is_new) => Ok(is_new),
+        Err(Fault::Control) => Err("control"),
+        Err(Fault::NotText) => Err("no text"),
+        Err(_) => Err("other"),
+    }
+}
+
+const KEPT: [(&[u8], Result<bool, &str>); 8] = [
+    (b"a\tb\n", Err("control")),
+    (b"*\r\n", Err("control")),
+    (b"\0", Err("control")),
+    (b"\x1b", Err("control")),
+    (b"\x7f", Err("control")),
+    (b"\xff", Err("no text")),
+    (b"*\n", Ok(true)),
+    (b"1. e4 *\n", Ok(false)),
+];
+
 #[test]
-fn tells_what_it_has(rt: HostRuntime) {
+fn keeps_a_text_once_and_tells_what_it_has(rt: HostRuntime) {
     let mut archive = empty(&rt, rt.alloc());
     assert!(rt; !archive.has(7));
-    assert!(rt; matches!(archive.keep(rt.alloc(), 7, b"*\n"), Ok(true)));
-    assert!(rt; archive.has(7));
-    assert!(rt; !archive.has(8));
-    assert!(rt; matches!(archive.keep(rt.alloc(), 7, b"1. e4 *\n"), Ok(false)));
+    for (pgn, wanted) in &KEPT {
+        assert!(rt; kept(rt.alloc(), &mut archive, pgn) == *wanted);
+    }
+    assert!(rt; archive.has(7) && !archive.has(8));
 }
 
 // The game of a line.
@@ -117,31 +139,19 @@ const OTHERS: [&str; 17] = [
     "{\"pgn\":\"*\",\"game\":7}",
 ];
 
-// A file of a game's line and another line.
-fn file_with(rt: &impl Abort, alloc: Global, line: &str) -> MemoryFile {
+// Whether a file of a game's line and this line is refused for this one.
+fn is_refused(rt: &impl Abort, alloc: Global, line: &str) -> bool {
     let mut file = MemoryFile::new(alloc, None);
     for text in ["{\"game\":1,\"pgn\":\"\"}\n", line, "\n"] {
         assert!(rt; file.append(text.as_bytes()).is_ok());
     }
-    file
+    matches!(Archive::open(alloc, file), Err(Fault::NotAGame(2)))
 }
 
 #[test]
 fn refuses_other_lines(rt: HostRuntime) {
     for line in &OTHERS {
         assert!(rt; game(&rt, rt.alloc(), line).is_none());
-        let opened = Archive::open(rt.alloc(), file_with(&rt, rt.alloc(), line));
-        assert!(rt; matches!(opened, Err(Fault::NotAGame(2))));
+        assert!(rt; is_refused(&rt, rt.alloc(), line));
     }
-}
-
-#[test]
-fn refuses_control_characters(rt: HostRuntime) {
-    let mut archive = empty(&rt, rt.alloc());
-    for pgn in &["a\tb\n", "*\r\n", "\0", "\u{1b}", "\u{7f}"] {
-        let kept = archive.keep(rt.alloc(), 7, pgn.as_bytes());
-        assert!(rt; matches!(kept, Err(Fault::Control)));
-    }
-    assert!(rt; matches!(archive.keep(rt.alloc(), 7, b"\xff"), Err(Fault::NotText)));
-    assert!(rt; matches!(archive.keep(rt.alloc(), 7, b"*\n"), Ok(true)));
 }

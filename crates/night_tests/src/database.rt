@@ -1,6 +1,5 @@
 //! A database has the bytes that SQLite 3.40.1 has written for the same table with the same row.
 use sqlite_file::{Database, Fault, Value};
-use std::test::Fail;
 
 const TABLE: &str = "CREATE TABLE t (a INTEGER PRIMARY KEY, b TEXT, c INTEGER, d TEXT)";
 
@@ -15,37 +14,29 @@ const ROW: &[u8] = b"\x0d\x82\x2c\x05\x00\x17\x03\x00hello\x01\x11\x70";
 const SCHEMA: &[u8] =
     b"\x50\x01\x07\x17\x0f\x0f\x01\x81\x0ftablett\x02CREATE TABLE t (a INTEGER PRIMARY KEY, b TEXT, c INTEGER, d TEXT)";
 
-// A database of one row.
-fn one_row(rt: &HostRuntime) -> Result<Database, Fault> {
-    let mut row = Vec::new(rt.alloc());
-    row.push(Value::Null)?;
-    row.push(Value::Text("hello"))?;
-    row.push(Value::Number(70_000))?;
-    row.push(Value::Null)?;
-    let mut database = Database::new(rt.alloc());
-    database.put(300, row.as_slice())?;
-    database.end_table("t", TABLE)?;
-    Ok(database)
-}
-
 #[test]
-fn a_row_stands_as_sqlite_has_it(rt: HostRuntime) -> Result<(), Fail> {
-    let database = one_row(&rt)?;
-    let first = database.first_page()?;
+fn a_row_stands_as_sqlite_has_it(rt: HostRuntime) {
+    let row = [
+        Value::Null,
+        Value::Text("hello"),
+        Value::Number(70_000),
+        Value::Null,
+    ];
+    let mut database = Database::new(rt.alloc());
+    database.put(300, &row).expect(&rt, "a row");
+    database.end_table("t", TABLE).expect(&rt, "a table");
+    let first = database.first_page().expect(&rt, "a page");
     let leaf = first.as_slice().split_at(100).1;
-    assert!(rt; leaf.starts_with(FIRST));
-    assert!(rt; leaf.ends_with(SCHEMA));
-    assert!(rt; database.later_pages().starts_with(LEAF));
-    assert!(rt; database.later_pages().ends_with(ROW));
-    Ok(())
+    assert!(rt; leaf.starts_with(FIRST) && leaf.ends_with(SCHEMA));
+    let later = database.later_pages();
+    assert!(rt; later.starts_with(LEAF) && later.ends_with(ROW));
 }
 
 #[test]
-fn a_row_that_does_not_rise_is_refused(rt: HostRuntime) -> Result<(), Fail> {
+fn a_row_that_does_not_rise_is_refused(rt: HostRuntime) {
     let mut database = Database::new(rt.alloc());
-    database.put(2, &[])?;
+    database.put(2, &[]).expect(&rt, "a row");
     assert!(rt; matches!(database.put(2, &[]), Err(Fault::NotRising(2))));
     assert!(rt; matches!(database.put(3, &[]), Err(Fault::NotWhole)));
     assert!(rt; matches!(database.first_page(), Err(Fault::NotWhole)));
-    Ok(())
 }

@@ -18,12 +18,14 @@ fn a_round(rt: HostRuntime) {
     let pairings = read(rt.alloc(), FILE).expect(&rt, "a round");
     assert!(rt; pairings.len() == 2);
     let first = pairings[0];
-    assert!(rt; first.board == 1);
-    assert!(rt; first.white.as_str() == "ann");
+    assert!(rt; first.board == 1 && first.white.as_str() == "ann");
     let game = first.game.expect(&rt, "a game");
-    assert!(rt; game.start == Some(1_000));
-    assert!(rt; game.black.as_str() == "bob");
+    assert!(rt; game.start == Some(1_000) && game.black.as_str() == "bob");
     assert!(rt; pairings[1].game.is_none());
+}
+
+#[test]
+fn a_player_stands_once(rt: HostRuntime) {
     let twice = read(rt.alloc(), TWICE).err();
     assert!(rt; twice == Some(Fault::Row(3, RowFault::BlackTwice)));
 }
@@ -41,15 +43,20 @@ const NO_TIMES: [&str; 8] = [
     "300:300",
 ];
 
+// The text of the times of a text, where they are times.
+fn times_again(rt: &impl Abort, alloc: Global, text: &str) -> Option<String> {
+    let times = times_of(alloc, text).expect(rt, "memory")?;
+    Some(times_text(alloc, times).expect(rt, "memory"))
+}
+
 #[test]
 fn times(rt: HostRuntime) {
     for text in TIMES {
-        let times = times_of(rt.alloc(), text).expect(&rt, "memory");
-        let told = times_text(rt.alloc(), times.expect(&rt, "times"));
-        assert!(rt; told.expect(&rt, "memory").as_str() == text);
+        let again = times_again(&rt, rt.alloc(), text).expect(&rt, "times");
+        assert!(rt; again.as_str() == text);
     }
     for text in NO_TIMES {
-        assert!(rt; times_of(rt.alloc(), text).expect(&rt, "memory").is_none());
+        assert!(rt; times_again(&rt, rt.alloc(), text).is_none());
     }
 }
 
@@ -57,41 +64,37 @@ fn name(rt: &impl Abort, text: &str) -> Name {
     Name::try_new(text).expect(rt, "a name")
 }
 
-// The note of a line.
-fn noted(rt: &impl Abort, alloc: Global, line: &str) -> Option<Note> {
-    note_of(alloc, line).expect(rt, "memory")
+// The line of the note of a line, where it has one.
+fn note_again(rt: &impl Abort, alloc: Global, line: &str) -> Option<String> {
+    let note = note_of(alloc, line).expect(rt, "memory")?;
+    Some(note_text(alloc, &note).expect(rt, "memory"))
 }
 
-// The line of a note.
-fn told(rt: &impl Abort, alloc: Global, note: &Note) -> String {
-    note_text(alloc, note).expect(rt, "memory")
-}
+const OPENED: &str = "{\"board\":3,\"white\":\"ann\",\"black\":\"bob\",\"opened\":17}";
 
 #[test]
-fn notes(rt: HostRuntime) {
-    let note = Note {
+fn a_note(rt: HostRuntime) {
+    let note = note_of(rt.alloc(), OPENED).expect(&rt, "memory");
+    let notes = [note.expect(&rt, "a note")];
+    let wanted = Note {
         board: 3,
         white: name(&rt, "ann"),
         black: name(&rt, "bob"),
         stage: Stage::Opened(17),
     };
-    let line = "{\"board\":3,\"white\":\"ann\",\"black\":\"bob\",\"opened\":17}";
-    assert!(rt; told(&rt, rt.alloc(), &note).as_str() == line);
-    assert!(rt; noted(&rt, rt.alloc(), line).as_ref() == Some(&note));
-    assert!(rt; noted(&rt, rt.alloc(), "{\"board\":3}").is_none());
-    assert!(rt; game_in(&note.stage) == Some(17));
-    let notes = [note];
-    assert!(rt; last_of(&notes, 3).is_some());
-    assert!(rt; last_of(&notes, 4).is_none());
+    assert!(rt; notes[0] == wanted && game_in(&wanted.stage) == Some(17));
+    assert!(rt; last_of(&notes, 3).is_some() && last_of(&notes, 4).is_none());
 }
 
-const NOTED: [&str; 3] = [
+const NOTED: [&str; 4] = [
+    OPENED,
     "{\"board\":3,\"white\":\"ann\",\"black\":\"bob\",\"opening\":[]}",
     "{\"board\":3,\"white\":\"ann\",\"black\":\"bob\",\"opening\":16}",
     "{\"board\":3,\"white\":\"ann\",\"black\":\"bob\",\"opening\":[20000003,16]}",
 ];
 
-const NOT_NOTED: [&str; 4] = [
+const NOT_NOTED: [&str; 5] = [
+    "{\"board\":3}",
     "{\"board\":3,\"white\":\"ann\",\"black\":\"bob\",\"opening\":[16]}",
     "{\"board\":3,\"white\":\"ann\",\"black\":\"bob\",\"opening\":[016,17]}",
     "{\"board\":3,\"white\":\"ann\",\"black\":\"bob\",\"opening\":[16,17}",
@@ -99,13 +102,13 @@ const NOT_NOTED: [&str; 4] = [
 ];
 
 #[test]
-fn older_games(rt: HostRuntime) {
+fn notes(rt: HostRuntime) {
     for line in NOTED {
-        let note = noted(&rt, rt.alloc(), line).expect(&rt, "a note");
-        assert!(rt; told(&rt, rt.alloc(), &note).as_str() == line);
+        let again = note_again(&rt, rt.alloc(), line).expect(&rt, "a note");
+        assert!(rt; again.as_str() == line);
     }
     for line in NOT_NOTED {
-        assert!(rt; noted(&rt, rt.alloc(), line).is_none());
+        assert!(rt; note_again(&rt, rt.alloc(), line).is_none());
     }
 }
 
