@@ -2,7 +2,7 @@
 use Rattle.std.proofs.Common.{ℕ, ◌≡◌, ◌<◌, ◌^◌, Bool, true, false, ◌&&◌, List, [], ◌∷◌, ◌++◌, drop, Option, Some, None, decimal, refl, sym, ap, ◌∙◌, arith}
 use Rattle.std.specs.Prelude.{if◌then◌else◌}
 use Rattle.std.specs.Str.{bytes_eq}
-use Rattle.std.proofs.lemmas.Bool.{false≢true}
+use Rattle.std.proofs.lemmas.Bool.{and_from, and_parts}
 use Rattle.std.proofs.lemmas.Option.{none-some, cond_some}
 use Rattle.std.proofs.lemmas.Slice.Eq.{bytes_eq-Decides}
 use Rattle.text_parts.proofs.Cuts.{before_at, after_at}
@@ -27,22 +27,10 @@ pgn_read game pgn small =
     (after_at 44 (front ++ (58 ∷ decimal game)) (tail_of pgn) (lacks_below 44 game (omega arith) (omega arith)))
     ∙ back pgn (125 ∷ [])
 
-and_both : (a b : Bool) → a ≡ true → b ≡ true → (a && b) ≡ true
-and_both true b h k = k
-and_both false b h k = h
-
-and_first : (a b : Bool) → (a && b) ≡ true → a ≡ true
-and_first true b h = refl
-and_first false b h = h
-
-and_second : (a b : Bool) → (a && b) ≡ true → b ≡ true
-and_second true b h = h
-and_second false b h = absurd (false≢true h)
-
 is_made : (game : ℕ) (pgn : List ℕ) → game < 2 ^ 32 → is_text pgn ≡ true → is_line_of (line_of game pgn) game ≡ true
 is_made game pgn small h =
     ap (λ xs. is_text xs && bytes_eq (line_of game xs) (line_of game pgn)) (pgn_read game pgn small)
-    ∙ and_both (is_text pgn) (bytes_eq (line_of game pgn) (line_of game pgn)) h
+    ∙ and_from (is_text pgn) (bytes_eq (line_of game pgn) (line_of game pgn)) h
     ((bytes_eq-Decides (line_of game pgn) (line_of game pgn)).1 refl)
 
 pub game_read : (game : ℕ) (pgn : List ℕ) → game < 2 ^ 32 → is_text pgn ≡ true → game_in (line_of game pgn) ≡ Some game
@@ -60,8 +48,8 @@ found line (Some m) game h =
 pub only : (game : ℕ) (line : List ℕ) → game_in line ≡ Some game → line ≡ line_of game (pgn_in line)
 only game line h =
     sym ((bytes_eq-Decides (line_of game (pgn_in line)) line).0
-    (and_second (is_text (pgn_in line)) (bytes_eq (line_of game (pgn_in line)) line) (found line (number_at line) game h)))
+    (and_parts (is_text (pgn_in line)) (bytes_eq (line_of game (pgn_in line)) line) (found line (number_at line) game h)).1)
 
 pub only_text : (game : ℕ) (line : List ℕ) → game_in line ≡ Some game → is_text (pgn_in line) ≡ true
 only_text game line h =
-    and_first (is_text (pgn_in line)) (bytes_eq (line_of game (pgn_in line)) line) (found line (number_at line) game h)
+    (and_parts (is_text (pgn_in line)) (bytes_eq (line_of game (pgn_in line)) line) (found line (number_at line) game h)).0

@@ -3,9 +3,10 @@ ghost use Rattle.std.specs.Prelude.{◌≡◌, true, Some, IfOk};
 ghost use Rattle.archive_file.specs.Line as spec;
 
 use crate::line::{FRONT, is_text, line_of};
-use json_text::{before, behind, unescaped};
+use json_text::unescaped;
 use lobby_words::number_named;
 use std::alloc::{AllocError, Global};
+use text_parts::{before, behind, cut};
 
 // How many bytes of a line are behind its first comma and before its PGN: `"pgn":"`.
 const NAME_BYTES: usize = 7;
@@ -31,10 +32,7 @@ pub fn pgn_of(alloc: Global, line: &str) -> Result<Vec<u8>, AllocError>
 fn number_of(line: &str) -> Option<u32>
     ensures { result ≡ spec.number_at line.now }
 {
-    let (front, rest) = match line.split_once(':') {
-        Some(parts) => parts,
-        None => (line, ""),
-    };
+    let (front, rest) = cut(line, ':');
     if front == FRONT {
         number_named(before(rest, ','))
     } else {

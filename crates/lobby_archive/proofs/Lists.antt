@@ -1,9 +1,10 @@
 -- Games among games, and lists that begin with others.
-use Rattle.std.proofs.Common.{ℕ, ◌≡◌, Bool, true, false, ◌||◌, ◌==◌, List, [], ◌∷◌, ◌++◌, refl, sym, ap, subst, ◌∙◌, append_assoc}
+use Rattle.std.proofs.Common.{ℕ, ◌≡◌, Bool, true, false, ◌||◌, ◌==◌, List, [], ◌∷◌, ◌++◌, refl, sym, ap, subst, ◌∙◌}
 use Rattle.std.specs.Prelude.{if◌then◌else◌}
-use Rattle.std.proofs.lemmas.Bool.{false≢true}
+use Rattle.std.proofs.lemmas.Bool.{false≢true, or_from, or_left, or_parts}
 use Rattle.std.proofs.lemmas.Bool.Decides.{Decides-eqb}
-use Rattle.lobby_archive.specs.Files.{contains, IsFront}
+use Rattle.night_files.specs.File.{IsFront}
+use Rattle.lobby_archive.specs.Files.{contains}
 use Rattle.lobby_archive.specs.Laws.{IsOnce}
 
 -- two tests that pass together are one
@@ -34,43 +35,15 @@ or_last false false = refl
 pub contains_more : (g x : ℕ) (xs : List ℕ) → contains g (xs ++ x ∷ []) ≡ (if x == g then true else contains g xs)
 contains_more g x xs = contains-append g xs (x ∷ []) ∙ sym (or_last (contains g xs) (x == g))
 
-or_true : (a b : Bool) → a ≡ true → (a || b) ≡ true
-or_true a b h = ap (λ t. t || b) h
-
-pub append_none : {A : Type 0} → (xs : List A) → xs ≡ xs ++ []
-append_none [] = refl
-append_none (x ∷ xs) = ap (λ ys. x ∷ ys) (append_none xs)
-
 -- fronts
-pub front_self : {A : Type 0} → (xs : List A) → IsFront xs xs
-front_self xs = ([], append_none xs)
-
-pub front_more : {A : Type 0} → (a b : List A) (x : A) → IsFront a b → IsFront a (b ++ x ∷ [])
-front_more a b x h = (h.0 ++ x ∷ [], ap (λ xs. xs ++ x ∷ []) h.1 ∙ append_assoc a h.0 (x ∷ []))
-
-pub front_through : {A : Type 0} → (a b c : List A) → IsFront a b → IsFront b c → IsFront a c
-front_through a b c h k = (h.0 ++ k.0, k.1 ∙ (ap (λ xs. xs ++ k.0) h.1 ∙ append_assoc a h.0 k.0))
-
 pub front_contains : (g : ℕ) (a b : List ℕ) → IsFront a b → contains g a ≡ true → contains g b ≡ true
-front_contains g a b h k = ap (contains g) h.1 ∙ (contains-append g a h.0 ∙ or_true (contains g a) (contains g h.0) k)
+front_contains g a b h k = ap (contains g) h.1 ∙ (contains-append g a h.0 ∙ or_left (contains g a) (contains g h.0) k)
 
 -- no game twice
-or_false_first : (a b : Bool) → (a || b) ≡ false → a ≡ false
-or_false_first true b h = absurd (false≢true (sym h))
-or_false_first false b h = refl
-
-or_false_second : (a b : Bool) → (a || b) ≡ false → b ≡ false
-or_false_second true b h = absurd (false≢true (sym h))
-or_false_second false b h = h
-
-or_false : (a b : Bool) → a ≡ false → b ≡ false → (a || b) ≡ false
-or_false true b h k = absurd (false≢true (sym h))
-or_false false b h k = k
-
 once-append : (xs ys : List ℕ) → IsOnce (xs ++ ys) → IsOnce xs
 once-append [] ys h = tt
 once-append (x ∷ xs) ys h =
-    (or_false_first (contains x xs) (contains x ys) (sym (contains-append x xs ys) ∙ h.0), once-append xs ys h.1)
+    ((or_parts (contains x xs) (contains x ys) (sym (contains-append x xs ys) ∙ h.0)).0, once-append xs ys h.1)
 
 once_along : (a b : List ℕ) → a ≡ b → IsOnce a → IsOnce b
 once_along a b e h = subst IsOnce e h
@@ -82,7 +55,7 @@ pub once_more : (g : ℕ) (xs : List ℕ) → IsOnce xs → contains g xs ≡ fa
 once_more g [] h k = (refl, tt)
 once_more g (x ∷ xs) h k = (
   contains-append x xs (g ∷ [])
-      ∙ or_false (contains x xs) (g == x || false) h.0
-      (or_false (g == x) false (eqb_swap g x ∙ or_false_first (x == g) (contains g xs) k) refl),
-  once_more g xs h.1 (or_false_second (x == g) (contains g xs) k),
+      ∙ or_from (contains x xs) (g == x || false) h.0
+      (or_from (g == x) false (eqb_swap g x ∙ (or_parts (x == g) (contains g xs) k).0) refl),
+  once_more g xs h.1 (or_parts (x == g) (contains g xs) k).1,
 )

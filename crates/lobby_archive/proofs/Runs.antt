@@ -1,15 +1,17 @@
 -- What is promised holds of each run.
-use Rattle.std.proofs.Common.{ℕ, ◌≡◌, ◌⊎◌, inl, inr, Bool, true, false, not, ◌&&◌, ◌||◌, ◌==◌, List, [], ◌∷◌, ◌++◌, Option, None, refl, sym, ap, ◌∙◌, append_assoc}
+use Rattle.std.proofs.Common.{ℕ, ◌≡◌, ◌⊎◌, inl, inr, Bool, true, false, not, ◌&&◌, ◌||◌, ◌==◌, List, [], ◌∷◌, ◌++◌, Option, None, refl, sym, ap, ◌∙◌, append_assoc, append-nil}
 use Rattle.std.specs.Prelude.{if◌then◌else◌, is_some, is_none}
-use Rattle.std.proofs.lemmas.Bool.{false≢true}
+use Rattle.std.proofs.lemmas.Bool.{false≢true, and_parts}
 use Rattle.std.proofs.lemmas.Bool.Decides.{Decides-eqb}
 use Rattle.lobby_archive.specs.declared.clerk.Stage.{Stage}
 use Rattle.lobby_archive.specs.Steps.{Step, Begun, Over, Came, Refused, Synced, Left}
-use Rattle.lobby_archive.specs.Files.{contains, archive_in, safe_in, fresh_in, IsFront, IsHonestStep, IsHonest}
+use Rattle.night_files.specs.File.{IsFront}
+use Rattle.night_files.proofs.Records.{front_self, front_wider, front_through}
+use Rattle.lobby_archive.specs.Files.{contains, archive_in, safe_in, fresh_in, IsHonestStep, IsHonest}
 use Rattle.lobby_archive.specs.Clerk.{View, is_asked, is_kept, asks, puts, drops, seen, come, left, IsStep, IsNothing, IsRun}
 use Rattle.lobby_archive.specs.Laws.{IsOnce, is_seen, is_waiting, is_matched, is_sent, is_dropped, was_over, was_put, IsHanded, IsDropStep, IsHandedStep, AllHanded, AllRight, AllDrops}
-use Rattle.lobby_archive.proofs.Lists.{contains-append, contains_more, append_none, front_self, front_more, front_through, front_contains, once_front, once_more}
-use Rattle.lobby_archive.proofs.Stages.{is_settled, not_settled, waits_or_settled, pick, over_some, over_waits, over_settled, over_left, over_matched, seen_over, waits_over, come_some, waits_come, come_settled, come_left, matched_come, stays, seen_refused, waits_refused, left_some, left_asked, left_settled, left_matched, kept_some, kept_matched, and_first, and_second, not_true, has_left, has_matched, kept_is, none_not, asked_some, and_both, refused_left, refused_matched, left_left, sent_left}
+use Rattle.lobby_archive.proofs.Lists.{contains-append, contains_more, front_contains, once_front, once_more}
+use Rattle.lobby_archive.proofs.Stages.{is_settled, not_settled, waits_or_settled, pick, over_some, over_waits, over_settled, over_left, over_matched, seen_over, waits_over, come_some, waits_come, come_settled, come_left, matched_come, stays, seen_refused, waits_refused, left_some, left_asked, left_settled, left_matched, kept_some, kept_matched, not_true, has_left, has_matched, kept_is, none_not, asked_some, and_both, refused_left, refused_matched, left_left, sent_left}
 
 -- what is so behind a past, by what the clerk knows then
 pub record Good (steps : List Step) (now : View) : Type 0 where
@@ -188,7 +190,7 @@ synced_good : (past : List Step) (old new : View) → Good past old → IsStep o
 synced_good past old new G h = record {
   has = λ g. h.has g ∙ G.has g;
   front = archive_in past;
-  joined = append_none (archive_in past) ∙ ap (λ (xs : List ℕ). archive_in past ++ xs) (sym h.fresh);
+  joined = sym (append-nil (archive_in past)) ∙ ap (λ (xs : List ℕ). archive_in past ++ xs) (sym h.fresh);
   safe = λ g k. k;
   seen_is = λ g. G.seen_is g ∙ sym (ap is_some (h.stage_is g));
   waits = λ g. G.waits g ∙ sym (ap is_asked (h.stage_is g));
@@ -209,8 +211,8 @@ is_safe_now : (past : List Step) (old : View) → Good past old → (game : ℕ)
     contains game (safe_in past) ≡ true
 is_safe_now past old G game h =
     G.safe game (or_rest (contains game G.front) (contains game old.fresh)
-    (sym (contains-append game G.front old.fresh) ∙ (ap (contains game) (sym G.joined) ∙ (sym (G.has game) ∙ and_first (old.has game) (not (contains game old.fresh)) h)))
-    (not_true (contains game old.fresh) (and_second (old.has game) (not (contains game old.fresh)) h)))
+    (sym (contains-append game G.front old.fresh) ∙ (ap (contains game) (sym G.joined) ∙ (sym (G.has game) ∙ (and_parts (old.has game) (not (contains game old.fresh)) h).0)))
+    (not_true (contains game old.fresh) (and_parts (old.has game) (not (contains game old.fresh)) h).1))
 
 left_good : (game : ℕ) (says : Bool) (past : List Step) (old new : View) → Good past old → IsStep old (Left game says) new → Good (Left game says ∷ past) new
 left_good game says past old new G h =
@@ -237,9 +239,9 @@ left_good game says past old new G h =
       drops_right = (
         λ k.
             let goes : drops old game ≡ true = sym h.0 ∙ k in (
-              G.seen_is game ∙ kept_some (old.stage game) (and_first (is_kept (old.stage game)) t goes),
-              G.matched_is game ∙ kept_matched (old.stage game) (and_first (is_kept (old.stage game)) t goes),
-              is_safe_now past old G game (and_second (is_kept (old.stage game)) t goes),
+              G.seen_is game ∙ kept_some (old.stage game) (and_parts (is_kept (old.stage game)) t goes).0,
+              G.matched_is game ∙ kept_matched (old.stage game) (and_parts (is_kept (old.stage game)) t goes).0,
+              is_safe_now past old G game (and_parts (is_kept (old.stage game)) t goes).1,
             ),
         G.drops_right,
       );
@@ -295,7 +297,7 @@ none_out steps now G game h =
 
 -- what is safe stands in front
 put_front : (says : Bool) (a xs : List ℕ) (game : ℕ) → IsFront a xs → IsFront a (if says then xs ++ game ∷ [] else xs)
-put_front true a xs game h = front_more a xs game h
+put_front true a xs game h = front_wider a xs (game ∷ []) h
 put_front false a xs game h = h
 
 step_front : (s : Step) (past : List Step) → IsHonestStep s past → IsFront (safe_in past) (archive_in past) → IsFront (safe_in (s ∷ past)) (archive_in (s ∷ past))
@@ -337,7 +339,7 @@ once_put false game archive f h = h
 
 put_new : (past : List Step) (old : View) (game : ℕ) → Good past old → puts old game ≡ true → contains game (archive_in past) ≡ false
 put_new past old game G h =
-    sym (G.has game) ∙ not_true (old.has game) (and_second (is_asked (old.stage game)) (not (old.has game)) h)
+    sym (G.has game) ∙ not_true (old.has game) (and_parts (is_asked (old.stage game)) (not (old.has game)) h).1
 
 step_once : (s : Step) (past : List Step) (old new : View) → Good past old → IsStep old s new → IsHonestStep s past → IsOnce (archive_in past) → IsOnce (archive_in (s ∷ past))
 step_once (Begun archive) past old new G h k f = once_front archive (archive_in past) k.1 f
@@ -463,7 +465,7 @@ put_ever false g game archive w f k h = k h
 
 asked_ever : (past : List Step) (old : View) (g : ℕ) → Good past old → puts old g ≡ true → was_over past g ≡ true
 asked_ever past old g G h =
-    seen_ever past g (G.seen_is g ∙ asked_some (old.stage g) (and_first (is_asked (old.stage g)) (not (old.has g)) h))
+    seen_ever past g (G.seen_is g ∙ asked_some (old.stage g) (and_parts (is_asked (old.stage g)) (not (old.has g)) h).0)
 
 step_finished : (s : Step) (past : List Step) (old new : View) → Good past old → IsStep old s new → IsHonestStep s past → (game : ℕ) →
     (contains game (archive_in past) ≡ true → was_over past game ≡ true) →

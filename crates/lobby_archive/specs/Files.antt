@@ -1,6 +1,7 @@
 -- What the archive holds. The past is told from its newest step back.
-use Rattle.std.specs.Prelude.{ℕ, ◌≡◌, Bool, ◌==◌, List, [], ◌∷◌, ◌++◌, if◌then◌else◌}
+use Rattle.std.specs.Prelude.{ℕ, Bool, ◌==◌, List, [], ◌∷◌, ◌++◌, if◌then◌else◌}
 use Rattle.std.specs.List.{list_any}
+use Rattle.night_files.specs.File.{IsShown}
 use Rattle.lobby_archive.specs.Steps.{Step, Begun, Came, Synced}
 
 -- whether a game is among games
@@ -38,16 +39,8 @@ abbrev pub fresh_in : List Step → List ℕ
 fresh_in [] = []
 fresh_in (s ∷ past) = fresh_after s (fresh_in past)
 
--- a list begins with another
-abbrev pub IsFront : {A : Type 0} → List A → List A → Type 0
-IsFront {A} front all = (more : List A) × (all ≡ front ++ more)
-
--- A file shows all that is safe, and no more than was handed to it, in that order: what was handed over and is not safe may be
--- there or not, up to some place.
-abbrev pub IsShown : {A : Type 0} → List A → List A → List A → Type 0
-IsShown safe all shown = IsFront safe shown × IsFront shown all
-
--- the file, when a clerk begins
+-- The file, when a clerk begins: it shows all that is safe, and no more than was handed to it, in that order. What was handed over
+-- and is not safe may be there or not, up to some place.
 abbrev pub IsHonestStep : Step → List Step → Type 0
 IsHonestStep (Begun archive) past = IsShown (safe_in past) (archive_in past) archive
 IsHonestStep _ past = Unit {0}

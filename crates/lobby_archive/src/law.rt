@@ -1,7 +1,8 @@
 //! What is promised of each run.
 ghost use Rattle.std.specs.Prelude.{◌≡◌, ◌⊎◌, ◌++◌, ℕ, List, true};
 ghost use Rattle.lobby_archive.specs.Steps.{Step};
-ghost use Rattle.lobby_archive.specs.Files.{contains, archive_in, safe_in, IsHonest, IsFront};
+ghost use Rattle.night_files.specs.File.{IsFront};
+ghost use Rattle.lobby_archive.specs.Files.{contains, archive_in, safe_in, IsHonest};
 ghost use Rattle.lobby_archive.specs.Clerk.{View, IsRun};
 ghost use Rattle.lobby_archive.specs.Laws.{IsOnce, is_seen, is_waiting, is_dropped, was_over, AllRight, AllDrops, AllHanded};
 

@@ -1,5 +1,5 @@
 //! How many games the server has, as its answer to `list` tells.
-use lobby_words::{cut, is_list, number_named};
+use lobby_words::{cut, is_list, number_named, waiting_row};
 use std::alloc::{AllocError, Global};
 use std::str;
 
@@ -43,14 +43,6 @@ fn rows_of(first: &str) -> Option<u64> {
     Some(u64::from(number_named(rest)?))
 }
 
-// Whether the game of a row `G WHITE BLACK PLY RESULT` has one empty seat.
-fn waits(row: &str) -> bool {
-    let (_, rest) = cut(row);
-    let (white, rest) = cut(rest);
-    let (black, _) = cut(rest);
-    (white == "-") != (black == "-")
-}
-
 impl Listing {
     /// Nothing has come.
     pub fn new(alloc: Global) -> Listing {
@@ -73,9 +65,10 @@ impl Listing {
             },
             Some(before) => {
                 self.rows = self.rows.saturating_add(1);
+                let waits = waiting_row(line).is_some();
                 Games {
                     all: before.all,
-                    waiting: before.waiting.saturating_add(u64::from(waits(line))),
+                    waiting: before.waiting.saturating_add(u64::from(waits)),
                 }
             }
         };

@@ -1,6 +1,5 @@
 //! What is read of a PGN: the tag of the start, and the words that name moves.
-ghost use Rattle.std.specs.Prelude.{◌≡◌, ◌<◌, ◌++◌, ◌==◌, ◌∷◌, [], map, filter, Some, IfOk, OnOk, IfSome};
-ghost use Rattle.std.specs.List.{before_first, after_first};
+ghost use Rattle.std.specs.Prelude.{◌≡◌, ◌++◌, ◌∷◌, [], map, filter, Some, IfOk, OnOk, IfSome};
 ghost use Rattle.std.specs.Option.{option_map};
 ghost use Rattle.chess_board.specs.Position.{Position};
 ghost use Rattle.lobby_positions.specs.Pgn.{is_tag, is_fen_tag, value_of, fen_in, StartsAt, is_word, words_of_line, words_of};
@@ -8,29 +7,7 @@ ghost use Rattle.lobby_positions.specs.Pgn.{is_tag, is_fen_tag, value_of, fen_in
 use chess_board::Board;
 use chess_fen::fen_read;
 use std::alloc::{AllocError, Global};
-use text_parts::parts;
-
-// What stands before the first such sign, or all.
-fn before(text: &str, sign: char) -> &str
-    requires { sign < 128 }
-    ensures { result.now ≡ before_first (λ b. b == sign) text.entry.now }
-{
-    match text.split_once(sign) {
-        Some((front, _)) => front,
-        None => text,
-    }
-}
-
-// What stands behind the first such sign, or nothing.
-fn behind(text: &str, sign: char) -> &str
-    requires { sign < 128 }
-    ensures { result.now ≡ after_first (λ b. b == sign) text.entry.now }
-{
-    match text.split_once(sign) {
-        Some((_, rest)) => rest,
-        None => "",
-    }
-}
+use text_parts::{before, behind, parts};
 
 // Whether a line is a tag's.
 fn is_tag(line: &str) -> bool

@@ -1,3 +1,4 @@
 pub mod Numbers
-mod Names
+pub mod Names
 mod Rows
+pub mod Texts

@@ -6,15 +6,13 @@ ghost use Rattle.lobby_words.specs.Answers.{IsSeated, IsFirstSeated, IsSeatless,
 
 use crate::words::{cut, line_said, number_named};
 use rec_codec::Name;
+use text_parts::before;
 
 // What stands before the first line feed.
 fn first_line(answer: &str) -> &str
     ensures { result.now ≡ first_line answer.now }
 {
-    match answer.split_once('\n') {
-        Some((line, _)) => line,
-        None => answer,
-    }
+    before(answer, '\n')
 }
 
 /// The game that an answer to an act names, where the act was done.

@@ -47,8 +47,8 @@ pub fn waiting_of(game: Option<u32>, seated: &str) -> Option<Waiting>
     }
 }
 
-// The game of a row `G WHITE BLACK ..` that has one empty seat.
-fn waiting_row(row: &str) -> Option<Waiting>
+/// The game of a row `G WHITE BLACK ..` that has one empty seat.
+pub fn waiting_row(row: &str) -> Option<Waiting>
     ensures { result ≡ waiting_row row.now }
 {
     let (number, rest) = cut(row);

@@ -39,10 +39,7 @@ pub fn cut(text: &str) -> (&str, &str)
     ensures word { result.0.now ≡ words.word_of text.entry.now }
     ensures rest { result.1.now ≡ words.rest_of text.entry.now }
 {
-    match text.split_once(' ') {
-        Some((word, rest)) => (word, rest),
-        None => (text, ""),
-    }
+    text_parts::cut(text, ' ')
 }
 
 // Whether a byte may stand in a message.
@@ -52,8 +49,8 @@ fn is_message_byte(byte: u8) -> bool
     32 <= byte && byte <= 126
 }
 
-// Whether each byte may stand in a message.
-fn are_message_bytes(bytes: &[u8]) -> bool
+/// Whether each byte may stand in a message: it is one of 32 to 126.
+pub fn are_message_bytes(bytes: &[u8]) -> bool
     ensures { result ≡ list_all words.is_message_byte bytes.now }
 {
     bytes.iter().all(|byte| is_message_byte(*byte))
@@ -82,9 +79,9 @@ fn is_read_word(word: &str) -> bool
     show | fen | pgn | list
 }
 
-// Whether a line of the server with this word is an act in a game that is played.
+/// Whether a line of the server with this word is an act in a game that is played.
 #[tactic(auto, unfolding(crate::specs::Words::is_play_word))]
-fn is_play_word(word: &str) -> bool
+pub fn is_play_word(word: &str) -> bool
     ensures { result ≡ words.is_play_word word.now }
 {
     let play = word == "move";

@@ -1,6 +1,6 @@
 //! The tags of a game's PGN.
 use std::alloc::{AllocError, Global};
-use text_parts::parts;
+use text_parts::{before, parts};
 
 /// The value of a tag without its escapes: a backslash stands before each quote and each backslash (PGN Standard, section 7).
 pub fn unescaped(alloc: Global, value: &str) -> Result<String, AllocError> {
@@ -39,10 +39,7 @@ const FIRST: [&str; 7] = [
 // Whether a line of a PGN stands behind a tag with this front: it is no tag, or one of a later name, but none of those that come
 // first.
 fn is_behind(line: &str, front: &str) -> bool {
-    let head = match line.split_once(' ') {
-        Some((head, _)) => head,
-        None => line,
-    };
+    let head = before(line, ' ');
     !line.starts_with('[') || (!FIRST.contains(&head) && head > front)
 }
 

@@ -43,26 +43,20 @@ fn type_of_number(number: u64) -> u64
     }
 }
 
-// How many bytes the content of a number has.
-#[tactic(auto, unfolding(crate::specs::Record::width_of_number))]
-fn width_of_number(number: u64) -> usize
-    ensures value { result ≡ spec.width_of_number number }
+// How many bytes the content of a number of this serial type has.
+#[tactic(auto, unfolding(crate::specs::Record::width_of_type))]
+fn width_of_type(serial_type: u64) -> usize
+    ensures value { result ≡ spec.width_of_type serial_type }
     ensures small { result ≤ 8 }
 {
-    if number < 2 {
-        0
-    } else if number < 1 << 7 {
-        1
-    } else if number < 1 << 15 {
-        2
-    } else if number < 1 << 23 {
-        3
-    } else if number < 1 << 31 {
-        4
-    } else if number < 1 << 47 {
+    if serial_type < 5 {
+        serial_type as usize
+    } else if serial_type == 5 {
         6
-    } else {
+    } else if serial_type == 6 {
         8
+    } else {
+        0
     }
 }
 
@@ -113,7 +107,10 @@ fn push_content(out: &mut Vec<u8>, value: &Value<'_>) -> Result<(), AllocError>
 {
     match value {
         Value::Null => Ok(()),
-        Value::Number(number) => push_number(out, width_of_number(*number), *number),
+        Value::Number(number) => {
+            let width = width_of_type(type_of_number(*number));
+            push_number(out, width, *number)
+        }
         Value::Text(text) => {
             out.extend_from_slice(text.as_bytes())?;
             Ok(())

@@ -1,8 +1,39 @@
 //! The parts of a text.
-ghost use Rattle.std.specs.Prelude.{◌≡◌, ◌<◌, map, IfOk};
+ghost use Rattle.std.specs.Prelude.{◌≡◌, ◌<◌, ◌==◌, map, IfOk};
+ghost use Rattle.std.specs.List.{before_first, after_first};
 ghost use Rattle.text_parts.specs.Parts.{parts_of};
 
 use std::alloc::{AllocError, Global};
+
+/// What stands before the first such sign, an ASCII character, and what stands behind it: all, and nothing, where there is none.
+pub fn cut(text: &str, sign: char) -> (&str, &str)
+    requires { sign < 128 }
+    ensures front { result.0.now ≡ before_first (λ b. b == sign) text.entry.now }
+    ensures rest { result.1.now ≡ after_first (λ b. b == sign) text.entry.now }
+{
+    match text.split_once(sign) {
+        Some((front, rest)) => (front, rest),
+        None => (text, ""),
+    }
+}
+
+/// What stands before the first such sign, or all.
+pub fn before(text: &str, sign: char) -> &str
+    requires { sign < 128 }
+    ensures { result.now ≡ before_first (λ b. b == sign) text.entry.now }
+{
+    let (front, _) = cut(text, sign);
+    front
+}
+
+/// What stands behind the first such sign, or nothing.
+pub fn behind(text: &str, sign: char) -> &str
+    requires { sign < 128 }
+    ensures { result.now ≡ after_first (λ b. b == sign) text.entry.now }
+{
+    let (_, rest) = cut(text, sign);
+    rest
+}
 
 /// The parts of a text, each of which ends at a sign, an ASCII character: its lines, where that is a line feed. It fails where
 /// memory is refused.

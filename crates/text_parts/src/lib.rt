@@ -3,4 +3,4 @@
 
 mod cutting;
 
-pub use cutting::parts;
+pub use cutting::{before, behind, cut, parts};

@@ -23,18 +23,12 @@ loss_sign plays.Board = 48
 loss_sign plays.Short = 76
 loss_sign plays.Forfeit = 45
 
--- White's sign and half points, and Black's; a game that goes on has a space
+-- White's sign and half points; a game that goes on has a space
 abbrev pub white_sign : Score → Play → ℕ
 white_sign scores.White play = win_sign play
 white_sign scores.Black play = loss_sign play
 white_sign scores.Draw play = draw_sign play
 white_sign scores.Open play = 32
-
-abbrev pub black_sign : Score → Play → ℕ
-black_sign scores.White play = loss_sign play
-black_sign scores.Black play = win_sign play
-black_sign scores.Draw play = draw_sign play
-black_sign scores.Open play = 32
 
 abbrev pub white_halves : Score → ℕ
 white_halves scores.White = 2
@@ -42,11 +36,12 @@ white_halves scores.Black = 0
 white_halves scores.Draw = 1
 white_halves scores.Open = 0
 
-abbrev pub black_halves : Score → ℕ
-black_halves scores.White = 0
-black_halves scores.Black = 2
-black_halves scores.Draw = 1
-black_halves scores.Open = 0
+-- with the colours changed; so Black's are White's of this
+abbrev pub turned : Score → Score
+turned scores.White = scores.Black
+turned scores.Black = scores.White
+turned scores.Draw = scores.Draw
+turned scores.Open = scores.Open
 
 -- `w`, and White's opponent; without one a bye, `U`, which is a win
 abbrev pub white_cell : Meeting → Option ℕ → Cell
@@ -54,7 +49,8 @@ white_cell m None = record { opponent = 0; colour = 45; sign = 85; halves = 2 }
 white_cell m (Some black) = record { opponent = black; colour = 119; sign = white_sign m.score m.play; halves = white_halves m.score }
 
 abbrev pub black_cell : Meeting → Cell
-black_cell m = record { opponent = m.white; colour = 98; sign = black_sign m.score m.play; halves = black_halves m.score }
+black_cell m =
+    record { opponent = m.white; colour = 98; sign = white_sign (turned m.score) m.play; halves = white_halves (turned m.score) }
 
 -- who is not paired: `Z`, no point
 abbrev pub absent : Cell

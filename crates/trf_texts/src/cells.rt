@@ -67,6 +67,7 @@ fn loss_sign(play: Play) -> u8
     }
 }
 
+// White's sign.
 fn white_sign(score: Score, play: Play) -> u8
     ensures { result ≡ spec.white_sign score play }
 {
@@ -78,17 +79,7 @@ fn white_sign(score: Score, play: Play) -> u8
     }
 }
 
-fn black_sign(score: Score, play: Play) -> u8
-    ensures { result ≡ spec.black_sign score play }
-{
-    match score {
-        Score::White => loss_sign(play),
-        Score::Black => win_sign(play),
-        Score::Draw => draw_sign(play),
-        Score::Open => b' ',
-    }
-}
-
+// White's half points.
 fn white_halves(score: Score) -> u8
     ensures halves { result ≡ spec.white_halves score }
     ensures few { result ≤ 2 }
@@ -100,14 +91,14 @@ fn white_halves(score: Score) -> u8
     }
 }
 
-fn black_halves(score: Score) -> u8
-    ensures halves { result ≡ spec.black_halves score }
-    ensures few { result ≤ 2 }
+// The score with the colours changed.
+fn turned(score: Score) -> Score
+    ensures { result ≡ spec.turned score }
 {
     match score {
-        Score::Black => 2,
-        Score::Draw => 1,
-        Score::White | Score::Open => 0,
+        Score::White => Score::Black,
+        Score::Black => Score::White,
+        Score::Draw | Score::Open => score,
     }
 }
 
@@ -135,11 +126,12 @@ fn black_cell(meeting: Meeting) -> Cell
     ensures cell { result ≡ spec.black_cell meeting }
     ensures few { result.halves ≤ 2 }
 {
+    let score = turned(meeting.score);
     Cell {
         opponent: meeting.white,
         colour: b'b',
-        sign: black_sign(meeting.score, meeting.play),
-        halves: black_halves(meeting.score),
+        sign: white_sign(score, meeting.play),
+        halves: white_halves(score),
     }
 }
 
