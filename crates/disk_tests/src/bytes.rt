@@ -120,25 +120,25 @@ fn a_record_is_read_again(rt: HostRuntime) {
     bytes[..10].copy_from_slice(&[3, 0, 0x0c, 7, 1, 0, 0, 0, 0xe8, 3]);
     check_record(&rt, &first_move(), &bytes);
     bytes[127] = 1;
-    assert!(rt; !is_record(&bytes));
+    assert!(rt; read_record(&bytes).is_none());
     bytes[127] = 0;
     bytes[0] = 11;
-    assert!(rt; !is_record(&bytes));
+    assert!(rt; read_record(&bytes).is_none());
 }
 
-// How many records a sector has: none where it is not one of records.
-fn count(bytes: &[u8; 512]) -> usize {
+// How many records a sector has; `None` where it is not one of records.
+fn count(bytes: &[u8; 512]) -> Option<usize> {
     match read_sector(bytes) {
-        Some(records) => records.len(),
-        None => 0,
+        Some(records) => Some(records.len()),
+        None => None,
     }
 }
 
 #[test]
 fn a_sector_has_one_to_four_records(rt: HostRuntime) {
     let mut bytes = write_sector(&[first_move(), Record::default(), first_move()]);
-    assert!(rt; count(&bytes) == 3);
+    assert!(rt; count(&bytes) == Some(3));
     bytes[511] = 1;
-    assert!(rt; count(&bytes) == 0);
-    assert!(rt; count(&[0; 512]) == 0);
+    assert!(rt; count(&bytes) == None);
+    assert!(rt; count(&[0; 512]) == None);
 }

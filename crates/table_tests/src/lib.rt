@@ -5,6 +5,8 @@
 #[cfg(test)]
 mod answer;
 #[cfg(test)]
+mod clock;
+#[cfg(test)]
 mod line;
 #[cfg(test)]
 mod snapshots;
