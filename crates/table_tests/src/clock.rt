@@ -2,10 +2,10 @@
 use chess_bits::Colour::{Black, White};
 use chess_clock::{Clock, ClockEvent};
 
-// 300 s, from 1,000 on: Black claims wrongly before its first move, which takes 4 s.
+// 300 s, from 1,000 on: eight moves at once, then White claims wrongly and moves, and Black claims wrongly.
 #[test]
-fn a_clock_of_the_events_of_a_game(rt: HostRuntime) {
-    let clock = Clock::of_game(
+fn a_wrong_claim_gives_time_to_the_opponent(rt: HostRuntime) {
+    let mut clock = Clock::of_game(
         300,
         0,
         White,
@@ -13,12 +13,26 @@ fn a_clock_of_the_events_of_a_game(rt: HostRuntime) {
         None,
         &[
             ClockEvent::Turn(White, 0),
-            ClockEvent::WrongClaim(Black),
-            ClockEvent::Turn(Black, 4_000),
+            ClockEvent::Turn(Black, 0),
+            ClockEvent::Turn(White, 0),
+            ClockEvent::Turn(Black, 0),
+            ClockEvent::Turn(White, 0),
+            ClockEvent::Turn(Black, 0),
+            ClockEvent::Turn(White, 0),
+            ClockEvent::Turn(Black, 0),
         ],
     );
-    assert!(rt; [clock.left(White, 5_000), clock.left(Black, 5_000)] == [420_000, 296_000]);
-    assert!(rt; clock.since() == 5_000);
+    clock.penalty(Black);
+    clock.finish_turn(5_000);
+    assert!(rt; clock.left(White, 5_000) == 296_000);
+    assert!(rt; clock.left(Black, 5_000) == 420_000);
+    clock.penalty(White);
+    assert!(rt; clock.left(White, 6_000) == 416_000);
+    assert!(rt; clock.left(Black, 6_000) == 419_000);
+    clock.stop(6_000);
+    assert!(rt; clock.left(White, 9_000) == 416_000);
+    assert!(rt; clock.held(Black) == 419_000);
+    assert!(rt; clock.since() == 6_000);
 }
 
 // One move in 60 s, then 30 s more, and 2 s a move, as a snapshot has it after White's move.
@@ -31,6 +45,7 @@ fn a_clock_goes_on_from_a_snapshot(rt: HostRuntime) {
         ClockEvent::Turn(Black, 59_999),
         ClockEvent::WrongClaim(Black),
     ]);
-    assert!(rt; [clock.left(White, 69_999), clock.left(Black, 69_999)] == [202_000, 32_001]);
+    assert!(rt; clock.left(White, 69_999) == 202_000);
+    assert!(rt; clock.left(Black, 69_999) == 32_001);
     assert!(rt; clock.since() == 69_999);
 }

@@ -22,30 +22,53 @@ fn lines_that_were_taken_are_given_up(rt: HostRuntime) {
     assert!(rt; [lines.held(), lines.waiting()] == [0, 0]);
 }
 
-// Whether a line is read as a move or a claim of these numbers, with this text, and of fifty moves or not.
-fn is_read(line: &str, numbers: [u32; 2], is_fifty: bool, of_text: &str) -> bool {
+// The act of a line.
+fn act_of(line: &str) -> Option<Act> {
     match parse(line.as_bytes()) {
-        Some(Request::Act(Act::Move { game, ply, text })) => {
-            [game, ply] == numbers && !is_fifty && text.as_str() == of_text
+        Some(Request::Act(act)) => Some(act),
+        _ => None,
+    }
+}
+
+// Whether a line asks for this move.
+fn is_move_line(line: &str, of_game: u32, at_ply: u32, of_text: &str) -> bool {
+    let Some(act) = act_of(line) else {
+        return false;
+    };
+    match act {
+        Act::Move { game, ply, text } => {
+            game == of_game && ply == at_ply && text.as_str() == of_text
         }
-        Some(
-            Request::Act(
-                Act::Claim {
-                    game,
-                    ply,
-                    fifty,
-                    text: Some(text),
-                },
-            ),
-        ) => [game, ply] == numbers && fifty == is_fifty && text.as_str() == of_text,
         _ => false,
     }
 }
 
 #[test]
-fn reads_what_a_move_and_a_claim_say(rt: HostRuntime) {
-    assert!(rt; is_read("move 1 23 e2e4", [1, 23], false, "e2e4"));
-    assert!(rt; is_read("move 4294967295 0 !~", [4_294_967_295, 0], false, "!~"));
-    assert!(rt; is_read("claim 2 8 fifty e4", [2, 8], true, "e4"));
-    assert!(rt; is_read("claim 1 9 three e5", [1, 9], false, "e5"));
+fn reads_moves_and_claims(rt: HostRuntime) {
+    assert!(rt; is_move_line("move 1 23 e2e4", 1, 23, "e2e4"));
+    assert!(rt; is_move_line("move 4294967295 0 !~", 4294967295, 0, "!~"));
+    let fifty = match act_of("claim 2 8 fifty e4") {
+        Some(
+            Act::Claim {
+                game: 2,
+                ply: 8,
+                fifty: true,
+                text: Some(text),
+            },
+        ) => text.as_str() == "e4",
+        _ => false,
+    };
+    assert!(rt; fifty);
+    let three = match act_of("claim 1 9 three") {
+        Some(
+            Act::Claim {
+                game: 1,
+                ply: 9,
+                fifty: false,
+                text: None,
+            },
+        ) => true,
+        _ => false,
+    };
+    assert!(rt; three);
 }
