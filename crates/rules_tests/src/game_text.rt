@@ -19,10 +19,17 @@ fn no_pawn_goes_three_squares(rt: HostRuntime) {
 #[test]
 fn a_game_is_played_move_by_move(rt: HostRuntime) {
     let board = Board::initial();
-    let mate = ["f2f3", "e7e5", "g2g4", "d8h4"].map(|text| named(&rt, text));
-    assert!(rt; is_playable(&board, &[]) && is_playable(&board, &mate));
-    assert!(rt; !is_playable(&board, &mate[1..]));
-    let end = fen_read("4k3/8/8/8/8/8/4P3/4K3 b - - 0 40").expect(&rt, "a FEN");
-    let moves = ["e8e7", "e2e4"].map(|text| named(&rt, text));
-    assert!(rt; is_playable(&end, &moves) && !is_playable(&end, &moves[1..]));
+    let [first, second] = [named(&rt, "f2f3"), named(&rt, "e7e5")];
+    let [third, mate] = [named(&rt, "g2g4"), named(&rt, "d8h4")];
+    assert!(rt; is_playable(&board, &[]));
+    assert!(rt; is_playable(&board, &[first, second, third, mate]));
+    assert!(rt; !is_playable(&board, &[second]));
+}
+
+#[test]
+fn a_game_goes_on_from_a_position(rt: HostRuntime) {
+    let board = fen_read("4k3/8/8/8/8/8/4P3/4K3 b - - 0 40").expect(&rt, "a FEN");
+    let [king, pawn] = [named(&rt, "e8e7"), named(&rt, "e2e4")];
+    assert!(rt; is_playable(&board, &[king, pawn]));
+    assert!(rt; !is_playable(&board, &[pawn]));
 }
