@@ -1,12 +1,13 @@
 -- Which games are newer than those of a table, by the newest of each server.
 use Rattle.std.proofs.Common.{ℕ, ◌≡◌, ◌<◌, ◌+◌, ◌&&◌, ◌||◌, Bool, true, false, not, List, [], ◌∷◌, ◌++◌, length, get_or, take, refl, sym, ap, ◌∙◌, arith}
 use Rattle.std.specs.Prelude.{◌==◌, nat_lt}
-use Rattle.std.proofs.lemmas.Bool.{false≢true}
+use Rattle.std.proofs.lemmas.Bool.{false≢true, and_parts}
 use Rattle.std.proofs.lemmas.Bool.Decides.{nat_tests}
 use Rattle.std.proofs.lemmas.List.{map-append, take_more}
 use Rattle.std.proofs.lemmas.List.Folds.{list_all-append}
 use Rattle.pairing_texts.specs.declared.steps.Row.{Row}
-use Rattle.pairing_texts.specs.Newer.{server_of, is_past, is_newer}
+use Rattle.lobby_words.specs.Servers.{server_of}
+use Rattle.pairing_texts.specs.Newer.{is_past, is_newer}
 use Rattle.pairing_texts.specs.Steps.{numbers_of}
 
 -- of three games of their servers: what is past a game that is not older is past the older one
@@ -16,14 +17,6 @@ past_by s t u one game n h k = grind (arith, nat_tests)
 
 past : (one game n : ℕ) → is_past one game ≡ false → is_past one n ≡ true → is_past game n ≡ true
 past one game n h k = past_by (server_of one) (server_of game) (server_of n) one game n h k
-
-and_first : (a b : Bool) → (a && b) ≡ true → a ≡ true
-and_first true b h = refl
-and_first false b h = absurd (false≢true h)
-
-and_second : (a b : Bool) → (a && b) ≡ true → b ≡ true
-and_second true b h = h
-and_second false b h = absurd (false≢true h)
 
 past_one : (one game n : ℕ) (games : List ℕ) (is : Bool) → is_past one game ≡ is → (is && is_newer games game) ≡ false →
     (is_newer games game ≡ false → is_past game n ≡ true) → is_past one n ≡ true → is_past game n ≡ true
@@ -35,8 +28,8 @@ past_all : (games : List ℕ) (game n : ℕ) → is_newer games game ≡ false �
 past_all [] game n h k = absurd (false≢true (sym h))
 past_all (one ∷ games) game n h k =
     past_one one game n games (is_past one game) refl h
-    (λ e. past_all games game n e (and_second (is_past one n) (is_newer games n) k))
-    (and_first (is_past one n) (is_newer games n) k)
+    (λ e. past_all games game n e (and_parts (is_past one n) (is_newer games n) k).1)
+    (and_parts (is_past one n) (is_newer games n) k).0
 
 -- ---- one game more
 

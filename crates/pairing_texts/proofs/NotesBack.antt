@@ -1,8 +1,8 @@
 -- A note that was written is read as it was.
-use Rattle.std.proofs.Common.{ℕ, ◌≡◌, ◌<◌, ◌^◌, ◌==◌, ◌&&◌, ◌||◌, Bool, true, false, List, [], ◌∷◌, ◌++◌, length, codes, decimal, Option, Some, None, refl, sym, ap, ◌∙◌, arith, if◌then◌else◌}
+use Rattle.std.proofs.Common.{ℕ, ◌≡◌, ◌<◌, ◌^◌, ◌==◌, ◌&&◌, Bool, true, false, List, [], ◌∷◌, ◌++◌, length, codes, decimal, Option, Some, None, refl, sym, ap, ◌∙◌, arith, if◌then◌else◌}
 use Rattle.std.specs.Prelude.{nat_le}
 use Rattle.std.specs.List.{list_all}
-use Rattle.std.proofs.lemmas.Bool.{false≢true}
+use Rattle.std.proofs.lemmas.Bool.{false≢true, and_parts, or_from}
 use Rattle.std.proofs.lemmas.Bool.Decides.{Decides-eqb}
 use Rattle.std.proofs.lemmas.Slice.Eq.{bytes_eq-Decides}
 use Rattle.text_parts.proofs.Cuts.{Lacks, lacks_more, lacks_both, before_at, after_at}
@@ -20,23 +20,11 @@ not_one : (c d : ℕ) (t : Bool) → (d == c) ≡ t → is_name_byte c ≡ false
 not_one c d true e out inside = absurd (false≢true (sym out ∙ (ap is_name_byte (sym ((Decides-eqb d c).0 e)) ∙ inside)))
 not_one c d false e out inside = e
 
-and_first : (a b : Bool) → (a && b) ≡ true → a ≡ true
-and_first true b h = refl
-and_first false b h = absurd (false≢true h)
-
-and_second : (a b : Bool) → (a && b) ≡ true → b ≡ true
-and_second true b h = h
-and_second false b h = absurd (false≢true h)
-
-or_false : (a b : Bool) → a ≡ false → b ≡ false → (a || b) ≡ false
-or_false true b h k = absurd (false≢true (sym h))
-or_false false b h k = k
-
 name_lacks : (c : ℕ) (text : List ℕ) → is_name_byte c ≡ false → list_all is_name_byte text ≡ true → Lacks c text
 name_lacks c [] out all = refl
 name_lacks c (d ∷ text) out all =
-    or_false (d == c) _ (not_one c d (d == c) refl out (and_first (is_name_byte d) (list_all is_name_byte text) all))
-    (name_lacks c text out (and_second (is_name_byte d) (list_all is_name_byte text) all))
+    or_from (d == c) _ (not_one c d (d == c) refl out (and_parts (is_name_byte d) (list_all is_name_byte text) all).0)
+    (name_lacks c text out (and_parts (is_name_byte d) (list_all is_name_byte text) all).1)
 
 all_of : (a b c : Bool) → (a && b && c) ≡ true → c ≡ true
 all_of true true c h = h

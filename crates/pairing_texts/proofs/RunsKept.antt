@@ -2,7 +2,7 @@
 use Rattle.std.proofs.Common.{ℕ, ◌≡◌, ◌≤◌, ◌==◌, ◌&&◌, ◌||◌, Bool, true, false, not, List, [], ◌∷◌, ◌++◌, length, filter, Option, Some, None, refl, sym, ap, ◌∙◌, subst, arith, inl, inr, ◌⊎◌, if◌then◌else◌}
 use Rattle.std.specs.List.{list_any}
 use Rattle.std.specs.Str.{bytes_eq}
-use Rattle.std.proofs.lemmas.Bool.{false≢true}
+use Rattle.std.proofs.lemmas.Bool.{false≢true, and_from, and_parts}
 use Rattle.std.proofs.lemmas.Bool.Decides.{Decides-eqb}
 use Rattle.std.proofs.lemmas.List.{map-append}
 use Rattle.std.proofs.lemmas.List.Folds.{list_all-append}
@@ -30,17 +30,6 @@ and_false false = refl
 or_false : (x : Bool) → (x || false) ≡ x
 or_false true = refl
 or_false false = refl
-
-and_first : (a b : Bool) → (a && b) ≡ true → a ≡ true
-and_first true b h = refl
-and_first false b h = absurd (false≢true h)
-
-and_second : (a b : Bool) → (a && b) ≡ true → b ≡ true
-and_second true b h = h
-and_second false b h = absurd (false≢true h)
-
-both_true : (a b : Bool) → a ≡ true → b ≡ true → (a && b) ≡ true
-both_true a b h k = rw h k
 
 -- the table has this game, which may be the board's
 abbrev is_there : Board → List ℕ → ℕ → Row → Bool
@@ -89,9 +78,9 @@ there_by : (b : Board) (noted : List ℕ) (game n : ℕ) (s : Bool) → is_newer
     ((n == game) && ((is_newer noted n && s) && b.fits n)) ≡ true
 there_by b noted game n s new fits h =
     subst (λ (m : ℕ). ((m == game) && ((is_newer noted m && s) && b.fits m)) ≡ true)
-    (sym ((Decides-eqb n game).0 (and_first (n == game) s h)))
-    (both_true (game == game) ((is_newer noted game && s) && b.fits game) ((Decides-eqb game game).1 refl)
-    (both_true (is_newer noted game && s) (b.fits game) (both_true (is_newer noted game) s new (and_second (n == game) s h)) fits))
+    (sym ((Decides-eqb n game).0 (and_parts (n == game) s h).0))
+    (and_from (game == game) ((is_newer noted game && s) && b.fits game) ((Decides-eqb game game).1 refl)
+    (and_from (is_newer noted game && s) (b.fits game) (and_from (is_newer noted game) s new (and_parts (n == game) s h).1) fits))
 
 or_more : (a b c d : Bool) → (a ≡ true → c ≡ true) → (b ≡ true → d ≡ true) → (a || b) ≡ true → (c || d) ≡ true
 or_more true b c d f g h = ap (λ (x : Bool). x || d) (f refl)
@@ -207,7 +196,7 @@ look_holds b note given rows seen opened seats (server ∷ away) is_whole tell h
 
 more_given : (given more these : List ℕ) → TellNewer given these → TellNewer (given ++ more) these
 more_given given more these tell n h =
-    tell n (and_first (is_newer given n) (is_newer more n) (sym (list_all-append (λ one. is_past one n) given more) ∙ h))
+    tell n (and_parts (is_newer given n) (is_newer more n) (sym (list_all-append (λ one. is_past one n) given more) ∙ h)).0
 
 one_given : (given : List ℕ) (rows : List Row) (row : Row) → TellNewer given (numbers_of rows) →
     TellNewer (given ++ row.game ∷ []) (numbers_of (rows ++ row ∷ []))
@@ -215,13 +204,13 @@ one_given given rows row tell n h =
     let both = sym (list_all-append (λ one. is_past one n) given (row.game ∷ [])) ∙ h in
     ap (λ ns. is_newer ns n) (map-append (λ (r : Row). r.game) rows (row ∷ []))
     ∙ (list_all-append (λ one. is_past one n) (numbers_of rows) (row.game ∷ [])
-    ∙ both_true (is_newer (numbers_of rows) n) (is_newer (row.game ∷ []) n)
-    (tell n (and_first (is_newer given n) (is_newer (row.game ∷ []) n) both))
-    (and_second (is_newer given n) (is_newer (row.game ∷ []) n) both))
+    ∙ and_from (is_newer (numbers_of rows) n) (is_newer (row.game ∷ []) n)
+    (tell n (and_parts (is_newer given n) (is_newer (row.game ∷ []) n) both).0)
+    (and_parts (is_newer given n) (is_newer (row.game ∷ []) n) both).1)
 
 row_there : (white : List ℕ) (game : ℕ) → ((game == game) && bytes_eq white white) ≡ true
 row_there white game =
-    both_true (game == game) (bytes_eq white white) ((Decides-eqb game game).1 refl) ((bytes_eq-Decides white white).1 refl)
+    and_from (game == game) (bytes_eq white white) ((Decides-eqb game game).1 refl) ((bytes_eq-Decides white white).1 refl)
 
 one_opened : (opened : List ℕ) (game : ℕ) → opened ≡ [] → opened ++ game ∷ [] ≡ game ∷ []
 one_opened opened game none = ap (λ (xs : List ℕ). xs ++ game ∷ []) none

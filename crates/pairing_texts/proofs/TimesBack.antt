@@ -1,5 +1,6 @@
 -- Times that were written are read as they were.
 use Rattle.std.proofs.Common.{ℕ, zero, suc, ◌≡◌, ◌<◌, ◌^◌, ◌&&◌, Bool, true, false, List, [], ◌∷◌, ◌++◌, Option, Some, None, IfSome, decimal, refl, sym, ap, ◌∙◌, arith, append_assoc, append-nil}
+use Rattle.std.proofs.lemmas.Bool.{and_from}
 use Rattle.std.specs.Prelude.{if◌then◌else◌}
 use Rattle.std.specs.Str.{bytes_eq}
 use Rattle.std.proofs.lemmas.Bool.Decides.{nat_tests}
@@ -111,16 +112,12 @@ likely_by t (Some p) e h =
     let last : p.seconds < 2 ^ 32 = grind (arith, nat_tests) in
     rw e (likely_long t.initial t.increment p.moves p.seconds small few moves last)
 
-and_both : (a b : Bool) → a ≡ true → b ≡ true → (a && b) ≡ true
-and_both true b h k = k
-and_both false b h k = h
-
 pub times_back : (t : Times) → are_taken t ≡ true → times_in (times_text t) ≡ Some t
 unfolding times_in
 times_back t h =
     ap (λ (u : Times). if are_taken u && bytes_eq (times_text u) (times_text t) then Some u else None) (likely_by t t.period refl h)
     ∙ ap (λ (b : Bool). if b then Some t else None)
-    (and_both (are_taken t) (bytes_eq (times_text t) (times_text t)) h ((bytes_eq-Decides (times_text t) (times_text t)).1 refl))
+    (and_from (are_taken t) (bytes_eq (times_text t) (times_text t)) h ((bytes_eq-Decides (times_text t) (times_text t)).1 refl))
 
 -- what is read is spelled so, and taken
 read_by : (text : List ℕ) (t : Times) (a b : Bool) → are_taken t ≡ a → bytes_eq (times_text t) text ≡ b →

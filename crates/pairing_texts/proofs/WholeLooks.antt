@@ -1,23 +1,12 @@
 -- A look at which each server was heard sees the whole table.
-use Rattle.std.proofs.Common.{ℕ, ◌≡◌, ◌==◌, ◌&&◌, ◌||◌, Bool, true, false, not, List, [], ◌∷◌, ◌++◌, filter, map, refl, sym, ap, subst, if◌then◌else◌}
+use Rattle.std.proofs.Common.{ℕ, ◌≡◌, ◌==◌, ◌||◌, Bool, true, false, not, List, [], ◌∷◌, ◌++◌, filter, map, refl, sym, ap, subst, if◌then◌else◌}
 use Rattle.std.specs.List.{list_any, list_all}
-use Rattle.std.proofs.lemmas.Bool.{false≢true}
+use Rattle.std.proofs.lemmas.Bool.{false≢true, and_from, and_parts}
 use Rattle.std.proofs.lemmas.Bool.Decides.{Decides-eqb}
 use Rattle.pairing_texts.specs.declared.steps.Row.{Row}
-use Rattle.pairing_texts.specs.Newer.{server_of}
+use Rattle.lobby_words.specs.Servers.{server_of}
 use Rattle.pairing_texts.specs.Steps.{is_heard, unheard}
 use Rattle.pairing_texts.specs.Runs.{is_of, seen_of, are_of}
-
-and_first : (a b : Bool) → (a && b) ≡ true → a ≡ true
-and_first true b h = refl
-and_first false b h = absurd (false≢true h)
-
-and_second : (a b : Bool) → (a && b) ≡ true → b ≡ true
-and_second true b h = h
-and_second false b h = absurd (false≢true h)
-
-both_true : (a b : Bool) → a ≡ true → b ≡ true → (a && b) ≡ true
-both_true a b h k = rw h k
 
 not_false : (a : Bool) → not a ≡ false → a ≡ true
 not_false true h = refl
@@ -48,8 +37,8 @@ heard_all heard (one ∷ servers) server none among =
 all_more : (p q : Row → Bool) (rows : List Row) → ((row : Row) → p row ≡ true → q row ≡ true) → list_all p rows ≡ true → list_all q rows ≡ true
 all_more p q [] step h = refl
 all_more p q (row ∷ rows) step h =
-    both_true (q row) (list_all q rows) (step row (and_first (p row) (list_all p rows) h))
-    (all_more p q rows step (and_second (p row) (list_all p rows) h))
+    and_from (q row) (list_all q rows) (step row (and_parts (p row) (list_all p rows) h).0)
+    (all_more p q rows step (and_parts (p row) (list_all p rows) h).1)
 
 kept_one : (row : Row) (rows rest : List Row) (k : Bool) → k ≡ true → rest ≡ rows → (if k then row ∷ rest else rest) ≡ row ∷ rows
 kept_one row rows rest true h e = ap (λ (rs : List Row). row ∷ rs) e
@@ -58,8 +47,8 @@ kept_one row rows rest false h e = absurd (false≢true h)
 all_kept : (p : Row → Bool) (rows : List Row) → list_all p rows ≡ true → filter p rows ≡ rows
 all_kept p [] h = refl
 all_kept p (row ∷ rows) h =
-    kept_one row rows (filter p rows) (p row) (and_first (p row) (list_all p rows) h)
-    (all_kept p rows (and_second (p row) (list_all p rows) h))
+    kept_one row rows (filter p rows) (p row) (and_parts (p row) (list_all p rows) h).0
+    (all_kept p rows (and_parts (p row) (list_all p rows) h).1)
 
 pub whole : (servers older heard : List ℕ) (rows : List Row) → are_of servers older rows ≡ true → unheard servers older heard ≡ [] →
     seen_of heard rows ≡ rows

@@ -1,10 +1,8 @@
 -- Which of two games of a server is the newer one. A server gives each of its games a greater number than all before; over
 -- a switch the server stands in front of the game's seven digits (docs/SERVERS.md, "Numbers").
-use Rattle.std.specs.Prelude.{ℕ, ◌/◌, ◌==◌, Bool, not, ◌||◌, nat_lt, List}
+use Rattle.std.specs.Prelude.{ℕ, ◌==◌, Bool, not, ◌||◌, nat_lt, List}
 use Rattle.std.specs.List.{list_all}
-
-abbrev pub server_of : ℕ → ℕ
-server_of number = number / 10000000
+use Rattle.lobby_words.specs.Servers.{server_of}
 
 abbrev pub is_same_server : ℕ → ℕ → Bool
 is_same_server one other = server_of one == server_of other

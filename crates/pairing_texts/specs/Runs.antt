@@ -6,7 +6,8 @@ use Rattle.pairing_texts.specs.declared.steps.Seats.{Seats}
 use Rattle.pairing_texts.specs.declared.steps.Step.{Step}
 use Rattle.pairing_texts.specs.declared.steps.Step.TheVariants as steps
 use Rattle.pairing_texts.specs.declared.steps.Row.{Row}
-use Rattle.pairing_texts.specs.Newer.{server_of, is_newer}
+use Rattle.lobby_words.specs.Servers.{server_of}
+use Rattle.pairing_texts.specs.Newer.{is_newer}
 use Rattle.pairing_texts.specs.Notes.{Reached, Opening, Opened, Joined, game_in}
 use Rattle.pairing_texts.specs.Steps.{sits, candidates_in, numbers_of, unheard, step_of}
 

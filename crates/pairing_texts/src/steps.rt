@@ -5,11 +5,9 @@ ghost use Rattle.pairing_texts.specs.Notes.{reached};
 ghost use Rattle.pairing_texts.specs.Steps as spec;
 
 use crate::notes::Stage;
+use lobby_words::server_of;
 use rec_codec::Name;
 use std::alloc::{AllocError, Global};
-
-// How many numbers a server's games have over a switch (docs/SERVERS.md, "Numbers").
-const SERVER: u32 = 10_000_000;
 
 /// A game of the table, and who sits in it.
 #[derive(Clone, Copy, Debug, PartialEq, Eq)]
@@ -63,13 +61,6 @@ fn sits(name: &Name, seat: Option<Name>) -> bool
         None => false,
         Some(other) => other.as_str() == name.as_str(),
     }
-}
-
-// The server of a game.
-fn server_of(number: u32) -> u32
-    ensures { result ≡ newer.server_of number }
-{
-    number / SERVER
 }
 
 // Whether two games have numbers of one server.

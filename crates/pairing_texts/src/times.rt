@@ -1,12 +1,12 @@
 //! The times of a game.
-ghost use Rattle.std.specs.Prelude.{◌≡◌, ◌++◌, ◌<◌, decimal, OnOk, IfOk};
+ghost use Rattle.std.specs.Prelude.{◌≡◌, ◌++◌, decimal, OnOk, IfOk};
 ghost use Rattle.std.specs.String.{string_bytes};
-ghost use Rattle.lobby_words.specs.Words as words;
 ghost use Rattle.pairing_texts.specs.Times as spec;
 
 use itoa::Buffer;
-use lobby_words::number_named;
+use lobby_words::number_or_0;
 use std::alloc::{AllocError, Global};
+use text_parts::cut;
 
 /// The first period's moves, and the seconds that stand for the second.
 #[derive(Clone, Copy, Debug, PartialEq, Eq)]
@@ -22,28 +22,6 @@ pub struct Times {
     pub increment: u32,
     /// Where there is a second period.
     pub period: Option<Period>,
-}
-
-/// What stands before the first sign, and what stands behind it.
-pub fn cut(text: &str, sign: char) -> (&str, &str)
-    requires { sign < 128 }
-    ensures front { result.0.now ≡ spec.front_of sign text.entry.now }
-    ensures rest { result.1.now ≡ spec.rest_of sign text.entry.now }
-{
-    match text.split_once(sign) {
-        Some((front, rest)) => (front, rest),
-        None => (text, ""),
-    }
-}
-
-/// The number of a text, and 0 where it is none's.
-pub fn number_or_0(text: &str) -> u32
-    ensures { result ≡ words.number_or_0 text.now }
-{
-    match number_named(text) {
-        Some(number) => number,
-        None => 0,
-    }
 }
 
 // The times of which a text may be that of.
