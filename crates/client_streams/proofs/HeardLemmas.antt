@@ -2,10 +2,11 @@
 use Rattle.std.proofs.Common.{◌≡◌, ◌∙◌, ◌<◌, ◌≤◌, ℕ, zero, suc, Bool, true, List, [], ◌∷◌, Option, length, take, refl, subst, sym, arith, inl, inr}
 use Rattle.std.specs.Io.KnownBytes.{Consumes, Keeps, IsAtEnd}
 use Rattle.std.proofs.KnownBytes.{Consumes-nil, Consumes-kept}
-use Rattle.client_streams.specs.declared.pieces.Came.{Came}
-use Rattle.client_streams.specs.declared.pieces.Came.TheVariants.{Nothing, Interrupted, Bytes, End, Fault}
+use Rattle.session_lines.specs.declared.pieces.Came.{Came}
+use Rattle.session_lines.specs.declared.pieces.Came.TheVariants.{Nothing, Interrupted, Bytes, End, Fault}
 use Rattle.client_streams.specs.Clients.{IsHeardAt, IsEndSeen, heard_since}
-use Rattle.client_streams.specs.Pieces.{HasCome, Brings}
+use Rattle.session_lines.specs.Pieces.{HasCome}
+use Rattle.client_streams.specs.Pieces.{Brings}
 
 none_brought : (before after : Option (List ℕ)) → Keeps before after → Consumes before after []
 none_brought before after kept = Consumes-kept before before after [] (Consumes-nil before) kept

@@ -11,14 +11,14 @@ ghost use Rattle.client_streams.specs.Sending.{waiting};
 ghost use Rattle.client_streams.specs.Rounds.{AreGiven, IsHandedOut};
 
 use crate::closing::Closing;
-use crate::incoming::Incoming;
+use crate::incoming::{Incoming, PIECE_ROOM};
 use crate::memory::Memory;
 use crate::outgoing::{Outgoing, Sent};
-use crate::pieces::{Came, PIECE_ROOM};
 use crate::room::Room;
 use crate::wire::Wire;
 use chess_answer::Reply;
 use chess_sessions::{Sessions, Sid};
+use session_lines::Came;
 use std::alloc::{AllocError, Global};
 use std::io::{Read, Write};
 

@@ -5,11 +5,13 @@ ghost use Rattle.client_streams.specs.Portions.{is_dear, AreLines, AreFewLines, 
 ghost use Rattle.std.specs.Io.KnownBytes.{Keeps, IsAtEnd};
 ghost use Rattle.client_streams.specs.Pieces.{Brings, Takes};
 
-use crate::pieces::{Came, PIECE_ROOM};
 use crate::wire::Wire;
 use arrayvec::ArrayVec;
-use session_lines::{LINE_ROOM, first_feed};
+use session_lines::{Came, LINE_ROOM, first_feed};
 use std::io::Read;
+
+/// The most bytes of a peer that are held back, and that one read takes.
+pub const PIECE_ROOM: usize = 4096;
 
 /// Bytes that are held back, in their order.
 #[derive(Drop)]

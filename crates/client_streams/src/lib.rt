@@ -9,7 +9,6 @@ mod door;
 mod incoming;
 mod memory;
 mod outgoing;
-mod pieces;
 mod room;
 mod rounds;
 mod watch;

@@ -10,7 +10,7 @@ ghost use Rattle.client_streams.specs.Rounds.{intake, AreRead, IsRead, AreWritte
 
 use crate::client::Client;
 use crate::closing::Closing;
-use crate::pieces::PIECE_ROOM;
+use crate::incoming::PIECE_ROOM;
 use crate::room::Room;
 use chess_sessions::Sessions;
 use std::io::{Read, Write};

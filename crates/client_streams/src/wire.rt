@@ -1,10 +1,10 @@
 //! A connection, and whether it has failed.
 ghost use Rattle.std.specs.Prelude.{◌≡◌, ◌≤◌, ◌<◌, ◌↔◌, ◌⊎◌, true, false, length, take};
 ghost use Rattle.std.specs.Io.KnownBytes.{Appends};
-ghost use Rattle.client_streams.specs.Pieces.{HasCome};
+ghost use Rattle.session_lines.specs.Pieces.{HasCome};
 
 use crate::outgoing::{Sent, Written, send};
-use crate::pieces::{Came, read_piece};
+use session_lines::{Came, read_piece};
 use std::io::{Read, Write};
 
 /// A stream, and whether a read of it has failed, or a write. Only `receive` and `transmit` tell.

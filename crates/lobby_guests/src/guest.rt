@@ -8,10 +8,11 @@ ghost use Rattle.lobby_guests.specs.Guests.{IsNewGuest, IsAsBefore, IsRead, IsAs
 use crate::counts::{Asked, Counts};
 use crate::links::Links;
 use crate::made::Made;
-use crate::pieces::{Came, Gone, PIECE_ROOM, read_piece, write_piece};
+use crate::pieces::{Gone, PIECE_ROOM, write_piece};
 use crate::talk::Talk;
 use lobby_desk::Order;
 use lobby_web::{Browser, Heard, Site, Unsaid};
+use session_lines::{Came, read_piece};
 use std::alloc::{AllocError, Global};
 use std::hash::RandomState;
 use std::io::{Read, Write};

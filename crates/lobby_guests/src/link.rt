@@ -6,9 +6,9 @@ ghost use Rattle.lobby_desk.specs.Events.{Heard};
 ghost use Rattle.lobby_guests.specs.Talking.{Moves};
 ghost use Rattle.lobby_guests.specs.Lines.{AreTaken, IsLeft, IsKept, TakesIn, HandsOn};
 
-use crate::pieces::{Came, Gone, PIECE_ROOM, read_piece, write_piece};
+use crate::pieces::{Gone, PIECE_ROOM, write_piece};
 use crate::talk::Talk;
-use session_lines::first_feed;
+use session_lines::{Came, first_feed, give_up, read_piece};
 use std::alloc::{AllocError, Global};
 use std::io::{Read, Write};
 use std::str;
@@ -25,16 +25,6 @@ pub struct Link<S> {
     can_read: bool,
     can_write: bool,
     is_lost: bool,
-}
-
-// Gives up the first bytes.
-fn give_up(held: &mut Vec<u8>, count: usize)
-    requires { count ≤ length held.old.items }
-    ensures { held.new.items ≡ drop count held.old.items }
-{
-    let left = held.len() - count;
-    held.as_mut_slice().copy_within(count.., 0);
-    held.truncate(left);
 }
 
 // Tells the desk a line. False where it is no text, and then nothing was told.

@@ -9,6 +9,7 @@ use lobby_desk::{Kind, Message};
 use lobby_moves::moves_line;
 use lobby_positions::line_answer;
 use std::alloc::{AllocError, Global};
+use text_parts::{before, behind};
 
 /// A message as it goes out, and the connections of the desk that it goes to.
 #[derive(Drop)]
@@ -33,34 +34,11 @@ fn last_line(text: &str) -> &str
     }
 }
 
-// What stands behind the first line.
-fn lines_behind(text: &str) -> &str
-    ensures { result.now ≡ making.lines_behind text.now }
-{
-    match text.split_once('\n') {
-        Some((_, rest)) => rest,
-        None => "",
-    }
-}
-
-// What stands before the first space.
-fn word_of(text: &str) -> &str
-    ensures { result.now ≡ making.word_of text.now }
-{
-    match text.split_once(' ') {
-        Some((word, _)) => word,
-        None => text,
-    }
-}
-
 // What stands behind the first space.
 fn rest_of(text: &str) -> &str
     ensures { result.now ≡ making.rest_of text.now }
 {
-    match text.split_once(' ') {
-        Some((_, rest)) => rest,
-        None => "",
-    }
+    behind(text, ' ')
 }
 
 // The FEN of a text that ends with the answer to `fen`, `ok fen G FEN`.
@@ -101,7 +79,7 @@ fn with_moves(alloc: Global, mut text: String) -> Result<String, AllocError>
 fn game_in(text: &str) -> u32
     ensures { (n : ℕ) → n < 2 ^ 32 → making.word_of (making.rest_of (making.rest_of text.now)) ≡ decimal n → result ≡ n }
 {
-    match word_of(rest_of(rest_of(text))).parse::<u32>() {
+    match before(rest_of(rest_of(text)), ' ').parse::<u32>() {
         Ok(number) => number,
         Err(_) => 0,
     }
@@ -111,7 +89,7 @@ fn game_in(text: &str) -> u32
 fn as_positions(alloc: Global, text: &str) -> Result<String, AllocError>
     ensures { IfOk result (λ made. IsOfLine text.now (string_bytes made)) }
 {
-    match line_answer(alloc, game_in(text), lines_behind(text))? {
+    match line_answer(alloc, game_in(text), behind(text, '\n'))? {
         Some(answer) => Ok(answer),
         None => Ok(String::from_str(alloc, "lost\n")?),
     }

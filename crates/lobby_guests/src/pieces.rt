@@ -1,42 +1,10 @@
-//! Bytes that come and go, piece by piece, without waiting where the stream doesn't wait.
-ghost use Rattle.std.specs.Prelude.{◌<◌, length};
-ghost use Rattle.lobby_guests.specs.Pieces.{HasCome, HasGone};
+//! Bytes that go, piece by piece, without waiting where the stream doesn't wait.
+ghost use Rattle.lobby_guests.specs.Pieces.{HasGone};
 
-use std::io::{ErrorKind, Read, Write};
+use std::io::{ErrorKind, Write};
 
 /// The most bytes that one read takes.
 pub const PIECE_ROOM: usize = 16_384;
-
-/// What a read brought.
-#[derive(Clone, Copy, Debug, PartialEq, Eq)]
-pub enum Came {
-    /// Nothing for now.
-    Nothing,
-    /// A signal came first, and whether there is something is open.
-    Interrupted,
-    /// So many bytes.
-    Bytes(usize),
-    /// The peer sends no more.
-    End,
-    /// The connection has failed.
-    Fault,
-}
-
-/// Reads a piece.
-pub fn read_piece<R: Read>(reader: &mut R, piece: &mut [u8]) -> Came
-    requires { 0 < length piece.old }
-    ensures { HasCome (R.remaining reader.old) (R.remaining reader.new) piece.new result }
-{
-    match reader.read(piece) {
-        Ok(0) => Came::End,
-        Ok(count) => Came::Bytes(count),
-        Err(error) => match error.kind() {
-            ErrorKind::WouldBlock => Came::Nothing,
-            ErrorKind::Interrupted => Came::Interrupted,
-            _ => Came::Fault,
-        },
-    }
-}
 
 /// What a write took.
 #[derive(Clone, Copy, Debug, PartialEq, Eq)]

@@ -9,7 +9,8 @@ use Rattle.std.proofs.lemmas.Grind.{flat_map-append}
 use Rattle.std.proofs.lemmas.Option.{slice_get-map, slice_get_within}
 use Rattle.lobby_words.specs.Answers.{is_whole, answer, left_after}
 use Rattle.server_switch.specs.Lines.{Standing, ended, put_behind, change_at, renewed, took, gone_ahead}
-use Rattle.server_switch.specs.Numbers.{server_of, game_of}
+use Rattle.lobby_words.specs.Servers.{server_of}
+use Rattle.server_switch.specs.Numbers.{game_of}
 use Rattle.server_switch.specs.Routes.{Way, Says, Lists, Opens, Plays}
 use Rattle.server_switch.specs.Waits.{Share, Due, Absent, Wait, Answered, Sent, Naming, Opening, Refused, Listing, Refusal, is_due, waits_for, listing_by, listing, put_at, next_filled, answered_waits, lost_of, lost_at, lost_waits, refusal_of, text_behind, text_ahead}
 use Rattle.server_switch.specs.Exchanges.{View, is_here_of, is_here, is_away_of, is_away, wire_of, wire_at, Outcome, Answers, Sends, IsOutcome, game_outcome, IsSame, IsOpened, IsListed, asked, share_asked, Becomes, IsTold, with_answer, refusal_in, without_last, IsPassedOn, IsAnswered, with_line, whole_answer, IsHeard, with_connection, with_lost, IsHere, IsGone, IsSent, IsTook}

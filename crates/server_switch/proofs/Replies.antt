@@ -1,7 +1,7 @@
 -- What servers have replied, from one thing that comes in to the next.
 use Rattle.std.proofs.Common.{ℕ, zero, suc, ◌≡◌, ◌+◌, ◌<◌, ◌≤◌, ◌==◌, Bool, true, false, ◌&&◌, List, [], ◌∷◌, ◌++◌, length, Option, Some, None, refl, sym, ap, ◌∙◌, append_assoc, append-nil, arith}
 use Rattle.std.specs.Prelude.{slice_get, if◌then◌else◌}
-use Rattle.std.proofs.lemmas.Bool.{ne_eqb, eqb-true, eqb-false, true_from_ne_false}
+use Rattle.std.proofs.lemmas.Bool.{ne_eqb, eqb-true, eqb-false, true_from_ne_false, and_parts}
 use Rattle.std.proofs.lemmas.List.{length-append}
 use Rattle.std.proofs.lemmas.Option.{slice_get_past}
 use Rattle.lobby_words.specs.Answers.{left_after}
@@ -186,14 +186,10 @@ awaited_open b (Some text) h = absurd (never (sym h))
 awaited_open true None h = refl
 awaited_open false None h = absurd (never (sym h))
 
-and_second : (a b : Bool) → (a && b) ≡ true → b ≡ true
-and_second true b h = h
-and_second false b h = absurd (never (sym h))
-
 pub awaited_now : (calls : List Call) (at : ℕ) (t : Ticket) → is_awaited (reply calls at t) ≡ true → t.connection ≡ connections at calls
 awaited_now calls at t h =
-    sym (eqb-true (connections at calls) t.connection (and_second (there at calls) (connections at calls == t.connection)
-    (awaited_open (there at calls && connections at calls == t.connection) (slice_get (answers_by at t.connection calls) t.number) h)))
+    sym (eqb-true (connections at calls) t.connection (and_parts (there at calls) (connections at calls == t.connection)
+    (awaited_open (there at calls && connections at calls == t.connection) (slice_get (answers_by at t.connection calls) t.number) h)).1)
 
 -- the first line that waits has the answer, and those behind it wait
 pub heard_hit : (at : ℕ) (line : List ℕ) (past : List Call) (text : List ℕ) (t : Ticket) → Whole at line past (text ∷ []) → there at past ≡ true →

@@ -2,12 +2,13 @@
 use Rattle.std.proofs.Common.{ℕ, zero, suc, ◌≡◌, ◌+◌, ◌-◌, ◌==◌, Bool, true, false, ◌||◌, List, [], ◌∷◌, ◌++◌, length, map, take, drop, Option, Some, None, inl, inr, refl, sym, ap, subst, ◌∙◌}
 use Rattle.std.specs.Prelude.{slice_get, codes, decimal, nat_le, if◌then◌else◌}
 use Rattle.std.specs.List.{list_any, last_or}
-use Rattle.std.proofs.lemmas.Bool.{ne_eqb, eqb-true, eqb-false, true_from_ne_false}
+use Rattle.std.proofs.lemmas.Bool.{ne_eqb, eqb-true, eqb-false, true_from_ne_false, or_from, or_parts}
 use Rattle.std.proofs.lemmas.List.Folds.{list_any-append}
 use Rattle.lobby_words.specs.Waiting.{is_list}
 use Rattle.server_switch.specs.Answers.{told, is_full, rows_told}
 use Rattle.server_switch.specs.Lines.{Standing, is_new, put_behind, changed, change_at, put_under, renewed, took, gone_ahead}
-use Rattle.server_switch.specs.Numbers.{server_of, game_of}
+use Rattle.lobby_words.specs.Servers.{server_of}
+use Rattle.server_switch.specs.Numbers.{game_of}
 use Rattle.server_switch.specs.Routes.{Way, Says, Lists, Opens, Plays}
 use Rattle.server_switch.specs.Waits.{Share, Due, Rows, Absent, Wait, Answered, Sent, Naming, Opening, Refused, Listing, Refusal, is_due, is_due_at, waits_for, listing_by, put_at, share_in, filled, next_filled, answered_waits, lost_of, lost_at, lost_waits, answer_of, left_behind, left_ahead}
 use Rattle.server_switch.specs.Exchanges.{View, fresh, is_here_of, is_here, said_at, Answers, Sends, name_waits, IsSame, IsOutcome, IsOpened, IsListed, Becomes, IsTold, asked, share_asked, refusal_in, without_last, IsPassedOn, with_answer, IsAnswered, whole_answer, with_line, IsHeard, with_connection, with_lost}
@@ -17,18 +18,6 @@ never : true ≡ false → ⊥
 never h = cc
 
 -- of two tests neither passes
-neither : (a b : Bool) → a ≡ false → b ≡ false → (a || b) ≡ false
-neither true b h k = h
-neither false b h k = k
-
-first_fails : (a b : Bool) → (a || b) ≡ false → a ≡ false
-first_fails true b h = h
-first_fails false b h = refl
-
-second_fails : (a b : Bool) → (a || b) ≡ false → b ≡ false
-second_fails true b h = absurd (never h)
-second_fails false b h = h
-
 -- whether servers are there
 moved : (change : Standing → Standing) (place : ℕ) (s : Standing) (servers : List Standing) (o : Option Standing) →
     changed change (suc place) (s ∷ servers) o ≡ s ∷ changed change place servers o
@@ -137,9 +126,9 @@ answered_quiet : (place q : ℕ) (answer : List ℕ) (taken : Bool) (ws : List W
     list_any (waits_for q) (answered_waits place answer taken ws) ≡ false
 answered_quiet place q answer taken [] h = refl
 answered_quiet place q answer taken (w ∷ ws) h =
-    neither (waits_for q (next_filled place answer taken w)) (list_any (waits_for q) (answered_waits place answer (taken || waits_for place w) ws))
-    (next_quiet place q answer taken w (first_fails (waits_for q w) (list_any (waits_for q) ws) h))
-    (answered_quiet place q answer (taken || waits_for place w) ws (second_fails (waits_for q w) (list_any (waits_for q) ws) h))
+    or_from (waits_for q (next_filled place answer taken w)) (list_any (waits_for q) (answered_waits place answer (taken || waits_for place w) ws))
+    (next_quiet place q answer taken w (or_parts (waits_for q w) (list_any (waits_for q) ws) h).0)
+    (answered_quiet place q answer (taken || waits_for place w) ws (or_parts (waits_for q w) (list_any (waits_for q) ws) h).1)
 
 lost_quiet : (place q : ℕ) (w : Wait) → waits_for q w ≡ false → waits_for q (lost_of place w) ≡ false
 lost_quiet place q (Answered text) h = refl
@@ -166,15 +155,15 @@ own_by place w false h = h
 lost_others : (place q : ℕ) (ws : List Wait) → list_any (waits_for q) ws ≡ false → list_any (waits_for q) (lost_waits place ws) ≡ false
 lost_others place q [] h = refl
 lost_others place q (w ∷ ws) h =
-    let own = first_fails (waits_for q w) (list_any (waits_for q) ws) h in
-    neither (waits_for q (lost_at place w)) (list_any (waits_for q) (lost_waits place ws))
+    let own = (or_parts (waits_for q w) (list_any (waits_for q) ws) h).0 in
+    or_from (waits_for q (lost_at place w)) (list_any (waits_for q) (lost_waits place ws))
     (choice_quiet (waits_for place w) q (lost_of place w) w (lost_quiet place q w own) own)
-    (lost_others place q ws (second_fails (waits_for q w) (list_any (waits_for q) ws) h))
+    (lost_others place q ws (or_parts (waits_for q w) (list_any (waits_for q) ws) h).1)
 
 lost_all : (place : ℕ) (ws : List Wait) → list_any (waits_for place) (lost_waits place ws) ≡ false
 lost_all place [] = refl
 lost_all place (w ∷ ws) =
-    neither (waits_for place (lost_at place w)) (list_any (waits_for place) (lost_waits place ws)) (own_by place w (waits_for place w) refl)
+    or_from (waits_for place (lost_at place w)) (list_any (waits_for place) (lost_waits place ws)) (own_by place w (waits_for place w) refl)
     (lost_all place ws)
 
 -- some of the lines
@@ -186,18 +175,18 @@ told_quiet q w ws behind (Some text) h k = k
 left_quiet : (q : ℕ) (ws : List Wait) → list_any (waits_for q) ws ≡ false → list_any (waits_for q) (left_ahead ws) ≡ false
 left_quiet q [] h = refl
 left_quiet q (w ∷ ws) h =
-    told_quiet q w ws (left_ahead ws) (answer_of w) h (left_quiet q ws (second_fails (waits_for q w) (list_any (waits_for q) ws) h))
+    told_quiet q w ws (left_ahead ws) (answer_of w) h (left_quiet q ws (or_parts (waits_for q w) (list_any (waits_for q) ws) h).1)
 
 front_quiet : (q n : ℕ) (ws : List Wait) → list_any (waits_for q) ws ≡ false → list_any (waits_for q) (take n ws) ≡ false
 front_quiet q zero ws h = refl
 front_quiet q (suc n) [] h = refl
 front_quiet q (suc n) (w ∷ ws) h =
-    neither (waits_for q w) (list_any (waits_for q) (take n ws)) (first_fails (waits_for q w) (list_any (waits_for q) ws) h)
-    (front_quiet q n ws (second_fails (waits_for q w) (list_any (waits_for q) ws) h))
+    or_from (waits_for q w) (list_any (waits_for q) (take n ws)) (or_parts (waits_for q w) (list_any (waits_for q) ws) h).0
+    (front_quiet q n ws (or_parts (waits_for q w) (list_any (waits_for q) ws) h).1)
 
 more_quiet : (q : ℕ) (ws more : List Wait) → list_any (waits_for q) ws ≡ false → list_any (waits_for q) more ≡ false →
     list_any (waits_for q) (ws ++ more) ≡ false
-more_quiet q ws more h k = list_any-append (waits_for q) ws more ∙ neither (list_any (waits_for q) ws) (list_any (waits_for q) more) h k
+more_quiet q ws more h k = list_any-append (waits_for q) ws more ∙ or_from (list_any (waits_for q) ws) (list_any (waits_for q) more) h k
 
 -- who is not there is not waited for
 abbrev pub NoneWaits : View → Type 0
@@ -218,8 +207,8 @@ apart v place q is_there away =
 
 names_quiet : (place q : ℕ) (b : Bool) (w : Wait) → (place == q) ≡ false → waits_for q w ≡ false →
     list_any (waits_for q) (name_waits place b ++ w ∷ []) ≡ false
-names_quiet place q true w other h = neither (place == q) (waits_for q w || false) other (neither (waits_for q w) false h refl)
-names_quiet place q false w other h = neither (waits_for q w) false h refl
+names_quiet place q true w other h = or_from (place == q) (waits_for q w || false) other (or_from (waits_for q w) false h refl)
+names_quiet place q false w other h = or_from (waits_for q w) false h refl
 
 sends : (place : ℕ) (line : List ℕ) (w : Wait) (old new : View) → is_here old place ≡ true → ((q : ℕ) → waits_for q w ≡ (place == q)) →
     IsOutcome (Sends place line w) old new → NoneWaits old → NoneWaits new
@@ -252,7 +241,7 @@ listed old new h before =
     let shares = map share_asked old.servers in
     kept old new (listing_by (list_any is_due shares) shares ∷ []) before
     (λ q away. sym (ap (λ (all : List Standing). is_here_of (slice_get all q)) h.1 ∙ here_asked old.servers q) ∙ away)
-    (λ q away. neither (waits_for q (listing_by (list_any is_due shares) shares)) false
+    (λ q away. or_from (waits_for q (listing_by (list_any is_due shares) shares)) false
     (listing_quiet (list_any is_due shares) shares q (due_asked old.servers q ∙ away)) refl)
     h.0
 

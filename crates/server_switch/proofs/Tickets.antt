@@ -1,8 +1,8 @@
 -- How the client's lines stand, from one thing that comes in to the next.
-use Rattle.std.proofs.Common.{ℕ, zero, suc, ◌≡◌, ◌+◌, ◌<◌, ◌≤◌, ◌==◌, Bool, true, false, ◌||◌, List, [], ◌∷◌, length, Option, Some, None, refl, sym, ap, subst, ◌∙◌, arith}
+use Rattle.std.proofs.Common.{ℕ, zero, suc, ◌≡◌, ◌+◌, ◌<◌, ◌≤◌, ◌==◌, Bool, true, false, List, [], ◌∷◌, length, Option, Some, None, refl, sym, ap, subst, ◌∙◌, arith}
 use Rattle.std.specs.Prelude.{slice_get, option_map, if◌then◌else◌}
 use Rattle.std.specs.List.{list_any}
-use Rattle.std.proofs.lemmas.Bool.{eqb-true}
+use Rattle.std.proofs.lemmas.Bool.{eqb-true, or_parts}
 use Rattle.lobby_words.specs.Waiting.{is_list}
 use Rattle.server_switch.specs.Answers.{told, is_full, rows_told}
 use Rattle.server_switch.specs.Waits.{Share, Rows, Absent, Wait, Answered, Refused, is_due, is_due_share, is_due_at, waits_for, listing_by, listing, put_at, filled, lost_of}
@@ -58,18 +58,10 @@ due_option calls q (Some (Some t)) = by_due q (reply calls q t)
 due_at : (calls : List Call) (q : ℕ) (tickets : List (Option Ticket)) → is_due_at (shares_from calls 0 tickets) q ≡ awaits calls q (All_of tickets)
 due_at calls q tickets = ap is_due_share (share_got calls 0 q q tickets (omega arith)) ∙ due_option calls q (slice_get tickets q)
 
-first_fails : (a b : Bool) → (a || b) ≡ false → a ≡ false
-first_fails true b h = h
-first_fails false b h = refl
-
-second_fails : (a b : Bool) → (a || b) ≡ false → b ≡ false
-second_fails true b h = absurd (never h)
-second_fails false b h = h
-
 none_due : (shares : List Share) (q : ℕ) → list_any is_due shares ≡ false → is_due_at shares q ≡ false
 none_due [] q h = refl
-none_due (x ∷ xs) zero h = first_fails (is_due x) (list_any is_due xs) h
-none_due (x ∷ xs) (suc q) h = none_due xs q (second_fails (is_due x) (list_any is_due xs) h)
+none_due (x ∷ xs) zero h = (or_parts (is_due x) (list_any is_due xs) h).0
+none_due (x ∷ xs) (suc q) h = none_due xs q (or_parts (is_due x) (list_any is_due xs) h).1
 
 listing_waits : (b : Bool) (shares : List Share) (q : ℕ) → list_any is_due shares ≡ b → waits_for q (listing_by b shares) ≡ is_due_at shares q
 listing_waits true shares q e = refl

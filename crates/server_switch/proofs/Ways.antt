@@ -1,16 +1,12 @@
 -- What a line asks for, by where it is cut.
 use Rattle.std.proofs.Common.{ℕ, suc, ◌+◌, ◌≤◌, ◌≡◌, ◌<◌, ◌^◌, ◌==◌, Bool, true, false, ◌&&◌, ◌||◌, not, List, [], ◌∷◌, ◌++◌, length, get_or, take, drop, decimal, Option, Some, None, refl, sym, ap, subst, ◌∙◌, arith}
-use Rattle.std.specs.Prelude.{◌≢◌, nat_le, codes, All, IsUtf8, MatchOption, IfSome}
+use Rattle.std.specs.Prelude.{◌≢◌, codes, IfSome}
 use Rattle.std.specs.Borrow.{Bor}
-use Rattle.std.specs.List.{list_all, before_first, position_or_len}
+use Rattle.std.specs.List.{list_all, position_or_len}
 use Rattle.std.specs.Str.{bytes_eq}
 use Rattle.std.proofs.lemmas.Slice.Eq.{bytes_eq-Decides}
 use Rattle.std.specs.Str.Parse.{AllDigits}
-use Rattle.std.proofs.lemmas.Bool.{eqb-true, ne_eqb}
-use Rattle.std.proofs.lemmas.Bool.Decides.{nat_tests}
-use Rattle.std.proofs.lemmas.List.Elements.{All-nil, All-cons}
-use Rattle.std.proofs.lemmas.Str.{IsUtf8-from_ascii}
-use Rattle.std.proofs.lemmas.Str.Ascii.{IsAscii-from_all}
+use Rattle.std.proofs.lemmas.Bool.{eqb-true, ne_eqb, and_parts}
 use Rattle.std.proofs.lemmas.Fmt.{decimal_is_IsNumeral}
 use Rattle.std.proofs.lemmas.Str.Parse.{tells_digits}
 use Rattle.std.proofs.Math.Seq.{take-append_seam}
@@ -18,13 +14,13 @@ use Rattle.std.proofs.lemmas.List.{take-append-drop, length-take-le, append_canc
 use Rattle.std.proofs.lemmas.List.Folds.{list_all-append}
 use Rattle.std.proofs.lemmas.List.Sums.{AllPass-from_list_all, prefix_len-le-length}
 use Rattle.std.proofs.lemmas.Str.Pattern.{IsSplitOnceResult, split_after, split_parts}
-use Rattle.lobby_words.specs.Words.{word_of, number_in}
+use Rattle.lobby_words.specs.Words.{word_of, is_play_word, number_in}
 use Rattle.lobby_words.proofs.Numbers.{Spells, found, number_spelled}
 use Rattle.rec_codec.specs.Name.{IsName}
 use Rattle.server_switch.specs.Fields.{tail_text, tail_of}
 use Rattle.server_switch.specs.declared.routes.Route.{Route}
 use Rattle.server_switch.specs.declared.routes.Route.TheVariants as routes
-use Rattle.server_switch.specs.Routes.{Way, Says, Lists, Opens, Plays, IsTail, IsLine, IsRoute, way_of, names_game, is_plain_byte, is_plain, IsNameRoute, IsGameRoute}
+use Rattle.server_switch.specs.Routes.{Way, Says, Lists, Opens, Plays, IsTail, IsLine, IsRoute, way_of, names_game, IsNameRoute, IsGameRoute}
 
 -- no space stands in a word
 abbrev pub is_word : List ℕ → Bool
@@ -36,14 +32,6 @@ never h = cc
 free : (w : List ℕ) → is_word w ≡ true → (i : ℕ) → i < length w → get_or w i 0 ≢ 32
 free w whole i inside = λ at.
     never (subst (λ (b : ℕ). not (b == 32) ≡ true) at (AllPass-from_list_all (λ (b : ℕ). not (b == 32)) w whole i 0 inside))
-
-and_left : (a b : Bool) → (a && b) ≡ true → a ≡ true
-and_left true b h = refl
-and_left false b h = h
-
-and_right : (a b : Bool) → (a && b) ≡ true → b ≡ true
-and_right true b h = h
-and_right false b h = absurd (never h)
 
 either : (a b : Bool) (P : Type 0) → (a ≡ true → P) → (b ≡ true → P) → (a || b) ≡ true → P
 either true b P f g h = f refl
@@ -64,30 +52,38 @@ word_of_these so_far [] w before all h = before h
 word_of_these so_far (v ∷ vs) w before all h =
     word_of_these (so_far || bytes_eq w v) vs w
     (either so_far (bytes_eq w v) (is_word w ≡ true) before
-    (λ is. subst (λ (u : List ℕ). is_word u ≡ true) (sym (same w v is)) (and_left (is_word v) (list_all is_word vs) all)))
-    (and_right (is_word v) (list_all is_word vs) all) h
+    (λ is. subst (λ (u : List ℕ). is_word u ≡ true) (sym (same w v is)) (and_parts (is_word v) (list_all is_word vs) all).0))
+    (and_parts (is_word v) (list_all is_word vs) all).1 h
+
+play_word : (w : List ℕ) → is_play_word w ≡ true → is_word w ≡ true
+unfolding is_play_word one_of
+play_word w h =
+    word_of_these (bytes_eq w (codes "move"))
+    (codes "offer" ∷ codes "accept" ∷ codes "decline" ∷ codes "resign" ∷ codes "claim" ∷ codes "flag" ∷ []) w
+    (λ is. subst (λ (u : List ℕ). is_word u ≡ true) (sym (same w (codes "move") is)) refl) refl h
 
 pub game_word : (w : List ℕ) → names_game w ≡ true → is_word w ≡ true
 unfolding names_game one_of
 game_word w h =
-    word_of_these (bytes_eq w (codes "join"))
-    (codes "move" ∷ codes "offer" ∷ codes "accept" ∷ codes "decline" ∷ codes "resign" ∷ codes "claim" ∷ codes "flag" ∷ codes "drop"
-    ∷ codes "show" ∷ codes "fen" ∷ codes "pgn" ∷ []) w
-    (λ is. subst (λ (u : List ℕ). is_word u ≡ true) (sym (same w (codes "join") is)) refl) refl h
+    word_of_these (bytes_eq w (codes "join") || is_play_word w)
+    (codes "drop" ∷ codes "show" ∷ codes "fen" ∷ codes "pgn" ∷ []) w
+    (either (bytes_eq w (codes "join")) (is_play_word w) (is_word w ≡ true)
+    (λ is. subst (λ (u : List ℕ). is_word u ≡ true) (sym (same w (codes "join") is)) refl)
+    (play_word w)) refl h
 
 no_name : names_game (codes "name") ≡ false
-unfolding names_game
+unfolding names_game is_play_word
 no_name = refl
 
 no_open : names_game (codes "open") ≡ false
-unfolding names_game
+unfolding names_game is_play_word
 no_open = refl
 
 -- a list without a space is not cut
 uncut : (line front rest : List ℕ) → is_word line ≡ true → line ≡ front ++ 32 ∷ rest → ⊥
 uncut line front rest whole e =
-    never (and_right (is_word front) false
-    (sym (list_all-append (λ (b : ℕ). not (b == 32)) front (32 ∷ rest)) ∙ (ap is_word (sym e) ∙ whole)))
+    never (and_parts (is_word front) false
+    (sym (list_all-append (λ (b : ℕ). not (b == 32)) front (32 ∷ rest)) ∙ (ap is_word (sym e) ∙ whole))).1
 
 low : 32 < 128
 low = omega arith
@@ -244,20 +240,6 @@ none_whole line cut no_list (Plays word number tail) = λ h.
 pub nothing_whole : (line : List ℕ) (r : Option (Bor (List ℕ) × Bor (List ℕ))) → IsSplitOnceResult 32 line r → r ≡ None →
     bytes_eq line (codes "list") ≡ false → (way : Way) → ¬ IsLine way line
 nothing_whole line r cases is no_list = none_whole line (subst (IsSplitOnceResult 32 line) is cases) no_list
-
--- a line of plain bytes is a text
-is_below : (b : ℕ) → nat_le b 126 ≡ true → b < 128
-is_below b h = grind (arith, nat_tests)
-
-plain_all : (line : List ℕ) → is_plain line ≡ true → All (λ b. b < 128) line
-plain_all [] h = All-nil (λ (b : ℕ). b < 128)
-plain_all (b ∷ bs) h =
-    All-cons (λ (c : ℕ). c < 128) b bs
-    (is_below b (and_right (nat_le 32 b) (nat_le b 126) (and_left (is_plain_byte b) (is_plain bs) h)))
-    (plain_all bs (and_right (is_plain_byte b) (is_plain bs) h))
-
-pub plain_utf8 : (line : List ℕ) → is_plain line ≡ true → IsUtf8 line
-plain_utf8 line h = IsUtf8-from_ascii line (IsAscii-from_all line (plain_all line h))
 
 -- a line asks for one thing
 words_same : (line w v r s : List ℕ) → is_word w ≡ true → is_word v ≡ true → line ≡ w ++ 32 ∷ r → line ≡ v ++ 32 ∷ s → w ≡ v

@@ -2,7 +2,8 @@
 use Rattle.std.specs.Prelude.{ℕ, ◌≡◌, ◌<◌, ◌≤◌, ◌+◌, ◌-◌, ◌⊎◌, ◌==◌, Bool, false, true, ◌&&◌, not, nat_le, nat_lt, List, [], ◌∷◌, ◌++◌, map, take, drop, length, replicate, codes, decimal, Option, None, Some, slice_get, if◌then◌else◌}
 use Rattle.std.specs.List.{list_any, last_or}
 use Rattle.server_switch.specs.Lines.{Standing, standing_of, change_at, put_behind, put_under, is_new, renewed, took, whole_of, gone_ahead}
-use Rattle.server_switch.specs.Numbers.{server_of, game_of}
+use Rattle.lobby_words.specs.Servers.{server_of}
+use Rattle.server_switch.specs.Numbers.{game_of}
 use Rattle.server_switch.specs.Routes.{Way, Says, Lists, Opens, Plays, IsRoute, is_plain}
 use Rattle.server_switch.specs.Waits.{Wait, Answered, Sent, Naming, Opening, Share, Due, Absent, Refusal, refusal_of, wait_of, opens, listing, answered_waits, lost_waits, text_ahead, left_ahead}
 use Rattle.server_switch.specs.declared.exchange.Exchange.{Exchange}

@@ -1,12 +1,10 @@
 -- The numbers of games. Servers are counted from 1, and their places from 0.
-use Rattle.std.specs.Prelude.{ℕ, ◌≡◌, ◌+◌, ◌*◌, ◌/◌, ◌%◌, ◌<◌, ◌≤◌, ◌^◌, ◌&&◌, nat_lt, Option, Some, None, if◌then◌else◌}
+use Rattle.std.specs.Prelude.{ℕ, ◌≡◌, ◌+◌, ◌*◌, ◌%◌, ◌<◌, ◌≤◌, ◌^◌, ◌&&◌, nat_lt, Option, Some, None, if◌then◌else◌}
+use Rattle.lobby_words.specs.Servers.{server_of}
 
--- the number here of a server's game, and of a number the server and its game
+-- the number here of a server's game, and of a number its server's
 abbrev pub number_of : ℕ → ℕ → ℕ
 number_of server game = server * 10_000_000 + game
-
-abbrev pub server_of : ℕ → ℕ
-server_of number = number / 10_000_000
 
 abbrev pub game_of : ℕ → ℕ
 game_of number = number % 10_000_000

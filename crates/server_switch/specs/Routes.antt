@@ -1,8 +1,8 @@
 -- Where a client's line goes: the table of docs/SERVERS.md.
-use Rattle.std.specs.Prelude.{ℕ, ◌≡◌, ◌<◌, ◌^◌, Bool, true, false, ◌&&◌, ◌||◌, nat_le, List, [], ◌∷◌, ◌++◌, codes, decimal, Option, Some, None}
+use Rattle.std.specs.Prelude.{ℕ, ◌≡◌, ◌<◌, ◌^◌, Bool, true, ◌||◌, List, [], ◌∷◌, ◌++◌, codes, decimal, Option, Some, None}
 use Rattle.std.specs.List.{list_all}
 use Rattle.std.specs.Str.{bytes_eq}
-use Rattle.lobby_words.specs.Words.{word_of, number_in}
+use Rattle.lobby_words.specs.Words.{word_of, is_message_byte, is_play_word, number_in}
 use Rattle.rec_codec.specs.Name.{IsName}
 use Rattle.server_switch.specs.Fields.{tail_text, tail_of}
 use Rattle.server_switch.specs.declared.routes.Route.{Route}
@@ -11,15 +11,12 @@ use Rattle.server_switch.specs.declared.routes.Route.TheVariants as routes
 -- the words of the lines that name a game behind them
 unfoldable pub names_game : List ℕ → Bool
 names_game w =
-    bytes_eq w (codes "join") || bytes_eq w (codes "move") || bytes_eq w (codes "offer") || bytes_eq w (codes "accept")
-    || bytes_eq w (codes "decline") || bytes_eq w (codes "resign") || bytes_eq w (codes "claim") || bytes_eq w (codes "flag")
-    || bytes_eq w (codes "drop") || bytes_eq w (codes "show") || bytes_eq w (codes "fen") || bytes_eq w (codes "pgn")
+    bytes_eq w (codes "join") || is_play_word w || bytes_eq w (codes "drop") || bytes_eq w (codes "show") || bytes_eq w (codes "fen")
+    || bytes_eq w (codes "pgn")
 
-abbrev pub is_plain_byte : ℕ → Bool
-is_plain_byte b = nat_le 32 b && nat_le b 126
-
+-- bytes that may stand in a message
 abbrev pub is_plain : List ℕ → Bool
-is_plain line = list_all is_plain_byte line
+is_plain line = list_all is_message_byte line
 
 -- What a line asks for: it says a name, asks for the list, opens a game, or is of the game of this number, which stands in it
 -- between a word and a tail.

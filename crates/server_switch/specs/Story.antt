@@ -4,7 +4,8 @@ use Rattle.std.specs.List.{last_or}
 use Rattle.lobby_words.specs.Answers.{is_whole, answer, left_after}
 use Rattle.server_switch.specs.Answers.{lost, told}
 use Rattle.server_switch.specs.Lines.{ended, is_new, said_then}
-use Rattle.server_switch.specs.Numbers.{server_of, game_of}
+use Rattle.lobby_words.specs.Servers.{server_of}
+use Rattle.server_switch.specs.Numbers.{game_of}
 use Rattle.server_switch.specs.Routes.{Way, Says, Lists, Opens, Plays}
 use Rattle.server_switch.specs.Waits.{Share, Due, Absent, Wait, Answered, Sent, Naming, Opening, Refusal, listing, share_in, open_filled, text_ahead}
 use Rattle.server_switch.specs.Exchanges.{refusal_in}

@@ -12,11 +12,13 @@ ghost use Rattle.server_switch.specs.Waits as waits;
 use crate::answers::{BAD_LINE, NO_GAME, NO_SERVER, TOO_LONG};
 use crate::fields::push_number;
 use crate::lists::{Part, ask_each, listing_of};
-use crate::numbers::{game_of, server_of};
+use crate::numbers::game_of;
 use crate::pending::{Pending, answer_first, any_opens, any_waits, lose_each, refused, take_ahead};
 use crate::routes::{Route, route_of, text_of};
-use crate::server_line::{ServerLine, give_up};
+use crate::server_line::ServerLine;
+use lobby_words::server_of;
 use rec_codec::Name;
+use session_lines::give_up;
 use std::alloc::{AllocError, Global};
 use std::collections::VecDeque;
 

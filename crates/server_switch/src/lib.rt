@@ -12,4 +12,5 @@ mod routes;
 mod server_line;
 
 pub use exchange::Exchange;
-pub use numbers::{GAMES_MOST, SERVERS_MOST, game_of, number_of, server_of};
+pub use lobby_words::SERVERS_MOST;
+pub use numbers::{game_of, number_of};

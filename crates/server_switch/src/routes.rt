@@ -1,8 +1,9 @@
 //! Where a client's line goes.
 ghost use Rattle.std.specs.Prelude.{◌≡◌, true, false, List, ℕ, IfSome, IfNone};
-ghost use Rattle.server_switch.specs.Routes.{Way, IsRoute, IsOnly, IsGameRoute, IsNameRoute, way_of, names_game, is_plain_byte, is_plain};
+ghost use Rattle.server_switch.specs.Routes.{Way, IsRoute, IsOnly, IsGameRoute, IsNameRoute, way_of, names_game, is_plain};
 
 use crate::fields::number_ahead;
+use lobby_words::{are_message_bytes, is_play_word};
 use rec_codec::Name;
 use std::str;
 
@@ -27,18 +28,12 @@ fn names_game(word: &str) -> bool
     ensures { result ≡ names_game word.now }
 {
     let join = word == "join";
-    let play = word == "move";
-    let offer = word == "offer";
-    let accept = word == "accept";
-    let decline = word == "decline";
-    let resign = word == "resign";
-    let claim = word == "claim";
-    let flag = word == "flag";
+    let play = is_play_word(word);
     let dropping = word == "drop";
     let show = word == "show";
     let fen = word == "fen";
     let pgn = word == "pgn";
-    join | play | offer | accept | decline | resign | claim | flag | dropping | show | fen | pgn
+    join | play | dropping | show | fen | pgn
 }
 
 // Where a line goes that names a game, if it does.
@@ -87,24 +82,12 @@ pub fn route_of(line: &str) -> Route<'_>
     }
 }
 
-fn is_plain_byte(byte: u8) -> bool
-    ensures { result ≡ is_plain_byte byte }
-{
-    32 <= byte && byte <= 126
-}
-
-fn is_plain(bytes: &[u8]) -> bool
-    ensures { result ≡ is_plain bytes.now }
-{
-    bytes.iter().all(|byte| is_plain_byte(*byte))
-}
-
 /// The text of a line whose bytes are 32 to 126; of another none, which has no form.
 pub fn text_of(line: &[u8]) -> Option<&str>
     ensures some { IfSome result (λ text. (text.now ≡ line.entry.now) × (is_plain line.entry.now ≡ true)) }
     ensures none { IfNone result (is_plain line.entry.now ≡ false) }
 {
-    let is_text = is_plain(line);
+    let is_text = are_message_bytes(line);
     if is_text {
         match str::from_utf8(line) {
             Ok(text) => Some(text),

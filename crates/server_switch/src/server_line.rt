@@ -1,5 +1,5 @@
 //! What the switch knows of a server, and what is to go there.
-ghost use Rattle.std.specs.Prelude.{◌≡◌, ◌≤◌, ◌++◌, false, length, drop, option_map, OnOk, IfOk};
+ghost use Rattle.std.specs.Prelude.{◌≡◌, ◌≤◌, ◌++◌, false, length, option_map, OnOk, IfOk};
 ghost use Rattle.std.specs.String.{string_bytes};
 ghost use Rattle.server_switch.specs.Exchanges.{asked, share_asked};
 ghost use Rattle.server_switch.specs.Lines as lines;
@@ -9,6 +9,7 @@ ghost use Rattle.server_switch.specs.Waits.{share_of};
 use crate::lists::Part;
 use lobby_words::Coming;
 use rec_codec::Name;
+use session_lines::give_up;
 use std::alloc::{AllocError, Global};
 
 /// The line to a server.
@@ -32,16 +33,6 @@ fn is_said(said: &Option<Name>, name: &Name) -> bool
         None => false,
         Some(said) => said.as_str() == name,
     }
-}
-
-/// Gives up the first bytes.
-pub fn give_up(bytes: &mut Vec<u8>, count: usize)
-    requires { count ≤ length bytes.old.items }
-    ensures { bytes.new.items ≡ drop count bytes.old.items }
-{
-    let left = bytes.len() - count;
-    bytes.as_mut_slice().copy_within(count.., 0);
-    bytes.truncate(left);
 }
 
 impl ServerLine {

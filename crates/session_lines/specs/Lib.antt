@@ -1,3 +1,4 @@
 pub mod Lines
 pub mod Heard
 pub mod Holding
+pub mod Pieces

@@ -6,6 +6,7 @@ ghost use Rattle.session_lines.specs.Heard.{kept_of, heard, heard_more, IsCut, I
 ghost use Rattle.session_lines.specs.Holding.{IsHeldFor};
 
 use crate::cuts::{LINE_ROOM, first_feed, without_return};
+use crate::pieces::give_up;
 use arrayvec::ArrayVec;
 use std::alloc::{AllocError, Global};
 use std::marker::Model;
@@ -112,17 +113,6 @@ fn take_piece(whole: &mut Vec<u8>, rest: &mut ArrayVec<u8, LINE_ROOM>, piece: &[
     !take_part(rest, more)
 }
 
-// Drops the first bytes.
-fn drop_front(bytes: &mut Vec<u8>, count: usize)
-    requires { count ≤ vec_len bytes.old }
-    ensures items { bytes.new.items ≡ drop count bytes.old.items }
-    ensures capacity { vec_capacity bytes.new ≡ vec_capacity bytes.old }
-{
-    let left = bytes.len() - count;
-    bytes.copy_within(count.., 0);
-    bytes.truncate(left);
-}
-
 // The most room that stays where no byte is held; what a session mostly sends needs less.
 const EMPTY_ROOM: usize = 8192;
 
@@ -137,7 +127,7 @@ fn drop_taken(bytes: &mut Vec<u8>, taken: usize) -> usize
     if taken < bytes.len() - taken {
         return taken;
     }
-    drop_front(bytes, taken);
+    give_up(bytes, taken);
     if bytes.is_empty() && bytes.capacity() > EMPTY_ROOM {
         bytes.shrink_to_fit();
     }

@@ -1,11 +1,8 @@
-//! The bytes that a peer sends, piece by piece.
-ghost use Rattle.std.specs.Prelude.{◌<◌, length};
-ghost use Rattle.client_streams.specs.Pieces.{HasCome};
+//! Bytes piece by piece: those that come of a stream, and those that are done with.
+ghost use Rattle.std.specs.Prelude.{◌≡◌, ◌<◌, ◌≤◌, drop, length, vec_capacity};
+ghost use Rattle.session_lines.specs.Pieces.{HasCome};
 
 use std::io::{ErrorKind, Read};
-
-/// The most bytes of a peer that are held back, and that one read takes.
-pub const PIECE_ROOM: usize = 4096;
 
 /// What a read brought.
 #[derive(Clone, Copy, Debug, PartialEq, Eq)]
@@ -36,4 +33,15 @@ pub fn read_piece<R: Read>(reader: &mut R, piece: &mut [u8]) -> Came
             _ => Came::Fault,
         },
     }
+}
+
+/// Gives up the first bytes.
+pub fn give_up(bytes: &mut Vec<u8>, count: usize)
+    requires { count ≤ length bytes.old.items }
+    ensures items { bytes.new.items ≡ drop count bytes.old.items }
+    ensures capacity { vec_capacity bytes.new ≡ vec_capacity bytes.old }
+{
+    let left = bytes.len() - count;
+    bytes.copy_within(count.., 0);
+    bytes.truncate(left);
 }
