@@ -1,14 +1,10 @@
 //! A look at the table, with the servers that were not heard.
 use crate::table::rows_in;
 use anyhow::Result;
+use lobby_words::{GAMES_OF_A_SERVER, SERVERS_MOST};
 use pairing_texts::{Row, unheard};
 use server_link::{Link, refused};
 use std::alloc::Global;
-
-// A switch has so many servers at most, and a server's games so many numbers (docs/SERVERS.md, "Numbers").
-const SERVERS_MOST: u32 = 428;
-
-const NUMBERS: u32 = 10_000_000;
 
 /// What was seen of the table.
 #[derive(Drop)]
@@ -42,7 +38,7 @@ enum Reply {
 // The line that asks whether a server is there. It has no form, so a server refuses it for that, and a switch, which hands it on
 // by its number, for a server that it has not or that is away.
 fn question(alloc: Global, server: u32) -> Result<String> {
-    let number = server.saturating_mul(NUMBERS);
+    let number = server.saturating_mul(GAMES_OF_A_SERVER);
     Ok(format!(in alloc; "show {number} -")?)
 }
 
