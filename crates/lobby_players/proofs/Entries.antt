@@ -6,7 +6,7 @@ use Rattle.std.proofs.lemmas.List.{take_more, drop_more, take-append-drop, get_o
 use Rattle.std.proofs.lemmas.List.Elements.{All-from_get_or, All-push, filter-append}
 use Rattle.std.proofs.lemmas.List.Kept.{AllPairs-cons}
 use Rattle.std.proofs.lemmas.Slice.Eq.{bytes_eq-Decides}
-use Rattle.std.proofs.lemmas.Bool.{false≢true}
+use Rattle.std.proofs.lemmas.Bool.{false≢true, or_parts}
 use Rattle.lobby_roster.specs.declared.players.Player.{Player}
 use Rattle.lobby_players.specs.File.{Entry, IsLineOf, AreTwo, AreLinesOf, spoken, is_silent, has_name, has_sum, entry_of, entries_of}
 use Rattle.lobby_players.specs.Faults.{TakesLine}
@@ -21,14 +21,6 @@ pub any_of : (p : Entry → Bool) (b is : Bool) (slice items : List Player) → 
 any_of p b is slice items told same answer =
     sym (any_mapped entry_of p items)
     ∙ (ap (λ (ps : List Player). list_any (λ x. p (entry_of x)) ps) (sym same) ∙ (sym told ∙ answer))
-
-pub or_first : (a b : Bool) → (a || b) ≡ false → a ≡ false
-or_first true b e = e
-or_first false b e = refl
-
-pub or_second : (a b : Bool) → (a || b) ≡ false → b ≡ false
-or_second true b e = absurd (false≢true (sym e))
-or_second false b e = e
 
 pub zip_push : {A B : Type 0} (R : A → B → Type 0) (xs : List A) (ys : List B) (x : A) (y : B) → AllZip R xs ys → R x y →
     AllZip R (xs ++ x ∷ []) (ys ++ y ∷ [])
@@ -63,7 +55,7 @@ pub two_each : (es : List Entry) (e : Entry) → list_any (has_name e.name) es �
     AllByStep AreTwo es e
 two_each [] e named shown = tt
 two_each (one ∷ es) e named shown =
-    (two_if one e (or_first _ _ named) (or_first _ _ shown), two_each es e (or_second _ _ named) (or_second _ _ shown))
+    (two_if one e (or_parts _ _ named).0 (or_parts _ _ shown).0, two_each es e (or_parts _ _ named).1 (or_parts _ _ shown).1)
 
 one_spoken : (before : List (List ℕ)) (line : List ℕ) → is_silent line ≡ false → spoken (before ++ line ∷ []) ≡ spoken before ++ line ∷ []
 one_spoken before line speaks =

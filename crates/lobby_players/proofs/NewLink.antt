@@ -4,7 +4,7 @@ use Rattle.std.specs.Prelude.{find, is_some, option_map, if◌then◌else◌}
 use Rattle.std.specs.Str.{bytes_eq}
 use Rattle.std.specs.String.{string_bytes}
 use Rattle.std.specs.List.{All, AllZip, AllPairs, list_any, filter}
-use Rattle.std.proofs.lemmas.Bool.{false≢true}
+use Rattle.std.proofs.lemmas.Bool.{false≢true, or_parts}
 use Rattle.std.proofs.lemmas.List.Elements.{All-head, All-tail}
 use Rattle.std.proofs.lemmas.Slice.Eq.{bytes_eq-Decides}
 use Rattle.hex.specs.Hex.{decode_sized, encode_lower}
@@ -15,7 +15,7 @@ use Rattle.lobby_roster.specs.Players.{has_sum as has_sum_now, identity_of, is_n
 use Rattle.lobby_players.specs.File.{Entry, IsLineOf, AreTwo, IsFileOf, lines_of, spoken, is_full_name, has_name, has_sum, entry_of, entries_of}
 use Rattle.lobby_players.specs.Adding.{added_text, in_place, is_other, line_of}
 use Rattle.lobby_players.specs.Relinking.{IsFileRelinked, entry_linked}
-use Rattle.lobby_players.proofs.Entries.{any_mapped, or_first, or_second, pairs_head, pairs_tail}
+use Rattle.lobby_players.proofs.Entries.{any_mapped, pairs_head, pairs_tail}
 use Rattle.lobby_players.proofs.Written.{file_after}
 
 abbrev pub named : List ℕ → Player → Bool
@@ -64,8 +64,8 @@ others_same name sum [] [] none zip = refl
 others_same name sum [] (y ∷ ys) none zip = absurd zip
 others_same name sum (x ∷ xs) [] none zip = absurd zip
 others_same name sum (x ∷ xs) (y ∷ ys) none zip =
-    ap (λ (e : Entry). e ∷ entries_of ys) (other_entry name sum x y (or_first _ _ none) zip.0)
-    ∙ ap (λ (es : List Entry). entry_of x ∷ es) (others_same name sum xs ys (or_second _ _ none) zip.1)
+    ap (λ (e : Entry). e ∷ entries_of ys) (other_entry name sum x y (or_parts _ _ none).0 zip.0)
+    ∙ ap (λ (es : List Entry). entry_of x ∷ es) (others_same name sum xs ys (or_parts _ _ none).1 zip.1)
 
 other_by : (name : List ℕ) (x y : Player) (b : Bool) → named name y ≡ b → x.name ≡ name → AreTwo (entry_of x) (entry_of y) → b ≡ false
 other_by name x y true is here two = absurd (two.names (here ∙ sym ((bytes_eq-Decides y.name name).0 is)))
@@ -129,8 +129,8 @@ shown_found : (name sum : List ℕ) (p : Player) (before after : List Player) �
 shown_found name sum p [] after found fresh zip = absurd (not_none p found)
 shown_found name sum p (x ∷ xs) [] found fresh zip = absurd zip
 shown_found name sum p (x ∷ xs) (y ∷ ys) found fresh zip =
-    shown_at name sum p x xs y ys (named name x) refl found (or_first _ _ fresh) zip.0
-    (λ more. shown_found name sum p xs ys more (or_second _ _ fresh) zip.1)
+    shown_at name sum p x xs y ys (named name x) refl found (or_parts _ _ fresh).0 zip.0
+    (λ more. shown_found name sum p xs ys more (or_parts _ _ fresh).1 zip.1)
 
 shown : (name token : List ℕ) (p : Player) (before after : List Player) → find (named name) before ≡ Some p →
     list_any (has_sum_now (sha256 token)) before ≡ false → AreWithSum name (sha256 token) before after → is_token_of after token name ≡ true
@@ -166,7 +166,7 @@ none_others_by p q x xs false here rest = rest
 
 none_others : (p q : Entry → Bool) (xs : List Entry) → list_any q xs ≡ false → list_any q (filter p xs) ≡ false
 none_others p q [] none = refl
-none_others p q (x ∷ xs) none = none_others_by p q x xs (p x) (or_first _ _ none) (none_others p q xs (or_second _ _ none))
+none_others p q (x ∷ xs) none = none_others_by p q x xs (p x) (or_parts _ _ none).0 (none_others p q xs (or_parts _ _ none).1)
 
 pub file_relinked : (name sum text new : List ℕ) (p : Player) (before after : List Player) → IsFileOf text (entries_of before) →
     find (named name) before ≡ Some p → list_any (has_sum sum) (entries_of before) ≡ false → decode_sized (encode_lower sum) 32 ≡ Ok sum →

@@ -3,7 +3,7 @@ use Rattle.std.proofs.Common.{ℕ, suc, ◌≡◌, ◌≢◌, ◌+◌, Bool, tru
 use Rattle.std.specs.Prelude.{◌==◌, ◌-◌, nat_le, slice_index}
 use Rattle.std.specs.Str.{bytes_eq}
 use Rattle.std.specs.List.{All, AllZip, AllPairs, list_any, list_all, filter, onto_first, position_or_len}
-use Rattle.std.proofs.lemmas.Bool.{false≢true}
+use Rattle.std.proofs.lemmas.Bool.{false≢true, and_from, and_parts, or_parts}
 use Rattle.std.proofs.lemmas.Bool.Decides.{Decides-eqb}
 use Rattle.std.proofs.lemmas.List.Elements.{All-nil, All-cons, All-head, All-tail}
 use Rattle.std.proofs.lemmas.List.Folds.{list_all-append}
@@ -22,7 +22,7 @@ use Rattle.lobby_players.specs.File.{Entry, IsWord, IsLineOf, AreTwo, AreLinesOf
 use Rattle.lobby_players.specs.Adding.{IsAdded, added_text, added_entries, in_place, is_of, is_other, line_of}
 use Rattle.lobby_players.proofs.Told.{name_word}
 use Rattle.lobby_players.proofs.Words.{head_of}
-use Rattle.lobby_players.proofs.Entries.{any_mapped, or_first, or_second, pairs_head, pairs_tail, two_if}
+use Rattle.lobby_players.proofs.Entries.{any_mapped, pairs_head, pairs_tail, two_if}
 
 -- no line feed stands in a text
 abbrev not_feed : ℕ → Bool
@@ -35,17 +35,6 @@ abbrev pub HaveNoFeed : List (List ℕ) → Type 0
 HaveNoFeed [] = Unit {0}
 HaveNoFeed (line ∷ lines) = HasNoFeed line × HaveNoFeed lines
 
-and_first : (a b : Bool) → (a && b) ≡ true → a ≡ true
-and_first true b e = refl
-and_first false b e = absurd (false≢true e)
-
-and_second : (a b : Bool) → (a && b) ≡ true → b ≡ true
-and_second true b e = e
-and_second false b e = absurd (false≢true e)
-
-and_both : (a b : Bool) → a ≡ true → b ≡ true → (a && b) ≡ true
-and_both a b x y = rw x y
-
 flipped : (b : Bool) → not b ≡ true → b ≡ false
 flipped true h = absurd (false≢true h)
 flipped false h = refl
@@ -57,8 +46,8 @@ is_no_feed b h = flipped (b == 10) h
 line_end : (line rest : List ℕ) → HasNoFeed line → parts_of 10 (line ++ (10 ∷ rest)) ≡ line ∷ parts_of 10 rest
 line_end [] rest free = refl
 line_end (b ∷ bs) rest free =
-    let here : (b == 10) ≡ false = is_no_feed b (and_first (not_feed b) (list_all not_feed bs) free) in
-    rw here (ap (onto_first b) (line_end bs rest (and_second (not_feed b) (list_all not_feed bs) free)))
+    let here : (b == 10) ≡ false = is_no_feed b (and_parts (not_feed b) (list_all not_feed bs) free).0 in
+    rw here (ap (onto_first b) (line_end bs rest (and_parts (not_feed b) (list_all not_feed bs) free).1))
 
 pub lines_back : (lines : List (List ℕ)) → HaveNoFeed lines → lines_of (bytes_of lines) ≡ lines
 lines_back [] free = refl
@@ -67,8 +56,8 @@ lines_back (line ∷ lines) free =
     ∙ (line_end line (bytes_of lines) free.0 ∙ ap (λ (ls : List (List ℕ)). line ∷ ls) (lines_back lines free.1))
 
 onto_free : (b : ℕ) (lines : List (List ℕ)) → not_feed b ≡ true → HaveNoFeed lines → HaveNoFeed (onto_first b lines)
-onto_free b [] free all = (and_both (not_feed b) true free refl, tt)
-onto_free b (line ∷ lines) free all = (and_both (not_feed b) (list_all not_feed line) free all.0, all.1)
+onto_free b [] free all = (and_from (not_feed b) true free refl, tt)
+onto_free b (line ∷ lines) free all = (and_from (not_feed b) (list_all not_feed line) free all.0, all.1)
 
 free_by : (b : ℕ) (bs : List ℕ) (is : Bool) → (b == 10) ≡ is → HaveNoFeed (parts_of 10 bs) → HaveNoFeed (parts_of 10 (b ∷ bs))
 free_by b bs true e all = rw e (refl, all)
@@ -96,12 +85,12 @@ feed_by p b false e none here = ap not e
 free_if : (p : ℕ → Bool) (text : List ℕ) → p 10 ≡ false → list_all p text ≡ true → HasNoFeed text
 free_if p [] none all = refl
 free_if p (b ∷ bs) none all =
-    and_both (not_feed b) (list_all not_feed bs)
-    (feed_by p b (b == 10) refl none (and_first (p b) (list_all p bs) all))
-    (free_if p bs none (and_second (p b) (list_all p bs) all))
+    and_from (not_feed b) (list_all not_feed bs)
+    (feed_by p b (b == 10) refl none (and_parts (p b) (list_all p bs) all).0)
+    (free_if p bs none (and_parts (p b) (list_all p bs) all).1)
 
 join_free : (a b : List ℕ) → HasNoFeed a → HasNoFeed b → HasNoFeed (a ++ b)
-join_free a b x y = list_all-append not_feed a b ∙ and_both (list_all not_feed a) (list_all not_feed b) x y
+join_free a b x y = list_all-append not_feed a b ∙ and_from (list_all not_feed a) (list_all not_feed b) x y
 
 role_free : (is_arbiter : Bool) → HasNoFeed (role_text is_arbiter)
 role_free true = refl
@@ -113,7 +102,7 @@ shown_bytes text is =
     let shown = list_all is_shown_byte text in
     let first = not (slice_index text 0 == 32) in
     let last = not (slice_index text (length text - 1) == 32) in
-    and_second room shown (and_first (room && shown) first (and_first ((room && shown) && first) last is))
+    (and_parts room shown (and_parts (room && shown) first (and_parts ((room && shown) && first) last is).0).0).1
 
 line_free : (e : Entry) → IsName e.name → decode_sized (encode_lower e.sum) 32 ≡ Ok e.sum → is_full_name e.full_name ≡ true →
     HasNoFeed (line_of e)
@@ -160,7 +149,7 @@ word_head b bs other =
 
 head_named : (name : List ℕ) → IsName name → is_name_byte (head_of name) ≡ true
 head_named [] name = absurd (omega (arith, name.some))
-head_named (b ∷ bs) name = and_first (is_name_byte b) (list_all is_name_byte bs) name.bytes
+head_named (b ∷ bs) name = (and_parts (is_name_byte b) (list_all is_name_byte bs) name.bytes).0
 
 silent_unnamed : (name line : List ℕ) → IsName name → is_silent line ≡ true → word_of line ≢ name
 silent_unnamed name [] is silent e = false≢true (ap is_name_byte (ap head_of e) ∙ head_named name is)
@@ -234,16 +223,16 @@ IsOurs e es = list_any (has_sum e.sum) (filter (is_other e.name) es) ≡ false
 ours_by : (e one : Entry) (es : List Entry) (b : Bool) → list_any (has_sum e.sum) (cond (not b) (one ∷ filter (is_other e.name) es)
     (filter (is_other e.name) es)) ≡ false → IsOurs e es
 ours_by e one es true ours = ours
-ours_by e one es false ours = or_second (has_sum e.sum one) (list_any (has_sum e.sum) (filter (is_other e.name) es)) ours
+ours_by e one es false ours = (or_parts (has_sum e.sum one) (list_any (has_sum e.sum) (filter (is_other e.name) es)) ours).1
 
 ours_more : (e one : Entry) (es : List Entry) → IsOurs e (one ∷ es) → IsOurs e es
 ours_more e one es ours = ours_by e one es (has_name e.name one) ours
 
 ours_first : (e one : Entry) (es : List Entry) → has_name e.name one ≡ false → IsOurs e (one ∷ es) → has_sum e.sum one ≡ false
 ours_first e one es other ours =
-    or_first (has_sum e.sum one) (list_any (has_sum e.sum) (filter (is_other e.name) es))
+    (or_parts (has_sum e.sum one) (list_any (has_sum e.sum) (filter (is_other e.name) es))
     (subst (λ (b : Bool). list_any (has_sum e.sum) (cond (not b) (one ∷ filter (is_other e.name) es) (filter (is_other e.name) es)) ≡ false)
-    other ours)
+    other ours)).0
 
 flipped_two : (a b : Entry) → AreTwo a b → AreTwo b a
 flipped_two a b two = record { names = λ e. two.names (sym e); sums = λ e. two.sums (sym e) }
@@ -318,7 +307,7 @@ named_speaks b false e named = e
 
 speaks_by : (name rest : List ℕ) → IsName name → is_silent (name ++ rest) ≡ false
 speaks_by [] rest name = absurd (omega (arith, name.some))
-speaks_by (b ∷ bs) rest name = named_speaks b (b == 35) refl (and_first (is_name_byte b) (list_all is_name_byte bs) name.bytes)
+speaks_by (b ∷ bs) rest name = named_speaks b (b == 35) refl (and_parts (is_name_byte b) (list_all is_name_byte bs) name.bytes).0
 
 -- ---- the lines of the new file
 

@@ -3,6 +3,8 @@ ghost use Rattle.std.specs.Prelude.{◌≡◌};
 ghost use Rattle.lobby_players.specs.File.{is_silent};
 ghost use Rattle.lobby_words.specs.Words.{word_of};
 
+use text_parts::before;
+
 /// Whether a line tells of no player.
 pub fn is_silent(line: &str) -> bool
     ensures { result ≡ is_silent line.now }
@@ -17,8 +19,5 @@ pub fn is_silent(line: &str) -> bool
 pub fn word(line: &str) -> &str
     ensures { result.now ≡ word_of line.entry.now }
 {
-    match line.split_once(' ') {
-        Some((word, _)) => word,
-        None => line,
-    }
+    before(line, ' ')
 }

@@ -1,8 +1,6 @@
 //! A player of a players' file has a new link.
-ghost use Rattle.std.specs.Prelude.{◌≡◌, Ok, IfOk, IfErr, find};
+ghost use Rattle.std.specs.Prelude.{◌≡◌, Ok, IfOk, IfErr};
 ghost use Rattle.std.specs.List.{AllZip};
-ghost use Rattle.std.specs.Option.{option_copied};
-ghost use Rattle.std.specs.Str.{bytes_eq};
 ghost use Rattle.std.specs.String.{string_bytes};
 ghost use Rattle.hex.specs.Hex.{decode_sized, encode_lower};
 ghost use Rattle.lobby_roster.specs.Players.{IsRelinked, IsWithSum, sum_given};
@@ -13,7 +11,7 @@ use crate::adding::{Addition, text_with};
 use crate::faults::LinkFault;
 use crate::reading::{has_sum, read_text, text_of};
 use crate::token::token_text;
-use lobby_roster::{Linked, Player};
+use lobby_roster::{Linked, Player, named};
 use rec_codec::Name;
 use sha2::{Digest, Sha256};
 use std::alloc::{AllocError, Global};
@@ -27,15 +25,6 @@ pub struct ChangedFile {
     pub before: Vec<Player>,
     /// The players of the new text, and the token of the link.
     pub linked: Linked,
-}
-
-// The first player of a name.
-fn named<'a>(players: &'a [Player], name: &Name) -> Option<&'a Player>
-    ensures { option_copied result ≡ find (λ player. bytes_eq player.name name.now) players.now }
-{
-    players
-        .iter()
-        .find(|player| player.name.as_str() == name.as_str())
 }
 
 // The sum of a player, where the player of a name has this one.
@@ -126,7 +115,7 @@ pub fn relinked(
         Ok(players) => players,
         Err(fault) => return Err(LinkFault::File(fault)),
     };
-    let Some(player) = named(before.as_slice(), name) else {
+    let Some(player) = named(before.as_slice(), name.as_str()) else {
         return Err(LinkFault::NoPlayer);
     };
     let shown = token_text(alloc, token)?;

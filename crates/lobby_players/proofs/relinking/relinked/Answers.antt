@@ -20,13 +20,13 @@ returns-in_default-clause-fault c =
       before = subst (λ (t : List ℕ). IsFileOf t (entries_of before)) c.in-Ok.ensures.text c.in-Ok-read_text.ensures.players;
       none = nobody c.args.name.now before
           (ap (λ (ps : List Player). find (named c.args.name.now) ps) (sym c.as_slice.ensures.value)
-          ∙ (sym c.named.ensures ∙ ap option_copied c.in_default.is));
+          ∙ (ap (λ (n : List ℕ). find (named n) c.as_slice.result.now) (sym c.as_str.ensures.text) ∙ (sym c.named.ensures ∙ ap option_copied c.in_default.is)));
     }
 
 pub returns-then-has_sum-clause-fault : goal.returns-then-has_sum-clause-fault
 returns-then-has_sum-clause-fault c =
     let before = c.in-Ok-read_text.players.items in
-    let summed = c.digest-sum.ensures ∙ ap sha256 (c.as_str.ensures.value ∙ c.in_ok-shown.ensures) in
+    let summed = c.digest-sum.ensures ∙ ap sha256 (c.as_str-2.ensures.value ∙ c.in_ok-shown.ensures) in
     record {
       entries = entries_of before;
       before = subst (λ (t : List ℕ). IsFileOf t (entries_of before)) c.in-Ok.ensures.text c.in-Ok-read_text.ensures.players;
@@ -43,7 +43,8 @@ returns-clause-file c =
     let p = c.in-Some.player.now in
     file_relinked name sum c.args.text.now (string_bytes c.in_ok-new.new) p before c.in_ok-players.players.items
     (subst (λ (t : List ℕ). IsFileOf t (entries_of before)) c.in-Ok.ensures.text c.in-Ok-read_text.ensures.players)
-    (ap (λ (ps : List Player). find (named name) ps) (sym c.as_slice.ensures.value) ∙ (sym c.named.ensures ∙ ap option_copied c.in-Some.is))
+    (ap (λ (ps : List Player). find (named name) ps) (sym c.as_slice.ensures.value)
+    ∙ (ap (λ (n : List ℕ). find (named n) c.as_slice.result.now) (sym c.as_str.ensures.text) ∙ (sym c.named.ensures ∙ ap option_copied c.in-Some.is)))
     (any_of (has_sum sum) c.has_sum.result false c.as_slice-2.result.now before c.has_sum.ensures c.as_slice-2.ensures.value c.if-has_sum.false)
     c.in_ok-new.ensures.digits
     (subst (λ (ps : List Player). AreWithSum name sum ps c.in_ok-players.players.items) c.as_slice-3.ensures.value c.in_ok-players.ensures)
@@ -55,7 +56,8 @@ returns-clause-players c =
     let name = c.args.name.now in
     let sum = c.digest-sum.result in
     players_relinked name (string_bytes c.in_ok-shown.shown) sum c.in-Some.player.now before c.in_ok-players.players.items
-    (c.digest-sum.ensures ∙ ap sha256 c.as_str.ensures.value)
-    (ap (λ (ps : List Player). find (named name) ps) (sym c.as_slice.ensures.value) ∙ (sym c.named.ensures ∙ ap option_copied c.in-Some.is))
+    (c.digest-sum.ensures ∙ ap sha256 c.as_str-2.ensures.value)
+    (ap (λ (ps : List Player). find (named name) ps) (sym c.as_slice.ensures.value)
+    ∙ (ap (λ (n : List ℕ). find (named n) c.as_slice.result.now) (sym c.as_str.ensures.text) ∙ (sym c.named.ensures ∙ ap option_copied c.in-Some.is)))
     (any_of (has_sum sum) c.has_sum.result false c.as_slice-2.result.now before c.has_sum.ensures c.as_slice-2.ensures.value c.if-has_sum.false)
     (subst (λ (ps : List Player). AreWithSum name sum ps c.in_ok-players.players.items) c.as_slice-3.ensures.value c.in_ok-players.ensures)
