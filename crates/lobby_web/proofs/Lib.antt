@@ -2,8 +2,7 @@ pub mod OriginLemmas
 pub mod GrantLemmas
 pub mod ChainLemmas
 pub mod RunLemmas
-pub mod RoleLemmas
-pub mod ReplyLemmas
+pub mod FrameLemmas
 pub mod SendLemmas
 pub mod TakeLemmas
 pub mod GivesLemmas

@@ -12,7 +12,7 @@ use Rattle.lobby_web.specs.declared.socket.Unsaid.TheVariants.{NotOpen, NotText,
 use Rattle.lobby_web.specs.Frames.{Run, Runs, replies, reply_bytes, frame_bytes, frames_bytes, outgoing, texts_sent, text_payload}
 use Rattle.lobby_web.specs.Talking.{Gives, ClosesBy, close_frame}
 use Rattle.lobby_web.specs.Happening.{SocketStep, came, asked, said, wrote, Does, Happen, all_written, bytes_out, text_of, texts_said, Utters}
-use Rattle.lobby_web.proofs.ReplyLemmas.{no-text}
+use Rattle.lobby_web.proofs.FrameLemmas.{no-text}
 
 pub frames_bytes-append : (outs more : List Outgoing) → frames_bytes (outs ++ more) ≡ frames_bytes outs ++ frames_bytes more
 frames_bytes-append [] more = refl

@@ -17,7 +17,7 @@ use Rattle.websocket.specs.Connection.{Connection, Effect, Outgoing, Sends, whol
 use Rattle.websocket.specs.View.{Leaves, ReadLeaves}
 use Rattle.lobby_web.specs.Frames.{frame_bytes, reply_bytes}
 use Rattle.lobby_web.specs.Talking.{ClosesBy, said_state}
-use Rattle.lobby_web.proofs.RoleLemmas.{next-role}
+use Rattle.lobby_web.proofs.FrameLemmas.{next-role}
 
 no-mask : (mask : Option (List ℕ)) → is_some mask ≡ false → mask ≡ None
 no-mask None h = refl

@@ -15,7 +15,7 @@ use Rattle.lobby_web.specs.declared.socket.Socket.{Socket}
 use Rattle.lobby_web.specs.Talking.{TakesWhole, TakesFrame}
 use Rattle.lobby_web.specs.Codes.{IsFrameOf}
 use Rattle.lobby_web.specs.Frames.{reply_bytes}
-use Rattle.lobby_web.proofs.RoleLemmas.{next-role}
+use Rattle.lobby_web.proofs.FrameLemmas.{next-role}
 use Rattle.lobby_web.proofs.SendLemmas.{sends-server}
 
 -- what is known once a whole frame was read
