@@ -293,30 +293,30 @@ module _ {S : Type 0} (remaining contents : S → Option (List ℕ)) (site : Sit
   none_told old new c moves none =
       moves.steps.told ∙ (ap (λ (l : List MessageValue). l ++ moves.steps.tells) none ∙ moves.steps.step.told)
 
+  -- nothing is to be closed
+  none_closed : (traffic : Traffic) (out : List MessageValue) (stay : List (Guest S)) (P : List Step → Type 0) (lost : Bool)
+      (number : Option ℕ) → ((steps : List Step) → ClosedIf lost steps out number) → (old new : Talk) →
+      IsTalkAt players is_paused traffic out (Closing out stay P) old → message_values old.told.items ≡ [] → new ≡ old →
+      ClosesTo traffic out stay (λ steps. P steps × ClosedIf lost steps out number) old new
+  none_closed traffic out stay P lost number closed old new so_far none same =
+      let so = same_talk players is_paused traffic out (Closing out stay P) old new so_far same in (
+        (
+          at_with players is_paused traffic out (Closing out stay P) (Closing out stay (λ steps. P steps × ClosedIf lost steps out number))
+              new.desk new.wire.items (message_values new.told.items)
+              (λ steps was. record { kept = was.kept; more = (was.more, closed steps) }) so.0,
+          so.1,
+        ),
+        ap (λ (t : Talk). message_values t.told.items) same ∙ none,
+      )
+
   closed_if : (traffic : Traffic) (out : List MessageValue) (stay : List (Guest S)) (P : List Step → Type 0) → Lasts P →
       (lost : Bool) (number : Option ℕ) (old new : Talk) → IsTalkAt players is_paused traffic out (Closing out stay P) old →
       message_values old.told.items ≡ [] → IsClosedIf lost number old new →
       ClosesTo traffic out stay (λ steps. P steps × ClosedIf lost steps out number) old new
   closed_if traffic out stay P lasts false number old new so_far none same =
-      let so = same_talk players is_paused traffic out (Closing out stay P) old new so_far same in (
-        (
-          at_with players is_paused traffic out (Closing out stay P) (Closing out stay (λ steps. P steps × ClosedIf false steps out number))
-              new.desk new.wire.items (message_values new.told.items)
-              (λ steps was. record { kept = was.kept; more = (was.more, tt) }) so.0,
-          so.1,
-        ),
-        ap (λ (t : Talk). message_values t.told.items) same ∙ none,
-      )
+      none_closed traffic out stay P false number (λ steps. tt) old new so_far none same
   closed_if traffic out stay P lasts true None old new so_far none same =
-      let so = same_talk players is_paused traffic out (Closing out stay P) old new so_far same in (
-        (
-          at_with players is_paused traffic out (Closing out stay P) (Closing out stay (λ steps. P steps × ClosedIf true steps out None))
-              new.desk new.wire.items (message_values new.told.items)
-              (λ steps was. record { kept = was.kept; more = (was.more, tt) }) so.0,
-          so.1,
-        ),
-        ap (λ (t : Talk). message_values t.told.items) same ∙ none,
-      )
+      none_closed traffic out stay P true None (λ steps. tt) old new so_far none same
   closed_if traffic out stay P lasts true (Some c) old new so_far none moves = (
     moved players is_paused traffic out (Closing out stay P) (Closing out stay (λ steps. P steps × ClosedIf true steps out (Some c))) old new
         (Closed c) (λ bytes. refl) (λ steps s is tells was. record {

@@ -516,6 +516,30 @@ module _ {S : Type 0} (remaining contents : S → Option (List ℕ)) (site : Sit
   all_served_more steps out [] guest none one = (one, tt)
   all_served_more steps out (x ∷ xs) guest (was, were) one = (was, all_served_more steps out xs guest were one)
 
+-- ---- what holds of each holds of all
+
+module _ {S : Type 0} (remaining contents : S → Option (List ℕ)) (site new : Site) (came later : Before S) (steps : List Step)
+    (each : (out : List MessageValue) (n : Option ℕ) (now : Spot S) → IsServed remaining contents site came steps out n now →
+    IsServed remaining contents new later steps out n now) where
+  all_so : (out : List MessageValue) (guests : List (Guest S)) → AreServed remaining contents site came steps out guests →
+      AreServed remaining contents new later steps out guests
+  all_so out [] were = tt
+  all_so out (x ∷ xs) (was, were) = (each out x.number (spot x) was, all_so out xs were)
+
+  all_were_so : (out : List MessageValue) (guests : List (Guest S)) → WereServed remaining contents site came steps out guests →
+      WereServed remaining contents new later steps out guests
+  all_were_so out [] were = tt
+  all_were_so out (x ∷ xs) (was, were) = (
+    record {
+      until = was.until;
+      after = was.after;
+      split = was.split;
+      served = each was.until x.number (spot x) was.served;
+      closed = was.closed;
+    },
+    all_were_so out xs were,
+  )
+
 module _ {S : Type 0} (remaining contents : S → Option (List ℕ)) (site : Site) (came : Before S) where
   pub all_served_on : (s : Step) (steps : List Step) (out : List MessageValue) (guests : List (Guest S)) →
       AreApart (numbers guests) s.event → AreServed remaining contents site came steps out guests →
@@ -541,9 +565,7 @@ module _ {S : Type 0} (remaining contents : S → Option (List ℕ)) (site : Sit
 
   pub all_came : (stream : S) (steps : List Step) (out : List MessageValue) (guests : List (Guest S)) →
       AreServed remaining contents site came steps out guests → AreServed remaining contents site (came_more stream came) steps out guests
-  all_came stream steps out [] were = tt
-  all_came stream steps out (x ∷ xs) (was, were) =
-      (served_came stream steps out x.number (spot x) was, all_came stream steps out xs were)
+  all_came stream steps = all_so remaining contents site site came (came_more stream came) steps (served_came stream steps)
 
   -- another site is served
   served_filed : (new : Site) (steps : List Step) (out : List MessageValue) (n : Option ℕ) (now : Spot S) →
@@ -562,9 +584,7 @@ module _ {S : Type 0} (remaining contents : S → Option (List ℕ)) (site : Sit
 
   pub all_filed : (new : Site) (steps : List Step) (out : List MessageValue) (guests : List (Guest S)) →
       AreServed remaining contents site came steps out guests → AreServed remaining contents new (site_more site came) steps out guests
-  all_filed new steps out [] were = tt
-  all_filed new steps out (x ∷ xs) (was, were) =
-      (served_filed new steps out x.number (spot x) was, all_filed new steps out xs were)
+  all_filed new steps = all_so remaining contents site new came (site_more site came) steps (served_filed new steps)
 
   pub served_new : (stream : S) (steps : List Step) (out : List MessageValue) (guest : Guest S) → IsNewGuest stream guest →
       IsServed remaining contents site (came_more stream came) steps out guest.number (spot guest)
@@ -616,32 +636,12 @@ module _ {S : Type 0} (remaining contents : S → Option (List ℕ)) (site : Sit
   pub all_were_came : (stream : S) (steps : List Step) (out : List MessageValue) (guests : List (Guest S)) →
       WereServed remaining contents site came steps out guests →
       WereServed remaining contents site (came_more stream came) steps out guests
-  all_were_came stream steps out [] were = tt
-  all_were_came stream steps out (x ∷ xs) (was, were) = (
-    record {
-      until = was.until;
-      after = was.after;
-      split = was.split;
-      served = served_came stream steps was.until x.number (spot x) was.served;
-      closed = was.closed;
-    },
-    all_were_came stream steps out xs were,
-  )
+  all_were_came stream steps = all_were_so remaining contents site site came (came_more stream came) steps (served_came stream steps)
 
   pub all_were_filed : (new : Site) (steps : List Step) (out : List MessageValue) (guests : List (Guest S)) →
       WereServed remaining contents site came steps out guests →
       WereServed remaining contents new (site_more site came) steps out guests
-  all_were_filed new steps out [] were = tt
-  all_were_filed new steps out (x ∷ xs) (was, were) = (
-    record {
-      until = was.until;
-      after = was.after;
-      split = was.split;
-      served = served_filed new steps was.until x.number (spot x) was.served;
-      closed = was.closed;
-    },
-    all_were_filed new steps out xs were,
-  )
+  all_were_filed new steps = all_were_so remaining contents site new came (site_more site came) steps (served_filed new steps)
 
   -- who is let go, in front of those who were
   pub all_let_go : (steps : List Step) (out : List MessageValue) (guests former : List (Guest S)) →

@@ -87,23 +87,17 @@ IsLife {S} remaining contents players is_paused (h ∷ past) now =
 -- the bytes that were written to the server since its connection began
 abbrev pub written_in : {S : Type 0} → List (Happening S) → List ℕ
 written_in [] = []
-written_in (Came stream ∷ past) = written_in past
-written_in (Woke ∷ past) = written_in past
-written_in (Filed path file before ∷ past) = written_in past
-written_in (Relisted players ∷ past) = written_in past
 written_in (ServerCame stream ∷ past) = []
 written_in (Turned at taken true put front ∷ past) = front
 written_in (Turned at taken false put front ∷ past) = written_in past ++ front
+written_in (_ ∷ past) = written_in past
 
 -- the bytes that came of the server since its connection began, also where that is lost by now
 abbrev pub taken_in : {S : Type 0} → List (Happening S) → List ℕ
 taken_in [] = []
-taken_in (Came stream ∷ past) = taken_in past
-taken_in (Woke ∷ past) = taken_in past
-taken_in (Filed path file before ∷ past) = taken_in past
-taken_in (Relisted players ∷ past) = taken_in past
 taken_in (ServerCame stream ∷ past) = []
 taken_in (Turned at taken is_gone put front ∷ past) = taken_in past ++ taken
+taken_in (_ ∷ past) = taken_in past
 
 -- that the server is there, and that its connection is lost, the newest first
 abbrev pub lost_if : Bool → List Bool → List Bool
@@ -112,12 +106,9 @@ lost_if false before = before
 
 abbrev pub presences_in : {S : Type 0} → List (Happening S) → List Bool
 presences_in [] = []
-presences_in (Came stream ∷ past) = presences_in past
-presences_in (Woke ∷ past) = presences_in past
-presences_in (Filed path file before ∷ past) = presences_in past
-presences_in (Relisted players ∷ past) = presences_in past
 presences_in (ServerCame stream ∷ past) = true ∷ presences_in past
 presences_in (Turned at taken is_gone put front ∷ past) = lost_if is_gone (presences_in past)
+presences_in (_ ∷ past) = presences_in past
 
 -- all texts that the log has, in their order
 abbrev pub put_in : {S : Type 0} → List (Happening S) → List (List ℕ)
