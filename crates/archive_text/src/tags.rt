@@ -4,6 +4,7 @@ ghost use Rattle.archive_text.specs.Tags as spec;
 
 use crate::heading::Heading;
 use std::alloc::AllocError;
+use text_parts::before;
 
 /// Whether a line is a tag.
 pub fn is_tag(line: &str) -> bool
@@ -16,10 +17,7 @@ pub fn is_tag(line: &str) -> bool
 fn head_of(line: &str) -> &str
     ensures { result.now ≡ spec.head_of line.entry.now }
 {
-    match line.split_once(' ') {
-        Some((head, _)) => head,
-        None => line,
-    }
+    before(line, ' ')
 }
 
 // The value that stands in the place of the server's.
