@@ -4,10 +4,8 @@ ghost use Rattle.std.specs.List.{list_all};
 ghost use Rattle.chess_text.specs.Movetext.{IsToken, IsUnderWay, PutsMovetext, is_token};
 ghost use Rattle.archive_text.specs.Archived.{is_laid};
 
+use chess_text::{WIDEST, separated};
 use std::alloc::AllocError;
-
-/// The greatest number of characters of a line (PGN Standard, section 8.2.1).
-const WIDEST: usize = 79;
 
 // Whether a token is not empty and fits into a line.
 fn is_short(token: &[u8]) -> bool
@@ -40,13 +38,7 @@ fn push_token(out: &mut Vec<u8>, width: usize, token: &[u8]) -> Result<usize, Al
     ensures width { IfOk result (λ wide. wide ≤ 79) }
 {
     let len = token.len();
-    let (separator, before) = if width == 0 {
-        ("", 0)
-    } else if width + 1 + len <= WIDEST {
-        (" ", width + 1)
-    } else {
-        ("\n", 0)
-    };
+    let (separator, before) = separated(width, len);
     out.extend_from_slice(separator.as_bytes())?;
     out.extend_from_slice(token)?;
     Ok(before + len)

@@ -8,4 +8,5 @@ mod tags;
 
 pub use export::{GameText, pgn};
 pub use game::is_playable;
+pub use movetext::{WIDEST, separated};
 pub use tags::{article_code, result_code};
