@@ -1,5 +1,5 @@
 use Prim.Native.String.{String as Text}
-use Rattle.std.specs.Prelude.{ℕ, ◌≡◌, ◌+◌, ◌-◌, ◌==◌, ◌&&◌, nat_le, if◌then◌else◌, Bool, true, false, not, List, [], ◌∷◌, ◌++◌, map, sum, replicate, length, slice_index, codes, Option, Some, None, refl}
+use Rattle.std.specs.Prelude.{ℕ, ◌≡◌, ◌+◌, ◌-◌, ◌==◌, ◌&&◌, nat_le, if◌then◌else◌, Bool, true, false, not, List, [], ◌∷◌, ◌++◌, map, replicate, length, slice_index, codes, Option, Some, None, refl}
 use Rattle.std.specs.List.{list_any, list_all}
 use Rattle.chess_bits.specs.declared.men.Colour.{Colour}
 use Rattle.chess_bits.specs.declared.men.Colour.TheVariants.{White, Black}
@@ -86,13 +86,9 @@ judges : Position → List Text → List Text → Bool
 judges p legal others =
     list_all (λ text. is_legal p (move text)) legal && list_all (λ text. not (is_legal p (move text))) others
 
--- how many lines of two moves there are
-two_plies : Position → ℕ
-two_plies p = sum (map (λ m. length (legal_moves_of (next p m))) (legal_moves_of p))
-
 -- opens all that the examples compute with
 opened : Bool
-unfolding at put squares placement_after rights_after target_after halfmove_after written judges two_plies
+unfolding at put squares placement_after rights_after target_after halfmove_after written judges
 opened = true
 
 -- The start, and positions with well-known numbers of moves.
@@ -109,10 +105,6 @@ initial-moves : length (legal_moves_of initial) ≡ 20
 unfolding opened
 initial-moves = refl
 
-initial-two_plies : two_plies initial ≡ 400
-unfolding opened
-initial-two_plies = refl
-
 castling_and_pins :
     length (legal_moves_of
     (position "r3k2r/p1ppqpb1/bn2pnp1/3PN3/1p2P3/2N2Q1p/PPPBBPPP/R3K2R" White "KQkq" "-" 0 1)) ≡ 48
@@ -127,15 +119,6 @@ promotion_and_check = refl
 pawns_and_rooks : length (legal_moves_of (position "8/2p5/3p4/KP5r/1R3p1k/8/4P1P1/8" White "-" "-" 0 1)) ≡ 14
 unfolding opened
 pawns_and_rooks = refl
-
-promotion_and_check-two_plies :
-    two_plies (position "r3k2r/Pppp1ppp/1b3nbN/nP6/BBP1P3/q4N2/Pp1P2PP/R2Q1RK1" White "kq" "-" 0 1) ≡ 264
-unfolding opened
-promotion_and_check-two_plies = refl
-
-pawns_and_rooks-two_plies : two_plies (position "8/2p5/3p4/KP5r/1R3p1k/8/4P1P1/8" White "-" "-" 0 1) ≡ 191
-unfolding opened
-pawns_and_rooks-two_plies = refl
 
 capturing_promotion :
     length (legal_moves_of (position "rnbq1k1r/pp1Pbppp/2p5/8/2B5/8/PPP1NnPP/RNBQK2R" White "KQ" "-" 1 8)) ≡ 44

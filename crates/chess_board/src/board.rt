@@ -14,7 +14,7 @@ use crate::castling::{CastlingRights, Wing, castled_king, castled_rook, king_hom
 use crate::draft::Draft;
 use crate::men::Men;
 use crate::moves::Move;
-use crate::parts::{BadBoard, INITIAL, Parts};
+use crate::parts::{BadBoard, INITIAL_MEN, Parts};
 use chess_bits::{Colour, Kind, Square};
 use std::marker::Model;
 
@@ -56,7 +56,15 @@ impl Board {
         ensures initial { result ≡ initial }
         ensures valid { IsValid result }
     {
-        match Board::try_new(INITIAL) {
+        let parts = Parts {
+            men: INITIAL_MEN,
+            side: Colour::White,
+            rights: CastlingRights::ALL,
+            target: None,
+            halfmove: 0,
+            fullmove: 1,
+        };
+        match Board::try_new(parts) {
             Ok(board) => board,
             Err(_) => unreachable!(),
         }

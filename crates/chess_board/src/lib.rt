@@ -16,4 +16,4 @@ pub use castling::{
 };
 pub use men::Men;
 pub use moves::Move;
-pub use parts::{BadBoard, INITIAL, Parts};
+pub use parts::{BadBoard, Parts};

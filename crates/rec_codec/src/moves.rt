@@ -99,7 +99,8 @@ impl StoredMove {
 
     /// The move of a number; `None` of a number that is no move's.
     pub fn from_code(code: u16) -> Option<StoredMove>
-        ensures { (m : Move) → IsStorable m → code ≡ move_code m → result ≡ Some m }
+        ensures read { (m : Move) → IsStorable m → code ≡ move_code m → result ≡ Some m }
+        ensures own { (m : Move) → result ≡ Some m → code ≡ move_code m }
     {
         if code < 20_480 {
             Some(StoredMove { code })
