@@ -172,7 +172,8 @@ fn write_game<W: Write>(alloc: Global, game: &Game, output: &mut W) -> Result<()
     }
 }
 
-/// Writes the games of a table.
+/// Writes the games of a table as PGN, in the table's order, an empty line behind each. `NoMemory` where memory is refused, and
+/// `Write` where the output fails.
 pub fn write_games<W: Write>(alloc: Global, table: &Table, output: &mut W) -> Result<(), Fault>
     ensures written { OnOk result (WritesGames (W.contents output.old) (W.contents output.new) table.now.games
         (length table.now.games)) }

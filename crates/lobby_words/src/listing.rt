@@ -47,7 +47,8 @@ pub fn waiting_of(game: Option<u32>, seated: &str) -> Option<Waiting>
     }
 }
 
-/// The game of a row `G WHITE BLACK ..` that has one empty seat.
+/// The game of a row `G WHITE BLACK ..` of which one seat alone is empty (`-`), and who waits there; `None` of any other row,
+/// and where G is no number or who waits has no name.
 pub fn waiting_row(row: &str) -> Option<Waiting>
     ensures { result ≡ waiting_row row.now }
 {

@@ -8,7 +8,7 @@ pub const SERVERS_MOST: u32 = 428;
 /// The numbers of server S are those from S times this on; one server's own are below it.
 pub const GAMES_OF_A_SERVER: u32 = 10_000_000;
 
-/// The server of a game's number.
+/// The server of a game's number; 0 where one server stands alone.
 pub fn server_of(number: u32) -> u32
     ensures { result ≡ servers.server_of number }
 {

@@ -15,7 +15,7 @@ pub enum OptionValue {
     Texts(&'static str),
     /// A number from the first on, up to the second.
     Number(&'static str, u64, u64),
-    /// A text that stands alone, without the option's name.
+    /// A text that is given by its place, without the option's name.
     Alone(&'static str),
 }
 
@@ -80,8 +80,8 @@ fn word_commands<'a>(alloc: Global, words: &[WordText]) -> Result<Vec<Command<'a
     Ok(commands)
 }
 
-/// The command line of a program that is given one of these words, in the order in which help lists them. It fails where memory is
-/// refused.
+/// The command line of a program that is given one of these words, each with its options, in the order in which help lists them;
+/// a line without a word is refused with help. It fails where memory is refused.
 pub fn command_line<'a>(
     alloc: Global,
     name: &'static str,

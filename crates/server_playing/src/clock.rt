@@ -39,7 +39,8 @@ pub struct SteadyClock<'a, R> {
 }
 
 impl<'a, R: Clock> SteadyClock<'a, R> {
-    /// The clock as it is now.
+    /// A clock that begins at the system's moment of now, in milliseconds since 1970 (0 where the system has none), and goes on
+    /// evenly.
     pub fn new(clock: &'a R) -> Self
         ensures { result.last ≡ result.start }
     {

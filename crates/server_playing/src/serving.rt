@@ -64,7 +64,8 @@ where
     }
 }
 
-/// Serves players on a port, over the games of a store whose opening took so many milliseconds, as `serve` does.
+/// Serves players on a port, over the games of a store whose opening took so many milliseconds: prints `port P`, tells what was
+/// found, and takes its turns until a fault ends them or they are used up. The fault is answered, and told nowhere else.
 pub fn serve_store<R, D: Device + Drop>(
     rt: &R,
     alloc: Global,

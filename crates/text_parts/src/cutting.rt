@@ -17,7 +17,7 @@ pub fn cut(text: &str, sign: char) -> (&str, &str)
     }
 }
 
-/// What stands before the first such sign, or all.
+/// What stands before the first such sign, an ASCII character, or all where there is none.
 pub fn before(text: &str, sign: char) -> &str
     requires { sign < 128 }
     ensures { result.now ≡ before_first (λ b. b == sign) text.entry.now }
@@ -26,7 +26,7 @@ pub fn before(text: &str, sign: char) -> &str
     front
 }
 
-/// What stands behind the first such sign, or nothing.
+/// What stands behind the first such sign, an ASCII character, or nothing where there is none.
 pub fn behind(text: &str, sign: char) -> &str
     requires { sign < 128 }
     ensures { result.now ≡ after_first (λ b. b == sign) text.entry.now }
