@@ -1,8 +1,7 @@
-use denote.Enum.Bare.{same_true}
+use denote.Enum.Bare.{same_true, same_false}
 use Rattle.chess_bits.specs.contracts.men.Colour.{the_type}
 use Rattle.chess_bits.specs.declared.men.Colour.{Colour}
 use Rattle.std.proofs.Common.{Some, ◌≡◌, ◌∙◌, ◌++◌, List, [], ap, sym, rules}
-use Rattle.std.proofs.lemmas.Grind.{common_steps}
 use Rattle.std.proofs.lemmas.List.{append-nil}
 use Rattle.chess_board.specs.declared.moves.Move.{Move}
 use Rattle.chess_moves.specs.Listing.{legal_from}
@@ -21,7 +20,8 @@ returns-in-None c =
 pub returns-else-eq : goal.returns-else-eq
 returns-else-eq c =
     let p = c.args.board.now in
-    let apart : c.in-Some.colour ≡ c.side.result → ⊥ = first_of (search rules, grind common_steps) in
+    let apart : c.in-Some.colour ≡ c.side.result → ⊥ =
+    same_false the_type c.in-Some.colour c.side.result (sym c.eq.ensures ∙ c.if-eq.false) in
     unchanged c.args.moves.now.items (legal_from p c.args.from)
     (legal_from-empty p c.args.from
     (λ legal. apart
