@@ -8,6 +8,6 @@ returns-clause-under_way c = λ front tokens h.
     let old : List ℕ = string_bytes c.args.text.now in
     let token : List ℕ = c.args.token.now in
     let written = c.in_ok-push_str-2.ensures.bytes ∙ ap (λ t. t ++ token) c.in_ok-push_str.ensures.bytes in
-    subst (λ t. IsUnderWay front (tokens ++ (token ∷ [])) t (c.separated.result.1 + length token))
-    (sym (append_assoc old c.separated.result.0.now token) ∙ sym written)
-    (c.separated.ensures.under_way front tokens old token h c.requires.token refl)
+    subst (λ t. IsUnderWay front (tokens ++ (token ∷ [])) t (c.separated-before.result.1 + length token))
+    (sym (append_assoc old c.separated-before.result.0.now token) ∙ sym written)
+    (c.separated-before.ensures.under_way front tokens old token h c.requires.token refl)
