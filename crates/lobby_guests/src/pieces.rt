@@ -1,4 +1,4 @@
-//! Bytes that go, piece by piece, without waiting where the stream doesn't wait.
+//! The sizes of pieces, and bytes that go, without waiting where the stream doesn't wait.
 ghost use Rattle.lobby_guests.specs.Pieces.{HasGone};
 
 use std::io::{ErrorKind, Write};

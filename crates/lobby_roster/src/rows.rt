@@ -47,7 +47,7 @@ fn push_player(text: &mut String, player: &Player) -> Result<(), AllocError>
     )
 }
 
-/// The first player of a name.
+/// The first player of a name; `None` where nobody has it.
 pub fn named<'a>(players: &'a [Player], name: &str) -> Option<&'a Player>
     ensures { option_copied result ≡ find (λ player. bytes_eq player.name name.now) players.now }
 {

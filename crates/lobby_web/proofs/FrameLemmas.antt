@@ -1,4 +1,4 @@
--- What answers a frame is a control frame, and no text; and no frame changes whose side a connection is on.
+-- What answers a frame is no text; and no frame changes whose side a connection is on.
 use Rattle.std.proofs.Common.{ℕ, ◌≡◌, List, [], ◌∷◌, ◌++◌, Option, None, Some, Ok, Err, Result, Bool, true, false, cond, refl, subst, codes, not, nat_lt, length}
 use Rattle.websocket.specs.declared.error.Error.{Error}
 use Rattle.websocket.specs.declared.error.Error.TheVariants.{Protocol}

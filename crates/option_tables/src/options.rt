@@ -81,7 +81,7 @@ fn word_commands<'a>(alloc: Global, words: &[WordText]) -> Result<Vec<Command<'a
 }
 
 /// The command line of a program that is given one of these words, each with its options, in the order in which help lists them;
-/// a line without a word is refused with help. It fails where memory is refused.
+/// a line without a word is refused. It fails where memory is refused.
 pub fn command_line<'a>(
     alloc: Global,
     name: &'static str,

@@ -40,7 +40,7 @@ pub struct SteadyClock<'a, R> {
 
 impl<'a, R: Clock> SteadyClock<'a, R> {
     /// A clock that begins at the system's moment of now, in milliseconds since 1970 (0 where the system has none), and goes on
-    /// evenly.
+    /// by the clock that is never set; without one it stands still.
     pub fn new(clock: &'a R) -> Self
         ensures { result.last ≡ result.start }
     {

@@ -64,8 +64,9 @@ where
     }
 }
 
-/// Serves players on a port, over the games of a store whose opening took so many milliseconds: prints `port P`, tells what was
-/// found, and takes its turns until a fault ends them or they are used up. The fault is answered, and told nowhere else.
+/// Serves players on a port, over the games of a store whose opening took so many milliseconds: prints `port P`, P being the port
+/// that it listens on, tells what was found, and takes its turns, with the waits of `serve`, until a fault ends them or they are
+/// used up. A port or an output that fails is told; any other fault is answered alone.
 pub fn serve_store<R, D: Device + Drop>(
     rt: &R,
     alloc: Global,

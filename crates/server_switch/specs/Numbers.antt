@@ -2,7 +2,7 @@
 use Rattle.std.specs.Prelude.{ℕ, ◌≡◌, ◌+◌, ◌*◌, ◌%◌, ◌<◌, ◌≤◌, ◌^◌, ◌&&◌, nat_lt, Option, Some, None, if◌then◌else◌}
 use Rattle.lobby_words.specs.Servers.{server_of}
 
--- the number here of a server's game, and of a number its server's
+-- the number that the switch gives to a server's game
 abbrev pub number_of : ℕ → ℕ → ℕ
 number_of server game = server * 10_000_000 + game
 

@@ -1,4 +1,4 @@
-//! What comes of a session's stream, where its lines end, and what a session has sent of them.
+//! What comes of a stream, where its lines end, and what a session has sent of them.
 #![tactic(auto)]
 
 mod cuts;

@@ -35,7 +35,7 @@ pub fn read_piece<R: Read>(reader: &mut R, piece: &mut [u8]) -> Came
     }
 }
 
-/// Gives up the first bytes.
+/// Gives up the first `count` bytes, of which there are so many; the others move to the front.
 pub fn give_up(bytes: &mut Vec<u8>, count: usize)
     requires { count ≤ length bytes.old.items }
     ensures items { bytes.new.items ≡ drop count bytes.old.items }
