@@ -36,5 +36,5 @@ returns-else-eq c =
     let p = c.args.board.now in (
       λ told. absurd (false≢true (sym c.if-eq.false ∙ told)),
       λ legal. absurd (same_false the_type c.in-Some.colour c.side.result (sym c.eq.ensures ∙ c.if-eq.false)
-      (own_of_legal p c.args.from (c.in-Some.colour, c.in-Some.kind) (sym c.in-Some.ensures) legal ∙ sym c.side.ensures)),
+          (own_of_legal p c.args.from (c.in-Some.colour, c.in-Some.kind) (sym c.in-Some.ensures) legal ∙ sym c.side.ensures)),
     )
