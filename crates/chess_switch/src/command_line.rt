@@ -66,7 +66,10 @@ pub fn command<'a>(alloc: Global) -> Result<Command<'a>, AllocError> {
 
 /// Reads the words, the program's own name first. An `Err` is a usage fault, or a request for help.
 pub fn read_words(alloc: Global, words: &[String]) -> Result<Serving, Error> {
-    read_by(alloc, &mut command(alloc)?, words)
+    let mut command = command(alloc)?;
+    let serving = read_by(alloc, &mut command, words);
+    drop(command);
+    serving
 }
 
 // (One function owns the command line, and one what was read by it, which goes by a call: each way out would let go of all parts.)
