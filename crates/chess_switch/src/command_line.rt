@@ -66,7 +66,10 @@ pub fn command<'a>(alloc: Global) -> Result<Command<'a>, AllocError> {
 
 /// Reads the words, the program's own name first. An `Err` is a usage fault, or a request for help.
 pub fn read_words(alloc: Global, words: &[String]) -> Result<Serving, Error> {
-    read_by(alloc, &mut command(alloc)?, words)
+    let mut command = command(alloc)?;
+    let serving = read_by(alloc, &mut command, words);
+    drop(command);
+    serving
 }
 
 // (One function owns the command line, and one what was read by it, which goes by a call: each way out would let go of all parts.)
@@ -110,26 +113,21 @@ fn server_of(text: &str, next: u32) -> Option<(u32, SocketAddr)> {
     }
 }
 
-// Puts the address of a server in its place; false where one is there.
-fn put_server(
-    servers: &mut Vec<Option<SocketAddr>>,
-    place: usize,
-    address: SocketAddr,
-) -> Result<bool, AllocError> {
-    for _ in servers.len()..place {
+// Makes so many places for servers, if there are fewer.
+fn make_places(servers: &mut Vec<Option<SocketAddr>>, count: usize) -> Result<(), AllocError> {
+    for _ in servers.len()..count {
         servers.push(None)?;
     }
-    if servers.len() <= place {
-        servers.push(Some(address))?;
-        return Ok(true);
+    Ok(())
+}
+
+// Puts the address of a server in its place; false where one is there.
+fn put_server(servers: &mut [Option<SocketAddr>], place: usize, address: SocketAddr) -> bool {
+    if place >= servers.len() || servers[place].is_some() {
+        return false;
     }
-    match servers.get_mut(place) {
-        Some(server) if server.is_none() => {
-            *server = Some(address);
-            Ok(true)
-        }
-        _ => Ok(false),
-    }
+    servers[place] = Some(address);
+    true
 }
 
 // Puts the addresses by the servers' numbers; false where a text says no server, or a number is there twice.
@@ -143,8 +141,8 @@ fn put_servers(servers: &mut Vec<Option<SocketAddr>>, texts: &[&str]) -> Result<
             return Ok(false);
         }
         next = number + 1;
-        let place = number as usize - 1;
-        if !put_server(servers, place, address)? {
+        make_places(servers, number as usize)?;
+        if !put_server(servers.as_mut_slice(), number as usize - 1, address) {
             return Ok(false);
         }
     }

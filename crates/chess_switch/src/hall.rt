@@ -136,16 +136,38 @@ impl<'a> Hall<'a> {
         }
     }
 
-    /// One turn at a moment, in milliseconds. It tells whether there was anything to do.
-    pub fn turn(&mut self, net: &impl Net, at: u64) -> Result<bool> {
-        let mut piece = [0; PIECE_ROOM];
-        let mut has_worked = self.welcome()?;
+    // A turn of each client.
+    fn turn_clients(
+        &mut self,
+        net: &impl Net,
+        piece: &mut [u8; PIECE_ROOM],
+        at: u64,
+    ) -> Result<bool> {
+        let mut has_worked = false;
         for client in self.clients.as_mut_slice() {
-            has_worked |= client.turn(net, self.poll.registry(), &mut piece, at)?;
+            has_worked |= client.turn(net, self.poll.registry(), piece, at)?;
         }
+        Ok(has_worked)
+    }
+
+    // The same, with room for what is read. (Here alone, since each step of a function that has it tells of all its bytes.)
+    fn turn_with_room(&mut self, net: &impl Net, at: u64) -> Result<bool> {
+        self.turn_clients(net, &mut [0; PIECE_ROOM], at)
+    }
+
+    // Clients for which nothing more is to be done go. It tells whether there were any.
+    fn part(&mut self) -> bool {
         let before = self.clients.len();
         self.clients.retain(|client| !client.is_done());
-        Ok(has_worked || self.clients.len() != before)
+        self.clients.len() != before
+    }
+
+    /// One turn at a moment, in milliseconds. It tells whether there was anything to do.
+    pub fn turn(&mut self, net: &impl Net, at: u64) -> Result<bool> {
+        let has_come = self.welcome()?;
+        let has_worked = self.turn_with_room(net, at)?;
+        let has_parted = self.part();
+        Ok(has_come || has_worked || has_parted)
     }
 
     // How long nothing is to be done at most, though no socket is ready.

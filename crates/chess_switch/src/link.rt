@@ -1,11 +1,11 @@
 //! The connection to a server that a client has.
-use crate::pieces::{PIECE_ROOM, Wire, give_up};
+use crate::pieces::{PIECE_ROOM, Wire};
 use anyhow::Result;
 use mio::net::TcpStream;
 use mio::{Registry, Token};
 use server_calls::{call, is_made};
 use server_switch::Exchange;
-use session_lines::first_feed;
+use session_lines::{first_feed, give_up};
 use std::alloc::{AllocError, Global};
 use std::net::{Net, SocketAddr};
 use std::{mem, str};
@@ -47,6 +47,22 @@ pub struct Link {
     // By when an answer is to come, where one is due, and whether one was due in the last turn.
     until: u64,
     was_due: bool,
+}
+
+// A connection that is made, over which the first line is to go.
+fn asked(stage: Stage, probe: Vec<u8>) -> Stage {
+    match stage {
+        Stage::Called(call) => Stage::Asked(Wire::new(call), probe),
+        stage => stage,
+    }
+}
+
+// A connection over which the first line was answered.
+fn settled(stage: Stage) -> Stage {
+    match stage {
+        Stage::Asked(wire, _) => Stage::Here(wire),
+        stage => stage,
+    }
 }
 
 impl Link {
@@ -96,12 +112,21 @@ impl Link {
         }
     }
 
+    // (One function lets go of the connection that was before.)
+    fn enter(&mut self, stage: Stage) {
+        self.stage = stage;
+    }
+
+    fn take_stage(&mut self) -> Stage {
+        mem::replace(&mut self.stage, Stage::Away)
+    }
+
     // Begins a connection.
     fn call(&mut self, net: &impl Net, registry: &Registry, at: u64) {
         self.call_at = at.saturating_add(RETRY);
         self.until = at.saturating_add(PATIENCE);
         if let Some(call) = call(net, registry, self.address, self.token) {
-            self.stage = Stage::Called(call);
+            self.enter(Stage::Called(call));
         }
     }
 
@@ -110,10 +135,8 @@ impl Link {
         let probe = Vec::from_slice(alloc, PROBE)?;
         self.held.clear();
         self.until = at.saturating_add(PATIENCE);
-        self.stage = match mem::replace(&mut self.stage, Stage::Away) {
-            Stage::Called(call) => Stage::Asked(Wire::new(call), probe),
-            stage => stage,
-        };
+        let stage = asked(self.take_stage(), probe);
+        self.enter(stage);
         Ok(())
     }
 
@@ -126,7 +149,7 @@ impl Link {
             }
             None if at < self.until => Ok(false),
             _ => {
-                self.stage = Stage::Away;
+                self.enter(Stage::Away);
                 Ok(true)
             }
         }
@@ -155,17 +178,15 @@ impl Link {
 
     // The server is not there: it is tried again.
     fn leave(&mut self, at: u64) {
-        self.stage = Stage::Away;
+        self.enter(Stage::Away);
         self.call_at = at.saturating_add(RETRY);
     }
 
     // The server is there.
     fn settle(&mut self) {
         self.held.clear();
-        self.stage = match mem::replace(&mut self.stage, Stage::Away) {
-            Stage::Asked(wire, _) => Stage::Here(wire),
-            stage => stage,
-        };
+        let stage = settled(self.take_stage());
+        self.enter(stage);
     }
 
     // Writes what is left of the first line. It tells whether there was anything to do.
@@ -216,16 +237,6 @@ impl Link {
         Ok(has_written || has_read)
     }
 
-    // The next whole line, which is taken off.
-    fn take_line(&mut self, alloc: Global) -> Result<Option<Vec<u8>>, AllocError> {
-        let Some(at) = first_feed(self.held.as_slice()) else {
-            return Ok(None);
-        };
-        let line = Vec::from_slice(alloc, &self.held[..at])?;
-        give_up(&mut self.held, at + 1);
-        Ok(Some(line))
-    }
-
     // Tells a line; false where it is no text, or nothing asks for it.
     fn hear_line(&self, exchange: &mut Exchange, line: &[u8]) -> Result<bool, AllocError> {
         let Ok(line) = str::from_utf8(line) else {
@@ -238,14 +249,23 @@ impl Link {
         Ok(true)
     }
 
-    // Tells each whole line of a piece; false where one is no text, or nothing asks for it.
-    fn hear_lines(&mut self, alloc: Global, exchange: &mut Exchange) -> Result<bool, AllocError> {
+    // The same of the next whole line, which is taken off; none where there is none.
+    fn hear_next(&mut self, exchange: &mut Exchange) -> Result<Option<bool>, AllocError> {
+        let Some(at) = first_feed(self.held.as_slice()) else {
+            return Ok(None);
+        };
+        let is_sound = self.hear_line(exchange, &self.held[..at])?;
+        give_up(&mut self.held, at + 1);
+        Ok(Some(is_sound))
+    }
+
+    // The same of each whole line of a piece; and false where what stands behind them is too long.
+    fn hear_lines(&mut self, exchange: &mut Exchange) -> Result<bool, AllocError> {
         for _ in 0..PIECE_ROOM {
-            let Some(line) = self.take_line(alloc)? else {
-                break;
-            };
-            if !self.hear_line(exchange, line.as_slice())? {
-                return Ok(false);
+            match self.hear_next(exchange)? {
+                Some(true) => {}
+                Some(false) => return Ok(false),
+                None => break,
             }
         }
         Ok(self.held.len() <= LINE_MOST)
@@ -273,10 +293,19 @@ impl Link {
         }
     }
 
+    // Whether an answer that is due has not come for too long. The time for it begins anew where something came, and where nothing
+    // was read of what may have come.
+    fn is_late(&mut self, exchange: &Exchange, begins: bool, at: u64) -> bool {
+        if begins || !self.was_due {
+            self.until = at.saturating_add(PATIENCE);
+        }
+        self.was_due = exchange.waits_for(self.place);
+        self.was_due && at >= self.until
+    }
+
     // Hears a server that is there, unless the client has too much to take, and tells it what it is to be told.
     fn serve(
         &mut self,
-        alloc: Global,
         exchange: &mut Exchange,
         piece: &mut [u8; PIECE_ROOM],
         may_read: bool,
@@ -287,13 +316,9 @@ impl Link {
         }
         let has_written = self.write(exchange);
         let has_read = may_read && self.read(piece)?;
-        let is_lost = self.is_lost();
-        let is_sound = !has_read || self.hear_lines(alloc, exchange)?;
-        if has_read || !may_read || !self.was_due {
-            self.until = at.saturating_add(PATIENCE);
-        }
-        self.was_due = exchange.waits_for(self.place);
-        if is_lost || !is_sound || self.was_due && at >= self.until {
+        let is_sound = !has_read || self.hear_lines(exchange)?;
+        let is_late = self.is_late(exchange, has_read || !may_read, at);
+        if is_late || !is_sound || self.is_lost() {
             self.lose(exchange, at)?;
             return Ok(true);
         }
@@ -313,7 +338,7 @@ impl Link {
     ) -> Result<bool> {
         let has_reached = self.reach(alloc, net, registry, at)?;
         let has_greeted = self.greet(exchange, piece, at)?;
-        let has_served = self.serve(alloc, exchange, piece, may_read, at)?;
+        let has_served = self.serve(exchange, piece, may_read, at)?;
         Ok(has_reached | has_greeted | has_served)
     }
 }

@@ -28,5 +28,7 @@ fn do_words(rt: &HostRuntime) -> Result<(), NotDone> {
 // The words of the command line.
 fn words_of(rt: &HostRuntime) -> Result<Vec<String>, Error> {
     let mut command = command(rt.alloc())?;
-    words_given(rt, &mut command)
+    let words = words_given(rt, &mut command);
+    drop(command);
+    words
 }

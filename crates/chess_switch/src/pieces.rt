@@ -2,8 +2,9 @@
 ghost use Rattle.std.specs.Prelude.{◌≤◌, length, IfSome};
 
 use mio::net::TcpStream;
+use session_lines::{Came, give_up, read_piece};
 use std::alloc::AllocError;
-use std::io::{ErrorKind, Read, Write};
+use std::io::{ErrorKind, Write};
 
 /// The most bytes that one read takes.
 pub const PIECE_ROOM: usize = 4_096;
@@ -18,14 +19,6 @@ pub struct Wire {
     pub has_ended: bool,
     /// It has failed.
     pub is_lost: bool,
-}
-
-/// Gives up the first bytes.
-pub fn give_up(bytes: &mut Vec<u8>, count: usize) {
-    let count = count.min(bytes.len());
-    let left = bytes.len() - count;
-    bytes.as_mut_slice().copy_within(count.., 0);
-    bytes.truncate(left);
 }
 
 impl Wire {
@@ -52,14 +45,12 @@ impl Wire {
 
     // How many bytes of a piece a read brought.
     fn read(&mut self, piece: &mut [u8; PIECE_ROOM]) -> usize {
-        match self.stream.read(piece) {
-            Ok(0) => self.has_ended = true,
-            Ok(count) => return count,
-            Err(error) => match error.kind() {
-                ErrorKind::WouldBlock => self.can_read = false,
-                ErrorKind::Interrupted => {}
-                _ => self.is_lost = true,
-            },
+        match read_piece(&mut self.stream, piece) {
+            Came::Bytes(count) => return count,
+            Came::Nothing => self.can_read = false,
+            Came::Interrupted => {}
+            Came::End => self.has_ended = true,
+            Came::Fault => self.is_lost = true,
         }
         0
     }

@@ -3,10 +3,10 @@ ghost use Rattle.std.specs.Prelude.{◌≡◌, ◌++◌, IfOk, codes};
 ghost use Rattle.std.specs.String.{string_bytes};
 ghost use Rattle.server_switch.specs.Answers as answers;
 ghost use Rattle.server_switch.specs.Answers.{told_behind};
-ghost use Rattle.server_switch.specs.Fields.{renumbered, tail_text};
+ghost use Rattle.server_switch.specs.Fields as fields;
+ghost use Rattle.server_switch.specs.Fields.{tail_text};
 
-use crate::fields::{cut_at, number_ahead, push_number, push_tail};
-use crate::numbers::number_of;
+use crate::fields::{cut_at, push_number, push_tail, renumbered};
 use lobby_words::cut;
 use std::alloc::{AllocError, Global};
 
@@ -33,12 +33,9 @@ fn tell_behind(
     text: &str,
     tail: Option<&str>,
 ) -> Result<String, AllocError>
-    ensures { IfOk result (λ told. string_bytes told ≡ told_behind words.now (renumbered place text.now) (tail_text 10 tail.entry)) }
+    ensures { IfOk result (λ told. string_bytes told ≡ told_behind words.now (fields.renumbered place text.now) (tail_text 10 tail.entry)) }
 {
-    let Some((game, behind)) = number_ahead(text) else {
-        return String::from_str(alloc, LOST);
-    };
-    let Some(number) = number_of(place, game) else {
+    let Some((number, behind)) = renumbered(place, text) else {
         return String::from_str(alloc, LOST);
     };
     let mut told = String::from_str(alloc, words)?;

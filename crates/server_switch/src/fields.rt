@@ -3,8 +3,10 @@ ghost use Rattle.std.specs.Prelude.{◌≡◌, ◌==◌, ◌<◌, ◌++◌, Some
 ghost use Rattle.std.specs.List.{before_first};
 ghost use Rattle.std.specs.String.{string_bytes};
 ghost use Rattle.lobby_words.specs.Words.{number_in, word_of};
+ghost use Rattle.server_switch.specs.Fields as fields;
 ghost use Rattle.server_switch.specs.Fields.{tail_text, tail_of};
 
+use crate::numbers::number_of;
 use itoa::Buffer;
 use lobby_words::number_named;
 use std::alloc::AllocError;
@@ -29,6 +31,20 @@ pub fn number_ahead(text: &str) -> Option<(u32, Option<&str>)>
 {
     let (field, tail) = cut_at(text, ' ');
     match number_named(field) {
+        Some(number) => Some((number, tail)),
+        None => None,
+    }
+}
+
+/// The same with the number here of the game that the field names on the server at a place; none where it has none.
+pub fn renumbered(place: usize, text: &str) -> Option<(u32, Option<&str>)>
+    ensures some { IfSome result (λ p. fields.renumbered place text.entry.now ≡ Some (decimal p.0 ++ tail_text 32 p.1)) }
+    ensures none { IfNone result (fields.renumbered place text.entry.now ≡ None) }
+{
+    let Some((game, tail)) = number_ahead(text) else {
+        return None;
+    };
+    match number_of(place, game) {
         Some(number) => Some((number, tail)),
         None => None,
     }

@@ -4,14 +4,13 @@ ghost use Rattle.std.specs.List.{list_any};
 ghost use Rattle.std.specs.String.{string_bytes};
 ghost use Rattle.server_switch.specs.Answers.{row_told, rows_told};
 ghost use Rattle.server_switch.specs.Exchanges.{asked, share_asked};
-ghost use Rattle.server_switch.specs.Fields.{renumbered};
+ghost use Rattle.server_switch.specs.Fields as fields;
 ghost use Rattle.server_switch.specs.Lines.{standing_of};
 ghost use Rattle.server_switch.specs.Waits as waits;
 ghost use Rattle.server_switch.specs.Waits.{is_due, share_of, wait_of, rows_in, listing};
 
 use crate::answers::NO_SERVER;
-use crate::fields::{number_ahead, push_number};
-use crate::numbers::number_of;
+use crate::fields::{push_number, renumbered};
 use crate::pending::Pending;
 use crate::server_line::ServerLine;
 use itoa::Buffer;
@@ -42,12 +41,9 @@ pub fn is_waiting(part: &Part) -> bool
 
 // Puts a row behind others, with the number that its game has here, if it has one.
 fn add_row(rows: &mut String, place: usize, row: &str) -> Result<(), AllocError>
-    ensures { OnOk result (string_bytes rows.new ≡ string_bytes rows.old ++ row_told (renumbered place row.now)) }
+    ensures { OnOk result (string_bytes rows.new ≡ string_bytes rows.old ++ row_told (fields.renumbered place row.now)) }
 {
-    let Some((game, tail)) = number_ahead(row) else {
-        return Ok(());
-    };
-    let Some(number) = number_of(place, game) else {
+    let Some((number, tail)) = renumbered(place, row) else {
         return Ok(());
     };
     push_number(rows, number, tail)?;

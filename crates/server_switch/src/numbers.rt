@@ -3,13 +3,13 @@ ghost use Rattle.std.specs.Prelude.{ℕ, ◌≡◌, ◌<◌, ◌≤◌, ◌^◌}
 ghost use Rattle.server_switch.specs.Numbers as numbers;
 ghost use Rattle.server_switch.specs.Numbers.{IsFound, IsNumbered};
 
-use lobby_words::GAMES_OF_A_SERVER;
+use lobby_words::{GAMES_OF_A_SERVER, SERVERS_MOST};
 
 /// The number of a game of the server at a place, the first being 0; none where it has none.
 pub fn number_of(place: usize, game: u32) -> Option<u32>
     ensures { result ≡ numbers.told_number place game }
 {
-    if game < GAMES_OF_A_SERVER && place < 428 {
+    if game < GAMES_OF_A_SERVER && place < SERVERS_MOST as usize {
         Some((place as u32 + 1) * GAMES_OF_A_SERVER + game)
     } else {
         None

@@ -30,7 +30,7 @@ pub struct Meeting {
 }
 
 /// A player's round: the opponent's starting number or 0, the sign of the colour, that of the result, and half points.
-#[derive(Clone, Copy, Debug, PartialEq, Eq)]
+#[derive(Clone, Copy)]
 pub struct Cell {
     pub opponent: u32,
     pub colour: u8,

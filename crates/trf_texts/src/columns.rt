@@ -89,20 +89,20 @@ fn begins(byte: u8) -> bool
 
 // A text's first characters, and spaces in the room that is left.
 fn push_left(out: &mut Vec<u8>, width: usize, text: &[u8]) -> Result<(), AllocError>
-    ensures { OnOk result (out.new.items ≡ out.old.items ++ spec.at_left width text.now) }
+    ensures { OnOk result (out.new.items ≡ out.old.items ++ spec.at_left width (map spec.plain_byte text.now)) }
 {
     let mut room = width;
     for byte in text {
-        if begins(*byte) {
+        let plain = plain_byte(*byte);
+        if begins(plain) {
             if room == 0 {
                 return Ok(());
             }
             room -= 1;
         }
-        out.push(*byte)?;
+        out.push(plain)?;
     }
-    push_spaces(out, room)?;
-    Ok(())
+    push_spaces(out, room)
 }
 
 // A line with what stands in columns 1 to 3 and from 5 on.
@@ -213,15 +213,13 @@ fn better_than(halves: u64, all: &[u64]) -> u64
 
 // What stands before a player's points.
 #[tactic(auto, unfolding(crate::specs::Report::front_text))]
-fn push_front(out: &mut Vec<u8>, alloc: Global, number: u32, name: &str) -> Result<(), AllocError>
+fn push_front(out: &mut Vec<u8>, number: u32, name: &str) -> Result<(), AllocError>
     ensures { OnOk result (out.new.items ≡ out.old.items ++ spec.front_text number name.now) }
 {
-    let mut plain = Vec::new(alloc);
-    push_plain(&mut plain, name.as_bytes())?;
     out.extend_from_slice(b"001 ")?;
     push_number(out, 4, number as u64)?;
     push_spaces(out, 6)?;
-    push_left(out, 33, plain.as_slice())?;
+    push_left(out, 33, name.as_bytes())?;
     push_spaces(out, 33)?;
     Ok(())
 }
@@ -258,7 +256,7 @@ fn push_player(
     requires { length rounds.now ≤ 99 }
     ensures { OnOk result (out.new.items ≡ out.old.items ++ spec.player_line (map (λ round. round.items) rounds.now) all.now number name.now) }
 {
-    push_front(out, alloc, number, name)?;
+    push_front(out, number, name)?;
     push_standing(out, alloc, rounds, all, number)?;
     push_cells(out, number, rounds)?;
     out.push(b'\n')?;
