@@ -1,5 +1,5 @@
 //! What copies are made, and when none is.
-use crate::sectors::sector;
+use crate::sectors::{byte_at, sector};
 use journal_copy::{Copied, CopyFault, Slots, Source, Still, copy};
 use rec_bytes::write_header;
 use rec_codec::{Half, Header, Limits, Version};
@@ -45,108 +45,133 @@ impl Source for Scripted {
     }
 }
 
-// A header of limits 4 and 60 that names the first sectors of a half, of which the snapshot has three.
-fn header_of(seq: u64, half: Half, journal: u32) -> Header {
-    Header {
-        version: Version::Two,
-        sectors: 212,
-        seq,
-        half,
-        snapshot: 3,
-        journal,
-        limits: Limits {
-            games: 4,
-            plies: 60,
-        },
-    }
-}
+// Of limits 4 and 60. It names the first sectors of a half, of which the snapshot has three.
+const FIRST: Header = Header {
+    version: Version::Two,
+    sectors: 212,
+    seq: 8,
+    half: Half::Zero,
+    snapshot: 3,
+    journal: 100,
+    limits: Limits {
+        games: 4,
+        plies: 60,
+    },
+};
 
-const NO_HEADER: Slots = Slots {
-    zero: [0; 512],
-    one: [0; 512],
+const OTHER_HALF: Header = Header {
+    seq: 9,
+    half: Half::One,
+    journal: 7,
+    ..FIRST
 };
 
 // The slots in which a header stands, beside nothing.
-fn slots_of(header: &Header) -> Slots {
-    let mut slots = NO_HEADER;
-    if header.seq % 2 == 0 {
-        slots.zero = write_header(header);
-    } else {
-        slots.one = write_header(header);
+fn slots_of(header: Option<&Header>) -> Slots {
+    let mut slots = Slots {
+        zero: [0; 512],
+        one: [0; 512],
+    };
+    if let Some(header) = header {
+        if header.seq % 2 == 0 {
+            slots.zero = write_header(header);
+        } else {
+            slots.one = write_header(header);
+        }
     }
     slots
 }
 
-fn source_of(first: &Header, later: &Header) -> Scripted {
+// A source that has the first header, and then this one.
+fn source_of(later: &Header) -> Scripted {
     Scripted {
-        first: slots_of(first),
-        later: slots_of(later),
+        first: slots_of(Some(&FIRST)),
+        later: slots_of(Some(later)),
         is_read: false,
         sectors: 212,
     }
 }
 
-// A device of zeros.
-fn blank(rt: &impl Abort, alloc: Global, sectors: u32) -> MemoryDevice {
-    MemoryDevice::new(alloc, sectors).expect(rt, "memory")
+// The header that is read later, in how many tries it is copied, and the header that stands in the copy, if one is made.
+type Row = (Header, u32, Option<Header>);
+
+const ROWS: [Row; 7] = [
+    // The same header, and the next commit in the same half.
+    (FIRST, 1, Some(FIRST)),
+    (
+        Header {
+            seq: 9,
+            journal: 101,
+            ..FIRST
+        },
+        1,
+        Some(FIRST),
+    ),
+    (OTHER_HALF, 1, None),
+    // It moved once, and then stood still.
+    (OTHER_HALF, 2, Some(OTHER_HALF)),
+    // Two commits on, a header before, and fewer sectors than before.
+    (
+        Header {
+            seq: 10,
+            journal: 102,
+            ..FIRST
+        },
+        1,
+        None,
+    ),
+    (
+        Header {
+            seq: 7,
+            journal: 101,
+            ..FIRST
+        },
+        1,
+        None,
+    ),
+    (
+        Header {
+            seq: 9,
+            journal: 99,
+            ..FIRST
+        },
+        1,
+        None,
+    ),
+];
+
+fn check_row(rt: &impl Abort, target: &mut MemoryDevice, row: &Row) {
+    let (later, tries, stands) = row;
+    let answer = copy(&mut source_of(later), target, *tries);
+    let wanted = match stands {
+        Some(_) => Copied::Whole,
+        None => Copied::Changed,
+    };
+    assert!(rt; answer == Ok(wanted));
+    let slots = slots_of(stands.as_ref());
+    let zero = slots.zero;
+    let one = slots.one;
+    assert!(rt; sector(rt, target, 0) == Ok((Got::Whole, zero)));
+    assert!(rt; sector(rt, target, 1) == Ok((Got::Whole, one)));
+    match stands {
+        // All sectors that the header names, and no other.
+        Some(header) if header.half == Half::Zero => {
+            for at in 2..212u32 {
+                let byte = if at < 105 { at as u8 } else { 0 };
+                assert!(rt; byte_at(rt, target, at) == Ok(byte));
+            }
+        }
+        Some(_) => assert!(rt; byte_at(rt, target, 107) == Ok(107)),
+        None => {}
+    }
 }
 
-// The device after a copy of such a source in so many tries, which is answered so.
-fn copied(
-    rt: &impl Abort,
-    alloc: Global,
-    first: &Header,
-    later: &Header,
-    tries: u32,
-    wanted: Copied,
-) -> MemoryDevice {
-    let mut target = blank(rt, alloc, 212);
-    assert!(rt; copy(&mut source_of(first, later), &mut target, tries) == Ok(wanted));
-    target
-}
-
-// Whether each byte of a sector is this.
-fn is_filled(rt: &impl Abort, device: &mut MemoryDevice, at: u32, byte: u8) -> bool {
-    sector(rt, device, at) == Ok((Got::Whole, [byte; 512]))
-}
-
-fn has_slots(rt: &impl Abort, device: &mut MemoryDevice, slots: &Slots) -> bool {
-    sector(rt, device, 0) == Ok((Got::Whole, slots.zero))
-        && sector(rt, device, 1) == Ok((Got::Whole, slots.one))
-}
-
-// The same header, and the next commit in the same half.
 #[test]
 fn copies_what_stands_still(rt: HostRuntime) {
-    let first = header_of(8, Half::Zero, 100);
-    for later in [first, header_of(9, Half::Zero, 101)] {
-        let mut target = copied(&rt, rt.alloc(), &first, &later, 1, Copied::Whole);
-        assert!(rt; has_slots(&rt, &mut target, &slots_of(&first)));
-        for at in 2..212 {
-            let byte = if at < 105 { at as u8 } else { 0 };
-            assert!(rt; is_filled(&rt, &mut target, at, byte));
-        }
+    for row in &ROWS {
+        let mut target = MemoryDevice::new(rt.alloc(), 212).expect(&rt, "memory");
+        check_row(&rt, &mut target, row);
     }
-}
-
-#[test]
-fn begins_anew_where_it_moved(rt: HostRuntime) {
-    let first = header_of(8, Half::Zero, 100);
-    let other = header_of(9, Half::One, 7);
-    for moved in [
-        other,
-        // Two commits on, a header before, and fewer sectors than before.
-        header_of(10, Half::Zero, 102),
-        header_of(7, Half::Zero, 101),
-        header_of(9, Half::Zero, 99),
-    ] {
-        let mut target = copied(&rt, rt.alloc(), &first, &moved, 1, Copied::Changed);
-        assert!(rt; has_slots(&rt, &mut target, &NO_HEADER));
-    }
-    // It moved once, and then stood still.
-    let mut target = copied(&rt, rt.alloc(), &first, &other, 2, Copied::Whole);
-    assert!(rt; has_slots(&rt, &mut target, &slots_of(&other)));
-    assert!(rt; is_filled(&rt, &mut target, 107, 107));
 }
 
 // Why there is no copy of a source on a device of so many sectors.
@@ -156,40 +181,48 @@ fn fault_of<S: Source>(
     source: &mut S,
     sectors: u32,
 ) -> Option<CopyFault> {
-    copy(source, &mut blank(rt, alloc, sectors), 1).err()
+    let mut target = MemoryDevice::new(alloc, sectors).expect(rt, "memory");
+    copy(source, &mut target, 1).err()
 }
 
 #[test]
 fn tells_why_there_is_no_copy(rt: HostRuntime) {
     let alloc = rt.alloc();
     for sectors in [212, 1] {
-        let mut nothing = Still::new(blank(&rt, alloc, sectors));
-        assert!(rt; fault_of(&rt, alloc, &mut nothing, 212) == Some(CopyFault::NotOurs));
+        let blank = MemoryDevice::new(alloc, sectors).expect(&rt, "memory");
+        let fault = fault_of(&rt, alloc, &mut Still::new(blank), 212);
+        assert!(rt; fault == Some(CopyFault::NotOurs));
     }
-    let first = header_of(8, Half::Zero, 100);
-    let mut source = source_of(&first, &first);
-    assert!(rt; fault_of(&rt, alloc, &mut source, 211) == Some(CopyFault::TooSmall));
+    let mut source = source_of(&FIRST);
+    let mut faults = [None; 3];
+    faults[0] = fault_of(&rt, alloc, &mut source, 211);
     source.sectors = 211;
-    assert!(rt; fault_of(&rt, alloc, &mut source, 212) == Some(CopyFault::TooSmall));
+    faults[1] = fault_of(&rt, alloc, &mut source, 212);
     source.sectors = 212;
     // The eight bytes alone.
     source.later.zero[12] = 0;
-    assert!(rt; fault_of(&rt, alloc, &mut source, 212) == Some(CopyFault::Damaged));
+    faults[2] = fault_of(&rt, alloc, &mut source, 212);
+    let small = Some(CopyFault::TooSmall);
+    assert!(rt; faults == [small, small, Some(CopyFault::Damaged)]);
 }
 
 // Five sectors, the sync, the header and the sync.
 #[test]
 fn tells_of_a_failing_device(rt: HostRuntime) {
-    let first = header_of(8, Half::Zero, 2);
+    let short = Header {
+        journal: 2,
+        ..FIRST
+    };
     for calls in 0..9 {
-        let mut target = blank(&rt, rt.alloc(), 212);
+        let mut target = MemoryDevice::new(rt.alloc(), 212).expect(&rt, "memory");
         target.arm(calls);
-        let copied = copy(&mut source_of(&first, &first), &mut target, 1);
+        let mut source = source_of(&short);
+        source.first = source.later;
         let wanted = if calls < 8 {
             Err(CopyFault::Device)
         } else {
             Ok(Copied::Whole)
         };
-        assert!(rt; copied == wanted);
+        assert!(rt; copy(&mut source, &mut target, 1) == wanted);
     }
 }

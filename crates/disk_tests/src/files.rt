@@ -77,8 +77,12 @@ pub fn make<F: PositionedFile>(rt: &impl Abort, device: &mut FileDevice<F>, call
 enum Act<'a> {
     /// It is made with these bytes.
     Write(&'a [u8]),
-    /// It has these bytes, and zeros behind them.
-    Has(&'a [u8]),
+    /// It has these bytes from a place on.
+    Part(usize, &'a [u8]),
+    /// It has these bytes from a place on, and zeros before and behind them.
+    Alone(usize, &'a [u8]),
+    /// It is made of three pages: a hole, bytes that are not zero, and a hole with a part of a page behind it.
+    Holes,
     /// It has so many bytes.
     Length(u64),
     /// It has blocks for so many sectors.
@@ -101,13 +105,22 @@ enum Act<'a> {
     Read,
 }
 
-fn check_bytes<R: Files + AllocGlobal + Abort>(rt: &R, path: &str, front: &[u8]) {
+fn check_bytes<R: Files + AllocGlobal + Abort>(
+    rt: &R,
+    path: &str,
+    from: usize,
+    part: &[u8],
+    alone: bool,
+) {
     let found = fs::read(rt, path).expect(rt, "a file to read");
-    assert!(rt; front.len() <= found.len());
-    let (head, rest) = found.as_slice().split_at(front.len());
-    assert!(rt; head == front);
-    for byte in rest {
-        assert!(rt; *byte == 0);
+    let wanted = (from..usize::MAX).zip(part);
+    for (place, byte) in wanted {
+        assert!(rt; found.get(place) == Some(byte));
+    }
+    if alone {
+        for (place, byte) in found.iter().enumerate() {
+            assert!(rt; *byte == 0 || from <= place && place - from < part.len());
+        }
     }
 }
 
@@ -133,7 +146,9 @@ fn check_refused<R: Files<File = File> + Abort>(rt: &R, path: &str, kind: ErrorK
 fn do_act<R: Files<File = File> + AllocGlobal + Abort>(rt: &R, path: &str, act: Act<'_>) {
     match act {
         Act::Write(bytes) => done(rt, fs::write(rt, path, bytes)),
-        Act::Has(bytes) => check_bytes(rt, path, bytes),
+        Act::Part(from, bytes) => check_bytes(rt, path, from, bytes, false),
+        Act::Alone(from, bytes) => check_bytes(rt, path, from, bytes, true),
+        Act::Holes => make_holes(rt, path),
         Act::Length(length) => {
             let found = fs::metadata(rt, path).expect(rt, "a file");
             assert!(rt; found.len() == length);
@@ -218,6 +233,9 @@ const CUT: Step<'static> = Step::Device(Call::Sync(Some(ErrorKind::UnexpectedEof
 
 const GONE: Step<'static> = Step::Device(Call::Sync(Some(ErrorKind::NotFound)));
 
+const BARRED: Step<'static> = Step::Device(Call::Barrier(None));
+
+// A new file holds zeros.
 const NEW: [Step<'static>; 6] = [
     Step::New(3),
     Step::Device(Call::Filled(0, 0)),
@@ -227,20 +245,8 @@ const NEW: [Step<'static>; 6] = [
     REMOVE,
 ];
 
-#[test]
-fn a_new_file_holds_zeros(rt: HostRuntime) {
-    play(&rt, "disk_tests-new", &NEW);
-}
-
-// Four sectors, of which sector 2 is marked and sector 3 has nines.
-fn written() -> [u8; 2048] {
-    let mut whole = [0; 2048];
-    whole[1024..1536].copy_from_slice(&marked());
-    whole[1536..].copy_from_slice(&[9; 512]);
-    whole
-}
-
-const WRITTEN: [Step<'static>; 10] = [
+// A later opening reads what was written, sector after sector from the first byte on.
+const WRITTEN: [Step<'static>; 14] = [
     Step::New(4),
     Step::Device(Call::Fill(3, 9)),
     Step::Device(Call::Mark(2)),
@@ -251,18 +257,15 @@ const WRITTEN: [Step<'static>; 10] = [
     Step::Device(Call::Filled(3, 9)),
     Step::Device(Call::Marked(2)),
     Step::File(Act::Length(2048)),
+    Step::File(Act::Part(0, &[0; 1024])),
+    Step::File(Act::Part(1024, &[1, 7])),
+    Step::File(Act::Part(1534, &[7, 2, 9])),
+    REMOVE,
 ];
 
-#[test]
-fn a_later_opening_reads_what_was_written(rt: HostRuntime) {
-    let path = "disk_tests-written";
-    play(&rt, path, &WRITTEN);
-    check_bytes(&rt, path, &written());
-    done(&rt, fs::remove_file(&rt, path));
-}
+const OLD: Step<'static> = Step::File(Act::Alone(0, &[5; 1000]));
 
-const OLD: Step<'static> = Step::File(Act::Has(&[5; 1000]));
-
+// What is there stays.
 const LENGTHENED: [Step<'static>; 13] = [
     Step::File(Act::Write(&[5; 1000])),
     Step::Open(1),
@@ -280,11 +283,6 @@ const LENGTHENED: [Step<'static>; 13] = [
     REMOVE,
 ];
 
-#[test]
-fn what_is_there_stays(rt: HostRuntime) {
-    play(&rt, "disk_tests-longer", &LENGTHENED);
-}
-
 // 50,000 sectors take many writes of zeros; no hole is left in the file.
 const LONG: [Step<'static>; 11] = [
     Step::File(Act::Write(&[7; 700])),
@@ -295,18 +293,14 @@ const LONG: [Step<'static>; 11] = [
     Step::Device(Call::Filled(32, 0)),
     Step::Device(Call::Filled(33, 0)),
     Step::Device(Call::Filled(49_999, 0)),
-    Step::File(Act::Has(&[7; 700])),
+    Step::File(Act::Alone(0, &[7; 700])),
     Step::File(Act::Length(25_600_000)),
     REMOVE,
 ];
 
-#[test]
-fn a_long_file_is_written(rt: HostRuntime) {
-    play(&rt, "disk_tests-long", &LONG);
-}
-
 const IN_USE: Step<'static> = Step::File(Act::Refused(ErrorKind::WouldBlock));
 
+// A file has one device at a time.
 const LOCKED: [Step<'static>; 10] = [
     Step::New(1),
     IN_USE,
@@ -320,9 +314,139 @@ const LOCKED: [Step<'static>; 10] = [
     REMOVE,
 ];
 
+// A short read fails, and not what is read besides.
+const SHORT: [Step<'static>; 7] = [
+    Step::New(2),
+    Step::Device(Call::Fill(0, 3)),
+    Step::File(Act::Shorten(1023)),
+    Step::Device(Call::Filled(0, 3)),
+    Step::Device(Call::Lost(1)),
+    Step::Device(Call::Filled(0, 3)),
+    REMOVE,
+];
+
+// A cut file fails to sync.
+const SHORTENED: [Step<'static>; 6] = [
+    Step::New(2),
+    Step::File(Act::Shorten(1024)),
+    SYNCED,
+    Step::File(Act::Shorten(1023)),
+    CUT,
+    REMOVE,
+];
+
+// So does one that is gone: a barrier leaves that to the sync, and after it fails too.
+const REMOVED: [Step<'static>; 6] = [
+    Step::New(2),
+    SYNCED,
+    REMOVE,
+    BARRED,
+    GONE,
+    Step::Device(Call::Barrier(Some(ErrorKind::NotFound))),
+];
+
+// A file of the same bytes at the same name is another one.
+const REPLACED: [Step<'static>; 5] = [
+    Step::New(2),
+    SYNCED,
+    Step::File(Act::Replace("disk_tests-copy")),
+    GONE,
+    REMOVE,
+];
+
+const LINK: &str = "disk_tests-link";
+
+const AWAY: &str = "disk_tests-away";
+
+// Another link does not change it, and it may be away while nobody syncs.
+const RENAMED: [Step<'static>; 8] = [
+    Step::New(2),
+    Step::File(Act::Link(LINK)),
+    SYNCED,
+    Step::File(Act::Rename(AWAY)),
+    Step::File(Act::TakeName(AWAY)),
+    SYNCED,
+    Step::File(Act::Rename(AWAY)),
+    GONE,
+];
+
+const ONE: &str = "disk_tests-one";
+
+const TWO: &str = "disk_tests-two";
+
+// A name may be a link: then it leads where the link does at that time.
+const LINKED: [Step<'static>; 7] = [
+    Step::File(Act::LinkTo(ONE)),
+    Step::Open(2),
+    SYNCED,
+    REMOVE,
+    Step::File(Act::LinkTo(TWO)),
+    GONE,
+    REMOVE,
+];
+
+// A file that is long enough may have no room on the disk. The bytes that are not zero stay, and there are zeros up to the
+// end of 32 sectors.
+const HOLES: [Step<'static>; 6] = [
+    Step::File(Act::Holes),
+    Step::Lengthen(32, 32),
+    Step::File(Act::Length(16_384)),
+    Step::File(Act::Blocks(32)),
+    Step::File(Act::Alone(6_000, &[7; 100])),
+    REMOVE,
+];
+
+// A file is read beside its device.
+const READ: [Step<'static>; 5] = [
+    Step::New(2),
+    Step::Device(Call::Fill(1, 8)),
+    Step::File(Act::Read),
+    Step::Device(Call::Filled(1, 8)),
+    REMOVE,
+];
+
+// Files, and what is done with them.
+const SCRIPTS: [(&str, &[Step<'static>]); 19] = [
+    ("disk_tests-new", &NEW),
+    ("disk_tests-written", &WRITTEN),
+    ("disk_tests-longer", &LENGTHENED),
+    ("disk_tests-long", &LONG),
+    ("disk_tests-locked", &LOCKED),
+    ("disk_tests-short", &SHORT),
+    ("disk_tests-cut", &SHORTENED),
+    ("disk_tests-gone", &REMOVED),
+    ("disk_tests-gone", &REPLACED),
+    ("disk_tests-gone", &RENAMED),
+    (AWAY, &[REMOVE]),
+    (LINK, &[REMOVE]),
+    (ONE, &[Step::New(2)]),
+    (TWO, &[Step::New(2)]),
+    ("disk_tests-to-one", &LINKED),
+    (ONE, &[REMOVE]),
+    (TWO, &[REMOVE]),
+    ("disk_tests-holes", &HOLES),
+    ("disk_tests-read", &READ),
+];
+
 #[test]
-fn a_file_has_one_device_at_a_time(rt: HostRuntime) {
-    play(&rt, "disk_tests-locked", &LOCKED);
+fn files_are_devices(rt: HostRuntime) {
+    for (path, steps) in &SCRIPTS {
+        play(&rt, path, steps);
+    }
+}
+
+// The absolute name of a file in this folder.
+fn absolute(rt: &HostRuntime, name: &str) -> io::Result<PathBuf> {
+    Ok(env::current_dir(rt)?.join(rt.alloc(), name)?)
+}
+
+// Also under an absolute name.
+#[test]
+fn a_file_that_is_gone_fails_to_sync(rt: HostRuntime) {
+    let path = absolute(&rt, "disk_tests-absolute").expect(&rt, "a path");
+    for steps in [&REMOVED[..], &REPLACED[..]] {
+        play(&rt, path.as_str(), steps);
+    }
 }
 
 // What is missing, what is a folder, and what can be opened and is no file. No file is made among the devices.
@@ -366,134 +490,11 @@ fn a_sync_that_the_system_refuses_fails(rt: HostRuntime) {
     assert!(rt; number_of(opened.as_ref()) == Some(22));
 }
 
-const SHORT: [Step<'static>; 7] = [
-    Step::New(2),
-    Step::Device(Call::Fill(0, 3)),
-    Step::File(Act::Shorten(1023)),
-    Step::Device(Call::Filled(0, 3)),
-    Step::Device(Call::Lost(1)),
-    Step::Device(Call::Filled(0, 3)),
-    REMOVE,
-];
-
-#[test]
-fn a_short_read_fails(rt: HostRuntime) {
-    play(&rt, "disk_tests-short", &SHORT);
-}
-
-const SHORTENED: [Step<'static>; 6] = [
-    Step::New(2),
-    Step::File(Act::Shorten(1024)),
-    SYNCED,
-    Step::File(Act::Shorten(1023)),
-    CUT,
-    REMOVE,
-];
-
-#[test]
-fn a_cut_file_fails_to_sync(rt: HostRuntime) {
-    play(&rt, "disk_tests-cut", &SHORTENED);
-}
-
-const REMOVED: [Step<'static>; 4] = [Step::New(2), SYNCED, REMOVE, GONE];
-
-// A file of the same bytes at the same name is another one.
-const REPLACED: [Step<'static>; 5] = [
-    Step::New(2),
-    SYNCED,
-    Step::File(Act::Replace("disk_tests-copy")),
-    GONE,
-    REMOVE,
-];
-
-const LINK: &str = "disk_tests-link";
-
-const AWAY: &str = "disk_tests-away";
-
-// Another link does not change it, and it may be away while nobody syncs.
-const RENAMED: [Step<'static>; 8] = [
-    Step::New(2),
-    Step::File(Act::Link(LINK)),
-    SYNCED,
-    Step::File(Act::Rename(AWAY)),
-    Step::File(Act::TakeName(AWAY)),
-    SYNCED,
-    Step::File(Act::Rename(AWAY)),
-    GONE,
-];
-
-// The absolute name of a file in this folder.
-fn absolute(rt: &HostRuntime, name: &str) -> io::Result<PathBuf> {
-    Ok(env::current_dir(rt)?.join(rt.alloc(), name)?)
-}
-
-fn check_gone<R: Files<File = File> + AllocGlobal + Abort>(rt: &R, path: &str) {
-    play(rt, path, &REMOVED);
-    play(rt, path, &REPLACED);
-    play(rt, path, &RENAMED);
-    done(rt, fs::remove_file(rt, AWAY));
-    done(rt, fs::remove_file(rt, LINK));
-}
-
-// Under an absolute name and under another.
-#[test]
-fn a_file_that_is_gone_fails_to_sync(rt: HostRuntime) {
-    let path = absolute(&rt, "disk_tests-absolute").expect(&rt, "a path");
-    check_gone(&rt, path.as_str());
-    check_gone(&rt, "disk_tests-gone");
-}
-
-// A name may be a link: then it leads where the link does at that time.
-const LINKED: [Step<'static>; 7] = [
-    Step::File(Act::LinkTo(ONE)),
-    Step::Open(2),
-    SYNCED,
-    REMOVE,
-    Step::File(Act::LinkTo(TWO)),
-    GONE,
-    REMOVE,
-];
-
-const ONE: &str = "disk_tests-one";
-
-const TWO: &str = "disk_tests-two";
-
-#[test]
-fn a_link_that_is_changed_fails_to_sync(rt: HostRuntime) {
-    let link = "disk_tests-to-one";
-    let _ = fs::remove_file(&rt, link);
-    play(&rt, ONE, &[Step::New(2)]);
-    play(&rt, TWO, &[Step::New(2)]);
-    play(&rt, link, &LINKED);
-    play(&rt, ONE, &[REMOVE]);
-    play(&rt, TWO, &[REMOVE]);
-}
-
-// Three pages: a hole, bytes that are not zero, and a hole with a part of a page behind it.
 fn make_holes<R: Files<File = File> + Abort>(rt: &R, path: &str) {
     done(rt, fs::write(rt, path, [0u8; 0].as_slice()));
     let file = writable(rt, path);
     done(rt, file.set_len(12_388));
     done(rt, file.write_all_at(&[7; 100], 6_000));
-}
-
-const FILLED: [Step<'static>; 3] = [
-    Step::Lengthen(32, 32),
-    Step::File(Act::Length(16_384)),
-    Step::File(Act::Blocks(32)),
-];
-
-// A file that is long enough may have no room on the disk. The bytes that are not zero stay, and there are zeros up to the
-// end of 32 sectors.
-#[test]
-fn what_is_zeros_is_written_again(rt: HostRuntime) {
-    let path = "disk_tests-holes";
-    make_holes(&rt, path);
-    let mut front = [0; 6_100];
-    front[6_000..].copy_from_slice(&[7; 100]);
-    play(&rt, path, &FILLED);
-    check_bytes(&rt, path, &front);
-    done(&rt, fs::remove_file(&rt, path));
 }
 
 // A file of two sectors, the second of eights, is read beside its device and not written: EBADF.
@@ -505,17 +506,4 @@ fn check_reader<R: Files<File = File> + Abort>(rt: &R, path: &str) {
     make(rt, &mut reader, Call::Filled(1, 8));
     assert!(rt; fill(rt, &mut reader, 1, 3).is_err());
     assert!(rt; number_of(reader.last_error()) == Some(9));
-}
-
-const READ: [Step<'static>; 5] = [
-    Step::New(2),
-    Step::Device(Call::Fill(1, 8)),
-    Step::File(Act::Read),
-    Step::Device(Call::Filled(1, 8)),
-    REMOVE,
-];
-
-#[test]
-fn a_file_is_read_beside_its_device(rt: HostRuntime) {
-    play(&rt, "disk_tests-read", &READ);
 }

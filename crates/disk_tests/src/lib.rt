@@ -1,8 +1,7 @@
-//! Tests of the crates of the disk, by what these export alone: so none of them is proved twice.
+//! Tests of the crates of the disk, by what these export alone: so none of them is proved twice. They have what neither the
+//! part `store` of the stored run of `line_player` nor a clause shows.
 #![tactic(auto)]
 
-#[cfg(test)]
-mod bytes;
 #[cfg(test)]
 mod callers;
 #[cfg(test)]
@@ -13,9 +12,5 @@ mod fake_files;
 mod files;
 #[cfg(test)]
 mod memory_device;
-#[cfg(test)]
-mod names;
-#[cfg(test)]
-mod once_device;
 #[cfg(test)]
 mod sectors;

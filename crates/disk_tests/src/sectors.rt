@@ -46,13 +46,3 @@ pub fn check_first<D: Device>(rt: &impl Abort, device: &mut D, bytes: &[u8]) {
         assert!(rt; byte_at(rt, device, at) == Ok(*byte));
     }
 }
-
-/// Four calls, and which of them failed.
-pub fn four_calls<D: Device>(rt: &impl Abort, device: &mut D) -> [bool; 4] {
-    [
-        fill(rt, device, 0, 1).is_err(),
-        byte_at(rt, device, 0).is_err(),
-        fill(rt, device, 1, 2).is_err(),
-        device.sync().is_err(),
-    ]
-}

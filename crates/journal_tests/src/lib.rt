@@ -1,10 +1,7 @@
-//! Tests of the journal, by what its crate exports alone: so it is not proved twice.
+//! Tests of the journal, by what its crate exports alone: so it is not proved twice. They have what the part `store` of the
+//! stored run of `line_player` does not show.
 #![tactic(auto)]
 
-#[cfg(test)]
-mod bytes;
-#[cfg(test)]
-mod calls;
 #[cfg(test)]
 mod compactions;
 #[cfg(test)]
@@ -12,12 +9,4 @@ mod contents;
 #[cfg(test)]
 mod cycles;
 #[cfg(test)]
-mod failures;
-#[cfg(test)]
-mod images;
-#[cfg(test)]
 mod memory;
-#[cfg(test)]
-mod stops;
-#[cfg(test)]
-mod versions;
