@@ -24,21 +24,22 @@ pub struct Times {
     pub period: Option<Period>,
 }
 
-// The times of which a text may be that of.
-#[tactic(auto, unfolding(crate::specs::Times::likely_times))]
-fn likely_times(text: &str) -> Times
-    ensures { result ≡ spec.likely_times text.now }
+// The times of one period: what stands before the `+`, and behind it.
+fn plain_times(text: &str) -> Times
+    ensures { result ≡ spec.plain_times text.now }
 {
-    let (moves, rest) = cut(text, '/');
-    if rest.is_empty() {
-        let (initial, increment) = cut(text, '+');
-        return Times {
-            initial: number_or_0(initial),
-            increment: number_or_0(increment),
-            period: None,
-        };
+    let (initial, increment) = cut(text, '+');
+    Times {
+        initial: number_or_0(initial),
+        increment: number_or_0(increment),
+        period: None,
     }
-    let (first, second) = cut(rest, ':');
+}
+
+// The times of two periods: of what stands before the `/`, between it and the `:`, and behind this.
+fn long_times(moves: &str, first: &str, second: &str) -> Times
+    ensures { result ≡ spec.long_times moves.now first.now second.now }
+{
     let (initial, increment) = cut(first, '+');
     let (seconds, _) = cut(second, '+');
     Times {
@@ -49,6 +50,19 @@ fn likely_times(text: &str) -> Times
             seconds: number_or_0(seconds),
         }),
     }
+}
+
+// The times of which a text may be that of.
+#[tactic(auto, unfolding(crate::specs::Times::likely_times))]
+fn likely_times(text: &str) -> Times
+    ensures { result ≡ spec.likely_times text.now }
+{
+    let (moves, rest) = cut(text, '/');
+    if rest.is_empty() {
+        return plain_times(text);
+    }
+    let (first, second) = cut(rest, ':');
+    long_times(moves, first, second)
 }
 
 /// A number behind a text.
