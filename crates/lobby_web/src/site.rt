@@ -1,6 +1,7 @@
 //! What is served: the files of the page, under the hosts that are taken.
 ghost use Rattle.std.specs.Prelude.{◌≡◌, Some, None, IfOk, OnOk, OnErr};
 ghost use Rattle.std.specs.Option.{option_copied};
+ghost use Rattle.lobby_web.specs.Pages.{tag_of};
 
 use bytes::Bytes;
 use sha2::{Digest, Sha256};
@@ -49,19 +50,26 @@ pub struct File {
     tag: Vec<u8>,
 }
 
+// The entity tag of bytes: their SHA-256 as 64 hex digits, in quotes.
+fn tag_of(alloc: Global, bytes: &[u8]) -> Result<Vec<u8>, AllocError>
+    ensures { IfOk result (λ tag. tag.items ≡ tag_of bytes.now) }
+{
+    let sum = Sha256::digest(bytes);
+    let mut tag = Vec::new(alloc);
+    tag.push(b'"')?;
+    tag.extend_from_slice(hex::encode(alloc, sum.as_slice())?.as_bytes())?;
+    tag.push(b'"')?;
+    Ok(tag)
+}
+
 impl File {
     ghost use Rattle.lobby_web.specs.Pages.{IsFile};
 
-    /// A file with its entity tag, by which who has these bytes already is not sent them again (RFC 9110, 8.8.3 and 13.1.2): their
-    /// SHA-256 as 64 hex digits, in quotes.
+    /// A file with its entity tag, by which who has these bytes already is not sent them again (RFC 9110, 8.8.3 and 13.1.2).
     pub fn new(alloc: Global, path: Vec<u8>, kind: Kind, bytes: Bytes) -> Result<File, AllocError>
         ensures { IfOk result (IsFile path.items kind bytes) }
     {
-        let sum = Sha256::digest(&bytes);
-        let mut tag = Vec::new(alloc);
-        tag.push(b'"')?;
-        tag.extend_from_slice(hex::encode(alloc, sum.as_slice())?.as_bytes())?;
-        tag.push(b'"')?;
+        let tag = tag_of(alloc, &bytes)?;
         Ok(File {
             path,
             kind,
