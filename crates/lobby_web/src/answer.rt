@@ -166,10 +166,7 @@ fn add_readers(response: &mut Response, kind: Kind) -> Result<(), AllocError>
     ensures body { response.new.body ≡ response.old.body }
 {
     match kind {
-        Kind::Pgn => Ok(response.add_header(
-            HeaderName::from_static("access-control-allow-origin"),
-            HeaderValue::from_static("*"),
-        )?),
+        Kind::Pgn => add_field(response, "access-control-allow-origin", "*"),
         _ => Ok(()),
     }
 }

@@ -1,5 +1,5 @@
 //! What is served: the files of the page, under the hosts that are taken.
-ghost use Rattle.std.specs.Prelude.{◌≡◌, Some, None, IfOk, OnOk, OnErr};
+ghost use Rattle.std.specs.Prelude.{◌≡◌, ◌++◌, ◌∷◌, [], Some, None, IfOk, OnOk, OnErr};
 ghost use Rattle.std.specs.Option.{option_copied};
 ghost use Rattle.lobby_web.specs.Pages.{tag_of};
 
@@ -42,7 +42,7 @@ impl Kind {
 }
 
 /// A file of the page: the path that a request names it by, as `/page.js`, what it is, and its bytes.
-#[derive(Debug, Drop)]
+#[derive(Drop)]
 pub struct File {
     path: Vec<u8>,
     kind: Kind,
@@ -50,15 +50,22 @@ pub struct File {
     tag: Vec<u8>,
 }
 
+// Puts a text in quotes behind what is there.
+fn push_quoted(to: &mut Vec<u8>, text: &[u8]) -> Result<(), AllocError>
+    ensures { OnOk result (to.new.items ≡ to.old.items ++ 34 ∷ text.now ++ 34 ∷ []) }
+{
+    to.push(b'"')?;
+    to.extend_from_slice(text)?;
+    Ok(to.push(b'"')?)
+}
+
 // The entity tag of bytes: their SHA-256 as 64 hex digits, in quotes.
 fn tag_of(alloc: Global, bytes: &[u8]) -> Result<Vec<u8>, AllocError>
     ensures { IfOk result (λ tag. tag.items ≡ tag_of bytes.now) }
 {
-    let sum = Sha256::digest(bytes);
+    let digits = hex::encode(alloc, Sha256::digest(bytes).as_slice())?;
     let mut tag = Vec::new(alloc);
-    tag.push(b'"')?;
-    tag.extend_from_slice(hex::encode(alloc, sum.as_slice())?.as_bytes())?;
-    tag.push(b'"')?;
+    push_quoted(&mut tag, digits.as_bytes())?;
     Ok(tag)
 }
 
@@ -101,7 +108,7 @@ impl File {
 }
 
 /// The hosts that are taken, and the files that are served under them.
-#[derive(Debug, Drop)]
+#[derive(Drop)]
 pub struct Site {
     hosts: Vec<Vec<u8>>,
     files: Vec<File>,
