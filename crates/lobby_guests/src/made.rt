@@ -79,7 +79,8 @@ fn with_moves(alloc: Global, mut text: String) -> Result<String, AllocError>
 fn game_in(text: &str) -> u32
     ensures { (n : ℕ) → n < 2 ^ 32 → making.word_of (making.rest_of (making.rest_of text.now)) ≡ decimal n → result ≡ n }
 {
-    match before(rest_of(rest_of(text)), ' ').parse::<u32>() {
+    let word = before(rest_of(rest_of(text)), ' ');
+    match word.parse::<u32>() {
         Ok(number) => number,
         Err(_) => 0,
     }

@@ -1,10 +1,12 @@
 //! What a request is answered.
-ghost use Rattle.std.specs.Prelude.{◌≡◌, ◌++◌, ◌∷◌, [], Some, false, OnOk, bytes_eq, codes};
+ghost use Rattle.std.specs.Prelude.{◌≡◌, ◌++◌, ◌∷◌, [], Some, false, IsTrue, OnOk, bytes_eq, codes};
 ghost use Rattle.std.specs.Option.{option_copied};
 ghost use Rattle.std.specs.Char.{is_ascii_digit};
 ghost use Rattle.std.specs.List.{list_all, list_any};
+ghost use Rattle.http.specs.Request.{head_of};
 ghost use Rattle.http_header.specs.Token.{lowercase};
-ghost use Rattle.http_header.specs.FieldValue.{plain_value};
+ghost use Rattle.http_header.specs.FieldName.{is_header_name};
+ghost use Rattle.http_header.specs.FieldValue.{is_visible_text};
 ghost use Rattle.http1.specs.Fields.{elements};
 ghost use Rattle.http_server.specs.Response.{IsBlank, IsResponse, fields_of};
 ghost use Rattle.lobby_web.specs.Media.{media_type};
@@ -66,11 +68,18 @@ fn lists_upgrade(connection: &[u8]) -> bool
     known.connection_upgrade
 }
 
+// Whether a request has this method.
+fn has_method(request: &Request<Bytes>, name: &[u8]) -> bool
+    ensures { result ≡ bytes_eq (head_of request.now).method name.now }
+{
+    request.method().as_str().as_bytes() == name
+}
+
 // Whether a request asks to go on as a WebSocket.
 fn asks_upgrade(request: &Request<Bytes>) -> bool
     ensures { result ≡ asks_upgrade request.now }
 {
-    request.method().as_str().as_bytes() == b"GET".as_slice()
+    has_method(request, b"GET")
         && lists_upgrade(field(request, "connection"))
         && eq_ignore_case(field(request, "upgrade"), b"websocket")
         && field(request, "sec-websocket-version") == b"13".as_slice()
@@ -80,21 +89,39 @@ fn asks_upgrade(request: &Request<Bytes>) -> bool
 fn only_reads(request: &Request<Bytes>) -> bool
     ensures { result ≡ only_reads request.now }
 {
-    let method = request.method().as_str().as_bytes();
-    method == b"GET".as_slice() || method == b"HEAD".as_slice()
+    has_method(request, b"GET") || has_method(request, b"HEAD")
 }
 
-fn media_type(kind: Kind) -> HeaderValue
-    ensures { result ≡ plain_value (media_type kind) }
+fn media_type(kind: Kind) -> &'static str
+    ensures value { result.now ≡ media_type kind }
+    ensures visible { IsTrue (is_visible_text result.now) }
 {
     match kind {
-        Kind::Html => HeaderValue::from_static("text/html; charset=utf-8"),
-        Kind::Css => HeaderValue::from_static("text/css; charset=utf-8"),
-        Kind::Script => HeaderValue::from_static("text/javascript; charset=utf-8"),
-        Kind::Svg => HeaderValue::from_static("image/svg+xml"),
-        Kind::Pgn => HeaderValue::from_static("application/x-chess-pgn; charset=utf-8"),
-        Kind::Figures => HeaderValue::from_static("text/plain; version=0.0.4; charset=utf-8"),
+        Kind::Html => "text/html; charset=utf-8",
+        Kind::Css => "text/css; charset=utf-8",
+        Kind::Script => "text/javascript; charset=utf-8",
+        Kind::Svg => "image/svg+xml",
+        Kind::Pgn => "application/x-chess-pgn; charset=utf-8",
+        Kind::Figures => "text/plain; version=0.0.4; charset=utf-8",
     }
+}
+
+// Puts a field behind those of an answer.
+fn add_field(
+    response: &mut Response,
+    name: &'static str,
+    value: &'static str,
+) -> Result<(), AllocError>
+    requires name { IsTrue (is_header_name name.now) }
+    requires value { IsTrue (is_visible_text value.now) }
+    ensures headers { OnOk result (fields_of response.new ≡ fields_of response.old ++ (name.now, value.now) ∷ []) }
+    ensures status { response.new.status ≡ response.old.status }
+    ensures body { response.new.body ≡ response.old.body }
+{
+    response.add_header(
+        HeaderName::from_static(name),
+        HeaderValue::from_static(value),
+    )
 }
 
 // The browser runs and loads only what is of the page's own host, frames it nowhere, and sends no form.
@@ -107,31 +134,20 @@ fn guard(response: &mut Response, status: StatusCode) -> Result<(), AllocError>
     ensures { OnOk result (IsResponse status guards [] response.new) }
 {
     response.status = status;
-    response.add_header(
-        HeaderName::from_static("content-security-policy"),
-        HeaderValue::from_static(POLICY),
-    )?;
-    response.add_header(
-        HeaderName::from_static("x-content-type-options"),
-        HeaderValue::from_static("nosniff"),
-    )?;
-    response.add_header(
-        HeaderName::from_static("referrer-policy"),
-        HeaderValue::from_static("no-referrer"),
-    )?;
-    response.add_header(
-        HeaderName::from_static("cache-control"),
-        HeaderValue::from_static("no-cache"),
-    )
+    add_field(response, "content-security-policy", POLICY)?;
+    add_field(response, "x-content-type-options", "nosniff")?;
+    add_field(response, "referrer-policy", "no-referrer")?;
+    add_field(response, "cache-control", "no-cache")
 }
 
 // The same with a media type.
-fn begin(response: &mut Response, status: StatusCode, kind: HeaderValue) -> Result<(), AllocError>
-    requires { IsBlank response.old }
-    ensures { OnOk result (IsResponse status (guarded kind.bytes) [] response.new) }
+fn begin(response: &mut Response, status: StatusCode, kind: &'static str) -> Result<(), AllocError>
+    requires blank { IsBlank response.old }
+    requires visible { IsTrue (is_visible_text kind.now) }
+    ensures { OnOk result (IsResponse status (guarded kind.now) [] response.new) }
 {
     guard(response, status)?;
-    response.add_header(HeaderName::from_static("content-type"), kind)
+    add_field(response, "content-type", kind)
 }
 
 // An answer in words.
@@ -139,11 +155,7 @@ fn tell(response: &mut Response, status: StatusCode, words: &str) -> Result<(), 
     requires { IsBlank response.old }
     ensures { OnOk result (IsTold status words.now response.new) }
 {
-    begin(
-        response,
-        status,
-        HeaderValue::from_static("text/plain; charset=utf-8"),
-    )?;
+    begin(response, status, "text/plain; charset=utf-8")?;
     response.body.put_slice(words.as_bytes())
 }
 
@@ -154,10 +166,7 @@ fn add_readers(response: &mut Response, kind: Kind) -> Result<(), AllocError>
     ensures body { response.new.body ≡ response.old.body }
 {
     match kind {
-        Kind::Pgn => Ok(response.add_header(
-            HeaderName::from_static("access-control-allow-origin"),
-            HeaderValue::from_static("*"),
-        )?),
+        Kind::Pgn => add_field(response, "access-control-allow-origin", "*"),
         _ => Ok(()),
     }
 }
@@ -301,10 +310,7 @@ fn refuse_method(response: &mut Response) -> Result<(), AllocError>
         StatusCode::METHOD_NOT_ALLOWED,
         "Only GET and HEAD are answered.",
     )?;
-    response.add_header(
-        HeaderName::from_static("allow"),
-        HeaderValue::from_static("GET, HEAD"),
-    )
+    add_field(response, "allow", "GET, HEAD")
 }
 
 // The upgrade, with the key that accepts it.
@@ -312,18 +318,12 @@ fn switch(alloc: Global, response: &mut Response, key: &[u8]) -> Result<(), Allo
     requires { IsBlank response.old }
     ensures { OnOk result (IsSwitch key.now response.new) }
 {
+    response.status = StatusCode::SWITCHING_PROTOCOLS;
+    add_field(response, "connection", "Upgrade")?;
+    add_field(response, "upgrade", "websocket")?;
     let Ok(accepted) = HeaderValue::from_bytes(alloc, key) else {
         return Err(AllocError);
     };
-    response.status = StatusCode::SWITCHING_PROTOCOLS;
-    response.add_header(
-        HeaderName::from_static("connection"),
-        HeaderValue::from_static("Upgrade"),
-    )?;
-    response.add_header(
-        HeaderName::from_static("upgrade"),
-        HeaderValue::from_static("websocket"),
-    )?;
     response.add_header(HeaderName::from_static("sec-websocket-accept"), accepted)
 }
 

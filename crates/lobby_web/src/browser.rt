@@ -70,17 +70,27 @@ fn answered(alloc: Global, site: &Site, mut connection: Connection) -> Stage
     Stage::Socket(Socket::new(alloc, input, output))
 }
 
+// Puts bytes behind what came by HTTP, and tells whether it took them all.
+fn takes_all(connection: &mut Connection, bytes: &[u8]) -> bool
+    ensures all { result ≡ true → history connection.new ≡ after_read (history connection.old) bytes.now }
+    ensures config { config_of connection.new ≡ config_of connection.old }
+{
+    let mut left = bytes;
+    match connection.read_from(&mut left) {
+        Ok(count) => count == bytes.len(),
+        Err(_) => false,
+    }
+}
+
 // The connection once these bytes came by HTTP.
 fn read_http(alloc: Global, site: &Site, mut connection: Connection, bytes: &[u8]) -> Stage
     ensures { Answers (config_of connection) site.now (after_read (history connection) bytes.now) result }
 {
-    let mut left = bytes;
-    match connection.read_from(&mut left) {
-        Ok(count) if count == bytes.len() => answered(alloc, site, connection),
-        _ => {
-            drop(connection);
-            Stage::Over
-        }
+    if takes_all(&mut connection, bytes) {
+        answered(alloc, site, connection)
+    } else {
+        drop(connection);
+        Stage::Over
     }
 }
 

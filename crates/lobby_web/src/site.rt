@@ -1,6 +1,7 @@
 //! What is served: the files of the page, under the hosts that are taken.
-ghost use Rattle.std.specs.Prelude.{◌≡◌, Some, None, IfOk, OnOk, OnErr};
+ghost use Rattle.std.specs.Prelude.{◌≡◌, ◌++◌, ◌∷◌, [], Some, None, IfOk, OnOk, OnErr};
 ghost use Rattle.std.specs.Option.{option_copied};
+ghost use Rattle.lobby_web.specs.Pages.{tag_of};
 
 use bytes::Bytes;
 use sha2::{Digest, Sha256};
@@ -41,7 +42,7 @@ impl Kind {
 }
 
 /// A file of the page: the path that a request names it by, as `/page.js`, what it is, and its bytes.
-#[derive(Debug, Drop)]
+#[derive(Drop)]
 pub struct File {
     path: Vec<u8>,
     kind: Kind,
@@ -49,19 +50,33 @@ pub struct File {
     tag: Vec<u8>,
 }
 
+// Puts a text in quotes behind what is there.
+fn push_quoted(to: &mut Vec<u8>, text: &[u8]) -> Result<(), AllocError>
+    ensures { OnOk result (to.new.items ≡ to.old.items ++ 34 ∷ text.now ++ 34 ∷ []) }
+{
+    to.push(b'"')?;
+    to.extend_from_slice(text)?;
+    Ok(to.push(b'"')?)
+}
+
+// The entity tag of bytes: their SHA-256 as 64 hex digits, in quotes.
+fn tag_of(alloc: Global, bytes: &[u8]) -> Result<Vec<u8>, AllocError>
+    ensures { IfOk result (λ tag. tag.items ≡ tag_of bytes.now) }
+{
+    let digits = hex::encode(alloc, Sha256::digest(bytes).as_slice())?;
+    let mut tag = Vec::new(alloc);
+    push_quoted(&mut tag, digits.as_bytes())?;
+    Ok(tag)
+}
+
 impl File {
     ghost use Rattle.lobby_web.specs.Pages.{IsFile};
 
-    /// A file with its entity tag, by which who has these bytes already is not sent them again (RFC 9110, 8.8.3 and 13.1.2): their
-    /// SHA-256 as 64 hex digits, in quotes.
+    /// A file with its entity tag, by which who has these bytes already is not sent them again (RFC 9110, 8.8.3 and 13.1.2).
     pub fn new(alloc: Global, path: Vec<u8>, kind: Kind, bytes: Bytes) -> Result<File, AllocError>
         ensures { IfOk result (IsFile path.items kind bytes) }
     {
-        let sum = Sha256::digest(&bytes);
-        let mut tag = Vec::new(alloc);
-        tag.push(b'"')?;
-        tag.extend_from_slice(hex::encode(alloc, sum.as_slice())?.as_bytes())?;
-        tag.push(b'"')?;
+        let tag = tag_of(alloc, &bytes)?;
         Ok(File {
             path,
             kind,
@@ -93,7 +108,7 @@ impl File {
 }
 
 /// The hosts that are taken, and the files that are served under them.
-#[derive(Debug, Drop)]
+#[derive(Drop)]
 pub struct Site {
     hosts: Vec<Vec<u8>>,
     files: Vec<File>,

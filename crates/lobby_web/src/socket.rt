@@ -31,7 +31,7 @@ pub const MOST_UNTAKEN: usize = 65_536;
 pub const MOST_WAITING: usize = 1_048_576;
 
 /// What came of a browser.
-#[derive(Debug, Drop)]
+#[derive(Drop)]
 pub enum Heard {
     /// Its socket is open. It comes once, before anything else.
     Opened,
@@ -53,7 +53,7 @@ pub enum Unsaid {
 }
 
 /// What the next frame was for the lobby.
-#[derive(Debug, Drop)]
+#[derive(Drop)]
 pub enum Frame {
     /// No whole frame has come.
     Waits,
