@@ -6,6 +6,8 @@ mod archive;
 #[cfg(test)]
 mod clerk;
 #[cfg(test)]
+mod club_files;
+#[cfg(test)]
 mod figures;
 #[cfg(test)]
 mod moves;
