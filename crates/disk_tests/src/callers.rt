@@ -1,7 +1,7 @@
 //! What a caller of a device leaves, by the fates of a crash.
 use crate::sectors::{NOTHING, check_first};
 use sector_dev::{Device, Fate, MemoryDevice};
-use sector_dev_callers::write_two_and_crash;
+use sector_dev_callers::{write_two_and_crash, written_and_crashed};
 
 const LOST: Fate = Fate::Lost;
 
@@ -9,31 +9,46 @@ const KEPT: Fate = Fate::Kept;
 
 const RUINED: Fate = Fate::Unreadable;
 
+// How many calls are served, which sector is written second, behind sector 0, the fates of both writes, and what is left.
 // A write that fails as the first is pending; the sync is the third call.
-const LIVES: [(u64, [Fate; 2], [u8; 2]); 13] = [
-    (0, [LOST, LOST], [0, 0]),
-    (0, [KEPT, KEPT], [1, 0]),
-    (0, [RUINED, RUINED], [NOTHING, 0]),
-    (1, [LOST, LOST], [0, 0]),
-    (1, [KEPT, RUINED], [1, NOTHING]),
-    (1, [LOST, KEPT], [0, 2]),
-    (1, [RUINED, KEPT], [NOTHING, 2]),
-    (2, [LOST, RUINED], [0, NOTHING]),
-    (2, [KEPT, LOST], [1, 0]),
-    (2, [RUINED, RUINED], [NOTHING, NOTHING]),
-    (2, [KEPT, KEPT], [1, 2]),
-    (3, [LOST, LOST], [1, 2]),
-    (4, [RUINED, RUINED], [1, 2]),
+const LIVES: [(u64, u32, [Fate; 2], [u8; 2]); 17] = [
+    (0, 1, [LOST, LOST], [0, 0]),
+    (0, 1, [KEPT, KEPT], [1, 0]),
+    (0, 1, [RUINED, RUINED], [NOTHING, 0]),
+    (1, 1, [LOST, LOST], [0, 0]),
+    (1, 1, [KEPT, RUINED], [1, NOTHING]),
+    (1, 1, [LOST, KEPT], [0, 2]),
+    (1, 1, [RUINED, KEPT], [NOTHING, 2]),
+    (2, 1, [LOST, RUINED], [0, NOTHING]),
+    (2, 1, [KEPT, LOST], [1, 0]),
+    (2, 1, [RUINED, RUINED], [NOTHING, NOTHING]),
+    (2, 1, [KEPT, KEPT], [1, 2]),
+    (3, 1, [LOST, LOST], [1, 2]),
+    (4, 1, [RUINED, RUINED], [1, 2]),
+    // Of two writes to one sector the last that is not lost decides.
+    (2, 0, [KEPT, RUINED], [NOTHING, 0]),
+    (2, 0, [RUINED, KEPT], [2, 0]),
+    (2, 0, [RUINED, LOST], [NOTHING, 0]),
+    (2, 0, [KEPT, LOST], [1, 0]),
 ];
 
 // What a life of so many calls leaves of two zeroed sectors.
 #[test]
 fn a_life_leaves_what_the_fates_say(rt: HostRuntime) {
-    for (calls, fates, bytes) in &LIVES {
+    for (calls, at, fates, bytes) in &LIVES {
         let mut device = MemoryDevice::new(rt.alloc(), 2).expect(&rt, "memory");
-        assert!(rt; device.sectors() >= 2);
-        let written = write_two_and_crash(&mut device, *calls, 0, &[1; 512], 1, &[2; 512], fates);
+        assert!(rt; device.sectors() >= 2 && *at < device.sectors());
+        let (first, second) = ([1; 512], [2; 512]);
+        let written = write_two_and_crash(&mut device, *calls, 0, &first, *at, &second, fates);
         assert!(rt; written.is_ok() == (*calls >= 3));
         check_first(&rt, &mut device, bytes);
     }
+}
+
+// A list of writes has its fates in its order.
+#[test]
+fn a_list_leaves_what_the_fates_say(rt: HostRuntime) {
+    let sectors = [[1; 512], [2; 512], [3; 512]];
+    let left = written_and_crashed(rt.alloc(), 4, &sectors, &[KEPT, LOST, RUINED]);
+    check_first(&rt, &mut left.expect(&rt, "memory"), &[1, 0, NOTHING, 0]);
 }

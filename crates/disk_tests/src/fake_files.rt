@@ -125,13 +125,19 @@ fn one_call_of_the_file_fails(rt: HostRuntime) {
     }
 }
 
+// How a call failed.
+fn failure(answer: io::Result<()>) -> Option<ErrorKind> {
+    answer.err().map(|error| error.kind())
+}
+
 // A call past the sectors, or between two of them, is refused.
 #[test]
 fn a_file_of_sectors_has_no_other_bytes(rt: HostRuntime) {
     let memory = MemoryDevice::new(rt.alloc(), 2).expect(&rt, "memory");
     let mut file = SectorFile::new(memory);
+    let past = Some(ErrorKind::UnexpectedEof);
     for offset in [1, 511, 513, 1024, 2_199_023_255_552] {
-        assert!(rt; file.read_at(&mut [0; 512], offset).is_err());
-        assert!(rt; file.write_at(&[1; 512], offset).is_err());
+        assert!(rt; failure(file.read_at(&mut [0; 512], offset)) == past);
+        assert!(rt; failure(file.write_at(&[1; 512], offset)) == past);
     }
 }

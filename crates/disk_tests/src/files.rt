@@ -406,7 +406,7 @@ const READ: [Step<'static>; 5] = [
 ];
 
 // Files, and what is done with them.
-const SCRIPTS: [(&str, &[Step<'static>]); 19] = [
+const SCRIPTS: [(&str, &[Step<'static>]); 14] = [
     ("disk_tests-new", &NEW),
     ("disk_tests-written", &WRITTEN),
     ("disk_tests-longer", &LENGTHENED),
@@ -414,11 +414,6 @@ const SCRIPTS: [(&str, &[Step<'static>]); 19] = [
     ("disk_tests-locked", &LOCKED),
     ("disk_tests-short", &SHORT),
     ("disk_tests-cut", &SHORTENED),
-    ("disk_tests-gone", &REMOVED),
-    ("disk_tests-gone", &REPLACED),
-    ("disk_tests-gone", &RENAMED),
-    (AWAY, &[REMOVE]),
-    (LINK, &[REMOVE]),
     (ONE, &[Step::New(2)]),
     (TWO, &[Step::New(2)]),
     ("disk_tests-to-one", &LINKED),
@@ -440,12 +435,17 @@ fn absolute(rt: &HostRuntime, name: &str) -> io::Result<PathBuf> {
     Ok(env::current_dir(rt)?.join(rt.alloc(), name)?)
 }
 
-// Also under an absolute name.
+// Under an absolute name and under another.
 #[test]
 fn a_file_that_is_gone_fails_to_sync(rt: HostRuntime) {
     let path = absolute(&rt, "disk_tests-absolute").expect(&rt, "a path");
-    for steps in [&REMOVED[..], &REPLACED[..]] {
-        play(&rt, path.as_str(), steps);
+    for path in [path.as_str(), "disk_tests-gone"] {
+        for steps in [&REMOVED[..], &REPLACED[..], &RENAMED[..]] {
+            play(&rt, path, steps);
+        }
+        for left in [AWAY, LINK] {
+            play(&rt, left, &[REMOVE]);
+        }
     }
 }
 
