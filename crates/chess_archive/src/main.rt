@@ -10,6 +10,7 @@ mod keeping;
 mod live;
 mod log_reader;
 mod players;
+mod reading;
 mod rows;
 mod telling;
 

@@ -1,6 +1,6 @@
 //! The words of the command line, with the texts of their help.
 use clap::{ArgMatches, Command, Error};
-use option_tables::{OptionText, OptionValue, WordText, command_line, read_or_fault};
+use option_tables::{OptionText, OptionValue, WordText, command_line, read_by, read_or_fault};
 use std::alloc::{AllocError, Global};
 use std::net::{IpAddr, Ipv4Addr, SocketAddr};
 
@@ -249,19 +249,9 @@ pub fn command<'a>(alloc: Global) -> Result<Command<'a>, AllocError> {
 
 /// Reads the words, the program's own name first. An `Err` is a usage fault, or a request for help.
 pub fn read_words<'a>(alloc: Global, words: &'a [String]) -> Result<Word<'a>, Error> {
-    read_by(alloc, &mut command(alloc)?, words)
-}
-
-// (One function owns the command line, and one what was read by it, which goes by a call: each way out would let go of all parts.)
-fn read_by<'a>(
-    alloc: Global,
-    command: &mut Command<'a>,
-    words: &'a [String],
-) -> Result<Word<'a>, Error> {
-    let matches = command.try_get_matches_from_mut(words)?;
-    let word = word_of(alloc, &matches);
-    drop(matches);
-    read_or_fault(command, word?, "an address is none")
+    read_by(&mut command(alloc)?, words, |command, matches| {
+        read_or_fault(command, word_of(alloc, matches)?, "an address is none")
+    })
 }
 
 // What the words ask for; none where an address is none.

@@ -1,3 +1,3 @@
 pub mod Found
-pub mod Named
+pub mod NamedPlayers
 mod PlayerRows

@@ -2,7 +2,7 @@
 use crate::days::is_day;
 use clap::error::ErrorKind;
 use clap::{ArgMatches, Command, Error};
-use option_tables::{OptionText, OptionValue, WordText, command_line, read_or_fault};
+use option_tables::{OptionText, OptionValue, WordText, command_line, read_by, read_or_fault};
 use std::alloc::{AllocError, Global};
 use std::net::SocketAddr;
 use trf_texts::Tournament;
@@ -339,19 +339,9 @@ pub fn command<'a>(alloc: Global) -> Result<Command<'a>, AllocError> {
 
 /// Reads the words, the program's own name first. An `Err` is a usage fault, or a request for help.
 pub fn read_words<'a>(alloc: Global, words: &'a [String]) -> Result<Word<'a>, Error> {
-    read_by(alloc, &mut command(alloc)?, words)
-}
-
-// (One function owns the command line, and one what was read by it, which goes by a call: each way out would let go of all parts.)
-fn read_by<'a>(
-    alloc: Global,
-    command: &mut Command<'a>,
-    words: &'a [String],
-) -> Result<Word<'a>, Error> {
-    let matches = command.try_get_matches_from_mut(words)?;
-    let word = word_given(alloc, command, &matches);
-    drop(matches);
-    word
+    read_by(&mut command(alloc)?, words, |command, matches| {
+        word_given(alloc, command, matches)
+    })
 }
 
 fn word_given<'a>(
