@@ -6,17 +6,17 @@ ghost use Rattle.lobby_archive.specs.Files.{contains};
 ghost use Rattle.chess_archive.specs.Games.{games_over_in, is_at};
 
 use crate::asking::{Knowledge, line_about, pgn_of};
+use crate::reading::games_kept;
 use adjourned::{Ended, first_half, is_opened_for};
 use anyhow::{Context, Result, anyhow, bail};
 use archive_file::Archive;
-use archive_games::{Kept, has_game, kept_in, push_ended};
+use archive_games::{Kept, has_game, push_ended};
 use lobby_archive::Night;
 use night_files::NamedFile;
 use pgn_tags::with_tag;
 use server_link::{Link, Row};
 use std::alloc::{AllocError, Global};
 use std::collections::BTreeSet;
-use text_parts::parts;
 
 /// How many games were kept and dropped, and how many are in the archive.
 #[derive(Clone, Copy)]
@@ -184,8 +184,7 @@ impl<O> Keeper<'_, O> {
     // Puts those of the archive's games behind others that may go on in a game with this PGN.
     fn push_halves(&self, ended: &mut Vec<Ended>, pgn: &str) -> Result<()> {
         let alloc = self.alloc;
-        let lines = parts(alloc, self.lines.as_str(), '\n')?;
-        let before = kept_in(alloc, lines.as_slice())?;
+        let before = games_kept(alloc, self.lines.as_str())?;
         push_ended(ended, alloc, before.as_slice(), pgn)?;
         push_ended(ended, alloc, self.kept.as_slice(), pgn)?;
         Ok(())

@@ -80,6 +80,19 @@ struct Looking<'a, R> {
     has_looked: bool,
 }
 
+impl<'a, R: Files + AllocGlobal + Eprint> Looking<'a, R> {
+    // Nothing was looked at yet.
+    fn new(rt: &'a R, keeping: &'a Keeping<'a>) -> Result<Self> {
+        Ok(Looking {
+            rt,
+            keeping,
+            players: Players::open(rt, keeping.players)?,
+            log: LogReader::new(rt.alloc(), keeping.log),
+            has_looked: false,
+        })
+    }
+}
+
 impl<R> Looking<'_, R> {
     // Those games of a list that are over, a first half before its second one, which is linked with it.
     fn games_in_order(&self, alloc: Global, rows: &[Row<'_>]) -> Result<Vec<u32>> {
@@ -205,20 +218,6 @@ fn tell_counts<R: Print + AllocGlobal>(rt: &R, counts: Counts) -> Result<()> {
     Ok(())
 }
 
-// Nothing was looked at.
-fn looking<'a, R>(rt: &'a R, keeping: &'a Keeping<'a>) -> Result<Looking<'a, R>>
-where
-    R: Files + AllocGlobal + Eprint,
-{
-    Ok(Looking {
-        rt,
-        keeping,
-        players: Players::open(rt, keeping.players)?,
-        log: LogReader::new(rt.alloc(), keeping.log),
-        has_looked: false,
-    })
-}
-
 /// Keeps the games of a server that are over, and drops them where that is asked: once, or again and again until it is killed. It
 /// fails where another does so in this archive.
 pub fn keep<R>(rt: &R, keeping: &Keeping<'_>) -> Result<()>
@@ -226,7 +225,7 @@ where
     R: Files<File = File> + Net<Stream = TcpStream> + AllocGlobal + Print + Eprint + Clock,
 {
     let _hold = Hold::of(rt, keeping.archive)?;
-    let mut looking = looking(rt, keeping)?;
+    let mut looking = Looking::new(rt, keeping)?;
     let done = go_on(rt, &mut looking, keeping.every, "all is well again");
     drop(looking);
     done

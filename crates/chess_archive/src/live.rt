@@ -53,15 +53,10 @@ fn is_kept(row: Row<'_>, archived: &[Board]) -> bool {
 // Whether a PGN has a tag Date with this value.
 fn is_of_date(alloc: Global, pgn: &[u8], date: &str) -> Result<bool> {
     let tag = format!(in alloc; "[Date \"{date}\"]")?;
-    let Ok(text) = str::from_utf8(pgn) else {
-        return Ok(false);
-    };
-    for line in parts(alloc, text, '\n')?.as_slice() {
-        if *line == tag.as_str() {
-            return Ok(true);
-        }
+    match str::from_utf8(pgn) {
+        Ok(text) => Ok(parts(alloc, text, '\n')?.contains(&tag.as_str())),
+        Err(_) => Ok(false),
     }
-    Ok(false)
 }
 
 // Whether a game is among boards.
@@ -189,7 +184,24 @@ impl<R> Writer<'_, R> {
     }
 }
 
-impl<R: Files + AllocGlobal + Eprint> Writer<'_, R> {
+impl<'a, R: Files + AllocGlobal + Eprint> Writer<'a, R> {
+    // No game was seen yet.
+    fn new(rt: &'a R, living: &'a Living<'a>) -> Result<Self> {
+        let alloc = rt.alloc();
+        let players = Players::open(rt, living.players)?;
+        Ok(Writer {
+            rt,
+            living,
+            players,
+            link: None,
+            log: LogReader::new(alloc, living.log),
+            seen: Vec::new(alloc),
+            archived: Vec::new(alloc),
+            archive_length: 0,
+            written: fs::read(rt, living.file).ok(),
+        })
+    }
+
     // Those games of the list as it is now that are played or over, but those that were kept, with the players and the log as they
     // are behind it.
     fn push_list(&mut self, boards: &mut Vec<Board>, link: &mut Link) -> Result<()> {
@@ -268,33 +280,13 @@ where
     }
 }
 
-// Nothing was written yet.
-fn writer<'a, R>(rt: &'a R, living: &'a Living<'a>) -> Result<Writer<'a, R>>
-where
-    R: Files + AllocGlobal + Eprint,
-{
-    let alloc = rt.alloc();
-    let players = Players::open(rt, living.players)?;
-    Ok(Writer {
-        rt,
-        living,
-        players,
-        link: None,
-        log: LogReader::new(alloc, living.log),
-        seen: Vec::new(alloc),
-        archived: Vec::new(alloc),
-        archive_length: 0,
-        written: fs::read(rt, living.file).ok(),
-    })
-}
-
 /// Writes all games that are played on the server's table, those that are over, and those of the archive to a file: once, or
 /// again and again until it is killed.
 pub fn live<R>(rt: &R, living: &Living<'_>) -> Result<()>
 where
     R: Files + Net<Stream = TcpStream> + AllocGlobal + Eprint + Clock,
 {
-    let mut writer = writer(rt, living)?;
+    let mut writer = Writer::new(rt, living)?;
     let done = go_on(rt, &mut writer, living.every, "the file is written again");
     drop(writer);
     done

@@ -31,11 +31,12 @@ impl<'a, R: AllocGlobal + Eprint> Telling<'a, R> {
             Err(error) => format!(in alloc; "{error:#}")?,
         };
         if text != self.told {
-            let _ = if text.is_empty() {
-                eprintln!(self.rt; "chess-archive: {}", self.well)
+            let said = if text.is_empty() {
+                self.well
             } else {
-                eprintln!(self.rt; "chess-archive: {text}")
+                text.as_str()
             };
+            let _ = eprintln!(self.rt; "chess-archive: {said}");
             self.told = text;
         }
         Ok(())

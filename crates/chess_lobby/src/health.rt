@@ -80,17 +80,15 @@ fn put_answers(text: &mut String, alloc: Global, counts: &Counts) -> Result<(), 
         "counter",
         "Answers to them, by their first word.",
     )?;
-    put_labelled(text, alloc, "answers_total", "word", "ok", counts.ok)?;
-    put_labelled(text, alloc, "answers_total", "word", "no", counts.no)?;
-    put_labelled(
-        text,
-        alloc,
-        "answers_total",
-        "word",
-        "fallen",
-        counts.fallen,
-    )?;
-    put_labelled(text, alloc, "answers_total", "word", "lost", counts.lost)?;
+    let words = [
+        ("ok", counts.ok),
+        ("no", counts.no),
+        ("fallen", counts.fallen),
+        ("lost", counts.lost),
+    ];
+    for (word, number) in words.iter() {
+        put_labelled(text, alloc, "answers_total", "word", word, *number)?;
+    }
     put_head(
         text,
         alloc,

@@ -18,7 +18,7 @@ use adding::add_player;
 use command_words::{NotDone, end_of, words_given};
 use evidence::evidence;
 use lobby_commands::{Word, command, read_words};
-use serving::serve;
+use serving::Server;
 use std::process::ExitCode;
 
 fn main(rt: HostRuntime) -> ExitCode {
@@ -36,7 +36,7 @@ fn do_words(rt: &HostRuntime) -> Result<(), NotDone> {
 // Does what a word asks for.
 fn do_word(rt: &HostRuntime, word: &Word<'_>) -> anyhow::Result<()> {
     match word {
-        Word::Serve(serving) => serve(rt, serving),
+        Word::Serve(serving) => Server::new(rt, serving).serve(),
         Word::Player(adding) => add_player(rt, adding),
         Word::Evidence(asked) => evidence(rt, asked),
     }

@@ -1,3 +1,3 @@
 pub mod Found
-pub mod NamedPlayers
+pub mod Named
 mod PlayerRows

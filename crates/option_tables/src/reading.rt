@@ -5,6 +5,7 @@ ghost use Rattle.clap.specs.Values.{kind_of};
 
 use clap::error::ErrorKind;
 use clap::{ArgMatches, Command, Error};
+use std::convert::AsStr;
 
 /// What was read of the words, or a usage fault of the command with this text where nothing was. `OutOfMemory` where memory was
 /// refused for the fault.

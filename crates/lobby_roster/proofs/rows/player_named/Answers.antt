@@ -2,7 +2,7 @@ use Rattle.std.proofs.Common.{◌∙◌, ap, sym, Option}
 use Rattle.std.specs.Borrow.{Bor}
 use Rattle.std.specs.Option.{option_copied}
 use Rattle.lobby_roster.specs.declared.players.Player.{Player}
-use Rattle.lobby_roster.proofs.NamedPlayers.{name_found, found_named}
+use Rattle.lobby_roster.proofs.Named.{name_found, found_named}
 use Rattle.lobby_roster.proofs.rows.player_named.Goals as goal
 
 pub returns-in-None : goal.returns-in-None
