@@ -5,7 +5,7 @@ use archive_text::{Heading, archived};
 use lobby_roster::Player;
 use players_file::full_name;
 use server_link::{Answer, Link, Row};
-use std::alloc::{AllocError, Global};
+use std::alloc::Global;
 use std::net::{Net, SocketAddr, TcpStream};
 
 /// What a PGN is made with: the players, what the tags are to say, and what the log has.
@@ -27,15 +27,10 @@ pub fn link_to<R: Net<Stream = TcpStream> + AllocGlobal>(
     Link::open(rt, server).context(format_args!("the server at {server}"))
 }
 
-/// The line that says a word about a game.
-pub fn line_about(alloc: Global, word: &str, game: u32) -> Result<String, AllocError> {
-    format!(in alloc; "{word} {game}")
-}
-
 // The server's answer to `pgn`.
 fn answer_of(alloc: Global, link: &mut Link, game: u32) -> Result<Answer> {
-    let line = line_about(alloc, "pgn", game)?;
-    let front = format!(in alloc; "ok {line} ")?;
+    let line = format!(in alloc; "pgn {game}")?;
+    let front = format!(in alloc; "ok pgn {game} ")?;
     link.ask(line.as_str(), front.as_str())
 }
 
@@ -89,7 +84,7 @@ fn shown_by(game: u32, first: &str) -> Result<Option<Shown>> {
 
 // How a game stands now; none where the game has left the table since.
 fn shown(alloc: Global, link: &mut Link, game: u32) -> Result<Option<Shown>> {
-    let line = line_about(alloc, "show", game)?;
+    let line = format!(in alloc; "show {game}")?;
     let answer = link.ask(line.as_str(), "ok show ")?;
     shown_by(game, answer.first.as_str())
 }
@@ -111,24 +106,6 @@ fn clocks_of(
     Ok(clocks(alloc, known.records, asked, game, ply)?)
 }
 
-// A PGN that was told, as the archive has it.
-fn archived_pgn(
-    alloc: Global,
-    link: &mut Link,
-    known: &Knowledge<'_>,
-    row: Row<'_>,
-    told: &str,
-) -> Result<Vec<u8>> {
-    let game = row.game;
-    let heading = Heading {
-        white: full_name(known.players, row.white),
-        black: full_name(known.players, row.black),
-        ..known.heading
-    };
-    let clocks = clocks_of(alloc, link, known, row)?;
-    archived(alloc, &heading, told, clocks.as_slice()).context(format_args!("game {game}"))
-}
-
 /// Asks for the PGN of a game, and makes it as the archive has it, with the clocks that the log knows, and where it is given that of
 /// the last move by the server; none where the game has left the table since.
 pub fn pgn_of(
@@ -137,8 +114,18 @@ pub fn pgn_of(
     known: &Knowledge<'_>,
     row: Row<'_>,
 ) -> Result<Option<Vec<u8>>> {
-    match told(alloc, link, row.game)? {
-        Some(told) => Ok(Some(archived_pgn(alloc, link, known, row, told.as_str())?)),
-        None => Ok(None),
-    }
+    let game = row.game;
+    let Some(told) = told(alloc, link, game)? else {
+        return Ok(None);
+    };
+    let heading = Heading {
+        white: full_name(known.players, row.white),
+        black: full_name(known.players, row.black),
+        ..known.heading
+    };
+    let clocks = clocks_of(alloc, link, known, row)?;
+    let pgn = archived(alloc, &heading, told.as_str(), clocks.as_slice()).context(format_args!(
+        "game {game}"
+    ))?;
+    Ok(Some(pgn))
 }

@@ -5,7 +5,7 @@ ghost use Rattle.std.specs.Ordering.{nat_cmp};
 ghost use Rattle.lobby_archive.specs.Files.{contains};
 ghost use Rattle.chess_archive.specs.Games.{games_over_in, is_at};
 
-use crate::asking::{Knowledge, line_about, pgn_of};
+use crate::asking::{Knowledge, pgn_of};
 use crate::reading::games_kept;
 use adjourned::{Ended, first_half, is_opened_for};
 use anyhow::{Context, Result, anyhow, bail};
@@ -165,19 +165,13 @@ fn row_of<'a>(rows: &[Row<'a>], game: u32) -> Result<Row<'a>> {
     bail!("the server's list has no game {game}")
 }
 
-// Whether the server takes a player's name for what is asked from now on.
-fn is_named(alloc: Global, link: &mut Link, name: &str) -> Result<bool> {
-    let line = format!(in alloc; "name {name}")?;
-    link.is_done(line.as_str())
-}
-
 // Whether the server drops a game, asked under the name of a player who has a seat in it.
 fn is_dropped(alloc: Global, link: &mut Link, row: Row<'_>) -> Result<bool> {
-    if !is_named(alloc, link, row.white)? {
-        return Ok(false);
-    }
-    let line = line_about(alloc, "drop", row.game)?;
-    link.is_done(line.as_str())
+    let white = row.white;
+    let game = row.game;
+    let name = format!(in alloc; "name {white}")?;
+    let drop = format!(in alloc; "drop {game}")?;
+    Ok(link.is_done(name.as_str())? && link.is_done(drop.as_str())?)
 }
 
 impl<O> Keeper<'_, O> {
