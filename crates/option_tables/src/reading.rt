@@ -1,5 +1,5 @@
 //! What was read of the words.
-ghost use Rattle.std.specs.Prelude.{◌≡◌, ◌⊎◌, None, Some, IfErr, IfOk, Ok, OnErr, map};
+ghost use Rattle.std.specs.Prelude.{◌≡◌, ◌⊎◌, None, Some, IfErr, IfOk, OnErr, OnOk, map};
 ghost use Rattle.clap.specs.Simple.{HasMatchesOf, app_of};
 ghost use Rattle.clap.specs.Values.{kind_of};
 
@@ -34,7 +34,7 @@ pub fn read_by<'a, S: AsStr, T, F>(
 where
     F: FnOnce(&mut Command<'a>, &ArgMatches<'a>) -> Result<T, Error>,
     requires { F.IsAlwaysCallable read }
-    ensures { IfOk result (λ value. (found : _) × HasMatchesOf (app_of command.old) (map S.text words.entry.now) found.now × ((before : _) × (after : _) × F.post read before found (Ok value) after)) }
+    ensures { OnOk result ((found : _) × HasMatchesOf (app_of command.old) (map S.text words.entry.now) found.now × ((before : _) × (after : _) × F.post read before found result after)) }
 {
     let matches = command.try_get_matches_from_mut(words)?;
     let answer = read(command, &matches);
