@@ -8,5 +8,5 @@ pub returns : goal.returns
 returns g c =
     let read : (found : _) × HasMatchesOf (app_of c.args.command.now) (map g.S.AsStr.text c.args.words.now) found.now
         × ((before : _) × (after : _) × given.F-post g c.args.read before found c.read-answer.result after)
-        = (_, c.in_ok-matches.ensures.ok.1.1, _, _, c.read-answer.ensures) in
+        = (_, c.in_ok-matches.ensures.ok.1.1, (_, _, c.read-answer.ensures)) in
     on_ok_always _ read
