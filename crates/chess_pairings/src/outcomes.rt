@@ -106,16 +106,21 @@ struct PgnTags<'a> {
     plies: u32,
 }
 
+// What a line has as the value of this tag, and else what was told before it.
+fn told_in<'a>(line: &'a str, tag: &str, before: &'a str) -> &'a str {
+    value_in(line, tag).unwrap_or(before)
+}
+
 impl<'a> PgnTags<'a> {
     // The same with what a line tells, in which so many moves stand.
     fn with_line(self, line: &'a str, moves: u32) -> PgnTags<'a> {
         PgnTags {
-            white: value_in(line, "White").unwrap_or(self.white),
-            black: value_in(line, "Black").unwrap_or(self.black),
-            fen: value_in(line, "FEN").unwrap_or(self.fen),
-            result: value_in(line, "Result").unwrap_or(self.result),
-            article: value_in(line, "Article").unwrap_or(self.article),
-            continues: value_in(line, "Continues").unwrap_or(self.continues),
+            white: told_in(line, "White", self.white),
+            black: told_in(line, "Black", self.black),
+            fen: told_in(line, "FEN", self.fen),
+            result: told_in(line, "Result", self.result),
+            article: told_in(line, "Article", self.article),
+            continues: told_in(line, "Continues", self.continues),
             plies: self.plies.saturating_add(moves),
         }
     }

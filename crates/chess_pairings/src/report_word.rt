@@ -135,21 +135,6 @@ fn rounds_of<R: Files + AllocGlobal>(
     Ok(met)
 }
 
-// The meetings of each round; it is told what is to be told of boards.
-fn rounds_told<R>(
-    rt: &R,
-    reporting: &Reporting<'_>,
-    players: &[&Player],
-    outcomes: &mut Outcomes<'_>,
-) -> Result<Vec<Vec<Meeting>>>
-where
-    R: Files + AllocGlobal + Eprint,
-{
-    let rounds = rounds_of(rt, reporting.rounds.as_slice(), players, outcomes)?;
-    outcomes.tell(rt)?;
-    Ok(rounds)
-}
-
 // The meetings of each round, and whether a board has the result of a game that was played on as another.
 #[derive(Drop)]
 struct Met {
@@ -157,18 +142,32 @@ struct Met {
     has_halves: bool,
 }
 
-// What was met in the rounds. It fails where a board's game is of others than its players.
-fn met_in<R>(rt: &R, reporting: &Reporting<'_>, all: &[Player], players: &[&Player]) -> Result<Met>
+// What was met in the rounds, by what came of their games; it is told what is to be told of boards. It fails where a board's game is of others than its players.
+fn met_by<R>(
+    rt: &R,
+    reporting: &Reporting<'_>,
+    players: &[&Player],
+    outcomes: &mut Outcomes<'_>,
+) -> Result<Met>
 where
-    R: Files + Net<Stream = TcpStream> + AllocGlobal + Eprint,
+    R: Files + AllocGlobal + Eprint,
 {
-    let mut outcomes = Outcomes::open(rt, reporting.source, all)?;
-    let rounds = rounds_told(rt, reporting, players, &mut outcomes)?;
+    let rounds = rounds_of(rt, reporting.rounds.as_slice(), players, outcomes)?;
+    outcomes.tell(rt)?;
     outcomes.check_players()?;
     Ok(Met {
         rounds,
         has_halves: outcomes.has_halves(),
     })
+}
+
+// The same, where it is still to be looked what came of games.
+fn met_in<R>(rt: &R, reporting: &Reporting<'_>, all: &[Player], players: &[&Player]) -> Result<Met>
+where
+    R: Files + Net<Stream = TcpStream> + AllocGlobal + Eprint,
+{
+    let mut outcomes = Outcomes::open(rt, reporting.source, all)?;
+    met_by(rt, reporting, players, &mut outcomes)
 }
 
 // The text of a report of these rounds.

@@ -110,15 +110,23 @@ where
     Ok(io::writer(rt).write_all(text.as_slice())?)
 }
 
+// The same. It fails behind that where a board's game is of others than its players, or was played on as another.
+fn write_checked<R>(rt: &R, file: &str, paired: &Paired, outcomes: &mut Outcomes<'_>) -> Result<()>
+where
+    R: AllocGlobal + Print + Eprint,
+{
+    write_outcomes(rt, file, paired, outcomes)?;
+    outcomes.check_players()?;
+    check_halves(outcomes.has_halves())
+}
+
 // Writes the results of a round, for which these players are known.
 fn write_round<R>(rt: &R, asking: &Asking<'_>, players: &[Player], paired: &Paired) -> Result<()>
 where
     R: Files + Net<Stream = TcpStream> + AllocGlobal + Print + Eprint,
 {
     let mut outcomes = Outcomes::open(rt, asking.source, players)?;
-    write_outcomes(rt, asking.round.pairings, paired, &mut outcomes)?;
-    outcomes.check_players()?;
-    check_halves(outcomes.has_halves())
+    write_checked(rt, asking.round.pairings, paired, &mut outcomes)
 }
 
 // The same, of which the files are still to be read.

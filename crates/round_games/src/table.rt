@@ -34,8 +34,7 @@ fn row_in(line: &str) -> Result<Row> {
 
 fn put_rows(rows: &mut Vec<Row>, lines: &[&str]) -> Result<()> {
     for line in lines {
-        let row = row_in(line)?;
-        rows.extend_from_slice(&[row])?;
+        rows.push(row_in(line)?)?;
     }
     Ok(())
 }
