@@ -12,11 +12,6 @@ const GAMES: [(u32, &str); 3] = [
     (4_294_967_295, "{\\n}\n"),
 ];
 
-// An archive without a game.
-fn empty(rt: &impl Abort, alloc: Global) -> Archive<MemoryFile> {
-    Archive::open(alloc, MemoryFile::new(alloc, None)).expect(rt, "an archive")
-}
-
 // Keeps all games until a call fails. It tells how many calls were answered.
 fn keep_all(alloc: Global, archive: &mut Archive<MemoryFile>) -> usize {
     let mut answered: usize = 0;
@@ -41,23 +36,15 @@ fn are_first(games: &[u32], least: usize) -> bool {
 // An archive that is killed after so many calls, and of which a crash leaves this, has what was answered in its next life, and
 // keeps all once, if it could be opened.
 fn check_killed(rt: &impl Abort, alloc: Global, calls: u32, fates: &[Fate]) {
-    if let Ok(mut archive) = Archive::open(alloc, MemoryFile::new(alloc, Some(calls))) {
-        let answered = keep_all(alloc, &mut archive);
-        let file = archive.into_file().crash(fates, None).expect(rt, "memory");
-        let mut again = Archive::open(alloc, file).expect(rt, "an archive");
-        check_next_life(rt, alloc, &mut again, answered);
-    }
-}
-
-fn check_next_life(
-    rt: &impl Abort,
-    alloc: Global,
-    archive: &mut Archive<MemoryFile>,
-    answered: usize,
-) {
-    assert!(rt; are_first(archive.games(), answered));
-    assert!(rt; keep_all(alloc, archive) == 3);
-    assert!(rt; archive.games().len() == 3 && are_first(archive.games(), 3));
+    let Ok(mut archive) = Archive::open(alloc, MemoryFile::new(alloc, Some(calls))) else {
+        return;
+    };
+    let answered = keep_all(alloc, &mut archive);
+    let file = archive.into_file().crash(fates, None).expect(rt, "memory");
+    let mut again = Archive::open(alloc, file).expect(rt, "an archive");
+    assert!(rt; are_first(again.games(), answered));
+    assert!(rt; keep_all(alloc, &mut again) == 3);
+    assert!(rt; again.games().len() == 3 && are_first(again.games(), 3));
 }
 
 #[test]
@@ -96,7 +83,8 @@ const KEPT: [(&[u8], Result<bool, &str>); 8] = [
 
 #[test]
 fn keeps_a_text_once_and_tells_what_it_has(rt: HostRuntime) {
-    let mut archive = empty(&rt, rt.alloc());
+    let file = MemoryFile::new(rt.alloc(), None);
+    let mut archive = Archive::open(rt.alloc(), file).expect(&rt, "an archive");
     assert!(rt; !archive.has(7));
     for (pgn, wanted) in &KEPT {
         assert!(rt; kept(rt.alloc(), &mut archive, pgn) == *wanted);
@@ -104,54 +92,31 @@ fn keeps_a_text_once_and_tells_what_it_has(rt: HostRuntime) {
     assert!(rt; archive.has(7) && !archive.has(8));
 }
 
-// The game of a line.
-fn game(rt: &impl Abort, alloc: Global, line: &str) -> Option<u32> {
-    game_of(alloc, line).expect(rt, "memory")
+// What is no line of an archive, though a game's number stands in some.
+const OTHERS: [&str; 5] = [
+    "",
+    "{\"game\":7,\"pgn\":\"*\"",
+    "{\"game\":7,\"pgn\":\"*\"} ",
+    "{\"game\":07,\"pgn\":\"*\"}",
+    "{\"game\":7,\"pgn\":\"\t\"}",
+];
+
+// A file of a game's line and one of these is refused for the second.
+#[test]
+fn refuses_other_lines(rt: HostRuntime) {
+    for line in &OTHERS {
+        let mut file = MemoryFile::new(rt.alloc(), None);
+        for text in ["{\"game\":1,\"pgn\":\"\"}\n", line, "\n"] {
+            assert!(rt; file.append(text.as_bytes()).is_ok());
+        }
+        assert!(rt; matches!(Archive::open(rt.alloc(), file), Err(Fault::NotAGame(2))));
+    }
 }
 
 #[test]
 fn reads_lines(rt: HostRuntime) {
     let line = "{\"game\":12,\"pgn\":\"[A \\\"b\\\\\\\\\\\"]\\n*\\n\"}";
-    assert!(rt; game(&rt, rt.alloc(), line) == Some(12));
+    assert!(rt; game_of(rt.alloc(), line).expect(&rt, "memory") == Some(12));
     let pgn = pgn_of(rt.alloc(), line).expect(&rt, "memory");
     assert!(rt; pgn.as_slice() == b"[A \"b\\\\\"]\n*\n".as_slice());
-    assert!(rt; game(&rt, rt.alloc(), "{\"game\":7,\"pgn\":\"\u{fc}\"}") == Some(7));
-}
-
-// What is no line of an archive, though a game's number stands in some.
-const OTHERS: [&str; 17] = [
-    "",
-    "{\"act\":1,\"pgn\":\"*\"}",
-    "{\"game\":7",
-    "{\"game\":7,",
-    "{\"game\":7,\"pgn\":\"1. e4",
-    "{\"game\":7,\"pgn\":\"*\"",
-    "{\"game\":7,\"pgn\":\"*\"} ",
-    "{\"game\":7,\"pgn\":\"*\",\"game\":8}",
-    "{\"game\":7,\"moves\":3,\"pgn\":\"*\"}",
-    "{\"game\":7,\"pgn\":\"\\u00fc\"}",
-    "{\"game\":7,\"pgn\":\"\\t\"}",
-    "{\"game\":7,\"pgn\":\"\\/\"}",
-    "{\"game\":7,\"pgn\":\"\t\"}",
-    "{\"game\":07,\"pgn\":\"*\"}",
-    "{\"game\": 7,\"pgn\":\"*\"}",
-    "{\"game\":4294967296,\"pgn\":\"*\"}",
-    "{\"pgn\":\"*\",\"game\":7}",
-];
-
-// Whether a file of a game's line and this line is refused for this one.
-fn is_refused(rt: &impl Abort, alloc: Global, line: &str) -> bool {
-    let mut file = MemoryFile::new(alloc, None);
-    for text in ["{\"game\":1,\"pgn\":\"\"}\n", line, "\n"] {
-        assert!(rt; file.append(text.as_bytes()).is_ok());
-    }
-    matches!(Archive::open(alloc, file), Err(Fault::NotAGame(2)))
-}
-
-#[test]
-fn refuses_other_lines(rt: HostRuntime) {
-    for line in &OTHERS {
-        assert!(rt; game(&rt, rt.alloc(), line).is_none());
-        assert!(rt; is_refused(&rt, rt.alloc(), line));
-    }
 }
