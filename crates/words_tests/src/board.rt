@@ -98,73 +98,72 @@ const BAD_LINE: &str = "no 1 BadLine\n";
 
 const BAD_LINES: &str = "no 1 BadLine\nno 1 BadLine\n";
 
+// What is read, and what is written.
+const TEXTS: [(&[u8], &str); 15] = [
+    (b"", ""),
+    (b"hello", ""),
+    (b"\n", BAD_LINE),
+    (b"\r\n", BAD_LINE),
+    (b"move e2e4\n", AFTER_E4),
+    (b"move e2e4\r\n", AFTER_E4),
+    (b"move e2e4\r\r\n", BAD_LINE),
+    (b"move e2e4\nmove e2e4", AFTER_E4),
+    // Lines without a form.
+    (b"move\nmove \n", BAD_LINES),
+    (b"Move e2e4\n", BAD_LINE),
+    (b" move e2e4\nmove  e2e4\n", BAD_LINES),
+    (b"move e2e4 x\nmove e2e4 \n", BAD_LINES),
+    (b"move \0\nmove \xc8\n", BAD_LINES),
+    (b"move \x7f\n", BAD_LINE),
+    (b"move !\nmove ~\n", "no 9 BadMove\nno 9 BadMove\n"),
+];
+
 #[test]
 fn answers_lines(rt: HostRuntime) {
-    let alloc = rt.alloc();
-    expect_text(&rt, alloc, b"", "");
-    expect_text(&rt, alloc, b"hello", "");
-    expect_text(&rt, alloc, b"\n", BAD_LINE);
-    expect_text(&rt, alloc, b"\r\n", BAD_LINE);
-    expect_text(&rt, alloc, b"move e2e4\n", AFTER_E4);
-    expect_text(&rt, alloc, b"move e2e4\r\n", AFTER_E4);
-    expect_text(&rt, alloc, b"move e2e4\r\r\n", BAD_LINE);
-    expect_text(&rt, alloc, b"move e2e4\nmove e2e4", AFTER_E4);
+    for (input, text) in &TEXTS {
+        expect_text(&rt, rt.alloc(), input, text);
+    }
 }
 
-#[test]
-fn answers_lines_without_a_form(rt: HostRuntime) {
-    let alloc = rt.alloc();
-    expect_text(&rt, alloc, b"move\nmove \n", BAD_LINES);
-    expect_text(&rt, alloc, b"Move e2e4\n", BAD_LINE);
-    expect_text(&rt, alloc, b" move e2e4\nmove  e2e4\n", BAD_LINES);
-    expect_text(&rt, alloc, b"move e2e4 x\nmove e2e4 \n", BAD_LINES);
-    expect_text(&rt, alloc, b"move \0\nmove \xc8\n", BAD_LINES);
-    expect_text(&rt, alloc, b"move \x7f\n", BAD_LINE);
-    let bad_moves = "no 9 BadMove\nno 9 BadMove\n";
-    expect_text(&rt, alloc, b"move !\nmove ~\n", bad_moves);
-}
+const BYE: &str = "bye LineTooLong\n";
 
-// So many bytes `x` and this end are answered so.
-fn expect_long(rt: &impl Abort, alloc: Global, length: usize, end: &str, text: &str) {
-    let mut input = repeated(rt, alloc, b"x", length);
-    assert!(rt; input.extend_from_slice(end.as_bytes()).is_ok());
-    expect_text(rt, alloc, input.as_slice(), text);
-}
+// So many bytes `x`, what comes behind them, and what is written.
+const LONG: [(usize, &str, &str); 7] = [
+    (255, "", ""),
+    (255, "\n", BAD_LINE),
+    (254, "\r\n", BAD_LINE),
+    (255, "\r\n", BYE),
+    (256, "", BYE),
+    (256, "\nmove e2e4\n", BYE),
+    (5000, "\n", BYE),
+];
 
 #[test]
 fn ends_at_a_long_line(rt: HostRuntime) {
-    let alloc = rt.alloc();
-    let bye = "bye LineTooLong\n";
-    expect_long(&rt, alloc, 255, "", "");
-    expect_long(&rt, alloc, 255, "\n", BAD_LINE);
-    expect_long(&rt, alloc, 254, "\r\n", BAD_LINE);
-    expect_long(&rt, alloc, 255, "\r\n", bye);
-    expect_long(&rt, alloc, 256, "", bye);
-    expect_long(&rt, alloc, 256, "\nmove e2e4\n", bye);
-    expect_long(&rt, alloc, 5000, "\n", bye);
+    for (length, end, text) in &LONG {
+        let mut input = repeated(&rt, rt.alloc(), b"x", *length);
+        assert!(rt; input.extend_from_slice(end.as_bytes()).is_ok());
+        expect_text(&rt, rt.alloc(), input.as_slice(), text);
+    }
 }
 
-// How many bytes answer so many lines that come at once, and in how many writes.
-fn written(rt: &impl Abort, alloc: Global, lines: usize) -> (usize, usize) {
-    let input = repeated(rt, alloc, b"\n", lines);
-    let mut writer = sink_of(alloc, usize::MAX);
-    let ended = board(&mut ReaderSource::new(input.as_slice()), &mut writer);
-    assert!(rt; ended == Ok(()));
-    (writer.taken.len(), writer.writes)
-}
+// So many lines, how many bytes answer them, and in how many writes: 4,096 lines are one read.
+const WRITES: [(usize, usize, usize); 5] = [
+    (0, 0, 0),
+    (1, 13, 1),
+    (4_096, 53_248, 1),
+    (4_097, 53_261, 2),
+    (8_192, 106_496, 2),
+];
 
-// 4,096 lines are one read, and their answers 53,248 bytes.
 #[test]
 fn writes_once_what_is_at_hand(rt: HostRuntime) {
-    let found = [
-        written(&rt, rt.alloc(), 0),
-        written(&rt, rt.alloc(), 1),
-        written(&rt, rt.alloc(), 4_096),
-        written(&rt, rt.alloc(), 4_097),
-        written(&rt, rt.alloc(), 8_192),
-    ];
-    let wanted = [(0, 0), (13, 1), (53_248, 1), (53_261, 2), (106_496, 2)];
-    assert!(rt; found == wanted);
+    for (lines, bytes, writes) in &WRITES {
+        let input = repeated(&rt, rt.alloc(), b"\n", *lines);
+        let mut writer = sink_of(rt.alloc(), usize::MAX);
+        let ended = board(&mut ReaderSource::new(input.as_slice()), &mut writer);
+        assert!(rt; ended == Ok(()) && writer.taken.len() == *bytes && writer.writes == *writes);
+    }
 }
 
 /// So many copies of a text.
@@ -189,55 +188,57 @@ fn answers_after_many_reads(rt: HostRuntime) {
     assert!(rt; written.as_slice() == text.as_slice());
 }
 
-// A read fails so within the second line.
-fn expect_read(
-    rt: &impl Abort,
-    alloc: Global,
-    kind: ErrorKind,
-    wanted: Result<(), BoardFault>,
-    text: &str,
-) {
-    let mut reader = read_bytewise(b"hello\nmove x\n");
-    reader.fails_at = Some(4);
-    reader.kind = kind;
-    let mut writer = sink_of(alloc, usize::MAX);
-    let mut source = ReaderSource::new(reader);
-    let ended = board(&mut source, &mut writer);
-    assert!(rt; ended == wanted && source.has_failed() == wanted.is_err());
-    assert!(rt; writer.taken.as_slice() == text.as_bytes());
-}
+// How a read fails within the second line, whether that ends it, and what is written.
+const READS: [(ErrorKind, bool, &str); 2] = [
+    (ErrorKind::Other, true, BAD_LINE),
+    (
+        ErrorKind::Interrupted,
+        false,
+        "no 1 BadLine\nno 9 BadMove\n",
+    ),
+];
 
 #[test]
 fn breaks_off_where_a_read_fails(rt: HostRuntime) {
-    let both = "no 1 BadLine\nno 9 BadMove\n";
-    let failed = Err(BoardFault::Read);
-    expect_read(&rt, rt.alloc(), ErrorKind::Other, failed, BAD_LINE);
-    expect_read(&rt, rt.alloc(), ErrorKind::Interrupted, Ok(()), both);
+    for (kind, ends, text) in &READS {
+        let mut reader = read_bytewise(b"hello\nmove x\n");
+        reader.fails_at = Some(4);
+        reader.kind = *kind;
+        let mut writer = sink_of(rt.alloc(), usize::MAX);
+        let mut source = ReaderSource::new(reader);
+        let ended = board(&mut source, &mut writer);
+        let wanted = if *ends { Err(BoardFault::Read) } else { Ok(()) };
+        assert!(rt; ended == wanted && source.has_failed() == *ends);
+        assert!(rt; writer.taken.as_slice() == text.as_bytes());
+    }
 }
 
-// A write fails so, or takes nothing, within the second answer.
-fn expect_write(
-    rt: &impl Abort,
-    alloc: Global,
-    kind: Option<ErrorKind>,
-    wanted: Result<(), BoardFault>,
-    text: &str,
-) {
-    let mut writer = sink_of(alloc, 1);
-    writer.fails_at = Some(17);
-    writer.kind = kind;
-    let mut input = ReaderSource::new(b"hello\nmove x\n\n".as_slice());
-    let ended = board(&mut input, &mut writer);
-    assert!(rt; ended == wanted && writer.taken.as_slice() == text.as_bytes());
-}
+const FRONT: &str = "no 1 BadLine\nno 9";
+
+// How a write fails within the second answer, or takes nothing; whether that ends it, and what is written.
+const BROKEN: [(Option<ErrorKind>, bool, &str); 3] = [
+    (Some(ErrorKind::Other), true, FRONT),
+    (None, true, FRONT),
+    (
+        Some(ErrorKind::Interrupted),
+        false,
+        "no 1 BadLine\nno 9 BadMove\nno 1 BadLine\n",
+    ),
+];
 
 #[test]
 fn breaks_off_where_a_write_fails(rt: HostRuntime) {
-    let alloc = rt.alloc();
-    let front = "no 1 BadLine\nno 9";
-    let whole = "no 1 BadLine\nno 9 BadMove\nno 1 BadLine\n";
-    let failed = Err(BoardFault::Write);
-    expect_write(&rt, alloc, Some(ErrorKind::Other), failed, front);
-    expect_write(&rt, alloc, None, failed, front);
-    expect_write(&rt, alloc, Some(ErrorKind::Interrupted), Ok(()), whole);
+    for (kind, ends, text) in &BROKEN {
+        let mut writer = sink_of(rt.alloc(), 1);
+        writer.fails_at = Some(17);
+        writer.kind = *kind;
+        let mut input = ReaderSource::new(b"hello\nmove x\n\n".as_slice());
+        let ended = board(&mut input, &mut writer);
+        let wanted = if *ends {
+            Err(BoardFault::Write)
+        } else {
+            Ok(())
+        };
+        assert!(rt; ended == wanted && writer.taken.as_slice() == text.as_bytes());
+    }
 }

@@ -8,16 +8,11 @@ use std::process::Abort;
 // The words of a command line as the program gets them, its own name first.
 fn words_of(rt: &impl Abort, alloc: Global, line: &str) -> Vec<String> {
     let mut words = Vec::new(alloc);
-    push_word(rt, alloc, &mut words, "chess_server");
-    for word in line.split(' ') {
-        push_word(rt, alloc, &mut words, word);
+    for word in ["chess_server"].into_iter().chain(line.split(' ')) {
+        let word = String::from_str(alloc, word).expect(rt, "memory");
+        assert!(rt; words.push(word).is_ok());
     }
     words
-}
-
-fn push_word(rt: &impl Abort, alloc: Global, words: &mut Vec<String>, word: &str) {
-    let word = String::from_str(alloc, word).expect(rt, "memory");
-    assert!(rt; words.push(word).is_ok());
 }
 
 /// What a word asks for: its place among the words, whether it is forced or quiet, the turns, and the silence.
@@ -58,85 +53,63 @@ fn read(rt: &impl Abort, alloc: Global, line: &str) -> Result<Option<Said>, Erro
     }
 }
 
-// Each of these command lines, with `|` between, is refused so.
-fn refuses(rt: &impl Abort, alloc: Global, lines: &str, kind: ErrorKind) {
-    for line in lines.split('|') {
-        assert!(rt; read(rt, alloc, line) == Err(kind));
-    }
-}
+// Command lines, with `|` between, and how each is refused.
+const REFUSED: [(&str, ErrorKind); 6] = [
+    ("lead|", ErrorKind::InvalidSubcommand),
+    (
+        "--journal|serve --journal j --port 0 --force|show --to j",
+        ErrorKind::UnknownArgument,
+    ),
+    ("--help", ErrorKind::DisplayHelp),
+    ("--version", ErrorKind::DisplayVersion),
+    (
+        "format --journal j --games 4|run|serve --journal j|copy --journal j",
+        ErrorKind::MissingRequiredArgument,
+    ),
+    (
+        "format --journal j --games 4097 --plies 1|serve --journal j --port 0 --turns 0",
+        ErrorKind::ValueValidation,
+    ),
+];
 
 #[test]
 fn reads_no_other_words(rt: HostRuntime) {
-    let alloc = rt.alloc();
-    refuses(&rt, alloc, "lead|", ErrorKind::InvalidSubcommand);
-    refuses(
-        &rt,
-        alloc,
-        "--journal|serve --journal j --port 0 --force|show --to j",
-        ErrorKind::UnknownArgument,
-    );
-    refuses(&rt, alloc, "--help", ErrorKind::DisplayHelp);
-    refuses(&rt, alloc, "--version", ErrorKind::DisplayVersion);
-    refuses(
-        &rt,
-        alloc,
-        "format --journal j --games 4|run|serve --journal j|copy --journal j",
-        ErrorKind::MissingRequiredArgument,
-    );
-    refuses(
-        &rt,
-        alloc,
-        "format --journal j --games 4097 --plies 1|serve --journal j --port 0 --turns 0",
-        ErrorKind::ValueValidation,
-    );
+    for (lines, kind) in &REFUSED {
+        for line in lines.split('|') {
+            assert!(rt; read(&rt, rt.alloc(), line) == Err(*kind));
+        }
+    }
     assert!(rt; VERSION.contains("rattle-kit-"));
 }
 
-fn reads(rt: &impl Abort, alloc: Global, line: &str, said: Said) {
-    assert!(rt; read(rt, alloc, line) == Ok(Some(said)));
-}
+const SAID: [(&str, Said); 10] = [
+    ("board", (0, false, None, None)),
+    ("drill", (1, false, None, None)),
+    ("run --journal j", (2, false, None, None)),
+    ("show --journal j", (3, false, None, None)),
+    ("copy --journal j --to k", (4, false, None, None)),
+    (
+        "format --journal j --games 4 --plies 60",
+        (5, false, None, None),
+    ),
+    (
+        "format --force --journal j --games 4 --plies 60",
+        (5, true, None, None),
+    ),
+    ("serve --journal j --port 7", (6, false, None, None)),
+    (
+        "serve --journal j --port 7 --turns 4294967295",
+        (6, false, Some(4_294_967_295), None),
+    ),
+    (
+        "serve --journal j --port 7 --idle 2 --quiet",
+        (6, true, None, Some(2_000)),
+    ),
+];
 
 #[test]
 fn reads_words_and_flags(rt: HostRuntime) {
-    let alloc = rt.alloc();
-    reads(&rt, alloc, "board", (0, false, None, None));
-    reads(&rt, alloc, "drill", (1, false, None, None));
-    reads(&rt, alloc, "run --journal j", (2, false, None, None));
-    reads(&rt, alloc, "show --journal j", (3, false, None, None));
-    reads(
-        &rt,
-        alloc,
-        "copy --journal j --to k",
-        (4, false, None, None),
-    );
-    reads(
-        &rt,
-        alloc,
-        "format --journal j --games 4 --plies 60",
-        (5, false, None, None),
-    );
-    reads(
-        &rt,
-        alloc,
-        "format --force --journal j --games 4 --plies 60",
-        (5, true, None, None),
-    );
-    reads(
-        &rt,
-        alloc,
-        "serve --journal j --port 7",
-        (6, false, None, None),
-    );
-    reads(
-        &rt,
-        alloc,
-        "serve --journal j --port 7 --turns 4294967295",
-        (6, false, Some(4_294_967_295), None),
-    );
-    reads(
-        &rt,
-        alloc,
-        "serve --journal j --port 7 --idle 2 --quiet",
-        (6, true, None, Some(2_000)),
-    );
+    for (line, said) in &SAID {
+        assert!(rt; read(&rt, rt.alloc(), line) == Ok(Some(*said)));
+    }
 }

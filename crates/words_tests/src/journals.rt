@@ -3,53 +3,47 @@ use chess_store::StoreFault;
 use journal_words::{is_blank, stays_blank};
 use sector_dev::{CrashDevice, Device, MemoryDevice};
 use server_work::Fault;
-use std::alloc::Global;
-use std::process::Abort;
 
-fn check_front(rt: &impl Abort, alloc: Global, bytes: &[u8], wanted: bool) {
-    assert!(rt; is_blank(alloc, bytes).expect(rt, "a read") == wanted);
-}
+// So many bytes, of which two may be other than zero, and whether that is blank.
+const FRONTS: [(usize, usize, usize, bool); 5] = [
+    (0, 1024, 1024, true),
+    (100, 1024, 1024, true),
+    (2000, 1024, 1024, true),
+    (2000, 1024, 1023, false),
+    (1, 0, 0, false),
+];
 
 #[test]
 fn looks_at_the_front(rt: HostRuntime) {
-    let mut bytes = [0u8; 2000];
-    check_front(&rt, rt.alloc(), &bytes[..0], true);
-    check_front(&rt, rt.alloc(), &bytes[..100], true);
-    bytes[1024] = 1;
-    check_front(&rt, rt.alloc(), &bytes, true);
-    bytes[1023] = 1;
-    check_front(&rt, rt.alloc(), &bytes, false);
-    bytes[0] = 1;
-    check_front(&rt, rt.alloc(), &bytes[..1], false);
+    for (length, one, other, wanted) in &FRONTS {
+        let mut bytes = [0u8; 2000];
+        assert!(rt; *length <= 2000 && *one < 2000 && *other < 2000);
+        bytes[*one] = 1;
+        bytes[*other] = 1;
+        let found = is_blank(rt.alloc(), &bytes[..*length]);
+        assert!(rt; found.expect(&rt, "a read") == *wanted);
+    }
 }
 
-// What is said of a device of so many sectors before and after a byte that is not zero stands in this one.
-fn said_of(rt: &impl Abort, alloc: Global, sectors: u32, at: u32) -> [Result<(), Fault>; 2] {
-    let mut device = MemoryDevice::new(alloc, sectors).expect(rt, "memory");
-    let before = stays_blank(&mut device);
-    let mut bytes = [0; 512];
-    bytes[511] = 1;
-    assert!(rt; at < device.sectors());
-    assert!(rt; device.write(at, &bytes).is_ok());
-    [before, stays_blank(&mut device)]
-}
+// So many sectors, one of them, and whether the device is still blank where a byte of that is not zero.
+const DEVICES: [(u32, u32, bool); 4] = [(1, 0, false), (3, 0, false), (3, 1, false), (3, 2, true)];
 
 #[test]
 fn looks_at_a_device(rt: HostRuntime) {
-    let exists = Err(Fault::Store(StoreFault::Exists));
-    let found = [
-        said_of(&rt, rt.alloc(), 1, 0),
-        said_of(&rt, rt.alloc(), 3, 0),
-        said_of(&rt, rt.alloc(), 3, 1),
-        said_of(&rt, rt.alloc(), 3, 2),
-    ];
-    let wanted = [
-        [Ok(()), exists],
-        [Ok(()), exists],
-        [Ok(()), exists],
-        [Ok(()), Ok(())],
-    ];
-    assert!(rt; found == wanted);
+    let mut bytes = [0; 512];
+    bytes[511] = 1;
+    for (sectors, at, is_blank) in &DEVICES {
+        let mut device = MemoryDevice::new(rt.alloc(), *sectors).expect(&rt, "memory");
+        assert!(rt; stays_blank(&mut device) == Ok(()));
+        assert!(rt; *at < device.sectors());
+        assert!(rt; device.write(*at, &bytes).is_ok());
+        let wanted = if *is_blank {
+            Ok(())
+        } else {
+            Err(Fault::Store(StoreFault::Exists))
+        };
+        assert!(rt; stays_blank(&mut device) == wanted);
+    }
 }
 
 #[test]
