@@ -12,4 +12,6 @@ mod moves;
 #[cfg(test)]
 mod players;
 #[cfg(test)]
+mod players_file;
+#[cfg(test)]
 mod positions;

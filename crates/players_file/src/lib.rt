@@ -8,6 +8,3 @@ mod players;
 pub use entries::Entries;
 pub use file::{Hold, put, read};
 pub use players::{full_name, players_of};
-
-#[cfg(test)]
-mod tests;
