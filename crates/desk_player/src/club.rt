@@ -5,67 +5,54 @@ use rec_codec::Name;
 use sha2::{Digest, Sha256};
 use std::alloc::{AllocError, Global};
 
-/// A player, and the token that shows him.
-#[derive(Drop)]
-pub struct Member {
-    pub name: String,
-    pub token: String,
-    pub is_arbiter: bool,
-    pub full_name: String,
-}
-
-// A player, as `NAME TOKEN ROLE FULL NAME`.
-fn member_of(alloc: Global, row: &str) -> Result<Member> {
+// The player of a row, `NAME TOKEN ROLE FULL NAME`.
+fn player_of(alloc: Global, row: &str) -> Result<Player> {
     let (name, rest) = row.split_once(' ').context("a player has no token")?;
     let (token, rest) = rest.split_once(' ').context("a player has no role")?;
     let (role, full_name) = rest.split_once(' ').context("a player has no full name")?;
-    Ok(Member {
-        name: String::from_str(alloc, name)?,
-        token: String::from_str(alloc, token)?,
-        is_arbiter: role == "arbiter",
+    Ok(Player {
+        name: Name::try_new(name).context("a name is none")?,
         full_name: String::from_str(alloc, full_name)?,
+        sum: Sha256::digest(token),
+        is_arbiter: role == "arbiter",
     })
 }
 
 /// The players of rows, with `|` between each two.
-pub fn members_of(alloc: Global, rows: &str) -> Result<Vec<Member>> {
-    let mut members = Vec::new(alloc);
+pub fn players_of(alloc: Global, rows: &str) -> Result<Vec<Player>> {
+    let mut players = Vec::new(alloc);
     for row in rows.split('|') {
-        members.push(member_of(alloc, row)?)?;
+        players.push(player_of(alloc, row)?)?;
     }
-    Ok(members)
+    Ok(players)
 }
 
-/// From now on the player of a name has this token.
-pub fn give_token(
-    members: &mut Vec<Member>,
-    alloc: Global,
-    name: &str,
-    token: &str,
-) -> Result<(), AllocError> {
-    for member in members.iter_mut() {
-        if member.name.as_str() == name {
-            member.token = String::from_str(alloc, token)?;
-        }
-    }
-    Ok(())
-}
-
-// The desk's player of a member.
-fn player(alloc: Global, member: &Member) -> Result<Player> {
+// The same player once more, with another sum.
+fn with_sum(alloc: Global, player: &Player, sum: [u8; 32]) -> Result<Player, AllocError> {
     Ok(Player {
-        name: Name::try_new(member.name.as_str()).context("a name is none")?,
-        full_name: String::from_str(alloc, member.full_name.as_str())?,
-        sum: Sha256::digest(member.token.as_str()),
-        is_arbiter: member.is_arbiter,
+        name: player.name,
+        full_name: String::from_str(alloc, player.full_name.as_str())?,
+        sum,
+        is_arbiter: player.is_arbiter,
     })
 }
 
-/// The desk's players of these.
-pub fn players_of(alloc: Global, members: &[Member]) -> Result<Vec<Player>> {
-    let mut players = Vec::new(alloc);
-    for member in members {
-        players.push(player(alloc, member)?)?;
+/// The same players once more, where the one of this name, if there is any, has this token.
+pub fn with_token(
+    alloc: Global,
+    players: &[Player],
+    name: &Name,
+    token: &str,
+) -> Result<Vec<Player>, AllocError> {
+    let mut changed = Vec::new(alloc);
+    for player in players {
+        let is_his = player.name.as_str() == name.as_str();
+        let sum = if is_his {
+            Sha256::digest(token)
+        } else {
+            player.sum
+        };
+        changed.push(with_sum(alloc, player, sum)?)?;
     }
-    Ok(players)
+    Ok(changed)
 }
