@@ -1,6 +1,6 @@
 //! The lobby's line to the server: the connection to it, with the name that was said last and whose answers come, and what the
 //! server has told by it.
-ghost use Rattle.std.specs.Prelude.{◌≡◌, ◌++◌, [], ◌∷◌, map, false, Some, None, OnOk};
+ghost use Rattle.std.specs.Prelude.{◌≡◌, ◌++◌, [], ◌∷◌, map, false, Some, None, IfOk, OnOk};
 ghost use Rattle.rec_codec.specs.Name.{IsName};
 ghost use Rattle.std.specs.String.{string_bytes};
 ghost use Rattle.lobby_desk.specs.Events.{owed_of, owed_last, owed_lines, Nobody, Behind, Asker, ForAct};
@@ -21,6 +21,17 @@ pub struct Acting {
     pub from: u64,
     pub who: Name,
     pub text: String,
+}
+
+/// A connection's act, as it waits.
+pub fn acting(alloc: Global, from: u64, who: Name, text: &str) -> Result<Acting, AllocError>
+    ensures { IfOk result (λ act. (act.from ≡ from) × (act.who ≡ who) × (string_bytes act.text ≡ text.now)) }
+{
+    Ok(Acting {
+        from,
+        who,
+        text: String::from_str(alloc, text)?,
+    })
 }
 
 /// A notice of an act: its game, the lines that tell of it, and whether those who are told of the table are told of it.
@@ -254,20 +265,20 @@ impl ServerLine {
         &mut self,
         alloc: Global,
         name: Name,
-        act: Acting,
+        act: &Acting,
         wire: &mut Vec<u8>,
     ) -> Result<(), AllocError>
         ensures sent { OnOk result (wire.new.items ≡ wire.old.items
-            ++ bytes_of (act_lines self.old.said name (string_bytes act.text) (game_named (string_bytes act.text)))) }
+            ++ bytes_of (act_lines self.old.said name (string_bytes act.now.text) (game_named (string_bytes act.now.text)))) }
         ensures owed { OnOk result (map owed_of self.new.queue.items ≡ map owed_of self.old.queue.items
-            ++ owed_lines (Asker act.from (ForAct act.who (string_bytes act.text)))
-            (act_lines self.old.said name (string_bytes act.text) (game_named (string_bytes act.text)))) }
+            ++ owed_lines (Asker act.now.from (ForAct act.now.who (string_bytes act.now.text)))
+            (act_lines self.old.said name (string_bytes act.now.text) (game_named (string_bytes act.now.text)))) }
         ensures said { OnOk result (self.new.said ≡ Some name) }
         ensures here { OnOk result (self.new.is_here ≡ self.old.is_here) }
         ensures heard { OnOk result (IsHeardSame self.old self.new) }
     {
-        let text = String::from_str(alloc, act.text.as_str())?;
-        let game = game_named(text.as_str());
-        self.act(name, text.as_str(), game, act, wire)
+        let text = act.text.as_str();
+        let sent = acting(alloc, act.from, act.who, text)?;
+        self.act(name, text, game_named(text), sent, wire)
     }
 }
