@@ -14,7 +14,6 @@ use Rattle.lobby_web.specs.declared.socket.Heard.TheVariants as heards
 use Rattle.lobby_web.specs.declared.socket.Unsaid.{Unsaid}
 use Rattle.lobby_web.specs.Browsing.{IsNew, pending, WantsBytes, Takes, HearsNext, SaysTo, Writes}
 use Rattle.lobby_guests.specs.declared.guest.Guest.{Guest}
-use Rattle.lobby_guests.specs.declared.made.Made.{Made}
 use Rattle.lobby_guests.specs.declared.talk.Talk.{Talk}
 use Rattle.lobby_guests.specs.Talking.{Moves, Opens, Says}
 use Rattle.lobby_guests.specs.Making.{IsMadeOf}
@@ -98,19 +97,19 @@ IsSaidIf false text old new = new ≡ old
 IsSaidIf true text old new = IsSaid text old new
 
 -- A browser is told a message if it is for its connection, and else nothing.
-pub record IsTold {S : Type 0} (made : Made) (old new : Guest S) : Type 0 where
+pub record IsTold {S : Type 0} (made : Message) (old new : Guest S) : Type 0 where
   pub number : new.number ≡ old.number
   pub stream : new.stream ≡ old.stream
   pub said : IsSaidIf (is_for old.number made.to.items) (string_bytes made.text) old.browser new.browser
 
 -- all of these, in their order
-abbrev pub AreTold : {S : Type 0} → List Made → Guest S → Guest S → Type 0
+abbrev pub AreTold : {S : Type 0} → List Message → Guest S → Guest S → Type 0
 AreTold [] old new = new ≡ old
 AreTold {S = S} (one ∷ made) old new = (between : Guest S) × IsTold one old between × AreTold made between new
 
 -- Each browser is told those of these messages that are for its connection, whole and in their order, as they go out.
 pub record AreDelivered {S : Type 0} (told : List Message) (old new : List (Guest S)) : Type 0 where
-  pub made : List Made
+  pub made : List Message
   pub are_made : AllZip IsMadeOf told made
   pub are_told : AllZip (AreTold made) old new
 

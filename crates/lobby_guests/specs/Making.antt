@@ -11,7 +11,6 @@ use Rattle.lobby_positions.specs.Answer.{IsLineAnswer}
 use Rattle.lobby_desk.specs.declared.telling.Kind.{Kind}
 use Rattle.lobby_desk.specs.declared.telling.Kind.TheVariants.{Whole, Position as AtPosition, Line, Log}
 use Rattle.lobby_desk.specs.declared.telling.Message.{Message}
-use Rattle.lobby_guests.specs.declared.made.Made.{Made}
 
 abbrev pub is_feed : ℕ → Bool
 is_feed b = b == 10
@@ -63,6 +62,6 @@ IsFinished Line text new = IsOfLine text new
 IsFinished Log text new = new ≡ text
 
 -- a message, as it goes out: to the same connections
-pub record IsMadeOf (told : Message) (made : Made) : Type 0 where
+pub record IsMadeOf (told made : Message) : Type 0 where
   pub to : made.to ≡ told.to
   pub text : IsFinished told.kind (string_bytes told.text) (string_bytes made.text)

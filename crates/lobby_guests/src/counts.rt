@@ -128,7 +128,7 @@ impl Counts {
 }
 
 /// When the messages were taken that are not answered yet: one whose answer is on its way, and one behind it.
-#[derive(Clone, Copy, Debug)]
+#[derive(Clone, Copy)]
 pub struct Asked {
     first: Option<u64>,
     second: Option<u64>,

@@ -7,10 +7,9 @@ ghost use Rattle.lobby_guests.specs.Guests.{IsNewGuest, IsAsBefore, IsRead, IsAs
 
 use crate::counts::{Asked, Counts};
 use crate::links::Links;
-use crate::made::Made;
 use crate::pieces::{Gone, PIECE_ROOM, write_piece};
 use crate::talk::Talk;
-use lobby_desk::Order;
+use lobby_desk::{Message, Order};
 use lobby_web::{Browser, Heard, Site, Unsaid};
 use session_lines::{Came, read_piece};
 use std::alloc::{AllocError, Global};
@@ -213,7 +212,7 @@ impl<S> Guest<S> {
     }
 
     // It is told a message, if that goes to it.
-    fn be_told(&mut self, made: &Made, counts: &mut Counts)
+    fn be_told(&mut self, made: &Message, counts: &mut Counts)
         ensures { IsTold made.now self.old self.new }
     {
         match self.number {
@@ -228,7 +227,7 @@ impl<S> Guest<S> {
     }
 
     /// It is told those of these messages that go to it, in their order.
-    pub fn be_told_all(&mut self, made: &[Made], counts: &mut Counts)
+    pub fn be_told_all(&mut self, made: &[Message], counts: &mut Counts)
         ensures { AreTold made.now self.old self.new }
     {
         for one in made {

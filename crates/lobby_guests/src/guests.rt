@@ -6,9 +6,10 @@ ghost use Rattle.lobby_guests.specs.Guests.{IsAsBefore, IsAttended, AreAttended,
 use crate::counts::Counts;
 use crate::guest::Guest;
 use crate::links::Links;
-use crate::made::{Made, all_made};
+use crate::made::finish_all;
 use crate::pieces::PIECE_ROOM;
 use crate::talk::Talk;
+use lobby_desk::Message;
 use lobby_web::Site;
 use std::alloc::{AllocError, Global};
 use std::io::{Read, Write};
@@ -50,7 +51,7 @@ pub fn attend_all<S: Read + Write, K: Links>(
 }
 
 // Each is told the messages that go to it.
-fn tell_all<S>(guests: &mut Vec<Guest<S>>, made: &[Made], counts: &mut Counts)
+fn tell_all<S>(guests: &mut Vec<Guest<S>>, made: &[Message], counts: &mut Counts)
     ensures { AllZip (AreTold made.now) guests.old.items guests.new.items }
 {
     for guest in guests.iter_mut() {
@@ -71,8 +72,9 @@ pub fn deliver<S>(
     ensures wire { OnOk result (talk.new.wire ≡ talk.old.wire) }
     ensures next { OnOk result (talk.new.next ≡ talk.old.next) }
 {
-    let made = all_made(alloc, talk.take_told())?;
-    tell_all(guests, made.as_slice(), counts);
+    finish_all(alloc, &mut talk.told)?;
+    tell_all(guests, talk.told.as_slice(), counts);
+    talk.told.clear();
     Ok(())
 }
 

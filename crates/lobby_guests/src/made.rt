@@ -11,13 +11,6 @@ use lobby_positions::line_answer;
 use std::alloc::{AllocError, Global};
 use text_parts::{before, behind};
 
-/// A message as it goes out, and the connections of the desk that it goes to.
-#[derive(Drop)]
-pub struct Made {
-    pub to: Vec<u64>,
-    pub text: String,
-}
-
 // The last line of a text, without its line feed.
 fn last_line(text: &str) -> &str
     ensures { result.now ≡ making.last_line text.now }
@@ -67,14 +60,6 @@ fn add_moves(alloc: Global, text: &mut String) -> Result<(), AllocError>
     }
 }
 
-// The same text, with that line.
-fn with_moves(alloc: Global, mut text: String) -> Result<String, AllocError>
-    ensures { IfOk result (λ made. IsWithMoves (string_bytes text) (string_bytes made)) }
-{
-    add_moves(alloc, &mut text)?;
-    Ok(text)
-}
-
 // The number of the game in `ok pgn G K`; 0 where there is none.
 fn game_in(text: &str) -> u32
     ensures { (n : ℕ) → n < 2 ^ 32 → making.word_of (making.rest_of (making.rest_of text.now)) ≡ decimal n → result ≡ n }
@@ -96,35 +81,33 @@ fn as_positions(alloc: Global, text: &str) -> Result<String, AllocError>
     }
 }
 
-// A text, as it goes out.
-fn finished(alloc: Global, kind: Kind, text: String) -> Result<String, AllocError>
-    ensures { IfOk result (λ made. IsFinished kind (string_bytes text) (string_bytes made)) }
+// A text of this kind, as it goes out.
+fn finish_text(alloc: Global, kind: Kind, text: &mut String) -> Result<(), AllocError>
+    ensures { OnOk result (IsFinished kind (string_bytes text.old) (string_bytes text.new)) }
 {
     match kind {
-        Kind::Whole | Kind::Log => Ok(text),
-        Kind::Position => with_moves(alloc, text),
-        Kind::Line => as_positions(alloc, text.as_str()),
+        Kind::Whole | Kind::Log => Ok(()),
+        Kind::Position => add_moves(alloc, text),
+        Kind::Line => {
+            *text = as_positions(alloc, text.as_str())?;
+            Ok(())
+        }
     }
 }
 
 // A message, as it goes out.
-fn made_of(alloc: Global, told: Message) -> Result<Made, AllocError>
-    ensures { IfOk result (λ made. IsMadeOf told made) }
+fn finish(alloc: Global, one: &mut Message) -> Result<(), AllocError>
+    ensures { OnOk result (IsMadeOf one.old one.new) }
 {
-    let Message { to, kind, text } = told;
-    Ok(Made {
-        to,
-        text: finished(alloc, kind, text)?,
-    })
+    finish_text(alloc, one.kind, &mut one.text)
 }
 
-/// Messages, as they go out.
-pub fn all_made(alloc: Global, told: Vec<Message>) -> Result<Vec<Made>, AllocError>
-    ensures { IfOk result (λ made. AllZip IsMadeOf told.items made.items) }
+/// Messages, as they go out: each in its own place.
+pub fn finish_all(alloc: Global, told: &mut Vec<Message>) -> Result<(), AllocError>
+    ensures { OnOk result (AllZip IsMadeOf told.old.items told.new.items) }
 {
-    let mut made = Vec::new(alloc);
-    for one in told {
-        made.push(made_of(alloc, one)?)?;
+    for one in told.iter_mut() {
+        finish(alloc, one)?;
     }
-    Ok(made)
+    Ok(())
 }

@@ -7,7 +7,7 @@ use std::io::{ErrorKind, Write};
 pub const PIECE_ROOM: usize = 16_384;
 
 /// What a write took.
-#[derive(Clone, Copy, Debug, PartialEq, Eq)]
+#[derive(Clone, Copy)]
 pub enum Gone {
     /// Nothing for now.
     Nothing,

@@ -23,7 +23,6 @@ use Rattle.lobby_web.specs.declared.socket.Heard.TheVariants as heards
 use Rattle.lobby_guests.specs.declared.guest.Guest.{Guest}
 use Rattle.lobby_loop.specs.declared.hall.Hall.{Hall}
 use Rattle.lobby_guests.specs.declared.link.Link.{Link}
-use Rattle.lobby_guests.specs.declared.made.Made.{Made}
 use Rattle.lobby_guests.specs.declared.talk.Talk.{Talk}
 use Rattle.lobby_guests.specs.Talking.{Saying, InTime, TooFast, WithLink, saying, Moves}
 use Rattle.lobby_guests.specs.Guests.{IsNewGuest, IsHeardAs, IsAsBefore, IsAttended, AreAttended, IsLookedAfter, AreTold, AreDelivered, IsWritten, IsClosedIf, AreClosed}
@@ -75,10 +74,13 @@ told_more : (out t more u : List MessageValue) (steps : List Step) → all_tells
 told_more out t more u steps so_far is =
     ap (λ (l : List MessageValue). l ++ more) so_far ∙ (append_assoc out t more ∙ ap (λ (l : List MessageValue). out ++ l) (sym is))
 
-at_more : (players : List Player) (is_paused : Bool) (traffic : Traffic) (out : List MessageValue) (K L : List Step → Type 0) (before after : List ℕ)
-    (t u : List MessageValue) (old new : Desk) (e : DeskInput) → ((bytes : List ℕ) → kept e bytes ≡ bytes) → GoesOn out e t K L →
-    IsAt players is_paused traffic out K old before t → Steps old e before after t u new → IsAt players is_paused (behind e traffic) out L new after u
-at_more players is_paused traffic out K L before after t u old new e keeps goes so_far s = record {
+-- a step more, where the bytes that went to the server are known then
+at_by : (players : List Player) (is_paused : Bool) (traffic : Traffic) (out : List MessageValue) (K L : List Step → Type 0) (before after from to : List ℕ)
+    (t u : List MessageValue) (old new : Desk) (e : DeskInput) → GoesOn out e t K L →
+    (so_far : IsAt players is_paused traffic out K old before t) → (s : Steps old e from to t u new) →
+    kept e (sent_in so_far.steps) ++ bytes_of s.lines ≡ kept e traffic.wrote ++ after →
+    IsAt players is_paused (behind e traffic) out L new after u
+at_by players is_paused traffic out K L before after from to t u old new e goes so_far s sent = record {
   steps = record { event = e; lines = s.lines; tells = s.tells } ∷ so_far.steps;
   run = (
     view old,
@@ -87,35 +89,30 @@ at_more players is_paused traffic out K L before after t u old new e keeps goes 
         so_far.players_are s.step,
   );
   players_are = s.players ∙ ap (players_now e) so_far.players_are;
-  sent = ap (λ (bytes : List ℕ). bytes ++ bytes_of s.lines) (keeps (sent_in so_far.steps) ∙ so_far.sent)
-      ∙ (append_assoc traffic.wrote before (bytes_of s.lines) ∙ (ap (λ (bytes : List ℕ). traffic.wrote ++ bytes) (sym s.sent)
-      ∙ ap (λ (bytes : List ℕ). bytes ++ after) (sym (keeps traffic.wrote))));
+  sent = sent;
   heard = ap (λ (lines : List (List ℕ)). line_more e lines) so_far.heard;
   presences = ap (λ (l : List Bool). presence_more e l) so_far.presences;
   tells = told_more out t s.tells u so_far.steps so_far.tells s.told;
   holds = goes so_far.steps (record { event = e; lines = s.lines; tells = s.tells }) refl so_far.tells so_far.holds;
 }
 
+at_more : (players : List Player) (is_paused : Bool) (traffic : Traffic) (out : List MessageValue) (K L : List Step → Type 0) (before after : List ℕ)
+    (t u : List MessageValue) (old new : Desk) (e : DeskInput) → ((bytes : List ℕ) → kept e bytes ≡ bytes) → GoesOn out e t K L →
+    IsAt players is_paused traffic out K old before t → Steps old e before after t u new → IsAt players is_paused (behind e traffic) out L new after u
+at_more players is_paused traffic out K L before after t u old new e keeps goes so_far s =
+    at_by players is_paused traffic out K L before after before after t u old new e goes so_far s
+    (ap (λ (bytes : List ℕ). bytes ++ bytes_of s.lines) (keeps (sent_in so_far.steps) ∙ so_far.sent)
+    ∙ (append_assoc traffic.wrote before (bytes_of s.lines) ∙ (ap (λ (bytes : List ℕ). traffic.wrote ++ bytes) (sym s.sent)
+    ∙ ap (λ (bytes : List ℕ). bytes ++ after) (sym (keeps traffic.wrote)))))
+
 at_anew : (players : List Player) (is_paused : Bool) (traffic : Traffic) (out : List MessageValue) (K L : List Step → Type 0) (before wire : List ℕ)
     (t u : List MessageValue) (old new : Desk) (e : DeskInput) → ((bytes : List ℕ) → kept e bytes ≡ []) → GoesOn out e t K L →
     IsAt players is_paused traffic out K old before t → Steps old e [] [] t u new → wire ≡ [] →
     IsAt players is_paused (behind e traffic) out L new wire u
-at_anew players is_paused traffic out K L before wire t u old new e drops goes so_far s nothing = record {
-  steps = record { event = e; lines = s.lines; tells = s.tells } ∷ so_far.steps;
-  run = (
-    view old,
-    so_far.run,
-    subst (λ (p : List Player). IsStep p (view old) e s.lines s.tells (view new))
-        so_far.players_are s.step,
-  );
-  players_are = s.players ∙ ap (players_now e) so_far.players_are;
-  sent = ap (λ (bytes : List ℕ). bytes ++ bytes_of s.lines) (drops (sent_in so_far.steps))
-      ∙ (sym s.sent ∙ (sym nothing ∙ ap (λ (bytes : List ℕ). bytes ++ wire) (sym (drops traffic.wrote))));
-  heard = ap (λ (lines : List (List ℕ)). line_more e lines) so_far.heard;
-  presences = ap (λ (l : List Bool). presence_more e l) so_far.presences;
-  tells = told_more out t s.tells u so_far.steps so_far.tells s.told;
-  holds = goes so_far.steps (record { event = e; lines = s.lines; tells = s.tells }) refl so_far.tells so_far.holds;
-}
+at_anew players is_paused traffic out K L before wire t u old new e drops goes so_far s nothing =
+    at_by players is_paused traffic out K L before wire [] [] t u old new e goes so_far s
+    (ap (λ (bytes : List ℕ). bytes ++ bytes_of s.lines) (drops (sent_in so_far.steps))
+    ∙ (sym s.sent ∙ (sym nothing ∙ ap (λ (bytes : List ℕ). bytes ++ wire) (sym (drops traffic.wrote)))))
 
 -- more holds of the same
 at_with : (players : List Player) (is_paused : Bool) (traffic : Traffic) (out : List MessageValue) (K L : List Step → Type 0) (desk : Desk)
@@ -735,7 +732,7 @@ module _ {S : Type 0} where
       ap (λ (n : Option ℕ). n ∷ numbers ys) (same x y one)
       ∙ ap (λ (ns : List (Option ℕ)). x.number ∷ ns) (same_numbers R same xs ys all)
 
-  told_number : (made : List Made) (old new : Guest S) → AreTold made old new → new.number ≡ old.number
+  told_number : (made : List Message) (old new : Guest S) → AreTold made old new → new.number ≡ old.number
   told_number [] old new same = ap (λ (g : Guest S). g.number) same
   told_number (one ∷ made) old new (between, told, are) = told_number made between new are ∙ told.number
 

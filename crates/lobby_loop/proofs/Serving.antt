@@ -16,7 +16,6 @@ use Rattle.lobby_web.specs.declared.site.Site.{Site}
 use Rattle.lobby_web.specs.declared.socket.Heard.TheVariants as heards
 use Rattle.lobby_web.specs.Browsing.{pending}
 use Rattle.lobby_guests.specs.declared.guest.Guest.{Guest}
-use Rattle.lobby_guests.specs.declared.made.Made.{Made}
 use Rattle.lobby_guests.specs.Making.{IsMadeOf}
 use Rattle.lobby_guests.specs.Talking.{Saying, InTime, TooFast, WithLink, saying}
 use Rattle.lobby_guests.specs.Guests.{IsNewGuest, IsAsBefore, IsRead, IsSaidIf, is_for, AreTold, IsWritten, IsLookedAfter}
@@ -405,24 +404,29 @@ module _ {S : Type 0} (remaining contents : S → Option (List ℕ)) (site : Sit
         };
       }
 
+  -- where what was done at it is the same, and what the desk heard and what went out is other
+  told_anew : (steps later : List Step) (out more : List MessageValue) (n : Option ℕ) (now : Spot S) (was : Served steps out n now) →
+      IsSaidBy later n was.past → IsToldBy later more n was.past → Served later more n now
+  told_anew steps later out more n now was said told = record {
+    first = was.first;
+    new = was.new;
+    among = was.among;
+    past = was.past;
+    done = was.done;
+    sites = was.sites;
+    late = was.late;
+    said = said;
+    told = told;
+  }
+
   -- one message goes out of the desk's hands
-  served_one : (n : Option ℕ) (steps : List Step) (out : List MessageValue) (told : Message) (made : Made) (old new : Guest S) →
+  served_one : (n : Option ℕ) (steps : List Step) (out : List MessageValue) (told : Message) (made : Message) (old new : Guest S) →
       IsMadeOf told made → new.stream ≡ old.stream →
       IsSaidIf (is_for n made.to.items) (string_bytes made.text) old.browser new.browser → Served steps out n (spot old) →
       Served steps (out ++ message_value told ∷ []) n (spot new)
   served_one None steps out told made old new is stream same was =
       let so = stays_at steps out None old new same stream was in
-      record {
-        first = so.first;
-        new = so.new;
-        among = so.among;
-        past = so.past;
-        done = so.done;
-        sites = so.sites;
-        late = so.late;
-        said = so.said;
-        told = so.told;
-      }
+      told_anew steps steps out (out ++ message_value told ∷ []) None (spot new) so so.said so.told
   served_one (Some c) steps out told made old new is stream said was =
       let to : at_table made.to.items c ≡ at_table (message_value told).to c = ap (λ l. at_table l.items c) is.to in
       elim (cases_Bool (at_table made.to.items c)) [
@@ -444,21 +448,12 @@ module _ {S : Type 0} (remaining contents : S → Option (List ℕ)) (site : Sit
         | inr not_for_c ↦
             let same = subst (λ (u : Bool). IsSaidIf u (string_bytes made.text) old.browser new.browser) not_for_c said in
             let so = stays_at steps out (Some c) old new same stream was in
-            record {
-              first = so.first;
-              new = so.new;
-              among = so.among;
-              past = so.past;
-              done = so.done;
-              sites = so.sites;
-              late = so.late;
-              said = so.said;
-              told = told_further steps out c (message_value told) [] so.past so.past (sym (append-nil (texts_told so.past)))
-                  (not_for_it c (message_value told) (sym to ∙ not_for_c)) so.told;
-            }
+            told_anew steps steps out (out ++ message_value told ∷ []) (Some c) (spot new) so so.said
+            (told_further steps out c (message_value told) [] so.past so.past (sym (append-nil (texts_told so.past)))
+            (not_for_it c (message_value told) (sym to ∙ not_for_c)) so.told)
       ]
 
-  pub served_told : (steps : List Step) (out : List MessageValue) (told : List Message) (made : List Made) (old new : Guest S) →
+  pub served_told : (steps : List Step) (out : List MessageValue) (told : List Message) (made : List Message) (old new : Guest S) →
       AllZip IsMadeOf told made → AreTold made old new → Served steps out old.number (spot old) →
       Served steps (out ++ message_values told) new.number (spot new)
   served_told steps out [] [] old new none same was =
@@ -480,17 +475,8 @@ module _ {S : Type 0} (remaining contents : S → Option (List ℕ)) (site : Sit
 
   pub served_on : (s : Step) (steps : List Step) (out : List MessageValue) (n : Option ℕ) (now : Spot S) → ApartFrom n s.event →
       Served steps out n now → Served (s ∷ steps) out n now
-  served_on s steps out n now apart was = record {
-    first = was.first;
-    new = was.new;
-    among = was.among;
-    past = was.past;
-    done = was.done;
-    sites = was.sites;
-    late = was.late;
-    said = said_on n s steps was.past apart was.said;
-    told = told_on n s steps out was.past apart was.told;
-  }
+  served_on s steps out n now apart was =
+      told_anew steps (s ∷ steps) out out n now was (said_on n s steps was.past apart was.said) (told_on n s steps out was.past apart was.told)
 
   pub all_served_zip : (steps : List Step) (out after : List MessageValue) (R : Guest S → Guest S → Type 0) →
       ((x y : Guest S) → R x y → Served steps out x.number (spot x) → Served steps after y.number (spot y)) →

@@ -22,7 +22,7 @@ pub enum Found<S> {
 }
 
 /// What a fault of `accept` says.
-#[derive(Clone, Copy, Debug, PartialEq, Eq)]
+#[derive(Clone, Copy)]
 pub enum Fault {
     Nobody,
     Lost,
