@@ -8,7 +8,7 @@ ghost use Rattle.lobby_desk.specs.Who.{who_in, open_in_map, until_in, who_noted,
 
 use crate::present::present_rows;
 use crate::refusals::game_named;
-use crate::server_line::{Due, ServerLine, acting};
+use crate::server_line::{Due, ServerLine, waiting_act};
 use crate::telling::{Kind, Message, headed, tell};
 use crate::visitors::Visitor;
 use crate::watching::{Watch, rise, unwatch};
@@ -93,15 +93,15 @@ pub fn send(
     match plan {
         Plan::Read => line.pass(text, Due::Reply(from), wire),
         Plan::Act(who) => {
-            let act = acting(alloc, from, who.name, text)?;
+            let act = waiting_act(alloc, from, who.name, text)?;
             line.act(who.name, text, game_named(text), act, wire)
         }
         Plan::ActAs(who, name) => {
-            let act = acting(alloc, from, who.name, text)?;
+            let act = waiting_act(alloc, from, who.name, text)?;
             line.act(*name, as_line(text), game_named(text), act, wire)
         }
         Plan::Drop(who, game) => {
-            let act = acting(alloc, from, who.name, text)?;
+            let act = waiting_act(alloc, from, who.name, text)?;
             line.ask("show ", *game, Due::Drop(act), wire)
         }
         Plan::Lobby => line.pass("list", Due::Table(from), wire),

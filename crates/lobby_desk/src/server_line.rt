@@ -24,7 +24,7 @@ pub struct Acting {
 }
 
 /// A connection's act, as it waits.
-pub fn acting(alloc: Global, from: u64, who: Name, text: &str) -> Result<Acting, AllocError>
+pub fn waiting_act(alloc: Global, from: u64, who: Name, text: &str) -> Result<Acting, AllocError>
     ensures { IfOk result (λ act. (act.from ≡ from) × (act.who ≡ who) × (string_bytes act.text ≡ text.now)) }
 {
     Ok(Acting {
@@ -278,7 +278,7 @@ impl ServerLine {
         ensures heard { OnOk result (IsHeardSame self.old self.new) }
     {
         let text = act.text.as_str();
-        let sent = acting(alloc, act.from, act.who, text)?;
+        let sent = waiting_act(alloc, act.from, act.who, text)?;
         self.act(name, text, game_named(text), sent, wire)
     }
 }
