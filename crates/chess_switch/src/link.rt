@@ -49,7 +49,7 @@ pub struct Link {
     was_due: bool,
 }
 
-// A connection that is made, over which the first line is to go.
+// A connection that is made, over which the first line is to go; any other stage as it was.
 fn asked(stage: Stage, probe: Vec<u8>) -> Stage {
     match stage {
         Stage::Called(call) => Stage::Asked(Wire::new(call), probe),
@@ -57,7 +57,7 @@ fn asked(stage: Stage, probe: Vec<u8>) -> Stage {
     }
 }
 
-// A connection over which the first line was answered.
+// A connection over which the first line was answered; any other stage as it was.
 fn settled(stage: Stage) -> Stage {
     match stage {
         Stage::Asked(wire, _) => Stage::Here(wire),
@@ -112,11 +112,12 @@ impl Link {
         }
     }
 
-    // (One function lets go of the connection that was before.)
+    // Enters a stage. (This function alone lets go of the connection that was before.)
     fn enter(&mut self, stage: Stage) {
         self.stage = stage;
     }
 
+    // The stage, in place of which there is no connection then.
     fn take_stage(&mut self) -> Stage {
         mem::replace(&mut self.stage, Stage::Away)
     }
@@ -293,8 +294,8 @@ impl Link {
         }
     }
 
-    // Whether an answer that is due has not come for too long. The time for it begins anew where something came, and where nothing
-    // was read of what may have come.
+    // Whether an answer that is due has not come for too long. The time for it begins anew where something came, where nothing
+    // was read of what may have come, and where none was due in the last turn.
     fn is_late(&mut self, exchange: &Exchange, begins: bool, at: u64) -> bool {
         if begins || !self.was_due {
             self.until = at.saturating_add(PATIENCE);
