@@ -72,7 +72,8 @@ fn tag_of(alloc: Global, bytes: &[u8]) -> Result<Vec<u8>, AllocError>
 impl File {
     ghost use Rattle.lobby_web.specs.Pages.{IsFile};
 
-    /// A file with its entity tag, by which who has these bytes already is not sent them again (RFC 9110, 8.8.3 and 13.1.2).
+    /// A file with its entity tag, the SHA-256 of its bytes as 64 hex digits in quotes, by which who has these bytes already
+    /// is not sent them again (RFC 9110, 8.8.3 and 13.1.2). It fails only where memory is refused.
     pub fn new(alloc: Global, path: Vec<u8>, kind: Kind, bytes: Bytes) -> Result<File, AllocError>
         ensures { IfOk result (IsFile path.items kind bytes) }
     {

@@ -87,7 +87,7 @@ fn begins(byte: u8) -> bool
     byte / 64 != 2
 }
 
-// A text's first characters, and spaces in the room that is left.
+// The first `width` characters of a text, each byte as it is written plainly, and spaces in the room that is left.
 fn push_left(out: &mut Vec<u8>, width: usize, text: &[u8]) -> Result<(), AllocError>
     ensures { OnOk result (out.new.items ≡ out.old.items ++ spec.at_left width (map spec.plain_byte text.now)) }
 {
