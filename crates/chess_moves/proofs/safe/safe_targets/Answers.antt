@@ -1,7 +1,7 @@
-use Rattle.std.proofs.Common.{◌≡◌, ◌∙◌, Some, ap, sym, subst}
+use Rattle.std.proofs.Common.{◌∙◌, Some, ap, sym, subst, inl, inr}
 use Rattle.chess_bits.specs.declared.men.Kind.{Kind}
 use Rattle.chess_bits.specs.Table.{IsSetOf}
-use Rattle.chess_moves.specs.Targets.{GoesSafely}
+use Rattle.chess_moves.specs.Targets.{GoesSafely, IsPiece}
 use Rattle.chess_moves.proofs.safe.safe_targets.Goals as goal
 
 pub pawn_goes-requires-clause-own : goal.pawn_goes-requires-clause-own
@@ -24,3 +24,11 @@ returns-in-King c =
 
 pub returns-in-Knight : goal.returns-in-Knight
 returns-in-Knight c = c.piece_goes.ensures
+
+pub piece_goes-requires-clause-piece : goal.piece_goes-requires-clause-piece
+piece_goes-requires-clause-piece c = elim c.in-Knight.is [
+  | inl e ↦ subst IsPiece (sym e) tt
+  | inr (inl e) ↦ subst IsPiece (sym e) tt
+  | inr (inr (inl e)) ↦ subst IsPiece (sym e) tt
+  | inr (inr (inr e)) ↦ subst IsPiece (sym e) tt
+]
