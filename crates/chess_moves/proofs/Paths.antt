@@ -1,15 +1,14 @@
 -- The path from the king to the nearest slider, and what stands on it.
-use Rattle.std.specs.Prelude.{ℕ, ◌≡◌, ◌⊎◌, ◌+◌, ◌-◌, ◌<◌, ◌≤◌, Bool, true, false, not, ◌&&◌, List, [], length, Some}
+use Rattle.std.specs.Prelude.{ℕ, ◌≡◌, ◌⊎◌, ◌-◌, ◌<◌, ◌≤◌, Bool, true, false, not, ◌&&◌, List, [], length, Some}
 use Rattle.std.proofs.Common.{arith, refl, sym, ap, subst, ◌∙◌, inl, inr}
 use Rattle.std.proofs.lemmas.Bool.{false≢true, cases_eq, cases_order, and_parts, and_from, false_from_ne_true}
 use Rattle.chess_bits.specs.declared.steps.Step.{Step}
-use Rattle.chess_bits.specs.Square.{Square, IsOnBoard, number_of, squares}
-use Rattle.chess_bits.specs.Table.{has, meet, without, members, head_of, empty, IsSetOf, IsGreatest}
+use Rattle.chess_bits.specs.Square.{Square, IsOnBoard, squares}
+use Rattle.chess_bits.specs.Table.{has, meet, without, members, head_of, IsSetOf, IsGreatest}
 use Rattle.chess_bits.specs.Attack.{along, SlidesAlong}
 use Rattle.chess_bits.proofs.AlongLemmas.{along-between}
-use Rattle.chess_bits.proofs.SetLemmas.{has-meet, has-without, length-without, has-none, IsLeast-first}
+use Rattle.chess_bits.proofs.SetLemmas.{has-meet, has-without, length-without, has-none}
 use Rattle.chess_attacks.specs.Ways.{way_step, IsRising, IsFalling}
-use Rattle.chess_attacks.proofs.Listed.{has-empty}
 use Rattle.chess_attacks.proofs.WayLemmas.{Adds, rising-rises, falling-falls}
 use Rattle.chess_attacks.proofs.Nearest.{IsRay, empty_slide, not_true, Differs, IsNearest, rising_nearest, falling_nearest, beyond_far, not_beyond}
 use Rattle.chess_moves.specs.Masks.{IsAloneBetween, IsPathTo, NoneAhead}

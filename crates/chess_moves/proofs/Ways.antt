@@ -1,13 +1,13 @@
 -- Attacks by ways: each is a leap, or a slide in one of the eight ways.
 use Rattle.std.specs.Prelude.{ℕ, ◌≡◌, ◌⊎◌, ◌%◌, ◌<◌, Bool, List}
-use Rattle.std.proofs.Common.{zero, suc, arith, refl, ap, subst, inl, inr}
-use Rattle.std.proofs.lemmas.Bool.{cases_lt, cases_eq, cases_order}
+use Rattle.std.proofs.Common.{zero, suc, arith, refl, subst, inl, inr}
+use Rattle.std.proofs.lemmas.Bool.{cases_lt, cases_eq}
 use Rattle.chess_bits.specs.declared.men.Colour.{Colour}
 use Rattle.chess_bits.specs.declared.men.Kind.{Kind}
 use Rattle.chess_bits.specs.declared.men.Kind.TheVariants.{Pawn, Knight, Bishop, Rook, Queen, King}
 use Rattle.chess_bits.specs.declared.steps.Step.{Step}
-use Rattle.chess_bits.specs.Square.{Square, IsOnBoard, number_of}
-use Rattle.chess_bits.specs.Attack.{along, straight, diagonal, adjoining, SomeOf, SlidesAlong, Attacks}
+use Rattle.chess_bits.specs.Square.{Square, IsOnBoard}
+use Rattle.chess_bits.specs.Attack.{straight, diagonal, adjoining, SomeOf, SlidesAlong, Attacks}
 use Rattle.chess_bits.proofs.Reversal.{facing, Attacks-back}
 use Rattle.chess_attacks.specs.Ways.{way_step}
 use Rattle.chess_attacks.proofs.WayLemmas.{Adds, rising-rises, falling-falls, rising-adds, falling-adds}
