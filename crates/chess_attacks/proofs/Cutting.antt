@@ -1,6 +1,5 @@
 -- A ray without the ray of its first blocker holds the squares to which a man slides.
-use Rattle.std.proofs.Common.{ℕ, ◌≡◌, ◌+◌, ◌<◌, ◌≤◌, Bool, true, false, not, ◌&&◌, List, [], refl, ap, sym, subst, ◌∙◌, inl, inr, arith, Some}
-use Rattle.std.specs.Prelude.{◌⊎◌, ◌↔◌}
+use Rattle.std.proofs.Common.{ℕ, ◌≡◌, ◌≤◌, Bool, true, not, List, [], ap, sym, subst, ◌∙◌, inl, inr, arith, Some}
 use Rattle.std.proofs.lemmas.Bool.{cases_lt, false≢true, and_parts, and_from}
 use Rattle.chess_bits.specs.declared.steps.Step.{Step}
 use Rattle.chess_bits.specs.Square.{Square, IsOnBoard}

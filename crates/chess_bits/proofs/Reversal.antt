@@ -1,6 +1,5 @@
 -- Attacks turned round: a man of the kind on the square attacked would attack back.
-use Rattle.std.proofs.Common.{ℕ, zero, suc, ◌≡◌, ◌+◌, ◌-◌, ◌*◌, ◌<◌, ◌≤◌, Bool, false, List, [], ◌∷◌, map, refl, ap, sym, ◌∙◌, inl, inr, arith}
-use Rattle.std.specs.Prelude.{◌⊎◌}
+use Rattle.std.proofs.Common.{ℕ, ◌≡◌, ◌+◌, ◌-◌, ◌*◌, ◌≤◌, Bool, List, [], ◌∷◌, map, ap, ◌∙◌, inl, inr, arith}
 use Rattle.chess_bits.specs.declared.men.Colour.{Colour}
 use Rattle.chess_bits.specs.declared.men.Colour.TheVariants.{White, Black}
 use Rattle.chess_bits.specs.declared.men.Kind.{Kind}
@@ -9,9 +8,8 @@ use Rattle.chess_bits.specs.declared.steps.Step.{Step}
 use Rattle.chess_bits.specs.Square.{Square, IsOnBoard}
 use Rattle.chess_bits.specs.Man.{other}
 use Rattle.chess_bits.specs.Table.{has}
-use Rattle.chess_bits.specs.Attack.{along, north, east, south, west, north_east, south_east, south_west, north_west, straight, diagonal, adjoining, knight_steps, pawn_attacks, SomeOf, Reaches, SlidesAlong, Slides, Attacks}
+use Rattle.chess_bits.specs.Attack.{along, north, east, south, west, north_east, south_east, south_west, north_west, straight, diagonal, adjoining, knight_steps, pawn_attacks, SomeOf, SlidesAlong, Attacks}
 use Rattle.chess_bits.proofs.TableLemmas.{same_square}
-use Rattle.chess_bits.proofs.AlongLemmas.{SomeOf-at}
 
 -- the step back
 abbrev pub reverse_step : Step → Step
