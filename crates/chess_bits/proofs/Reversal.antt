@@ -1,6 +1,5 @@
 -- Attacks turned round: a man of the kind on the square attacked would attack back.
-use Rattle.std.proofs.Common.{ℕ, zero, suc, ◌≡◌, ◌+◌, ◌-◌, ◌*◌, ◌<◌, ◌≤◌, Bool, false, List, [], ◌∷◌, map, refl, ap, sym, ◌∙◌, inl, inr, arith}
-use Rattle.std.specs.Prelude.{◌⊎◌}
+use Rattle.std.proofs.Common.{ℕ, ◌≡◌, ◌+◌, ◌-◌, ◌*◌, ◌≤◌, Bool, List, [], ◌∷◌, map, ap, ◌∙◌, inl, inr, arith}
 use Rattle.chess_bits.specs.declared.men.Colour.{Colour}
 use Rattle.chess_bits.specs.declared.men.Colour.TheVariants.{White, Black}
 use Rattle.chess_bits.specs.declared.men.Kind.{Kind}
@@ -9,9 +8,8 @@ use Rattle.chess_bits.specs.declared.steps.Step.{Step}
 use Rattle.chess_bits.specs.Square.{Square, IsOnBoard}
 use Rattle.chess_bits.specs.Man.{other}
 use Rattle.chess_bits.specs.Table.{has}
-use Rattle.chess_bits.specs.Attack.{along, straight, diagonal, adjoining, knight_steps, pawn_attacks, SomeOf, Reaches, SlidesAlong, Slides, Attacks}
+use Rattle.chess_bits.specs.Attack.{along, north, east, south, west, north_east, south_east, south_west, north_west, straight, diagonal, adjoining, knight_steps, pawn_attacks, SomeOf, SlidesAlong, Attacks}
 use Rattle.chess_bits.proofs.TableLemmas.{same_square}
-use Rattle.chess_bits.proofs.AlongLemmas.{SomeOf-at}
 
 -- the step back
 abbrev pub reverse_step : Step → Step
@@ -79,19 +77,19 @@ knight_back P (inr (inr (inr (inr (inr (inr (inl p))))))) = inr (inr (inl p))
 knight_back P (inr (inr (inr (inr (inr (inr (inr (inl p)))))))) = inr (inr (inr (inl p)))
 knight_back P (inr (inr (inr (inr (inr (inr (inr (inr none)))))))) = absurd none
 
+-- four steps of which each second one goes back
+four_back : (P : Step → Type 0) (a b c d : Step) → SomeOf P (c ∷ d ∷ a ∷ b ∷ []) → SomeOf P (a ∷ b ∷ c ∷ d ∷ [])
+four_back P a b c d (inl p) = inr (inr (inl p))
+four_back P a b c d (inr (inl p)) = inr (inr (inr (inl p)))
+four_back P a b c d (inr (inr (inl p))) = inl p
+four_back P a b c d (inr (inr (inr (inl p)))) = inr (inl p)
+four_back P a b c d (inr (inr (inr (inr none)))) = absurd none
+
 straight_back : (P : Step → Type 0) → SomeOf P (map reverse_step straight) → SomeOf P straight
-straight_back P (inl p) = inr (inr (inl p))
-straight_back P (inr (inl p)) = inr (inr (inr (inl p)))
-straight_back P (inr (inr (inl p))) = inl p
-straight_back P (inr (inr (inr (inl p)))) = inr (inl p)
-straight_back P (inr (inr (inr (inr none)))) = absurd none
+straight_back P back = four_back P north east south west back
 
 diagonal_back : (P : Step → Type 0) → SomeOf P (map reverse_step diagonal) → SomeOf P diagonal
-diagonal_back P (inl p) = inr (inr (inl p))
-diagonal_back P (inr (inl p)) = inr (inr (inr (inl p)))
-diagonal_back P (inr (inr (inl p))) = inl p
-diagonal_back P (inr (inr (inr (inl p)))) = inr (inl p)
-diagonal_back P (inr (inr (inr (inr none)))) = absurd none
+diagonal_back P back = four_back P north_east south_east south_west north_west back
 
 adjoining_back : (P : Step → Type 0) → SomeOf P (map reverse_step adjoining) → SomeOf P adjoining
 adjoining_back P (inl p) = inr (inr (inl p))

@@ -263,30 +263,27 @@ opened-enters table at opening period (Some p) e same ranges h =
       period = ap is_period (same p) ∙ ranges;
     })
 
+-- what a command opens, from each start
+abbrev opening_of : Colour → ℕ → ℕ → Option (ℕ × ℕ) → List ℕ → Position → Opening
+opening_of colour initial increment period name start = record {
+  colour = colour;
+  initial = initial;
+  increment = increment;
+  period = period;
+  name = name;
+  start = start;
+}
+
 open-enters : (table : TableState) (at : ℕ) (colour : Colour) (initial increment : ℕ) (period : Option (ℕ × ℕ))
     (name : List ℕ) (start : Option Position) (e : Entry) →
-    open_verdict table at
-    (λ start. record {
-      colour = colour;
-      initial = initial;
-      increment = increment;
-      period = period;
-      name = name;
-      start = start;
-    }) (are_times initial increment period) start ≡ Enter e → Opens table e
+    open_verdict table at (opening_of colour initial increment period name) (are_times initial increment period) start
+    ≡ Enter e → Opens table e
 open-enters table at colour initial increment period name start e h =
     let times = passed (not (are_times initial increment period)) _ _ e h in
     let numbered = passed (not (is_start start)) _ _ e times.1 in
     let goes_on = passed (is_finished start) _ _ e numbered.1 in
     let room = passed (is_full table) _ _ e goes_on.1 in
-    opened-enters table at (λ start. record {
-      colour = colour;
-      initial = initial;
-      increment = increment;
-      period = period;
-      name = name;
-      start = start;
-    }) period start e (λ p. refl)
+    opened-enters table at (opening_of colour initial increment period name) period start e (λ p. refl)
     (and_parts (nat_le 1 initial && nat_le initial 86400 && nat_le increment 60) (is_period period)
     (not-false (are_times initial increment period) times.0)).1
     room.1

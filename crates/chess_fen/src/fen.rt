@@ -102,6 +102,20 @@ fn push_right(text: &mut FenText, right: bool, letter: char)
     }
 }
 
+// Appends the letters of the rights that are left.
+fn push_letters(text: &mut FenText, rights: CastlingRights)
+    requires room { array_string_len text.old + 4 ≤ 96 }
+    ensures bytes { text.new.bytes ≡ text.old.bytes ++ (letter_if (rights_of rights).white_king 75
+        ++ (letter_if (rights_of rights).white_queen 81 ++ (letter_if (rights_of rights).black_king 107
+        ++ letter_if (rights_of rights).black_queen 113))) }
+    ensures len { array_string_len text.new ≤ array_string_len text.old + 4 }
+{
+    push_right(text, rights.contains(CastlingRights::WHITE_KING), 'K');
+    push_right(text, rights.contains(CastlingRights::WHITE_QUEEN), 'Q');
+    push_right(text, rights.contains(CastlingRights::BLACK_KING), 'k');
+    push_right(text, rights.contains(CastlingRights::BLACK_QUEEN), 'q');
+}
+
 /// Appends the letters of the rights that are left, or `-`.
 pub fn push_rights(text: &mut FenText, rights: CastlingRights)
     requires room { array_string_len text.old + 4 ≤ 96 }
@@ -109,10 +123,7 @@ pub fn push_rights(text: &mut FenText, rights: CastlingRights)
     ensures len { array_string_len text.new ≤ array_string_len text.old + 4 }
 {
     let start = text.len();
-    push_right(text, rights.contains(CastlingRights::WHITE_KING), 'K');
-    push_right(text, rights.contains(CastlingRights::WHITE_QUEEN), 'Q');
-    push_right(text, rights.contains(CastlingRights::BLACK_KING), 'k');
-    push_right(text, rights.contains(CastlingRights::BLACK_QUEEN), 'q');
+    push_letters(text, rights);
     if text.len() == start {
         push(text, '-');
     }

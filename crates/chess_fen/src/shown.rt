@@ -3,6 +3,7 @@ ghost use Rattle.std.specs.Prelude.{◌≡◌, ◌≤◌, ◌+◌, ◌++◌, ◌
 ghost use Rattle.arrayvec.specs.ArrayString.{array_string_len};
 ghost use Rattle.chess_bits.specs.Square.{Square, IsOnBoard};
 ghost use Rattle.chess_bits.specs.Table.{has};
+ghost use Rattle.chess_board.specs.Occupancy.{squares_with, is_a};
 ghost use Rattle.chess_notation.specs.Fen.{rank_of, placement_text, fen_of, IsFenOf, AreLetters};
 ghost use Rattle.chess_fen.specs.Shown.{IsFilled, filled_up, shown_part, IsRankText, AreRankTexts, HasChanges, TellsRanks};
 
@@ -161,6 +162,19 @@ fn with_differing(so_far: Bits, a: Bits, b: Bits) -> Bits
     so_far.union(a.without(b).union(b.without(a)))
 }
 
+// Adds the squares that hold a man of the kind on one of two boards alone.
+fn with_moved(so_far: Bits, old: &Men, new: &Men, kind: Kind) -> Bits
+    requires so_far { length so_far ≡ 64 }
+    requires old { length old.now ≡ 64 }
+    requires new { length new.now ≡ 64 }
+    ensures whole { length result ≡ 64 }
+    ensures before { (s : Square) → has result s ≡ false → has so_far s ≡ false }
+    ensures same { (s : Square) → has result s ≡ false
+        → has (squares_with (is_a kind) old.now) s ≡ has (squares_with (is_a kind) new.now) s }
+{
+    with_differing(so_far, old.of_kind(kind), new.of_kind(kind))
+}
+
 // The squares on which something else stands than before.
 fn changes(old: &Men, new: &Men) -> Bits
     requires old { length old.now ≡ 64 }
@@ -169,16 +183,12 @@ fn changes(old: &Men, new: &Men) -> Bits
 {
     let white = with_differing(Bits::new(), old.of(Colour::White), new.of(Colour::White));
     let colours = with_differing(white, old.of(Colour::Black), new.of(Colour::Black));
-    let pawns = with_differing(colours, old.of_kind(Kind::Pawn), new.of_kind(Kind::Pawn));
-    let knights = with_differing(pawns, old.of_kind(Kind::Knight), new.of_kind(Kind::Knight));
-    let bishops = with_differing(
-        knights,
-        old.of_kind(Kind::Bishop),
-        new.of_kind(Kind::Bishop),
-    );
-    let rooks = with_differing(bishops, old.of_kind(Kind::Rook), new.of_kind(Kind::Rook));
-    let queens = with_differing(rooks, old.of_kind(Kind::Queen), new.of_kind(Kind::Queen));
-    with_differing(queens, old.of_kind(Kind::King), new.of_kind(Kind::King))
+    let pawns = with_moved(colours, old, new, Kind::Pawn);
+    let knights = with_moved(pawns, old, new, Kind::Knight);
+    let bishops = with_moved(knights, old, new, Kind::Bishop);
+    let rooks = with_moved(bishops, old, new, Kind::Rook);
+    let queens = with_moved(rooks, old, new, Kind::Queen);
+    with_moved(queens, old, new, Kind::King)
 }
 
 // Writes the letters on the squares that changed, and tells the ranks of these. The men before stand in the contract

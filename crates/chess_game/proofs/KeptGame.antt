@@ -209,41 +209,48 @@ WithinBefore game mover side =
     (completed game.start.side (other side) (ply_of game)
     + (if is_colour (other side) mover && (game.claimed || is_over game) then 1 else 0))
 
+-- the mover has one move more, and its time is what the turn leaves
+mover_within : (game : GameState) (at : ℕ) (side : Colour) (further : ℕ)
+    → on_move_after game.start.side (ply_of game) ≡ side → on_move_after game.start.side (ply_of game) ≡ other (other side)
+    → (seat_of side game).held ≤ given_for game.control (completed game.start.side side (ply_of game))
+    (completed game.start.side (other side) (ply_of game) + 0)
+    → held_after_turn game.control (seat_of side game).held (completed game.start.side side (ply_of game + 1))
+    (at - game.moment)
+    ≤ given_for game.control (completed game.start.side side (ply_of game + 1))
+    (completed game.start.side (other side) (ply_of game + 1) + further)
+mover_within game at side further on still_on most =
+    let n = completed game.start.side side (ply_of game) in
+    let k = completed game.start.side (other side) (ply_of game) in
+    let mine : completed game.start.side side (ply_of game + 1) ≡ n + 1 = completed-mover game.start.side side (ply_of game) on in
+    let theirs : completed game.start.side (other side) (ply_of game + 1) ≡ k = completed-other game.start.side (other side) (ply_of game) still_on in
+    rw (mine, theirs) (less_held game.control _ _ (n + 1) (k + 0) (k + further)
+    (held_after_turn-at_most game.control (seat_of side game).held n (k + 0) (at - game.moment) most) (le_refl _)
+    (more_of k (none_most further)))
+
+-- the opponent has one move more, and the other side holds what it held
+waiting_within : (game : GameState) (side : Colour) (further : ℕ)
+    → on_move_after game.start.side (ply_of game) ≡ other side
+    → (seat_of side game).held ≤ given_for game.control (completed game.start.side side (ply_of game))
+    (completed game.start.side (other side) (ply_of game) + (if game.claimed || is_over game then 1 else 0))
+    → (seat_of side game).held ≤ given_for game.control (completed game.start.side side (ply_of game + 1))
+    (completed game.start.side (other side) (ply_of game + 1) + further)
+waiting_within game side further on most =
+    let n = completed game.start.side side (ply_of game) in
+    let k = completed game.start.side (other side) (ply_of game) in
+    let one : ℕ = if game.claimed || is_over game then 1 else 0 in
+    let few : one ≤ 1 = at_most_one (game.claimed || is_over game) in
+    let mine : completed game.start.side side (ply_of game + 1) ≡ n = completed-other game.start.side side (ply_of game) on in
+    let theirs : completed game.start.side (other side) (ply_of game + 1) ≡ k + 1 = completed-mover game.start.side (other side) (ply_of game) on in
+    rw (mine, theirs) (less_held game.control (seat_of side game).held (seat_of side game).held n (k + one)
+    (k + 1 + further) most (le_refl _) (one_among k one further few))
+
 within_turn : (game : GameState) (at : ℕ) (mover side : Colour) (further : ℕ)
     → on_move_after game.start.side (ply_of game) ≡ mover → WithinBefore game mover side
     → WithinAfter game at mover side (ply_of game + 1) further
-within_turn game at White White further on most =
-    let n = completed game.start.side White (ply_of game) in
-    let k = completed game.start.side Black (ply_of game) in
-    let mine : completed game.start.side White (ply_of game + 1) ≡ n + 1 = completed-mover game.start.side White (ply_of game) on in
-    let theirs : completed game.start.side Black (ply_of game + 1) ≡ k = completed-other game.start.side Black (ply_of game) on in
-    rw (mine, theirs) (less_held game.control _ _ (n + 1) (k + 0) (k + further)
-    (held_after_turn-at_most game.control game.white.held n (k + 0) (at - game.moment) most) (le_refl _) (more_of k (none_most further)))
-within_turn game at Black Black further on most =
-    let n = completed game.start.side Black (ply_of game) in
-    let k = completed game.start.side White (ply_of game) in
-    let mine : completed game.start.side Black (ply_of game + 1) ≡ n + 1 = completed-mover game.start.side Black (ply_of game) on in
-    let theirs : completed game.start.side White (ply_of game + 1) ≡ k = completed-other game.start.side White (ply_of game) on in
-    rw (mine, theirs) (less_held game.control _ _ (n + 1) (k + 0) (k + further)
-    (held_after_turn-at_most game.control game.black.held n (k + 0) (at - game.moment) most) (le_refl _) (more_of k (none_most further)))
-within_turn game at White Black further on most =
-    let n = completed game.start.side Black (ply_of game) in
-    let k = completed game.start.side White (ply_of game) in
-    let one : ℕ = if game.claimed || is_over game then 1 else 0 in
-    let few : one ≤ 1 = at_most_one (game.claimed || is_over game) in
-    let mine : completed game.start.side Black (ply_of game + 1) ≡ n = completed-other game.start.side Black (ply_of game) on in
-    let theirs : completed game.start.side White (ply_of game + 1) ≡ k + 1 = completed-mover game.start.side White (ply_of game) on in
-    rw (mine, theirs) (less_held game.control game.black.held game.black.held n (k + one) (k + 1 + further)
-    most (le_refl _) (one_among k one further few))
-within_turn game at Black White further on most =
-    let n = completed game.start.side White (ply_of game) in
-    let k = completed game.start.side Black (ply_of game) in
-    let one : ℕ = if game.claimed || is_over game then 1 else 0 in
-    let few : one ≤ 1 = at_most_one (game.claimed || is_over game) in
-    let mine : completed game.start.side White (ply_of game + 1) ≡ n = completed-other game.start.side White (ply_of game) on in
-    let theirs : completed game.start.side Black (ply_of game + 1) ≡ k + 1 = completed-mover game.start.side Black (ply_of game) on in
-    rw (mine, theirs) (less_held game.control game.white.held game.white.held n (k + one) (k + 1 + further)
-    most (le_refl _) (one_among k one further few))
+within_turn game at White White further on most = mover_within game at White further on on most
+within_turn game at Black Black further on most = mover_within game at Black further on on most
+within_turn game at White Black further on most = waiting_within game Black further on most
+within_turn game at Black White further on most = waiting_within game White further on most
 
 further_after : GameState → ℕ → Move → Colour → ℕ
 further_after game at m side =
@@ -269,23 +276,21 @@ unfolding further_after
 black_turned game at m most = held_turned game at m Black most
 
 -- the names at the table stay after a turn
+same_name : (on : Bool) (seat : SeatState) (held : ℕ) →
+    let after : SeatState = if on then record seat { held = held } else record seat { offers = false } in
+    after.name ≡ seat.name
+same_name true seat held = refl
+same_name false seat held = refl
+
 white_name : (game : GameState) (at : ℕ) (m : Move) → (turn_ended game at m).white.name ≡ game.white.name
-white_name game at m = by_side (is_colour White (position_of game).side)
-  where
-    by_side : (on : Bool) → let s : SeatState = if on then record game.white {
-      held = held_after_turn game.control game.white.held (completed game.start.side White (ply_of game + 1)) (at - game.moment);
-    } else record game.white { offers = false } in s.name ≡ game.white.name
-    by_side true = refl
-    by_side false = refl
+white_name game at m =
+    same_name (is_colour White (position_of game).side) game.white
+    (held_after_turn game.control game.white.held (completed game.start.side White (ply_of game + 1)) (at - game.moment))
 
 black_name : (game : GameState) (at : ℕ) (m : Move) → (turn_ended game at m).black.name ≡ game.black.name
-black_name game at m = by_side (is_colour Black (position_of game).side)
-  where
-    by_side : (on : Bool) → let s : SeatState = if on then record game.black {
-      held = held_after_turn game.control game.black.held (completed game.start.side Black (ply_of game + 1)) (at - game.moment);
-    } else record game.black { offers = false } in s.name ≡ game.black.name
-    by_side true = refl
-    by_side false = refl
+black_name game at m =
+    same_name (is_colour Black (position_of game).side) game.black
+    (held_after_turn game.control game.black.held (completed game.start.side Black (ply_of game + 1)) (at - game.moment))
 
 one_longer : {n long : ℕ} → long ≡ n + 1 → n < 20000 → long ≤ 20000
 one_longer longer room = omega arith
@@ -406,54 +411,64 @@ penalised : (control : TimeControl) (held n a b : ℕ) → held ≤ given_for co
     → held + 120000 ≤ given_for control n b
 penalised control held n a b most one = rw one (with_penalty-at_most control held n a most)
 
+-- who claims wrongly holds what it held
+kept_within : (game : GameState) (by side : Colour) → IsHeldWithin game side
+    → (seat_of side game).held ≤ given_for game.control (completed game.start.side side (ply_of game))
+    (claims_most (claimed_wrongly game by) (other side))
+kept_within game by side most =
+    less_held game.control (seat_of side game).held (seat_of side game).held
+    (completed game.start.side side (ply_of game)) (claims_most game (other side))
+    (claims_most (claimed_wrongly game by) (other side)) most (le_refl _) (claims-more game by (other side))
+
+-- its opponent holds two minutes more
+raised_within : (game : GameState) (side : Colour) → game.claimed ≡ false → is_over game ≡ false
+    → (position_of game).side ≡ other side → IsHeldWithin game side
+    → (seat_of side game).held + 120000 ≤ given_for game.control (completed game.start.side side (ply_of game))
+    (claims_most (claimed_wrongly game (other side)) (other side))
+raised_within game side unclaimed running on most =
+    penalised game.control (seat_of side game).held (completed game.start.side side (ply_of game))
+    (claims_most game (other side)) (claims_most (claimed_wrongly game (other side)) (other side)) most
+    (claims-made game (other side) on ∙ ap (λ (n : ℕ). n + 1) (sym (claims-none game (other side) unclaimed running)))
+
+-- the game with these times and offers, in a turn in which a side has claimed
+abbrev claimed_with : GameState → ℕ → Bool → ℕ → Bool → GameState
+claimed_with game white_held white_offers black_held black_offers = record game {
+  white = record game.white { held = white_held; offers = white_offers };
+  black = record game.black { held = black_held; offers = black_offers };
+  claimed = true;
+}
+
+IsOnWay-claimed_with : (game : GameState) (white_held : ℕ) (white_offers : Bool) (black_held : ℕ) (black_offers : Bool)
+    → IsOnWay game → IsHeldWithin (claimed_with game white_held white_offers black_held black_offers) White
+    → IsHeldWithin (claimed_with game white_held white_offers black_held black_offers) Black
+    → IsOnWay (claimed_with game white_held white_offers black_held black_offers)
+IsOnWay-claimed_with game white_held white_offers black_held black_offers way white black = record {
+  numbered = way.numbered;
+  number = way.number;
+  control = way.control;
+  start = way.start;
+  white_name = way.white_name;
+  black_name = way.black_name;
+  players = way.players;
+  short = way.short;
+  joined = way.joined;
+  running = way.running;
+  legal = way.legal;
+  goes_on = way.goes_on;
+  white_held = white;
+  black_held = black;
+}
+
 pub IsOnWay-claim : (game : GameState) (by : Colour) → IsOnWay game → game.claimed ≡ false → (position_of game).side ≡ by
     → IsOnWay (claimed_wrongly game by)
 IsOnWay-claim game White way unclaimed on =
-    let before = claims-none game White unclaimed way.running in
-    let after = claims-made game White on in
-    record {
-      numbered = way.numbered;
-      number = way.number;
-      control = way.control;
-      start = way.start;
-      white_name = way.white_name;
-      black_name = way.black_name;
-      players = way.players;
-      short = way.short;
-      joined = way.joined;
-      running = way.running;
-      legal = way.legal;
-      goes_on = way.goes_on;
-      white_held = less_held game.control game.white.held game.white.held
-          (completed game.start.side White (ply_of game)) (claims_most game Black)
-          (claims_most (claimed_wrongly game White) Black) way.white_held (le_refl _) (claims-more game White Black);
-      black_held = penalised game.control game.black.held (completed game.start.side Black (ply_of game))
-          (claims_most game White) (claims_most (claimed_wrongly game White) White) way.black_held
-          (after ∙ ap (λ (n : ℕ). n + 1) (sym before));
-    }
+    IsOnWay-claimed_with game game.white.held true (game.black.held + 120000) game.black.offers way
+    (kept_within game White White way.white_held)
+    (raised_within game Black unclaimed way.running on way.black_held)
 IsOnWay-claim game Black way unclaimed on =
-    let before = claims-none game Black unclaimed way.running in
-    let after = claims-made game Black on in
-    record {
-      numbered = way.numbered;
-      number = way.number;
-      control = way.control;
-      start = way.start;
-      white_name = way.white_name;
-      black_name = way.black_name;
-      players = way.players;
-      short = way.short;
-      joined = way.joined;
-      running = way.running;
-      legal = way.legal;
-      goes_on = way.goes_on;
-      white_held = penalised game.control game.white.held (completed game.start.side White (ply_of game))
-          (claims_most game Black) (claims_most (claimed_wrongly game Black) Black) way.white_held
-          (after ∙ ap (λ (n : ℕ). n + 1) (sym before));
-      black_held = less_held game.control game.black.held game.black.held
-          (completed game.start.side Black (ply_of game)) (claims_most game White)
-          (claims_most (claimed_wrongly game Black) White) way.black_held (le_refl _) (claims-more game Black White);
-    }
+    IsOnWay-claimed_with game (game.white.held + 120000) game.white.offers game.black.held true way
+    (raised_within game White unclaimed way.running on way.white_held)
+    (kept_within game Black Black way.black_held)
 
 pub IsGame-claim : (game : GameState) (by : Colour) → IsGame 20000 game → IsOnWay (claimed_wrongly game by)
     → is_over game ≡ false → IsGame 20000 (claimed_wrongly game by)

@@ -2,7 +2,7 @@
 use Rattle.std.proofs.Common.{ℕ, ◌≡◌, ◌<◌, ◌≤◌, ◌+◌, suc, Bool, true, false, List, [], ◌∷◌, ◌++◌, length, take, drop, get_or, Option, Some, None, refl, sym, ap, ◌∙◌, subst, append_assoc, arith}
 use Rattle.std.specs.Prelude.{◌||◌, is_some, nat_le}
 use Rattle.std.proofs.Math.Seq.{take-suc, drop-cons}
-use Rattle.std.proofs.lemmas.List.{take-append-drop}
+use Rattle.std.proofs.lemmas.List.{take-append-drop, length-take-le}
 use Rattle.std.proofs.lemmas.Bool.{false≢true}
 use Rattle.std.proofs.lemmas.Bool.Decides.{nat_tests}
 use Rattle.chess_board.specs.declared.moves.Move.{Move}
@@ -103,7 +103,7 @@ HasRoom-start start moves is room =
       short = short_most room;
     }
 
-pub HasRoom-replayed : (start : Position) (moves : List Move) (line : ScoresheetState) (by_line : Option Ending)
+HasRoom-replayed : (start : Position) (moves : List Move) (line : ScoresheetState) (by_line : Option Ending)
     → IsReplayed start moves line by_line → IsStart start → length moves < 20000 → HasRoom line
 HasRoom-replayed start moves line by_line so_far is room =
     let same : line ≡ record { start = start; moves = moves } =
@@ -111,6 +111,14 @@ HasRoom-replayed start moves line by_line so_far is room =
     ∙ ap (λ (ms : List Move). let l : ScoresheetState = record { start = start; moves = ms } in l) so_far.moves in
     let P : ScoresheetState → Type 0 = λ l. HasRoom l in
     subst P (sym same) (HasRoom-start start moves is room)
+
+-- at most 20,000 moves leave room at each of them
+pub HasRoom-before : (start : Position) (moves : List Move) (i : ℕ) (line : ScoresheetState) (by_line : Option Ending)
+    → IsReplayed start (take i moves) line by_line → IsStart start → i < length moves → length moves ≤ 20000 → HasRoom line
+HasRoom-before start moves i line by_line so_far is below short =
+    let long = length-take-le i moves (omega arith) in
+    let room : length (take i moves) < 20000 = omega arith in
+    HasRoom-replayed start (take i moves) line by_line so_far is room
 
 -- ---- moves that are no line
 

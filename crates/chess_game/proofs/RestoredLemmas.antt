@@ -1,15 +1,16 @@
 -- The game that a head and moves name.
-use Rattle.std.proofs.Common.{ℕ, ◌≡◌, ◌≢◌, ◌<◌, ◌≤◌, ◌^◌, Bool, List, Option, Some, None, refl, sym, ap, ◌∙◌, subst}
+use Rattle.std.proofs.Common.{◌≡◌, ◌≢◌, ◌<◌, ◌≤◌, ◌^◌, List, Option, Some, None, refl, sym, ap, ◌∙◌, subst}
 use Rattle.std.specs.Prelude.{IfNone}
 use Rattle.chess_board.specs.declared.moves.Move.{Move}
 use Rattle.chess_board.specs.Position.{Position}
-use Rattle.chess_clock.specs.TimeControl.{TimeControl, time_control}
+use Rattle.chess_clock.specs.TimeControl.{time_control}
 use Rattle.chess_end.specs.declared.ending.Ending.{Ending}
 use Rattle.rec_codec.specs.declared.record.Seat.{Seat as StoredSeat}
 use Rattle.rec_codec.specs.declared.record.Head.{Head}
 use Rattle.chess_entry.specs.State.{SeatState, GameState}
 use Rattle.chess_entry.specs.Bounds.{IsGame}
 use Rattle.chess_entry.specs.Snapshot.{IsSeatOf, IsHeadOf}
+use Rattle.chess_entry.proofs.OneMeaning.{same_parts_of_seat, same_parts_of_game}
 use Rattle.chess_game.specs.declared.games.Game.TheInside.{Inside}
 use Rattle.chess_game.specs.Scoresheet.{ScoresheetState}
 use Rattle.chess_game.specs.ClockFor.{sides_for}
@@ -19,39 +20,26 @@ use Rattle.chess_game.proofs.Shown.{Shows, state_of-shown}
 
 -- ---- no other game has the head and the moves
 
-built_seat : Option (List ℕ) → ℕ → Bool → SeatState
-built_seat name held offers = record { name = name; held = held; offers = offers }
-
 seat_named-only : (seat : SeatState) (stored : StoredSeat) → IsSeatOf seat stored → seat_named stored ≡ seat
-unfolding built_seat
 seat_named-only seat stored is =
-    ap (λ (name : Option (List ℕ)). built_seat name stored.held stored.offers) is.name
-    ∙ ap (λ (held : ℕ). built_seat seat.name held stored.offers) is.held
-    ∙ ap (λ (offers : Bool). built_seat seat.name seat.held offers) is.offers
-
-built : ℕ → Position → TimeControl → SeatState → SeatState → List Move → ℕ → Bool → Option Ending → GameState
-built number start control white black moves moment claimed ending = record {
-  number = number;
-  start = start;
-  control = control;
-  white = white;
-  black = black;
-  moves = moves;
-  moment = moment;
-  claimed = claimed;
-  ending = ending;
-}
-
-built-same : {n n' : ℕ} {p p' : Position} {t t' : TimeControl} {w w' b b' : SeatState} {ms ms' : List Move} {m m' : ℕ}
-    {c c' : Bool} {e e' : Option Ending} → n ≡ n' → p ≡ p' → t ≡ t' → w ≡ w' → b ≡ b' → ms ≡ ms' → m ≡ m' → c ≡ c' → e ≡ e'
-    → built n p t w b ms m c e ≡ built n' p' t' w' b' ms' m' c' e'
-built-same q r s u v x y z k = cc
+    same_parts_of_seat {n = stored.name} {m = seat.name} {h = stored.held} {k = seat.held} {o = stored.offers}
+    {p = seat.offers} is.name is.held is.offers
 
 game_named-only : (game : GameState) (head : Head) (moves : List Move) → IsHeadOf game head → game.moves ≡ moves
     → game_named head moves ≡ game
-unfolding built
 game_named-only game head moves is same =
-    built-same is.number is.start is.control (seat_named-only game.white head.white is.white)
+    let named = game_named head moves in
+    same_parts_of_game
+    {n = named.number} {n' = game.number}
+    {s = named.start} {s' = game.start}
+    {c = named.control} {c' = game.control}
+    {w = named.white} {w' = game.white}
+    {b = named.black} {b' = game.black}
+    {ms = moves} {ms' = game.moves}
+    {t = named.moment} {t' = game.moment}
+    {d = named.claimed} {d' = game.claimed}
+    {e = named.ending} {e' = game.ending}
+    is.number is.start is.control (seat_named-only game.white head.white is.white)
     (seat_named-only game.black head.black is.black) (sym same) is.moment is.claimed is.ending
 
 pub NamesNoGame-uncounted : (head : Head) (moves : List Move) → ¬ IsHeadOf (game_named head moves) head

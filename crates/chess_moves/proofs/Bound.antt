@@ -157,20 +157,34 @@ few King = 28
 abbrev goes_few : Colour → Kind → Square → Bool
 goes_few side kind a = nat_le (length (filter (can_go side kind a) squares)) (few kind)
 
-few_everywhere : (side : Colour) (kind : Kind) → list_all (goes_few side kind) squares ≡ true
+-- each of these is counted once, and kinds that go alike share what was counted
+abbrev AreFew : (Square → Square → Bool) → ℕ → Type 0
+AreFew goes most = list_all (λ a. nat_le (length (filter (goes a) squares)) most) squares ≡ true
+
+few_on_lines : AreFew on_line 28
 unfolding squares
-few_everywhere White Pawn = refl
-few_everywhere Black Pawn = refl
-few_everywhere White Knight = refl
-few_everywhere Black Knight = refl
-few_everywhere White Bishop = refl
-few_everywhere Black Bishop = refl
-few_everywhere White Rook = refl
-few_everywhere Black Rook = refl
-few_everywhere White Queen = refl
-few_everywhere Black Queen = refl
-few_everywhere White King = refl
-few_everywhere Black King = refl
+few_on_lines = refl
+
+few_for_knights : AreFew (reaches knight_steps) 8
+unfolding squares
+few_for_knights = refl
+
+few_for_white_pawns : AreFew (can_go White Pawn) 4
+unfolding squares
+few_for_white_pawns = refl
+
+few_for_black_pawns : AreFew (can_go Black Pawn) 4
+unfolding squares
+few_for_black_pawns = refl
+
+few_everywhere : (side : Colour) (kind : Kind) → list_all (goes_few side kind) squares ≡ true
+few_everywhere White Pawn = few_for_white_pawns
+few_everywhere Black Pawn = few_for_black_pawns
+few_everywhere side Knight = few_for_knights
+few_everywhere side Bishop = few_on_lines
+few_everywhere side Rook = few_on_lines
+few_everywhere side Queen = few_on_lines
+few_everywhere side King = few_on_lines
 
 few_from : (side : Colour) (kind : Kind) (a : Square) → IsOnBoard a →
     length (filter (can_go side kind a) squares) ≤ few kind

@@ -84,51 +84,47 @@ kinds_of : (p : Position) (s : Square) (side : Colour) (a b own : Kind) → man_
 kinds_of p s side a b own stands (inl e) = inl (side, stands ∙ ap (λ (k : Kind). Some (side, k)) e)
 kinds_of p s side a b own stands (inr e) = inr (side, stands ∙ ap (λ (k : Kind). Some (side, k)) e)
 
+-- the foes of two kinds, where these are the kinds that slide in the way
+foes_set : (p : Position) (theirs : List Bool) (way : ℕ) (piece : Kind) → length p.placement ≡ 64 →
+    ((own : Kind) → (own ≡ piece) ⊎ (own ≡ Queen) → SlidesIn own way) →
+    ((own : Kind) → SlidesIn own way → (own ≡ piece) ⊎ (own ≡ Queen)) →
+    IsSetOf theirs (λ s. HoldsColour p s (other p.side)) →
+    IsSetOf (meet (union (squares_with (is_a piece) p.placement) (squares_with (is_a Queen) p.placement)) theirs)
+    (IsSlider p way)
+foes_set p theirs way piece whole slides of_slides of_theirs =
+    let pieces : List Bool = squares_with (is_a piece) p.placement in
+    let queens : List Bool = squares_with (is_a Queen) p.placement in
+    IsSetOf-like (meet (union pieces queens) theirs)
+    (λ s. (HoldsKind p piece s ⊎ HoldsKind p Queen s) × HoldsColour p s (other p.side)) (IsSlider p way)
+    (both_set (union pieces queens) theirs (λ s. HoldsKind p piece s ⊎ HoldsKind p Queen s)
+    (λ s. HoldsColour p s (other p.side))
+    (IsSetOf-union pieces queens (HoldsKind p piece) (HoldsKind p Queen) (kind_set p piece whole)
+    (kind_set p Queen whole)) of_theirs)
+    (λ s on both. (
+      both.1.0,
+      both.1.1,
+      slides both.1.0 (of_kinds p s (other p.side) piece Queen both.1.0 both.1.1 both.0),
+    ))
+    (λ s on slider. (
+      kinds_of p s (other p.side) piece Queen slider.0 slider.1 (of_slides slider.0 slider.2),
+      (slider.0, slider.1),
+    ))
+
 pub straight_set : (p : Position) (theirs : List Bool) (way : ℕ) → length p.placement ≡ 64 → way % 2 ≡ 0 →
     IsSetOf theirs (λ s. HoldsColour p s (other p.side)) →
     IsSetOf (meet (union (squares_with (is_a Rook) p.placement) (squares_with (is_a Queen) p.placement)) theirs)
     (IsSlider p way)
 straight_set p theirs way whole even of_theirs =
-    let rooks : List Bool = squares_with (is_a Rook) p.placement in
-    let queens : List Bool = squares_with (is_a Queen) p.placement in
-    IsSetOf-like (meet (union rooks queens) theirs)
-    (λ s. (HoldsKind p Rook s ⊎ HoldsKind p Queen s) × HoldsColour p s (other p.side)) (IsSlider p way)
-    (both_set (union rooks queens) theirs (λ s. HoldsKind p Rook s ⊎ HoldsKind p Queen s)
-    (λ s. HoldsColour p s (other p.side))
-    (IsSetOf-union rooks queens (HoldsKind p Rook) (HoldsKind p Queen) (kind_set p Rook whole)
-    (kind_set p Queen whole)) of_theirs)
-    (λ s on both. (
-      both.1.0,
-      both.1.1,
-      straight_slides both.1.0 way (of_kinds p s (other p.side) Rook Queen both.1.0 both.1.1 both.0) even,
-    ))
-    (λ s on slider. (
-      kinds_of p s (other p.side) Rook Queen slider.0 slider.1 (slides_straight slider.0 way slider.2 even),
-      (slider.0, slider.1),
-    ))
+    foes_set p theirs way Rook whole (λ own is. straight_slides own way is even)
+    (λ own slides. slides_straight own way slides even) of_theirs
 
 pub diagonal_set : (p : Position) (theirs : List Bool) (way : ℕ) → length p.placement ≡ 64 → way % 2 ≡ 1 →
     IsSetOf theirs (λ s. HoldsColour p s (other p.side)) →
     IsSetOf (meet (union (squares_with (is_a Bishop) p.placement) (squares_with (is_a Queen) p.placement)) theirs)
     (IsSlider p way)
 diagonal_set p theirs way whole odd of_theirs =
-    let bishops : List Bool = squares_with (is_a Bishop) p.placement in
-    let queens : List Bool = squares_with (is_a Queen) p.placement in
-    IsSetOf-like (meet (union bishops queens) theirs)
-    (λ s. (HoldsKind p Bishop s ⊎ HoldsKind p Queen s) × HoldsColour p s (other p.side)) (IsSlider p way)
-    (both_set (union bishops queens) theirs (λ s. HoldsKind p Bishop s ⊎ HoldsKind p Queen s)
-    (λ s. HoldsColour p s (other p.side))
-    (IsSetOf-union bishops queens (HoldsKind p Bishop) (HoldsKind p Queen) (kind_set p Bishop whole)
-    (kind_set p Queen whole)) of_theirs)
-    (λ s on both. (
-      both.1.0,
-      both.1.1,
-      diagonal_slides both.1.0 way (of_kinds p s (other p.side) Bishop Queen both.1.0 both.1.1 both.0) odd,
-    ))
-    (λ s on slider. (
-      kinds_of p s (other p.side) Bishop Queen slider.0 slider.1 (slides_diagonal slider.0 way slider.2 odd),
-      (slider.0, slider.1),
-    ))
+    foes_set p theirs way Bishop whole (λ own is. diagonal_slides own way is odd)
+    (λ own slides. slides_diagonal own way slides odd) of_theirs
 
 -- ---- leapers
 

@@ -10,8 +10,8 @@ use Rattle.chess_bits.specs.Attack.{along, SlidesAlong}
 use Rattle.chess_bits.proofs.TableLemmas.{is_square-true, is_square-other, is_square-same, is_square-false, Decides-is_square}
 use Rattle.chess_bits.proofs.AlongLemmas.{along-between}
 use Rattle.chess_bits.proofs.Deciding.{Decides-some_from}
+use Rattle.chess_attacks.proofs.Nearest.{Differs}
 use Rattle.chess_moves.specs.Masks.{IsBetween, Stops, IsAloneBetween}
-use Rattle.chess_moves.proofs.Ways.{Differs}
 
 -- the squares with men afterwards: without the square left, and with the square reached
 abbrev pub IsAfter : List Bool → List Bool → Square → Square → Type 0

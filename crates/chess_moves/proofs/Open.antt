@@ -1,5 +1,5 @@
 -- What slides to a square lies on a line over the empty board.
-use Rattle.std.specs.Prelude.{◌≡◌, ◌⊎◌, Bool, true, false, List, [], length}
+use Rattle.std.specs.Prelude.{◌≡◌, ◌⊎◌, Bool, true, false, List, [], ◌∷◌, length}
 use Rattle.std.proofs.Common.{sym, ◌∙◌, inl, inr}
 use Rattle.std.proofs.lemmas.Bool.{false≢true, cases_Bool}
 use Rattle.chess_bits.specs.declared.steps.Step.{Step}
@@ -10,7 +10,7 @@ use Rattle.chess_bits.proofs.TableLemmas.{at-off_board, on_board-true, IsOnBoard
 use Rattle.chess_bits.proofs.SetLemmas.{has-none, IsSetOf-union}
 use Rattle.chess_attacks.specs.Ways.{way_step}
 use Rattle.chess_attacks.proofs.Listed.{has-empty}
-use Rattle.chess_moves.proofs.SetForms.{none_set, both_set}
+use Rattle.chess_moves.proofs.SetForms.{none_set, both_set, set_itself}
 
 nowhere : (q : Square) → has empty q ≡ false
 nowhere q = elim (cases_Bool (on_board q)) [
@@ -41,13 +41,26 @@ none_ahead square men n s e w d1 d2 d3 d4 of_n of_s of_e of_w whole none c on he
     let of_lines : IsSetOf (union (union n s) (union e w)) (λ b. Two d1 d2 b ⊎ Two d3 d4 b) =
     IsSetOf-union (union n s) (union e w) (Two d1 d2) (Two d3 d4) (IsSetOf-union n s (Way d1) (Way d2) of_n of_s)
     (IsSetOf-union e w (Way d3) (Way d4) of_e of_w) in
-    let of_men : IsSetOf men (λ b. has men b ≡ true) = record {
-      whole = whole;
-      exact = λ b on_b. ((λ is. is), (λ is. is));
-    } in
     let both = both_set (union (union n s) (union e w)) men (λ b. Two d1 d2 b ⊎ Two d3 d4 b) (λ b. has men b ≡ true)
-    of_lines of_men in
+    of_lines (set_itself men whole) in
     false≢true (sym (has-none (meet (union (union n s) (union e w)) men) c on none) ∙ (both.exact c on).1 (ahead, here))
+
+-- so that none of them slides in one of these
+no_slider : (square : Square) (occupied men n s e w : List Bool) (d1 d2 d3 d4 : Step) →
+    IsSetOf n (λ b. SlidesAlong empty square b d1) → IsSetOf s (λ b. SlidesAlong empty square b d3) →
+    IsSetOf e (λ b. SlidesAlong empty square b d2) → IsSetOf w (λ b. SlidesAlong empty square b d4) →
+    length men ≡ 64 → members (meet (union (union n s) (union e w)) men) ≡ [] →
+    IsSetOf empty (λ c. Slides occupied (d1 ∷ d2 ∷ d3 ∷ d4 ∷ []) square c × (has men c ≡ true))
+no_slider square occupied men n s e w d1 d2 d3 d4 of_n of_s of_e of_w whole none =
+    none_set (λ c. Slides occupied (d1 ∷ d2 ∷ d3 ∷ d4 ∷ []) square c × (has men c ≡ true))
+    (λ c on is.
+    none_ahead square men n s e w d1 d3 d2 d4 of_n of_s of_e of_w whole none c on is.1 (elim (is.0) [
+      | inl a ↦ inl (inl (open_line occupied square c d1 a))
+      | inr (inl a) ↦ inr (inl (open_line occupied square c d2 a))
+      | inr (inr (inl a)) ↦ inl (inr (open_line occupied square c d3 a))
+      | inr (inr (inr (inl a))) ↦ inr (inr (open_line occupied square c d4 a))
+      | inr (inr (inr (inr never))) ↦ absurd never
+    ]))
 
 pub no_rook : (square : Square) (occupied men n s e w : List Bool) →
     IsSetOf n (λ b. SlidesAlong empty square b (way_step 0)) → IsSetOf s (λ b. SlidesAlong empty square b (way_step 4)) →
@@ -55,16 +68,8 @@ pub no_rook : (square : Square) (occupied men n s e w : List Bool) →
     length men ≡ 64 → members (meet (union (union n s) (union e w)) men) ≡ [] →
     IsSetOf empty (λ c. Slides occupied straight square c × (has men c ≡ true))
 no_rook square occupied men n s e w of_n of_s of_e of_w whole none =
-    none_set (λ c. Slides occupied straight square c × (has men c ≡ true))
-    (λ c on is.
-    none_ahead square men n s e w (way_step 0) (way_step 4) (way_step 2) (way_step 6) of_n of_s of_e of_w whole none c on
-    is.1 (elim (is.0) [
-      | inl a ↦ inl (inl (open_line occupied square c (way_step 0) a))
-      | inr (inl a) ↦ inr (inl (open_line occupied square c (way_step 2) a))
-      | inr (inr (inl a)) ↦ inl (inr (open_line occupied square c (way_step 4) a))
-      | inr (inr (inr (inl a))) ↦ inr (inr (open_line occupied square c (way_step 6) a))
-      | inr (inr (inr (inr never))) ↦ absurd never
-    ]))
+    no_slider square occupied men n s e w (way_step 0) (way_step 2) (way_step 4) (way_step 6) of_n of_s of_e of_w whole
+    none
 
 pub no_bishop : (square : Square) (occupied men n s e w : List Bool) →
     IsSetOf n (λ b. SlidesAlong empty square b (way_step 1)) → IsSetOf s (λ b. SlidesAlong empty square b (way_step 5)) →
@@ -72,13 +77,5 @@ pub no_bishop : (square : Square) (occupied men n s e w : List Bool) →
     length men ≡ 64 → members (meet (union (union n s) (union e w)) men) ≡ [] →
     IsSetOf empty (λ c. Slides occupied diagonal square c × (has men c ≡ true))
 no_bishop square occupied men n s e w of_n of_s of_e of_w whole none =
-    none_set (λ c. Slides occupied diagonal square c × (has men c ≡ true))
-    (λ c on is.
-    none_ahead square men n s e w (way_step 1) (way_step 5) (way_step 3) (way_step 7) of_n of_s of_e of_w whole none c on
-    is.1 (elim (is.0) [
-      | inl a ↦ inl (inl (open_line occupied square c (way_step 1) a))
-      | inr (inl a) ↦ inr (inl (open_line occupied square c (way_step 3) a))
-      | inr (inr (inl a)) ↦ inl (inr (open_line occupied square c (way_step 5) a))
-      | inr (inr (inr (inl a))) ↦ inr (inr (open_line occupied square c (way_step 7) a))
-      | inr (inr (inr (inr never))) ↦ absurd never
-    ]))
+    no_slider square occupied men n s e w (way_step 1) (way_step 3) (way_step 5) (way_step 7) of_n of_s of_e of_w whole
+    none

@@ -1,18 +1,18 @@
 -- The path from the king to the nearest slider, and what stands on it.
-use Rattle.std.specs.Prelude.{ℕ, ◌≡◌, ◌⊎◌, ◌+◌, ◌-◌, ◌<◌, ◌≤◌, Bool, true, false, not, ◌&&◌, List, [], length, Some}
+use Rattle.std.specs.Prelude.{ℕ, ◌≡◌, ◌⊎◌, ◌-◌, ◌<◌, ◌≤◌, Bool, true, false, not, ◌&&◌, List, [], length, Some}
 use Rattle.std.proofs.Common.{arith, refl, sym, ap, subst, ◌∙◌, inl, inr}
 use Rattle.std.proofs.lemmas.Bool.{false≢true, cases_eq, cases_order, and_parts, and_from, false_from_ne_true}
 use Rattle.chess_bits.specs.declared.steps.Step.{Step}
-use Rattle.chess_bits.specs.Square.{Square, IsOnBoard, number_of, squares}
-use Rattle.chess_bits.specs.Table.{has, meet, without, members, head_of, empty, IsSetOf, IsGreatest}
+use Rattle.chess_bits.specs.Square.{Square, IsOnBoard, squares}
+use Rattle.chess_bits.specs.Table.{has, meet, without, members, head_of, IsSetOf, IsGreatest}
 use Rattle.chess_bits.specs.Attack.{along, SlidesAlong}
 use Rattle.chess_bits.proofs.AlongLemmas.{along-between}
-use Rattle.chess_bits.proofs.SetLemmas.{has-meet, has-without, length-without, has-none, IsLeast-first}
+use Rattle.chess_bits.proofs.SetLemmas.{has-meet, has-without, length-without, has-none}
 use Rattle.chess_attacks.specs.Ways.{way_step, IsRising, IsFalling}
-use Rattle.chess_attacks.proofs.Listed.{has-empty}
 use Rattle.chess_attacks.proofs.WayLemmas.{Adds, rising-rises, falling-falls}
+use Rattle.chess_attacks.proofs.Nearest.{IsRay, empty_slide, not_true, Differs, IsNearest, rising_nearest, falling_nearest, beyond_far, not_beyond}
 use Rattle.chess_moves.specs.Masks.{IsAloneBetween, IsPathTo, NoneAhead}
-use Rattle.chess_moves.proofs.Ways.{Differs, way-differs, way-adds}
+use Rattle.chess_moves.proofs.Ways.{way-differs, way-adds}
 use Rattle.chess_moves.proofs.ListLemmas.{filter-none}
 use Rattle.chess_moves.proofs.Listed.{on_board-squares}
 use Rattle.chess_moves.proofs.SetForms.{length-meet}
@@ -23,106 +23,7 @@ unfolding members
 no_members set none =
     filter-none (has set) squares (λ q here. none q (on_board-squares q here))
 
-abbrev IsRay : List Bool → Square → Step → Type 0
-IsRay set a step = IsSetOf set (λ b. SlidesAlong empty a b step)
-
--- over the empty board a man slides as far as it likes
-pub empty_slide : (k c : Square) (d : Step) (n : ℕ) → IsOnBoard k → IsOnBoard c → 1 ≤ n → c ≡ along n d k →
-    SlidesAlong empty k c d
-empty_slide k c d n on_k on_c positive there = record {
-  distance = n;
-  positive = positive;
-  there = there;
-  between_empty = λ j one below. has-empty (along j d k)
-      (along-between j n d k on_k (omega arith) (subst IsOnBoard there on_c));
-}
-
-second_false : (x y : Bool) → x ≡ true → (x && y) ≡ false → y ≡ false
-second_false true y e both = both
-second_false false y e both = absurd (false≢true e)
-
 -- ---- the path
-
--- the slider n squares off, and none before it
-record IsNearest (sliders : List Bool) (k s : Square) (d : Step) (n : ℕ) : Type 0 where
-  on_board : IsOnBoard s
-  member : has sliders s ≡ true
-  positive : 1 ≤ n
-  there : s ≡ along n d k
-  before : (j : ℕ) → 1 ≤ j → j < n → has sliders (along j d k) ≡ false
-
-rising_nearest : (whole sliders : List Bool) (k s : Square) (way : ℕ) → IsOnBoard k → IsRising way →
-    IsRay whole k (way_step way) → Some s ≡ head_of (members (meet whole sliders)) →
-    (n : ℕ) × IsNearest sliders k s (way_step way) n
-rising_nearest whole sliders k s way on rising ray first =
-    let d : Step = way_step way in
-    let least = IsLeast-first (meet whole sliders) s first in
-    let parts = and_parts (has whole s) (has sliders s) (sym (has-meet whole sliders s) ∙ least.member) in
-    let slide = (ray.exact s least.on_board).0 parts.0 in
-    let n : ℕ = slide.distance in
-    let there : IsOnBoard (along n d k) = subst IsOnBoard slide.there least.on_board in (
-      n,
-      record {
-        on_board = least.on_board;
-        member = parts.1;
-        positive = slide.positive;
-        there = slide.there;
-        before = λ j one below.
-            let on_j : IsOnBoard (along j d k) = along-between j n d k on (omega arith) there in
-            second_false (has whole (along j d k)) (has sliders (along j d k))
-            ((ray.exact (along j d k) on_j).1 (empty_slide k (along j d k) d j on on_j one refl))
-            (sym (has-meet whole sliders (along j d k)) ∙ least.before (along j d k) on_j
-            (omega (arith, rising-rises way rising k j n on_j there below, ap number_of slide.there)));
-      },
-    )
-
-falling_nearest : (whole sliders : List Bool) (k s : Square) (way : ℕ) → IsOnBoard k → IsFalling way →
-    IsRay whole k (way_step way) → IsGreatest (meet whole sliders) s →
-    (n : ℕ) × IsNearest sliders k s (way_step way) n
-falling_nearest whole sliders k s way on falling ray greatest =
-    let d : Step = way_step way in
-    let parts = and_parts (has whole s) (has sliders s) (sym (has-meet whole sliders s) ∙ greatest.member) in
-    let slide = (ray.exact s greatest.on_board).0 parts.0 in
-    let n : ℕ = slide.distance in
-    let there : IsOnBoard (along n d k) = subst IsOnBoard slide.there greatest.on_board in (
-      n,
-      record {
-        on_board = greatest.on_board;
-        member = parts.1;
-        positive = slide.positive;
-        there = slide.there;
-        before = λ j one below.
-            let on_j : IsOnBoard (along j d k) = along-between j n d k on (omega arith) there in
-            second_false (has whole (along j d k)) (has sliders (along j d k))
-            ((ray.exact (along j d k) on_j).1 (empty_slide k (along j d k) d j on on_j one refl))
-            (sym (has-meet whole sliders (along j d k)) ∙ greatest.after (along j d k) on_j
-            (omega (arith, falling-falls way falling k j n on_j there below, ap number_of slide.there)));
-      },
-    )
-
-not_true : (x : Bool) → not x ≡ true → x ≡ false
-not_true true e = sym e
-not_true false e = refl
-
--- beyond the slider lie the squares that are farther from the king
-beyond_far : (beyond sliders : List Bool) (k s q : Square) (d : Step) (n m : ℕ) → Adds d → IsRay beyond s d →
-    IsNearest sliders k s d n → IsOnBoard q → q ≡ along m d k → n < m → has beyond q ≡ true
-beyond_far beyond sliders k s q d n m adds ray nearest on there far =
-    let steps : q ≡ along (m - n) d s =
-    there ∙ ap (λ (i : ℕ). along i d k) (let whole : m ≡ (m - n) + n = omega arith in whole)
-    ∙ sym (adds k (m - n) n) ∙ ap (along (m - n) d) (sym nearest.there) in
-    (ray.exact q on).1 (empty_slide s q d (m - n) nearest.on_board on (omega arith) steps)
-
-not_beyond : (beyond sliders : List Bool) (k s q : Square) (d : Step) (n m : ℕ) → Adds d → Differs d → IsRay beyond s d →
-    IsNearest sliders k s d n → IsOnBoard q → q ≡ along m d k → m ≤ n → has beyond q ≡ false
-not_beyond beyond sliders k s q d n m adds differs ray nearest on there near =
-    false_from_ne_true (has beyond q) (λ here.
-    let past = (ray.exact q on).0 here in
-    let far : q ≡ along (past.distance + n) d k =
-    past.there ∙ ap (along past.distance d) nearest.there ∙ adds k past.distance n in
-    let same : m ≡ past.distance + n =
-    differs k m (past.distance + n) (subst IsOnBoard there on) (subst IsOnBoard far on) (sym there ∙ far) in
-    absurd (omega (arith, past.positive)))
 
 path : (whole beyond sliders : List Bool) (k s : Square) (d : Step) (n : ℕ) → Adds d → Differs d → IsOnBoard k →
     IsRay whole k d → IsRay beyond s d → IsNearest sliders k s d n → IsPathTo sliders k d (without whole beyond)
@@ -181,14 +82,14 @@ pub rising_path : (whole beyond sliders : List Bool) (k s : Square) (way : ℕ) 
     IsRay whole k (way_step way) → IsRay beyond s (way_step way) → Some s ≡ head_of (members (meet whole sliders)) →
     IsPathTo sliders k (way_step way) (without whole beyond)
 rising_path whole beyond sliders k s way below on rising ray ray_beyond first =
-    let (n, nearest) = rising_nearest whole sliders k s way on rising ray first in
+    let (n, nearest) = rising_nearest whole sliders k s (way_step way) on (rising-rises way rising) ray first in
     path whole beyond sliders k s (way_step way) n (way-adds way below) (way-differs way below) on ray ray_beyond nearest
 
 pub falling_path : (whole beyond sliders : List Bool) (k s : Square) (way : ℕ) → way < 8 → IsOnBoard k →
     IsFalling way → IsRay whole k (way_step way) → IsRay beyond s (way_step way) → IsGreatest (meet whole sliders) s →
     IsPathTo sliders k (way_step way) (without whole beyond)
 falling_path whole beyond sliders k s way below on falling ray ray_beyond greatest =
-    let (n, nearest) = falling_nearest whole sliders k s way on falling ray greatest in
+    let (n, nearest) = falling_nearest whole sliders k s (way_step way) on (falling-falls way falling) ray greatest in
     path whole beyond sliders k s (way_step way) n (way-adds way below) (way-differs way below) on ray ray_beyond nearest
 
 pub none_ahead : (whole sliders : List Bool) (k : Square) (d : Step) → IsRay whole k d →

@@ -1,6 +1,6 @@
 -- The sets of squares to which a man may go.
 use Rattle.std.specs.Prelude.{ℕ, ◌≡◌, ◌≢◌, ◌⊎◌, ◌↔◌, ◌%◌, Bool, true, false, cond, not, List, [], ◌∷◌, length, Option, Some, None, IsTrue}
-use Rattle.std.proofs.Common.{arith, refl, sym, ap, subst, ◌∙◌, inl, inr}
+use Rattle.std.proofs.Common.{refl, sym, ap, subst, ◌∙◌, inl, inr}
 use Rattle.std.proofs.lemmas.Bool.{false≢true, cases_Bool, false_from_ne_true}
 use Rattle.chess_bits.specs.declared.men.Kind.{Kind}
 use Rattle.chess_bits.specs.declared.men.Kind.TheVariants.{Pawn, Knight, Bishop, Rook, Queen, King}
@@ -35,37 +35,14 @@ some_square set some =
     let found = first_square set (members set) (PassesEach-members set) some in
     (found.0, on_board-from_at false set found.0 (λ none. false≢true (sym none ∙ found.1)), found.1)
 
-even_slides : (kind : Kind) (way : ℕ) → SlidesIn kind 0 → way % 2 ≡ 0 → SlidesIn kind way
-even_slides Pawn way slides even = absurd slides
-even_slides Knight way slides even = absurd slides
-even_slides King way slides even = absurd slides
-even_slides Bishop way slides even = absurd (omega arith)
-even_slides Rook way slides even = even
-even_slides Queen way slides even = tt
-
-slides_even : (kind : Kind) (way : ℕ) → SlidesIn kind way → way % 2 ≡ 0 → SlidesIn kind 0
-slides_even Pawn way slides even = absurd slides
-slides_even Knight way slides even = absurd slides
-slides_even King way slides even = absurd slides
-slides_even Bishop way slides even = absurd (omega arith)
-slides_even Rook way slides even = refl
-slides_even Queen way slides even = tt
-
-odd_slides : (kind : Kind) (way : ℕ) → SlidesIn kind 1 → way % 2 ≡ 1 → SlidesIn kind way
-odd_slides Pawn way slides odd = absurd slides
-odd_slides Knight way slides odd = absurd slides
-odd_slides King way slides odd = absurd slides
-odd_slides Rook way slides odd = absurd (omega arith)
-odd_slides Bishop way slides odd = odd
-odd_slides Queen way slides odd = tt
-
-slides_odd : (kind : Kind) (way : ℕ) → SlidesIn kind way → way % 2 ≡ 1 → SlidesIn kind 1
-slides_odd Pawn way slides odd = absurd slides
-slides_odd Knight way slides odd = absurd slides
-slides_odd King way slides odd = absurd slides
-slides_odd Rook way slides odd = absurd (omega arith)
-slides_odd Bishop way slides odd = refl
-slides_odd Queen way slides odd = tt
+-- a kind slides alike in two ways of which both are straight or both diagonal
+slides_alike : (kind : Kind) (a b : ℕ) → a % 2 ≡ b % 2 → SlidesIn kind a → SlidesIn kind b
+slides_alike Pawn a b same slides = absurd slides
+slides_alike Knight a b same slides = absurd slides
+slides_alike King a b same slides = absurd slides
+slides_alike Bishop a b same slides = sym same ∙ slides
+slides_alike Rook a b same slides = sym same ∙ slides
+slides_alike Queen a b same slides = tt
 
 -- a man of the opponent that attacks q over the squares, as q sees it
 abbrev pub IsSeenAttacker : Position → List Bool → Square → Square → Type 0
@@ -106,7 +83,7 @@ attacked_from p k q c on (inr (inl both)) =
       c,
       both.1.0,
       both.1.1,
-      seen_attack squares (other p.side) both.1.0 c q w.0 on w.1 (even_slides both.1.0 w.0 both.1.2 w.2) w.3,
+      seen_attack squares (other p.side) both.1.0 c q w.0 on w.1 (slides_alike both.1.0 0 w.0 (sym w.2) both.1.2) w.3,
     )
 attacked_from p k q c on (inr (inr both)) =
     let squares : List Bool = put (occupied_of p.placement) k false in
@@ -114,7 +91,7 @@ attacked_from p k q c on (inr (inr both)) =
       c,
       both.1.0,
       both.1.1,
-      seen_attack squares (other p.side) both.1.0 c q w.0 on w.1 (odd_slides both.1.0 w.0 both.1.2 w.2) w.3,
+      seen_attack squares (other p.side) both.1.0 c q w.0 on w.1 (slides_alike both.1.0 1 w.0 (sym w.2) both.1.2) w.3,
     )
 
 attacker_seen : (p : Position) (k q : Square) → IsOnBoard q → (attacked : IsAttackedWithout p k q) →
@@ -126,11 +103,11 @@ attacker_seen p k q on (c, kind, stands, attack) =
       | inr by ↦ elim (odd_or_even by.way) [
         | inl even ↦ inr (inl (
           way_straight (SlidesAlong squares q c) by.way by.below even by.slide,
-          (kind, stands, slides_even kind by.way by.slides_in even),
+          (kind, stands, slides_alike kind by.way 0 even by.slides_in),
         ))
         | inr odd ↦ inr (inr (
           way_diagonal (SlidesAlong squares q c) by.way by.below odd by.slide,
-          (kind, stands, slides_odd kind by.way by.slides_in odd),
+          (kind, stands, slides_alike kind by.way 1 odd by.slides_in),
         ))
       ]
     ]

@@ -32,6 +32,10 @@ none_set P none = record {
   exact = λ s on. ((λ here. absurd (false≢true (sym (has-empty s on) ∙ here))), (λ is. absurd (none s on is)));
 }
 
+-- a set is that of its own squares
+pub set_itself : (set : List Bool) → length set ≡ 64 → IsSetOf set (λ s. has set s ≡ true)
+set_itself set whole = record { whole = whole; exact = λ s on. ((λ is. is), (λ is. is)) }
+
 cond_parts : (b c : Bool) → cond b c false ≡ true → (b ≡ true) × (c ≡ true)
 cond_parts true c e = (refl, e)
 cond_parts false c e = absurd (false≢true e)

@@ -12,6 +12,7 @@ use Rattle.chess_bits.proofs.ManLemmas.{other-differs, same_colour}
 use Rattle.chess_bits.proofs.TableLemmas.{on_board-from_at}
 use Rattle.chess_bits.proofs.SetLemmas.{has-none, IsSetOf-union, IsSetOf-like}
 use Rattle.chess_attacks.specs.Ways.{way_step}
+use Rattle.chess_attacks.proofs.Nearest.{empty_slide}
 use Rattle.chess_board.specs.Position.{Position, man_at, occupied_of, IsValid}
 use Rattle.chess_board.specs.Legal.{HoldsColour}
 use Rattle.chess_board.proofs.Candidates.{IsOnBoard-from_man}
@@ -20,7 +21,7 @@ use Rattle.chess_moves.specs.Masks.{IsSlider, Stops, IsAloneBetween, EndsBelow, 
 use Rattle.chess_moves.proofs.Ways.{way-differs, odd_or_even}
 use Rattle.chess_moves.proofs.SetForms.{both_set}
 use Rattle.chess_moves.proofs.Exact.{has-occupied}
-use Rattle.chess_moves.proofs.Paths.{empty_slide, between_of, same_slider, seen_slide, none_between, alone_set, set_alone}
+use Rattle.chess_moves.proofs.Paths.{between_of, same_slider, seen_slide, none_between, alone_set, set_alone}
 
 -- ---- the men
 
@@ -164,25 +165,33 @@ check_ahead p k c way sliders w none slider n positive there =
     none c on_c ((w.of.exact c on_c).1 slider)
     (empty_slide k c (way_step way) n (king_on p k way sliders w) on_c positive there)
 
-pub none_watched : (p : Position) (masks : Masks) (way : ℕ) (sliders : List Bool) → IsValid p → way < 8 →
-    IsSetOf sliders (IsSlider p way) → NoneAhead sliders masks.king (way_step way) → HoldsMasksBelow p way masks →
-    HoldsMasksBelow p (way + 1) masks
-none_watched p masks way sliders valid below of none holds =
+-- a way in which nothing gives check and nothing pins leaves the masks as they are
+nothing_watched : (p : Position) (masks : Masks) (way : ℕ) → HoldsMasksBelow p way masks →
+    ((c : Square) → IsSlider p way c → ¬ SlidesAlong (occupied_of p.placement) masks.king c (way_step way)) →
+    ((from : Square) → HoldsColour p from p.side → NoPinIn p masks.king from way) → HoldsMasksBelow p (way + 1) masks
+nothing_watched p masks way holds no_check no_pin =
     let k : Square = masks.king in
-    let w : Watched p k way sliders = record { valid = valid; king = holds.king; below = below; of = of } in
     record {
       valid = holds.valid;
       king = holds.king;
       straight = holds.straight;
       diagonal = holds.diagonal;
       ends = IsSetOf-like masks.ends (EndsBelow p k way) (EndsBelow p k (way + 1)) holds.ends
-          (λ q on ends. ends_more p k q way ends (λ c slider slide.
-          absurd (check_ahead p k c way sliders w none slider slide.distance slide.positive slide.there)))
+          (λ q on ends. ends_more p k q way ends (λ c slider slide. absurd (no_check c slider slide)))
           (λ q on ends. (ends_less p k q way ends).0);
-      pinned = pins_same p k way masks.pinned holds.pinned
-          (λ from own c slider pin.
-          check_ahead p k c way sliders w none slider pin.far (omega (arith, pin.positive, pin.nearer)) pin.there);
+      pinned = pins_same p k way masks.pinned holds.pinned no_pin;
     }
+
+pub none_watched : (p : Position) (masks : Masks) (way : ℕ) (sliders : List Bool) → IsValid p → way < 8 →
+    IsSetOf sliders (IsSlider p way) → NoneAhead sliders masks.king (way_step way) → HoldsMasksBelow p way masks →
+    HoldsMasksBelow p (way + 1) masks
+none_watched p masks way sliders valid below of none holds =
+    let k : Square = masks.king in
+    let w : Watched p k way sliders = record { valid = valid; king = holds.king; below = below; of = of } in
+    nothing_watched p masks way holds
+    (λ c slider slide. check_ahead p k c way sliders w none slider slide.distance slide.positive slide.there)
+    (λ from own c slider pin.
+    check_ahead p k c way sliders w none slider pin.far (omega (arith, pin.positive, pin.nearer)) pin.there)
 
 -- a man alone between is all that stands there
 alone_there : (p : Position) (k c from : Square) (way : ℕ) (sliders path : List Bool) → Watched p k way sliders →
@@ -304,19 +313,9 @@ pub crowd_watched : (p : Position) (masks : Masks) (way : ℕ) (sliders path : L
 crowd_watched p masks way sliders path valid below of seen some many holds =
     let k : Square = masks.king in
     let w : Watched p k way sliders = record { valid = valid; king = holds.king; below = below; of = of } in
-    record {
-      valid = holds.valid;
-      king = holds.king;
-      straight = holds.straight;
-      diagonal = holds.diagonal;
-      ends = IsSetOf-like masks.ends (EndsBelow p k way) (EndsBelow p k (way + 1)) holds.ends
-          (λ q on ends. ends_more p k q way ends (λ c slider slide.
-          absurd (no_check p k c way sliders path w seen some slider slide)))
-          (λ q on ends. (ends_less p k q way ends).0);
-      pinned = pins_same p k way masks.pinned holds.pinned
-          (λ from own c slider pin.
-          many (from, own_on p from own, alone_there p k c from way sliders path w seen slider own pin));
-    }
+    nothing_watched p masks way holds (λ c slider slide. no_check p k c way sliders path w seen some slider slide)
+    (λ from own c slider pin.
+    many (from, own_on p from own, alone_there p k c from way sliders path w seen slider own pin))
 
 -- ---- the line of a man
 

@@ -1,38 +1,20 @@
 -- Attacks by ways: each is a leap, or a slide in one of the eight ways.
 use Rattle.std.specs.Prelude.{ℕ, ◌≡◌, ◌⊎◌, ◌%◌, ◌<◌, Bool, List}
-use Rattle.std.proofs.Common.{zero, suc, arith, refl, ap, subst, inl, inr}
-use Rattle.std.proofs.lemmas.Bool.{cases_lt, cases_eq, cases_order}
+use Rattle.std.proofs.Common.{zero, suc, arith, refl, subst, inl, inr}
+use Rattle.std.proofs.lemmas.Bool.{cases_lt, cases_eq}
 use Rattle.chess_bits.specs.declared.men.Colour.{Colour}
 use Rattle.chess_bits.specs.declared.men.Kind.{Kind}
 use Rattle.chess_bits.specs.declared.men.Kind.TheVariants.{Pawn, Knight, Bishop, Rook, Queen, King}
 use Rattle.chess_bits.specs.declared.steps.Step.{Step}
-use Rattle.chess_bits.specs.Square.{Square, IsOnBoard, number_of}
-use Rattle.chess_bits.specs.Attack.{along, straight, diagonal, adjoining, SomeOf, SlidesAlong, Attacks}
+use Rattle.chess_bits.specs.Square.{Square, IsOnBoard}
+use Rattle.chess_bits.specs.Attack.{straight, diagonal, adjoining, SomeOf, SlidesAlong, Attacks}
 use Rattle.chess_bits.proofs.Reversal.{facing, Attacks-back}
 use Rattle.chess_attacks.specs.Ways.{way_step}
-use Rattle.chess_attacks.proofs.WayLemmas.{Rises, Falls, Adds, rising-rises, falling-falls, rising-adds, falling-adds}
+use Rattle.chess_attacks.proofs.WayLemmas.{Adds, rising-rises, falling-falls, rising-adds, falling-adds}
+use Rattle.chess_attacks.proofs.Nearest.{Differs, rises-differs, falls-differs}
 use Rattle.chess_moves.specs.Masks.{SlidesIn, Leaps}
 
 -- ---- squares of a way
-
--- at different distances lie different squares
-abbrev pub Differs : Step → Type 0
-Differs step = (a : Square) (j k : ℕ) → IsOnBoard (along j step a) → IsOnBoard (along k step a) →
-    along j step a ≡ along k step a → j ≡ k
-
-rises-differs : (step : Step) → Rises step → Differs step
-rises-differs step rises a j k on_j on_k same = elim (cases_order j k) [
-  | inl e ↦ e
-  | inr (inl less) ↦ absurd (omega (arith, rises a j k on_j on_k less, ap number_of same))
-  | inr (inr more) ↦ absurd (omega (arith, rises a k j on_k on_j more, ap number_of same))
-]
-
-falls-differs : (step : Step) → Falls step → Differs step
-falls-differs step falls a j k on_j on_k same = elim (cases_order j k) [
-  | inl e ↦ e
-  | inr (inl less) ↦ absurd (omega (arith, falls a j k on_j on_k less, ap number_of same))
-  | inr (inr more) ↦ absurd (omega (arith, falls a k j on_k on_j more, ap number_of same))
-]
 
 pub way-differs : (way : ℕ) → way < 8 → Differs (way_step way)
 way-differs way below = elim (cases_lt way 3) [

@@ -37,7 +37,6 @@ pub struct Tally {
 }
 
 // How many legal moves a pawn has that may go to the squares: four for each on which it becomes another piece.
-#[tactic(auto, using(crate::proofs::Counted::members_most))]
 fn count_pawn(board: &Board, from: Square, safe: Bits) -> u32
     requires valid { IsValid board.now }
     requires own { man_at board.now.placement from ≡ Some (board.now.side, kinds.Pawn) }

@@ -4,14 +4,9 @@ use Rattle.std.specs.Prelude.{◌≤◌, ◌&&◌, not, max, is_none, if◌then�
 use Rattle.std.proofs.lemmas.Bool.{cases_Bool, le-ltb, and_right}
 use Rattle.std.proofs.lemmas.List.{append-nil}
 use Rattle.chess_bits.specs.declared.men.Colour.{Colour}
-use Rattle.chess_bits.specs.declared.men.Kind.{Kind}
-use Rattle.chess_bits.specs.declared.men.Kind.TheVariants.{Pawn, Knight, Bishop, Rook, Queen, King}
-use Rattle.chess_bits.specs.Square.{Square}
 use Rattle.chess_board.specs.declared.moves.Move.{Move}
 use Rattle.chess_board.specs.Position.{Position}
-use Rattle.chess_board.specs.Legal.{IsLegal, IsMoveOf, IsPromotion, IsPromotionKind}
 use Rattle.chess_notation.specs.Naming.{Names}
-use Rattle.rec_codec.specs.Moves.{CanBecome}
 use Rattle.chess_entry.specs.declared.verdicts.Verdict.{Verdict}
 use Rattle.chess_entry.specs.declared.verdicts.Verdict.TheVariants.{Refuse}
 use Rattle.arrayvec.specs.ArrayString.{ArrayString}
@@ -62,6 +57,30 @@ passes o (c ∷ a) b last is none = elim (cases_Bool c.applies) [
     some_none : {v : Verdict} → Some v ≡ None → ⊥
     some_none e = cc
 
+-- what stops in two groups
+pub stopped-first : (a b : List Check) (v : Verdict) → Some v ≡ stopped_by a → Some v ≡ stopped_by (a ++ b)
+stopped-first [] b v is = absurd cc
+stopped-first (c ∷ a) b v is = elim (cases_Bool c.applies) [
+  | inl so ↦
+      is ∙ ap (λ (x : Bool). if x then Some c.verdict else stopped_by a) so
+      ∙ sym (ap (λ (x : Bool). if x then Some c.verdict else stopped_by (a ++ b)) so)
+  | inr not_so ↦
+      stopped-first a b v (is ∙ ap (λ (x : Bool). if x then Some c.verdict else stopped_by a) not_so)
+      ∙ sym (ap (λ (x : Bool). if x then Some c.verdict else stopped_by (a ++ b)) not_so)
+]
+
+pub stopped-second : (a b : List Check) → None ≡ stopped_by a → stopped_by b ≡ stopped_by (a ++ b)
+stopped-second [] b is = refl
+stopped-second (c ∷ a) b is = elim (cases_Bool c.applies) [
+  | inl so ↦ absurd (none_some (is ∙ ap (λ (x : Bool). if x then Some c.verdict else stopped_by a) so))
+  | inr not_so ↦
+      stopped-second a b (is ∙ ap (λ (x : Bool). if x then Some c.verdict else stopped_by a) not_so)
+      ∙ sym (ap (λ (x : Bool). if x then Some c.verdict else stopped_by (a ++ b)) not_so)
+]
+  where
+    none_some : {v : Verdict} → None ≡ Some v → ⊥
+    none_some e = cc
+
 -- the same of the last group
 pub stops_last : (o : Option Verdict) (a : List Check) (last v : Verdict) → o ≡ stopped_by a → o ≡ Some v
     → first_of a last ≡ v
@@ -79,35 +98,6 @@ applies b r v so = ap (λ (x : Bool). if x then r else v) so
 
 pub skipped : (b : Bool) (r v : Verdict) → b ≡ false → (if b then r else v) ≡ v
 skipped b r v not_so = ap (λ (x : Bool). if x then r else v) not_so
-
--- ---- moves
-
-promoted : (kind : Kind) → IsPromotionKind kind → CanBecome (Some kind)
-promoted k (inl e) = subst (λ (x : Kind). CanBecome (Some x)) (sym e) tt
-promoted k (inr (inl e)) = subst (λ (x : Kind). CanBecome (Some x)) (sym e) tt
-promoted k (inr (inr (inl e))) = subst (λ (x : Kind). CanBecome (Some x)) (sym e) tt
-promoted k (inr (inr (inr e))) = subst (λ (x : Kind). CanBecome (Some x)) (sym e) tt
-
-of_promotion : (side : Colour) (to : Square) (o : Option Kind) → IsPromotion side to o → CanBecome o
-of_promotion side to None is = tt
-of_promotion side to (Some kind) is = promoted kind is.1
-
-no_promotion : (o : Option Kind) → o ≡ None → CanBecome o
-no_promotion o none = subst CanBecome (sym none) tt
-
-can_become : (p : Position) (m : Move) (kind : Kind) → IsMoveOf p m kind → CanBecome m.promotion
-can_become p m Pawn is = of_promotion p.side m.to m.promotion is.promotion
-can_become p m Knight is = no_promotion m.promotion is.no_promotion
-can_become p m Bishop is = no_promotion m.promotion is.no_promotion
-can_become p m Rook is = no_promotion m.promotion is.no_promotion
-can_become p m Queen is = no_promotion m.promotion is.no_promotion
-can_become p m King (inl is) = no_promotion m.promotion is.no_promotion
-can_become p m King (inr (inl is)) = no_promotion m.promotion is.no_promotion
-can_become p m King (inr (inr is)) = no_promotion m.promotion is.no_promotion
-
--- a legal move can be kept in an entry
-pub CanBecome-legal : (p : Position) (m : Move) → IsLegal p m → CanBecome m.promotion
-CanBecome-legal p m legal = can_become p m legal.candidate.kind legal.candidate.rule
 
 -- ---- what a text tells
 

@@ -8,6 +8,7 @@ pub mod GameKept
 pub mod TableKept
 pub mod CheckLemmas
 pub mod FollowLemmas
+pub mod Entered
 mod Answering
 mod WhichReads
 pub mod Comings

@@ -32,6 +32,7 @@ use Rattle.chess_entry.specs.Table.{IsTable, IsOnTable, IsEnteredOn}
 use Rattle.chess_entry.proofs.Entering.{passed, entered, in_game-entered, by_side-entered, find_game-number}
 use Rattle.chess_entry.proofs.InPlay.{none-not_some}
 use Rattle.chess_table.proofs.ParsingLemmas.{legal_parsed, start_valid, IsTimeControl-of}
+use Rattle.chess_table.specs.Checks.{opening_of}
 use Rattle.chess_table.specs.Witness.{is_fallen, Enters, opening_verdict, witness_verdict}
 use Rattle.chess_table.proofs.Readiness.{IsReadyFor, OpensGame, ActsInGame, Comes}
 use Rattle.chess_game.specs.Turn.{IsRunningAt, IsInTime, IsPlayable}
@@ -341,26 +342,16 @@ module _ (table : TableState) (is : IsTable table) (at : ℕ) (from : table.mome
       } in
       (ap (λ (x : Entry). x.moment) same, subst (OpensGame table) (sym same) here)
 
-  abbrev opening_with : Colour → ℕ → ℕ → Option (ℕ × ℕ) → List ℕ → Position → Opening
-  opening_with colour initial increment period name start = record {
-    colour = colour;
-    initial = initial;
-    increment = increment;
-    period = period;
-    name = name;
-    start = start;
-  }
-
   open-enters : (colour : Colour) (initial increment : ℕ) (period : Option (ℕ × ℕ)) (name : List ℕ)
       (fen : Option (List ℕ)) (start : Option Position) (e : Entry) → IsName name → IsStartParsed fen start
-      → open_verdict table at (opening_with colour initial increment period name) (are_times initial increment period) start
+      → open_verdict table at (opening_of colour initial increment period name) (are_times initial increment period) start
       ≡ Enter e → (e.moment ≡ at) × OpensGame table e
   open-enters colour initial increment period name fen start e named tells h =
       let times = passed (not (are_times initial increment period)) _ _ e h in
       let numbered = passed (not (is_start start)) _ _ e times.1 in
       let goes_on = passed (is_finished start) _ _ e numbered.1 in
       let room = passed (is_full table) _ _ e goes_on.1 in
-      opens (opening_with colour initial increment period name) start e
+      opens (opening_of colour initial increment period name) start e
       (λ p states. (
         IsTimeControl-of initial increment period (not-false (are_times initial increment period) times.0),
         record {
@@ -371,7 +362,7 @@ module _ (table : TableState) (is : IsTable table) (at : ℕ) (from : table.mome
         named,
       ))
       (λ p states. ap (λ (s : Option Position). open_verdict table at
-      (opening_with colour initial increment period name) (are_times initial increment period) s) (sym states) ∙ h)
+      (opening_of colour initial increment period name) (are_times initial increment period) s) (sym states) ∙ h)
       room.0 room.1
 
   -- ---- every act

@@ -17,6 +17,7 @@ use Rattle.chess_entry.specs.declared.verdicts.Verdict.TheVariants.{Refuse, Ente
 use Rattle.chess_entry.specs.State.{GameState, TableState, ply_of, seat_of, is_joined, is_over, find_game}
 use Rattle.chess_entry.specs.Parsed.{Parsed}
 use Rattle.chess_entry.specs.Verdict.{Check, refuse, first_of, are_times, is_start, is_finished, is_full, has_offer, is_read, in_game, by_side, while_running, in_turn, for_move, for_stated, opened_from, move_entered, in_seat, side_of, player_verdict, name_or_none, effective, move_verdict, offer_verdict, accept_verdict, decline_verdict, resign_verdict, claim_verdict, flag_verdict, drop_verdict, join_verdict}
+use Rattle.chess_table.specs.Checks.{opening_of}
 use Rattle.chess_table.specs.Reading.{IsRead}
 
 -- what holds where a verdict is a read
@@ -69,17 +70,6 @@ opened-reads : (table : TableState) (at : ℕ) (opening : Position → Opening) 
     → OnRead ⊥ (opened_from table at opening start)
 opened-reads table at opening None = tt
 opened-reads table at opening (Some start) = tt
-
--- the opening of a game
-abbrev opening_of : Colour → ℕ → ℕ → Option (ℕ × ℕ) → List ℕ → Position → Opening
-opening_of colour initial increment period name start = record {
-  colour = colour;
-  initial = initial;
-  increment = increment;
-  period = period;
-  name = name;
-  start = start;
-}
 
 -- the checks of a claim
 for_stated-none : (table : TableState) (game : GameState) (states : Bool) (move : Option Move)

@@ -12,13 +12,17 @@ abbrev pub stopped_by : List Check → Option Verdict
 stopped_by [] = None
 stopped_by (c ∷ checks) = if c.applies then Some c.verdict else stopped_by checks
 
--- what is opened by a player with a colour and times, from each start
-abbrev pub opening_from : Colour → Times → List ℕ → Position → Opening
-opening_from colour times name start = record {
+-- what a player opens with a colour and times, from each start
+abbrev pub opening_of : Colour → ℕ → ℕ → Option (ℕ × ℕ) → List ℕ → Position → Opening
+opening_of colour initial increment period name start = record {
   colour = colour;
-  initial = times.initial;
-  increment = times.increment;
-  period = times.period;
+  initial = initial;
+  increment = increment;
+  period = period;
   name = name;
   start = start;
 }
+
+-- the same with the times together
+abbrev pub opening_from : Colour → Times → List ℕ → Position → Opening
+opening_from colour times name = opening_of colour times.initial times.increment times.period name

@@ -1,4 +1,4 @@
-ghost use Rattle.std.specs.Prelude.{◌≡◌, ◌≤◌, ℕ, List, Option, Some, None, true, IfSome, IfNone};
+ghost use Rattle.std.specs.Prelude.{◌≡◌, ◌≤◌, ◌++◌, ℕ, List, Option, Some, None, true, IfSome, IfNone};
 ghost use Rattle.std.specs.Option.{option_copied};
 ghost use Rattle.chess_bits.specs.declared.men.Colour.{Colour};
 ghost use Rattle.chess_bits.specs.Man.{other};
@@ -180,6 +180,17 @@ fn in_turn(game: &Game, side: Colour, ply: u32) -> Option<Verdict>
     }
 }
 
+// Both of these.
+fn while_in_turn(game: &Game, side: Colour, at: u64, ply: u32) -> Option<Verdict>
+    requires { game.now.moment ≤ at }
+    ensures { result ≡ stopped_by (while_running game.now at ++ in_turn game.now side ply) }
+{
+    match while_running(game, at) {
+        Some(stop) => Some(stop),
+        None => in_turn(game, side, ply),
+    }
+}
+
 // There is room for a move, and the text named a legal one.
 fn for_move(table: &Table, game: &Game, mv: &Option<StoredMove>) -> Option<Verdict>
     ensures { result ≡ stopped_by (for_move table.now game.now mv.now) }
@@ -274,10 +285,7 @@ pub(crate) fn move_verdict(
     requires { game.now.moment ≤ at }
     ensures { result ≡ move_verdict table.now at ply mv.now game.now side }
 {
-    if let Some(stop) = while_running(game, at) {
-        return stop;
-    }
-    if let Some(stop) = in_turn(game, side, ply) {
+    if let Some(stop) = while_in_turn(game, side, at, ply) {
         return stop;
     }
     if let Some(stop) = for_move(table, game, mv) {
@@ -393,10 +401,7 @@ pub(crate) fn claim_verdict(
     ensures { result ≡ claim_verdict table.now at claimed.now.ply claimed.now.fifty claimed.now.states claimed.now.mv
         game.now side }
 {
-    if let Some(stop) = while_running(game, at) {
-        return stop;
-    }
-    if let Some(stop) = in_turn(game, side, claimed.ply) {
+    if let Some(stop) = while_in_turn(game, side, at, claimed.ply) {
         return stop;
     }
     if game.claimed() {

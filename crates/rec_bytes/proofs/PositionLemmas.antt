@@ -12,9 +12,6 @@ use Rattle.chess_bits.specs.Square.{Square, on_board, IsOnBoard, number_of, squa
 use Rattle.chess_bits.specs.Table.{at}
 use Rattle.chess_board.specs.Position.{Position, IsValid, man_at}
 use Rattle.chess_board.specs.Position.{Rights}
-use Rattle.chess_board.specs.declared.parts.BadBoard.{BadBoard}
-use Rattle.chess_board.specs.declared.parts.BadBoard.TheVariants as broken
-use Rattle.chess_board.specs.Parts.{IsFirstBroken}
 use Rattle.chess_bits.specs.declared.men.Colour.{Colour}
 use Rattle.rec_codec.specs.Field.{AllStand}
 use Rattle.rec_codec.specs.Flags.{is_black, colour_of}
@@ -161,16 +158,6 @@ same_position p men side rights target half full a b c d e f =
     ∙ (ap (λ x. make p.placement p.side p.rights x half full) d
     ∙ (ap (λ x. make p.placement p.side p.rights p.target x full) e
     ∙ ap (λ x. make p.placement p.side p.rights p.target p.halfmove x) f))))
-
--- a valid position breaks no condition
-pub valid_unbroken : (p : Position) (fault : BadBoard) → IsValid p → IsFirstBroken p fault → ⊥
-valid_unbroken p broken.Kings v b = b v.kings
-valid_unbroken p broken.Pieces v b = b.1 v.men
-valid_unbroken p broken.Pawns v b = b.2 v.pawns
-valid_unbroken p broken.Check v b = b.3 v.check
-valid_unbroken p broken.Rights v b = b.4 v.rights
-valid_unbroken p broken.Target v b = b.5 v.target
-valid_unbroken p broken.Counter v b = b.6 v.counters
 
 -- the target of a valid position is a square of the board
 pub target_on_board : (p : Position) → IsValid p → IfSome p.target IsOnBoard

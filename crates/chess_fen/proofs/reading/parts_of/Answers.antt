@@ -1,7 +1,9 @@
+use Rattle.std.proofs.Common.{sym, subst}
 use Rattle.std.proofs.lemmas.Result.{err_from_is_err_and}
 use Rattle.chess_board.specs.RightsOf.{rights_of}
 use Rattle.chess_fen.specs.declared.fields.FenError.TheVariants.{Counter}
-use Rattle.chess_fen.specs.Reading.{fields_of, IsFenFault, HasHalfmove, HasFullmove}
+use Rattle.chess_fen.specs.Reading.{fields_of, IsFenFault, TellsPlacement, HasHalfmove, HasFullmove}
+use Rattle.chess_fen.proofs.Faults.{TellsAll-IsFenOf}
 use Rattle.chess_fen.proofs.reading.parts_of.Goals.{In_ok-target}
 use Rattle.chess_fen.proofs.reading.parts_of.Goals as goal
 
@@ -49,3 +51,16 @@ returns-in_err-fullmove-clause-fault c =
     rw (p.1, p.2) (rw c.in_err-fullmove.ensures.fault
     (counter (goal.at.returns-in_err-fullmove-clause-fault c).In_ok-target
     (λ h. c.in_err-fullmove.ensures.none h.1.0 h.1.1)))
+
+pub returns-clause-fen : goal.returns-clause-fen
+returns-clause-fen c =
+    let t = c.in_ok-fields.fields in
+    let f = fields_of t.placement.now t.side.now t.castling.now t.target.now t.halfmove.now t.fullmove.now in
+    TellsAll-IsFenOf c.args.text.now f _ c.in_ok-fields.ensures.split (record {
+      placement = subst (TellsPlacement f.placement) (sym c.by_number.ensures) c.in_ok-men.ensures.told;
+      side = c.in_ok-side.ensures.told;
+      rights = c.in_ok-rights.ensures.told;
+      target = c.in_ok-target.ensures.told;
+      halfmove = c.in_ok-halfmove.ensures.told;
+      fullmove = c.in_ok-fullmove.ensures.told;
+    })

@@ -6,23 +6,20 @@ use Rattle.chess_fen.proofs.shown.changes.Goals as goal
 
 pub returns : goal.returns
 returns c = λ s none.
-    let no_queens = c.with_differing.ensures.before s none in
-    let no_rooks = c.with_differing-queens.ensures.before s no_queens in
-    let no_bishops = c.with_differing-rooks.ensures.before s no_rooks in
-    let no_knights = c.with_differing-bishops.ensures.before s no_bishops in
-    let no_pawns = c.with_differing-knights.ensures.before s no_knights in
-    let no_colours = c.with_differing-pawns.ensures.before s no_pawns in
+    let no_queens = c.with_moved.ensures.before s none in
+    let no_rooks = c.with_moved-queens.ensures.before s no_queens in
+    let no_bishops = c.with_moved-rooks.ensures.before s no_rooks in
+    let no_knights = c.with_moved-bishops.ensures.before s no_bishops in
+    let no_pawns = c.with_moved-knights.ensures.before s no_knights in
+    let no_colours = c.with_moved-pawns.ensures.before s no_pawns in
     let no_white = c.with_differing-colours.ensures.before s no_colours in
     same_there c.args.old.now c.args.new.now s
     (by_sets c.of.result c.of-2.result _ _ s c.of.ensures c.of-2.ensures (c.with_differing-white.ensures.same s no_white))
     (by_sets c.of-3.result c.of-4.result _ _ s c.of-3.ensures c.of-4.ensures (c.with_differing-colours.ensures.same s no_colours))
     (each_kind (λ kind. has (squares_with (is_a kind) c.args.old.now) s ≡ has (squares_with (is_a kind) c.args.new.now) s)
-    (by_sets c.of_kind.result c.of_kind-2.result _ _ s c.of_kind.ensures c.of_kind-2.ensures (c.with_differing-pawns.ensures.same s no_pawns))
-    (by_sets c.of_kind-3.result c.of_kind-4.result _ _ s c.of_kind-3.ensures c.of_kind-4.ensures (c.with_differing-knights.ensures.same s no_knights))
-    (by_sets c.of_kind-5.result c.of_kind-6.result _ _ s c.of_kind-5.ensures c.of_kind-6.ensures (c.with_differing-bishops.ensures.same s no_bishops))
-    (by_sets c.of_kind-7.result c.of_kind-8.result _ _ s c.of_kind-7.ensures c.of_kind-8.ensures (c.with_differing-rooks.ensures.same s no_rooks))
-    (by_sets c.of_kind-9.result c.of_kind-10.result _ _ s c.of_kind-9.ensures c.of_kind-10.ensures (c.with_differing-queens.ensures.same s no_queens))
-    (by_sets c.of_kind-11.result c.of_kind-12.result _ _ s c.of_kind-11.ensures c.of_kind-12.ensures (c.with_differing.ensures.same s none)))
+    (c.with_moved-pawns.ensures.same s no_pawns) (c.with_moved-knights.ensures.same s no_knights)
+    (c.with_moved-bishops.ensures.same s no_bishops) (c.with_moved-rooks.ensures.same s no_rooks)
+    (c.with_moved-queens.ensures.same s no_queens) (c.with_moved.ensures.same s none))
 
 pub with_differing-white-requires-clause-so_far : goal.with_differing-white-requires-clause-so_far
 with_differing-white-requires-clause-so_far c = ap length c.new.ensures ∙ whole-empty

@@ -2,6 +2,7 @@ use Rattle.std.proofs.Common.{◌≡◌, ◌∙◌, arith, ap, sym, refl, subst,
 use Rattle.chess_bits.specs.declared.men.Colour.{Colour}
 use Rattle.chess_bits.specs.Table.{IsSetOf, meet, members}
 use Rattle.chess_board.specs.Legal.{last_rank}
+use Rattle.chess_moves.proofs.Counted.{members_most}
 use Rattle.chess_moves.proofs.Tallied.{pawn_number}
 use Rattle.chess_moves.proofs.counting.count_pawn.Goals as goal
 
@@ -23,3 +24,17 @@ returns-else-is_empty c =
     rw (c.count-else-is_empty.ensures, c.count-else-is_empty-2.ensures, c.meet-last.ensures)
     (sym (pawn_number p c.args.from c.args.safe c.last_squares.result c.requires.valid c.requires.own
     c.requires.safe (subst Last' c.side.ensures c.last_squares.ensures)))
+
+-- a set of squares has at most 64
+pub overflow_mul-result : goal.overflow_mul-result
+overflow_mul-result c = omega (arith, members_most c.meet-last.result, c.count-else-is_empty-2.ensures)
+
+pub overflow_add-result : goal.overflow_add-result
+overflow_add-result c =
+    omega (
+      arith,
+      members_most c.args.safe,
+      members_most c.meet-last.result,
+      c.count-else-is_empty.ensures,
+      c.count-else-is_empty-2.ensures,
+    )

@@ -9,7 +9,7 @@ use Rattle.chess_board.specs.Occupancy.{squares_with}
 use Rattle.chess_board.specs.Computing.{legal_moves_of}
 use Rattle.chess_moves.specs.Listing.{legal_from}
 use Rattle.chess_moves.proofs.Listed.{legal_moves_of-parts, IsListOfLegalMoves-computed}
-use Rattle.chess_moves.proofs.Taken.{part_room, parts_end}
+use Rattle.chess_moves.proofs.Taken.{part_room, part_taken, parts_end}
 use Rattle.chess_moves.proofs.Bound.{length-legal_moves_of}
 use Rattle.chess_moves.proofs.listing.relist_legal_moves.Goals as goal
 
@@ -29,6 +29,14 @@ push_moves_from-requires-clause-room c =
     part_room (legal_from c.args.board.now) c.loop-from.moves.items (legal_moves_of c.args.board.now) c.in-Some.from
     (squares_left c.next.new.self) (squares_left c.loop-from.from-iterator) 512 c.loop-from.invariant
     c.in-Some.ensures.steps (length-legal_moves_of c.args.board.now c.men_of.ensures.valid)
+
+pub loop-from-preserved : goal.loop-from-preserved
+loop-from-preserved c =
+    let p = c.args.board.now in
+    ap (λ (xs : List Move). xs ++ flat_map (legal_from p) (squares_left c.next.new.self)) c.push_moves_from.ensures
+    ∙ part_taken (legal_from p) c.loop-from.moves.items (legal_moves_of p) c.in-Some.from
+    (squares_left c.next.new.self) (squares_left c.loop-from.from-iterator) c.loop-from.invariant
+    c.in-Some.ensures.steps
 
 pub returns : goal.returns
 returns c =

@@ -2,7 +2,7 @@ use Rattle.std.proofs.Common.{◌≡◌, refl, true}
 use Rattle.chess_bits.specs.declared.men.Colour.TheVariants.{White}
 use Rattle.chess_bits.specs.Table.{has}
 use Rattle.chess_bits.specs.Attack.{Slides, straight}
-use Rattle.chess_moves.proofs.SetForms.{both_set}
+use Rattle.chess_moves.proofs.SetForms.{both_set, set_itself}
 use Rattle.chess_moves.proofs.Open.{no_rook}
 use Rattle.chess_moves.proofs.safe.rook_meets.Goals as goal
 
@@ -19,4 +19,4 @@ returns-else-is_empty c =
     rw c.meet-else-is_empty.ensures
     (both_set c.rook.result c.args.men (Slides c.args.occupied straight c.args.square)
     (λ s. has c.args.men s ≡ true) (c.rook.ensures White)
-    (record { whole = c.requires; exact = λ s on. ((λ is. is), (λ is. is)) }))
+    (set_itself c.args.men c.requires))

@@ -2,8 +2,9 @@ use Rattle.std.proofs.Common.{◌≡◌, ◌∙◌, Some, ap, subst, arith}
 use Rattle.chess_board.specs.Parts.{IsFirstBroken}
 use Rattle.chess_board.specs.Position.{Position, IsValid}
 use Rattle.chess_board.specs.RightsOf.{rights_of}
+use Rattle.chess_board.proofs.Broken.{none_broken}
 use Rattle.rec_codec.specs.Position.{position_flags, target_number, position_bytes}
-use Rattle.rec_bytes.proofs.PositionLemmas.{position-stands, same_position, valid_unbroken, target_on_board}
+use Rattle.rec_bytes.proofs.PositionLemmas.{position-stands, same_position, target_on_board}
 use Rattle.rec_bytes.proofs.position.board_of.Goals.{After-u16_at-2}
 use Rattle.rec_bytes.proofs.position.board_of.Goals as goal
 
@@ -33,5 +34,5 @@ returns-in-Ok c = λ p valid e. ap Some (c.in-Ok.ensures.ok ∙ same (goal.at.re
 
 pub returns-in-Err : goal.returns-in-Err
 returns-in-Err c = λ p valid e.
-    absurd (valid_unbroken p c.in-Err.field-0 valid (subst (λ q. IsFirstBroken q c.in-Err.field-0)
+    absurd (none_broken p c.in-Err.field-0 valid (subst (λ q. IsFirstBroken q c.in-Err.field-0)
     (same (goal.at.returns-in-Err c).After-u16_at-2 p valid e) c.in-Err.ensures.err))

@@ -12,3 +12,10 @@ returns-clause-legal c = record {
       let found = subst (λ (p : Position). IsInCheck c.men_after-men.result p.side) (sym c.self.view_is) men in
       false≢true (sym c.if-is_in_check.false ∙ c.is_in_check.ensures.1 found);
 }
+
+pub returns-then-is_in_check-clause-none : goal.returns-then-is_in_check-clause-none
+returns-then-is_in_check-clause-none c = λ legal.
+    let side = c.args.self.now.side in
+    let found : IsInCheck c.men_after-men.result c.self.inside.side = c.is_in_check.ensures.0 c.if-is_in_check.true in
+    let men = subst (λ (p : Position). IsInCheck c.men_after-men.result p.side) c.self.view_is found in
+    legal.safe (subst (λ (men : Placement). IsInCheck men side) c.men_after-men.ensures men)

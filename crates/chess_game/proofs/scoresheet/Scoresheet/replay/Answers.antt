@@ -1,12 +1,10 @@
-use Rattle.std.proofs.Common.{◌<◌, List, take, length, sym, ap, ◌∙◌, subst, arith}
-use Rattle.std.proofs.lemmas.List.{length-take-le}
+use Rattle.std.proofs.Common.{◌<◌, List, take, sym, ap, ◌∙◌, subst}
 use Rattle.chess_board.specs.declared.moves.Move.{Move}
 use Rattle.chess_board.specs.Position.{Position}
 use Rattle.chess_board.specs.Next.{next}
 use Rattle.chess_board.specs.Legal.{IsLegal}
-use Rattle.chess_game.specs.Scoresheet.{HasRoom}
 use Rattle.chess_game.specs.Restored.{IsReplayed}
-use Rattle.chess_game.proofs.ReplayLemmas.{IsReplayed-push, taken, HasRoom-replayed, IsScoresheet-not_legal, IsScoresheet-ended, none_from}
+use Rattle.chess_game.proofs.ReplayLemmas.{IsReplayed-push, taken, HasRoom-before, IsScoresheet-not_legal, IsScoresheet-ended, none_from}
 use Rattle.chess_game.proofs.RestoredLemmas.{none_made}
 use Rattle.chess_game.proofs.scoresheet.Scoresheet.replay.Goals as goal
 
@@ -25,25 +23,15 @@ returns-in_default-clause-none c =
 
 pub after_legal-requires-clause-halfmove : goal.after_legal-requires-clause-halfmove
 after_legal-requires-clause-halfmove c =
-    let below = c.loop-mv-test.true in
-    let short = c.requires.short in
-    let long = length-take-le c.loop-mv.mv-index c.args.moves.now (omega arith) in
-    let room : length (take c.loop-mv.mv-index c.args.moves.now) < 20000 = omega arith in
-    let has : HasRoom c.loop-mv.line =
-    HasRoom-replayed c.args.start.now (take c.loop-mv.mv-index c.args.moves.now) c.loop-mv.line c.loop-mv.by_line
-    c.loop-mv.invariant c.requires.start room in
-    subst (λ (p : Position). p.halfmove < 65535) (sym c.board.ensures) has.halfmove
+    subst (λ (p : Position). p.halfmove < 65535) (sym c.board.ensures)
+    (HasRoom-before c.args.start.now c.args.moves.now c.loop-mv.mv-index c.loop-mv.line c.loop-mv.by_line
+    c.loop-mv.invariant c.requires.start c.loop-mv-test.true c.requires.short).halfmove
 
 pub after_legal-requires-clause-fullmove : goal.after_legal-requires-clause-fullmove
 after_legal-requires-clause-fullmove c =
-    let below = c.loop-mv-test.true in
-    let short = c.requires.short in
-    let long = length-take-le c.loop-mv.mv-index c.args.moves.now (omega arith) in
-    let room : length (take c.loop-mv.mv-index c.args.moves.now) < 20000 = omega arith in
-    let has : HasRoom c.loop-mv.line =
-    HasRoom-replayed c.args.start.now (take c.loop-mv.mv-index c.args.moves.now) c.loop-mv.line c.loop-mv.by_line
-    c.loop-mv.invariant c.requires.start room in
-    subst (λ (p : Position). p.fullmove < 65535) (sym c.board.ensures) has.fullmove
+    subst (λ (p : Position). p.fullmove < 65535) (sym c.board.ensures)
+    (HasRoom-before c.args.start.now c.args.moves.now c.loop-mv.mv-index c.loop-mv.line c.loop-mv.by_line
+    c.loop-mv.invariant c.requires.start c.loop-mv-test.true c.requires.short).fullmove
 
 pub push_made-requires-clause-made : goal.push_made-requires-clause-made
 push_made-requires-clause-made c =
@@ -51,12 +39,8 @@ push_made-requires-clause-made c =
 
 pub push_made-requires-clause-room : goal.push_made-requires-clause-room
 push_made-requires-clause-room c =
-    let below = c.loop-mv-test.true in
-    let short = c.requires.short in
-    let long = length-take-le c.loop-mv.mv-index c.args.moves.now (omega arith) in
-    let room : length (take c.loop-mv.mv-index c.args.moves.now) < 20000 = omega arith in
-    HasRoom-replayed c.args.start.now (take c.loop-mv.mv-index c.args.moves.now) c.loop-mv.line c.loop-mv.by_line
-    c.loop-mv.invariant c.requires.start room
+    HasRoom-before c.args.start.now c.args.moves.now c.loop-mv.mv-index c.loop-mv.line c.loop-mv.by_line
+    c.loop-mv.invariant c.requires.start c.loop-mv-test.true c.requires.short
 
 pub loop-mv-preserved : goal.loop-mv-preserved
 loop-mv-preserved c =

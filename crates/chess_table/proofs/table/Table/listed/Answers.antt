@@ -1,0 +1,19 @@
+use Rattle.std.proofs.Common.{ℕ, ◌≡◌, ◌+◌, ◌<◌, ◌++◌, ◌∷◌, [], List, take, length, get_or, sym, ap, ◌∙◌}
+use Rattle.std.proofs.lemmas.List.{take_more}
+use Rattle.chess_entry.specs.State.{GameState}
+use Rattle.chess_entry.proofs.OneMore.{flat_map-more}
+use Rattle.chess_answer.specs.Reads.{list_row, list_text}
+use Rattle.chess_table.proofs.table.Table.listed.Goals as goal
+
+-- the rows of one game more
+row_more : (games : List GameState) (i : ℕ) (game : GameState) → i < length games → game ≡ get_or games i game
+    → list_text (take i games) ++ list_row game ≡ list_text (take (i + 1) games)
+row_more games i game below here =
+    sym (flat_map-more list_row (take i games) game)
+    ∙ ap (λ (g : GameState). list_text (take i games ++ g ∷ [])) here
+    ∙ ap list_text (sym (take_more games i game below))
+
+pub loop-game-preserved : goal.loop-game-preserved
+loop-game-preserved c =
+    c.in_ok-write_row.ensures.written ∙ ap (λ (t : List ℕ). t ++ list_row c.game-item.result) c.loop-game.invariant
+    ∙ row_more _ c.loop-game.game-index c.game-item.result c.loop-game-test.true c.game-item.is
