@@ -155,6 +155,27 @@ module _ {S T : Type 0} where
         kept_err = tt;
       }
 
+  pub tried_passed : {D : Type 0} (state : D → State) (sector_count failures : D → ℕ) (old new : D)
+      (made : Result T HubFault) (fault y : HubFault) (before after : TableState) (failed new_failed : Bool)
+      → made ≡ Err y → y ≡ fault
+      → TurnTried {T = S} state sector_count failures old new (Err fault) before after failed new_failed
+      → TurnTried state sector_count failures old new made before after failed new_failed
+  tried_passed state sector_count failures old new made fault y before after failed new_failed is same tried =
+      subst (λ (r : Result T HubFault). TurnTried state sector_count failures old new r before after failed new_failed)
+      (sym is) (record {
+        model = tried.model;
+        size = tried.size;
+        limits = tried.limits;
+        bounds = tried.bounds;
+        idle = tried.idle;
+        works = tt;
+        fails = subst (λ (f : HubFault). IsDevice f → new_failed ≡ true) (sym same) tried.fails;
+        unchanged = subst (λ (f : HubFault). UnlessDevice f ((new ≡ old) × (after ≡ before) × (new_failed ≡ failed)))
+            (sym same) tried.unchanged;
+        cause = tt;
+        cause_err = subst (λ (f : HubFault). CountsFault f (failures old) (failures new)) (sym same) tried.cause_err;
+      })
+
   pub fault_passed : (given : Result S HubFault) (made : Result T HubFault) (fault y : HubFault) (Same : Type 0)
       (P Q : StoreFault → Type 0) → given ≡ Err fault → made ≡ Err y → y ≡ fault
       → IfErr given (λ f. IsTurnFault f ⊥ P) → ((refused : StoreFault) → P refused → Q refused)

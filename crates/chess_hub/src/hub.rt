@@ -1,6 +1,9 @@
 //! A hub.
-ghost use Rattle.std.specs.Prelude.{ℕ, ◌≡◌, ◌≤◌, ◌↔◌, true, false, [], Some, None, length, option_map, IsTrue, IsSome, IfSome, IfOk, IfErr, OnOk, OnErr, IsErrOf};
+ghost use Rattle.std.specs.Prelude.{ℕ, ◌≡◌, ◌≤◌, ◌↔◌, true, false, [], Some, None, Err, length, option_map, IsTrue, IsSome, IfSome, IfOk, IfErr, OnOk, OnErr, IsErrOf};
 ghost use Rattle.session_lines.specs.Heard.{heard_more};
+ghost use Rattle.chess_sessions.specs.Answers.{name_at, commands_of};
+ghost use Rattle.chess_sessions.specs.Delivery.{HaveRoom, asking_count};
+ghost use Rattle.chess_sessions.specs.Turn.{AreTakenAs, turn_lines, waiting_of};
 ghost use Rattle.chess_sessions.specs.Session.{said, fresh, session_at, session_count, Changes, IsUnchanged, due, first_due, given_one};
 ghost use Rattle.chess_store.specs.Batch.{AreAnswered};
 ghost use Rattle.chess_store.specs.Kept.{IsStoreKept};
@@ -10,10 +13,10 @@ ghost use Rattle.chess_hub.specs.Turning.{HasTurned, AsksFor, MayBeAsked, AreRef
 use crate::fault::HubFault;
 use chess_answer::Reply;
 use chess_entry::Command;
-use chess_sessions::{Sessions, Sid};
+use chess_sessions::{Sessions, Sid, Taken};
 use chess_store::Store;
 use sector_dev::Device;
-use std::alloc::Global;
+use std::alloc::{AllocError, Global};
 
 /// Sessions over a store, which it keeps.
 #[derive(Drop)]
@@ -26,22 +29,23 @@ pub struct Hub<D: Device> {
     refusals: u64,
 }
 
-// A count of refusals, after a turn.
-fn counted(refusals: u64, turned: &Result<(), HubFault>) -> u64
-    ensures { result ≡ refusals_after turned.now refusals }
+// A count of refusals, after this fault.
+fn counted(refusals: u64, fault: HubFault) -> u64
+    ensures { result ≡ refusals_after {T = Unit {0}} (Err fault) refusals }
 {
-    match turned {
-        Err(fault) if fault.is_for_memory() => refusals.saturating_add(1),
-        Err(_) => refusals,
-        Ok(()) => refusals,
+    if fault.is_for_memory() {
+        refusals.saturating_add(1)
+    } else {
+        refusals
     }
 }
 
-// Submits commands, at most 64; without one the store is not called.
+// Submits commands, at most 64, and counts it where memory was refused; without one the store is not called.
 fn ask<D: Device>(
     alloc: Global,
     store: &mut Store<D>,
     commands: &[Command],
+    refusals: &mut u64,
 ) -> Result<Vec<Reply>, HubFault>
     requires few { length commands.now ≤ 64 }
     ensures replies { IfOk result (λ replies.
@@ -56,14 +60,43 @@ fn ask<D: Device>(
         store.new.journal.header store.new.journal.compaction store.old.table store.new.table }
     ensures tried { TurnTried D.state D.sector_count D.failures store.old.journal.device store.new.journal.device result
         store.old.table store.new.table store.old.failed store.new.failed }
+    ensures counts { refusals.new ≡ refusals_after result refusals.old }
 {
     // With it, the table's bounds are known.
     let _limits = store.limits();
     if commands.is_empty() {
         return Ok(Vec::new(alloc));
     }
-    let replies = store.submit(commands)?;
-    Ok(replies)
+    match store.submit(commands) {
+        Ok(replies) => Ok(replies),
+        Err(fault) => {
+            let refused = HubFault::Store(fault);
+            *refusals = counted(*refusals, refused);
+            Err(refused)
+        }
+    }
+}
+
+// What a turn takes of the sessions: lines that wait, with their commands, and room for their answers.
+#[derive(Drop)]
+struct Gathered {
+    taken: Vec<Taken>,
+    commands: Vec<Command>,
+}
+
+fn gather(sessions: &mut Sessions, at: u64, most: usize) -> Result<Gathered, AllocError>
+    ensures lines { IfOk result (λ g. AreTakenAs (turn_lines most (waiting_of sessions.old)) g.taken.items) }
+    ensures commands { IfOk result (λ g.
+        g.commands.items ≡ commands_of at (name_at sessions.old) g.taken.items) }
+    ensures count { IfOk result (λ g. length g.commands.items ≡ asking_count at g.taken.items) }
+    ensures few { IfOk result (λ g. length g.commands.items ≤ most) }
+    ensures room { IfOk result (λ g. HaveRoom (length g.taken.items) sessions.new.slab g.taken.items) }
+    ensures unchanged { IsUnchanged sessions.old sessions.new }
+{
+    let taken = sessions.next_lines(most)?;
+    let commands = sessions.commands(at, &taken)?;
+    sessions.reserve(&taken)?;
+    Ok(Gathered { taken, commands })
 }
 
 impl<D: Device> Hub<D> {
@@ -133,38 +166,6 @@ impl<D: Device> Hub<D> {
         Ok(self.sessions.feed(sid, piece)?)
     }
 
-    // The turn of `turn`, that is not counted yet.
-    fn take_turn(&mut self, at: u64, most: usize) -> Result<(), HubFault>
-        requires some { 1 ≤ most }
-        requires few { most ≤ 64 }
-        ensures turned { OnOk result (HasTurned at most self.old.sessions self.new.sessions
-            self.old.store.table self.new.store.table) }
-        ensures quiet { OnOk result (AsksFor at most self.old.sessions
-            (λ commands. commands ≡ [] → self.new.store ≡ self.old.store)) }
-        ensures works { OnOk result (AsksFor at most self.old.sessions (MayBeAsked self.old.store.failed
-            self.old.store.journal.header.seq self.old.store.table.entries)) }
-        ensures unchanged { OnErr result (IsUnchanged self.old.sessions self.new.sessions) }
-        ensures fault { IfErr result (λ fault. IsTurnFault fault (self.new.store ≡ self.old.store)
-            (λ refused. AsksFor at most self.old.sessions (AreRefused refused self.old.store.journal.header.seq
-            self.old.store.failed self.old.store.table self.new.store.table))) }
-        ensures lasts { IsStoreKept self.old.store
-            → TurnLasts result (D.state self.old.store.journal.device) (D.state self.new.store.journal.device)
-            self.new.store.journal.header self.new.store.journal.compaction self.old.store.table self.new.store.table }
-        ensures refusals { self.new.refusals ≡ self.old.refusals }
-        ensures tried { TurnTried D.state D.sector_count D.failures self.old.store.journal.device
-            self.new.store.journal.device result self.old.store.table self.new.store.table self.old.store.failed
-            self.new.store.failed }
-    {
-        // With it, the table's bounds are known.
-        let _limits = self.store.limits();
-        let taken = self.sessions.next_lines(most)?;
-        let commands = self.sessions.commands(at, &taken)?;
-        self.sessions.reserve(&taken)?;
-        let replies = ask(self.alloc, &mut self.store, &commands)?;
-        self.sessions.deliver(at, &taken, replies);
-        Ok(())
-    }
-
     /// Takes lines that wait, at most `most` of 1 to 64: round the sessions by rising number, one line of each, then
     /// the second of each, and so on. Their commands go to the store as one batch, at this moment, and each session has
     /// the answers to its lines. A `name` line is answered here, and the name holds for the session's lines after it; a
@@ -197,9 +198,16 @@ impl<D: Device> Hub<D> {
             self.new.store.journal.device result self.old.store.table self.new.store.table self.old.store.failed
             self.new.store.failed }
     {
-        let turned = self.take_turn(at, most);
-        self.refusals = counted(self.refusals, &turned);
-        turned
+        // With it, the table's bounds are known.
+        let _limits = self.store.limits();
+        let Ok(gathered) = gather(&mut self.sessions, at, most) else {
+            self.refusals = self.refusals.saturating_add(1);
+            return Err(HubFault::NoMemory);
+        };
+        let (taken, commands) = (&gathered.taken, &gathered.commands);
+        let replies = ask(self.alloc, &mut self.store, commands, &mut self.refusals)?;
+        self.sessions.deliver(at, taken, replies);
+        Ok(())
     }
 
     /// The oldest answer that an open session was not given, if there is one; behind all its answers, where a line was

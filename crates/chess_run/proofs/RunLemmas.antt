@@ -9,7 +9,7 @@ use Rattle.chess_sessions.specs.declared.sessions.Sessions.{Sessions}
 use Rattle.chess_sessions.specs.Session.{shown, session_at, session_count}
 use Rattle.line_loop.specs.declared.answerer.LoopFault.{LoopFault}
 use Rattle.line_loop.specs.declared.answerer.LoopFault.TheVariants as loop
-use Rattle.line_loop.specs.Texts.{IsRun, IsText, FindsNone, IsOfSource, Ended}
+use Rattle.line_loop.specs.Texts.{IsRun, IsText, AnswersAll, FindsNone, IsOfSource, Ended}
 use Rattle.chess_hub.specs.declared.fault.HubFault.{HubFault}
 use Rattle.chess_hub.specs.declared.fault.HubFault.TheVariants.{Busy, NoMemory, LineTooLong, Store as OfStore}
 use Rattle.chess_run.specs.declared.running.RunFault.{RunFault}
@@ -34,6 +34,17 @@ module _ {S T : Type 0} (A : S → List ℕ → List ℕ → S → Type 0) (B : 
     whole = h.whole;
   }
 
+  all-map : (before after old new : Option (List ℕ)) (s t : S) → AnswersAll A before after old new s t →
+      AnswersAll B before after old new (f s) (f t)
+  all-map before after old new s t h = record {
+    taken = h.taken;
+    consumed = h.consumed;
+    text = h.text;
+    is = text-map s h.taken h.text t h.is;
+    appended = h.appended;
+    short = h.short;
+  }
+
   module _ {F : Type 0} (C : S → List ℕ → F → S → Type 0) (D : T → List ℕ → F → T → Type 0)
       (n : (s : S) (line : List ℕ) (fault : F) (t : S) → C s line fault t → D (f s) line fault (f t)) where
     last-map : (left : List (List ℕ)) (mid end : S) → (end ≡ mid) ⊎ FindsNone C left mid end →
@@ -49,22 +60,8 @@ module _ {S T : Type 0} (A : S → List ℕ → List ℕ → S → Type 0) (B : 
 
     pub ended-map : (result : Result (Unit {0}) (LoopFault F)) (before after old new : Option (List ℕ)) (s t : S) →
         Ended A C result before after old new s t → Ended B D result before after old new (f s) (f t)
-    ended-map (Ok done) before after old new s t h = record {
-      taken = h.taken;
-      consumed = h.consumed;
-      text = h.text;
-      is = text-map s h.taken h.text t h.is;
-      appended = h.appended;
-      short = h.short;
-    }
-    ended-map (Err loop.Read) before after old new s t h = record {
-      taken = h.taken;
-      consumed = h.consumed;
-      text = h.text;
-      is = text-map s h.taken h.text t h.is;
-      appended = h.appended;
-      short = h.short;
-    }
+    ended-map (Ok done) before after old new s t h = all-map before after old new s t h
+    ended-map (Err loop.Read) before after old new s t h = all-map before after old new s t h
     ended-map (Err loop.Write) before after old new s t h = record {
       taken = h.taken;
       consumed = h.consumed;

@@ -157,27 +157,23 @@ module _ {C S : Type 0} (IsMade : C → S → Type 0) (at : ℕ) where
   one_client clients [] given gives count counted same one is = absurd (omega (arith, same))
   one_client clients (client ∷ came) given gives count counted same one is = (one, is)
 
-  module _ (given : ℕ) (door after_door : Door) (count counted : ℕ) (clients after : List (Client S))
-      (old new : HubState) (same_door : after_door ≡ door) (came : door.given ≡ given + 1)
-      (w : Welcomes IsMade at clients after old new) where
+  module _ (given gives count counted : ℕ) (clients after : List (Client S)) (old new : HubState)
+      (one : gives ≡ given + 1) (w : Welcomes IsMade at clients after old new) where
     many : length after ≡ length clients + length w.came
     many = ap length w.whole ∙ length-append clients w.came
 
-    one : after_door.given ≡ given + 1
-    one = ap (λ (d : Door). d.given) same_door ∙ came
-
     pub away_counted : after ≡ clients → counted ≡ min (count + 1) (2 ^ 64 - 1)
-        → IsWelcomed IsMade at given after_door.given count counted clients after old new
+        → IsWelcomed IsMade at given gives count counted clients after old new
     away_counted same is = record {
       welcomes = w;
-      counts = one_away clients w.came given after_door.given count counted (sym (ap length same) ∙ many) one is;
+      counts = one_away clients w.came given gives count counted (sym (ap length same) ∙ many) one is;
     }
 
     pub client_counted : length after ≡ length clients + 1 → counted ≡ count
-        → IsWelcomed IsMade at given after_door.given count counted clients after old new
+        → IsWelcomed IsMade at given gives count counted clients after old new
     client_counted same is = record {
       welcomes = w;
-      counts = one_client clients w.came given after_door.given count counted (sym same ∙ many) one is;
+      counts = one_client clients w.came given gives count counted (sym same ∙ many) one is;
     }
 
   -- said of a hub, a listener and a count that are those from before

@@ -1,5 +1,5 @@
 //! The server.
-ghost use Rattle.std.specs.Prelude.{ℕ, ◌≡◌, ◌<◌, ◌+◌, ◌↔◌, ◌⊎◌, true, false, [], Some, None, Ok, IsTrue, IsSomeAnd, IfOk, IfErr, OnOk, length};
+ghost use Rattle.std.specs.Prelude.{◌≡◌, ◌<◌, ◌+◌, ◌↔◌, ◌⊎◌, true, false, [], Some, None, Ok, IsTrue, IsSomeAnd, IfOk, IfErr, OnOk, length};
 ghost use Rattle.std.specs.Bool.{OnTrue, OnFalse};
 ghost use Rattle.chess_store.specs.Kept.{IsStoreKept};
 ghost use Rattle.chess_hub.specs.Faults.{CountsFault, refusals_after};
@@ -74,6 +74,39 @@ fn told_as(has_worked: bool) -> Turned
     } else {
         Turned::Idle
     }
+}
+
+// Begins a session for a connection, and tells whether it did: the connection is dropped where the hub is busy or memory is
+// refused.
+fn admit<S: Read + Write + From<TcpStream> + Drop, D: Device>(
+    alloc: Global,
+    clients: &mut Vec<Client<S>>,
+    hub: &mut Hub<D>,
+    watch: &mut Watch,
+    stream: TcpStream,
+    at: u64,
+) -> bool
+    ensures welcomes { Welcomes S.from_gives at clients.old.items clients.new.items
+        (state_of hub.old.sessions hub.old.store.table) (state_of hub.new.sessions hub.new.store.table) }
+    ensures store { hub.new.store ≡ hub.old.store }
+    ensures refusals { hub.new.refusals ≡ hub.old.refusals }
+    ensures waits { watch.new.calm_waits ≡ watch.old.calm_waits }
+    ensures blind { watch.old.is_blind ≡ true → watch.new.is_blind ≡ true }
+    ensures came { OnTrue result (length clients.new.items ≡ length clients.old.items + 1) }
+    ensures dropped { OnFalse result (clients.new.items ≡ clients.old.items) }
+{
+    match clients.reserve(1) {
+        Ok(()) => {}
+        Err(_) => return false,
+    }
+    let sid = match hub.connect() {
+        Ok(sid) => sid,
+        Err(_) => return false,
+    };
+    // One that the system refuses to watch is served too: each rest then ends as though something had come.
+    let _ = watch.add(stream.as_raw_fd());
+    clients.push_reserved(Client::new(alloc, S::from(stream), sid, at));
+    true
 }
 
 /// Reads for each session, has the hub answer lines that wait, and writes; and tells whether there was anything to read or
@@ -169,57 +202,6 @@ impl<D: Device, S: Read + Write + From<TcpStream> + Drop> Server<D, S> {
         self.hub
     }
 
-    // Begins a session for a connection, and tells whether it did: the connection is dropped where the hub is busy or memory
-    // is refused.
-    fn admit(&mut self, stream: TcpStream, at: u64) -> bool
-        ensures welcomes { Welcomes S.from_gives at self.old.clients.items self.new.clients.items
-            (state_of self.old.hub.sessions self.old.hub.store.table)
-            (state_of self.new.hub.sessions self.new.hub.store.table) }
-        ensures store { self.new.hub.store ≡ self.old.hub.store }
-        ensures refusals { self.new.hub.refusals ≡ self.old.hub.refusals }
-        ensures port { self.new.port ≡ self.old.port }
-        ensures silence { self.new.silence ≡ self.old.silence }
-        ensures waits { self.new.watch.calm_waits ≡ self.old.watch.calm_waits }
-        ensures blind { self.old.watch.is_blind ≡ true → self.new.watch.is_blind ≡ true }
-        ensures door { self.new.door ≡ self.old.door }
-        ensures turned_away { self.new.turned_away ≡ self.old.turned_away }
-        ensures came { OnTrue result (length self.new.clients.items ≡ length self.old.clients.items + 1) }
-        ensures dropped { OnFalse result (self.new.clients.items ≡ self.old.clients.items) }
-    {
-        match self.clients.reserve(1) {
-            Ok(()) => {}
-            Err(_) => return false,
-        }
-        let sid = match self.hub.connect() {
-            Ok(sid) => sid,
-            Err(_) => return false,
-        };
-        // One that the system refuses to watch is served too: each rest then ends as though something had come.
-        let _ = self.watch.add(stream.as_raw_fd());
-        self.clients
-            .push_reserved(Client::new(self.alloc, S::from(stream), sid, at));
-        true
-    }
-
-    // Begins a session for a connection that came, or counts it as turned away.
-    fn greet(&mut self, stream: TcpStream, at: u64)
-        ensures welcomes { (given : ℕ) → self.old.door.given ≡ given + 1 → IsWelcomed S.from_gives at given
-            self.new.door.given self.old.turned_away self.new.turned_away self.old.clients.items
-            self.new.clients.items (state_of self.old.hub.sessions self.old.hub.store.table)
-            (state_of self.new.hub.sessions self.new.hub.store.table) }
-        ensures store { self.new.hub.store ≡ self.old.hub.store }
-        ensures refusals { self.new.hub.refusals ≡ self.old.hub.refusals }
-        ensures port { self.new.port ≡ self.old.port }
-        ensures silence { self.new.silence ≡ self.old.silence }
-        ensures waits { self.new.watch.calm_waits ≡ self.old.watch.calm_waits }
-        ensures blind { self.old.watch.is_blind ≡ true → self.new.watch.is_blind ≡ true }
-        ensures door { self.new.door ≡ self.old.door }
-    {
-        if !self.admit(stream, at) {
-            self.turned_away = self.turned_away.saturating_add(1);
-        }
-    }
-
     // Accepts at most one connection, and tells whether one came; after calm rests none, unless one may wait. One that came
     // and is no client is counted. What fails at it ends nothing, and is no turn's work, so that a rest comes before the next.
     fn welcome(&mut self, at: u64) -> bool
@@ -243,7 +225,17 @@ impl<D: Device, S: Read + Write + From<TcpStream> + Drop> Server<D, S> {
         }
         match next_connection(&mut self.door) {
             Some(stream) => {
-                self.greet(stream, at);
+                if admit(
+                    self.alloc,
+                    &mut self.clients,
+                    &mut self.hub,
+                    &mut self.watch,
+                    stream,
+                    at,
+                ) {
+                    return true;
+                }
+                self.turned_away = self.turned_away.saturating_add(1);
                 true
             }
             None => false,

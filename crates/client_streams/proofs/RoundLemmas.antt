@@ -13,7 +13,7 @@ use Rattle.chess_answer.specs.declared.reads.Reply.{Reply}
 use Rattle.chess_sessions.specs.declared.sessions.Sessions.{Sessions}
 use Rattle.chess_sessions.specs.Session.{Said, said, SessionState, session_at, Changes, IsUnchanged, due, first_due, given_one, farewell, is_done}
 use Rattle.client_streams.specs.declared.client.Client.{Client}
-use Rattle.client_streams.specs.Clients.{OthersStay, IsSilent, IsHeardAt, IsEndSeen, IsHeldUp, HasWaitedOn, TakesIn, HandsOut, bytes_of_all, to_go}
+use Rattle.client_streams.specs.Clients.{OthersStay, IsSilent, IsHeardAt, IsEndSeen, IsHeldUp, HasWaitedOn, GivesOn, TakesIn, HandsOut, bytes_of_all, to_go}
 use Rattle.client_streams.specs.declared.closing.Closing.{Closing}
 use Rattle.client_streams.specs.declared.closing.Closing.TheVariants.{Fault, NoMemory, Silence, End, Farewell}
 use Rattle.client_streams.specs.Closings.{HasFailed, WasRefused, ByReason, IsReason, IsOver}
@@ -85,14 +85,37 @@ up_at : {unsent keeps : List ℕ} (s : SessionState) (m n r : Option SessionStat
 up_at {unsent = unsent} {keeps = keeps} s m n r e f up =
     some_at (λ t. IsHeldUp unsent keeps t n) (Some s) m e (subst (λ (o : Option SessionState). IsHeldUp unsent keeps s o) (sym f) up)
 
+sent_by : {room left longest waited waits : ℕ} {unsent holds keeps : List ℕ} (sid : ℕ) (old new : Sessions)
+    (s : SessionState) (n : Option SessionState) → session_at old sid ≡ Some s → session_at new sid ≡ n →
+    (gives : GivesOn room left longest unsent holds keeps waited waits s n) → OthersStay old new sid →
+    IsSent sid gives.fed old new
+sent_by sid old new s None e f gives others = inr (inr (inl (gives.gone refl, record { changed = f; others = others })))
+sent_by sid old new s (Some r) e f gives others = elim gives.heard [
+  | inl (short_so_far, portion, alone, is) ↦ inl (
+    portion,
+    subst (λ (o : Option SessionState). IsSomeAnd o (λ s. s.heard.bytes ≡ [])) (sym e) alone,
+    record {
+      state = s;
+      was = e;
+      short = short_so_far;
+      heard = record { changed = f ∙ ap Some is; others = others };
+    },
+  )
+  | inr (inl (is, none)) ↦ inr (inl (none, unchanged old new sid (f ∙ ap Some is ∙ sym e) others))
+  | inr (inr (is, long)) ↦ inr (inr (inr (
+    subst (λ (o : Option SessionState). IsSomeAnd o (λ s. s.heard.is_long ≡ true)) (sym e) long,
+    unchanged old new sid (f ∙ ap Some is ∙ sym e) others,
+  )))
+]
+
 pub sends : {waited waits : ℕ} (room left longest : ℕ) (before after : Option (List ℕ)) (unsent holds keeps : List ℕ)
     (sid : ℕ) (old new : Sessions) (m n : Option SessionState) → session_at old sid ≡ m → session_at new sid ≡ n →
     IsSome m → IfSome m (λ s. TakesIn room left longest before after unsent holds keeps waited waits s n) →
     OthersStay old new sid → Sends room left longest before after unsent holds keeps waited waits sid old new
 sends room left longest before after unsent holds keeps sid old new None n e f is_open takes others =
     absurd (let bad : false ≡ true = is_open in false≢true bad)
-sends {waited = waited} {waits = waits} room left longest before after unsent holds keeps sid old new (Some s) None e f
-    is_open takes others = record {
+sends {waited = waited} {waits = waits} room left longest before after unsent holds keeps sid old new (Some s) n e f is_open
+    takes others = record {
       taken = takes.taken;
       consumed = takes.consumed;
       unfinished = takes.unfinished;
@@ -101,41 +124,10 @@ sends {waited = waited} {waits = waits} room left longest before after unsent ho
       many = takes.gives.many;
       fewer = takes.gives.fewer;
       dear = takes.gives.dear;
-      spent = spent_by None (session_at new sid) f takes.gives.spent;
+      spent = spent_by n (session_at new sid) f takes.gives.spent;
       wait = waits-for room longest takes.gives.fed keeps waited waits
-          (up_at s (session_at old sid) (session_at new sid) None e f) takes.gives.wait;
-      sent = inr (inr (inl (takes.gives.gone refl, record { changed = f; others = others })));
-    }
-sends {waited = waited} {waits = waits} room left longest before after unsent holds keeps sid old new (Some s) (Some r) e f
-    is_open takes others = record {
-      taken = takes.taken;
-      consumed = takes.consumed;
-      unfinished = takes.unfinished;
-      fed = takes.gives.fed;
-      order = takes.gives.order;
-      many = takes.gives.many;
-      fewer = takes.gives.fewer;
-      dear = takes.gives.dear;
-      spent = spent_by (Some r) (session_at new sid) f takes.gives.spent;
-      wait = waits-for room longest takes.gives.fed keeps waited waits
-          (up_at s (session_at old sid) (session_at new sid) (Some r) e f) takes.gives.wait;
-      sent = elim takes.gives.heard [
-        | inl (short_so_far, portion, alone, is) ↦ inl (
-          portion,
-          subst (λ (o : Option SessionState). IsSomeAnd o (λ s. s.heard.bytes ≡ [])) (sym e) alone,
-          record {
-            state = s;
-            was = e;
-            short = short_so_far;
-            heard = record { changed = f ∙ ap Some is; others = others };
-          },
-        )
-        | inr (inl (is, none)) ↦ inr (inl (none, unchanged old new sid (f ∙ ap Some is ∙ sym e) others))
-        | inr (inr (is, long)) ↦ inr (inr (inr (
-          subst (λ (o : Option SessionState). IsSomeAnd o (λ s. s.heard.is_long ≡ true)) (sym e) long,
-          unchanged old new sid (f ∙ ap Some is ∙ sym e) others,
-        )))
-      ];
+          (up_at s (session_at old sid) (session_at new sid) n e f) takes.gives.wait;
+      sent = sent_by sid old new s n e f takes.gives others;
     }
 
 pub sent_after : (a b c : Sessions) (sid : ℕ) (fed : List ℕ) → IsUnchanged a b → IsSent sid fed b c → IsSent sid fed a c

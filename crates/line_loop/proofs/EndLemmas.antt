@@ -13,6 +13,7 @@ use Rattle.line_loop.specs.declared.answerer.LoopFault.{LoopFault}
 use Rattle.line_loop.specs.declared.answerer.LoopFault.TheVariants as faults
 use Rattle.line_loop.specs.Outlets.{IsSaid}
 use Rattle.line_loop.specs.Turns.{Moment, IsHeard, HasCome, BreaksAt, Takes}
+use Rattle.line_loop.specs.declared.loops.Flow.{Flow}
 use Rattle.line_loop.specs.declared.loops.Flow.TheVariants.{Open, TooLong, Broken}
 use Rattle.line_loop.specs.declared.outlet.WriteFault.{WriteFault}
 use Rattle.line_loop.proofs.Runs.{unfinished-nil, heard-nothing}
@@ -104,6 +105,17 @@ stands-all Asked Answers before later first start now h =
       short = short;
     }
 
+-- what a piece comes to, by how its call ended
+abbrev pub Outcome : {S F : Type 0} → (S → Type 0) → (S → List ℕ → List ℕ → S → Type 0) → (S → List ℕ → F → S → Type 0)
+    → Option (List ℕ) → Option (List ℕ) → Option (List ℕ) → S → Moment S → Result (Flow F) WriteFault → Type 0
+Outcome Asked Answers Breaks before later first start now (Ok Open) = Stands Asked Answers before later first start now
+Outcome Asked Answers Breaks before later first start now (Ok TooLong) =
+    AnswersLong Answers before later first now.written start now.answerer
+Outcome Asked Answers Breaks before later first start now (Ok (Broken fault)) =
+    AnswersUntil Answers Breaks fault before later first now.written start now.answerer
+Outcome Asked Answers Breaks before later first start now (Err fault) =
+    AnswersInPart Answers Breaks before later first now.written start now.answerer
+
 module _ {S F : Type 0} (Asked : S → Type 0) (Answers : S → List ℕ → List ℕ → S → Type 0)
     (Breaks : S → List ℕ → F → S → Type 0) (before left later first : Option (List ℕ)) (start : S) (old new : Moment S)
     (piece : List ℕ) (h : Stands Asked Answers before left first start old) (read : Consumes left later piece) where
@@ -111,7 +123,7 @@ module _ {S F : Type 0} (Asked : S → Type 0) (Answers : S → List ℕ → Lis
   consumes = Consumes-trans before left later h.taken piece h.consumed read
 
   -- one piece more
-  pub stands-more : new.ready ≡ [] → Takes Asked Answers Breaks old piece (Ok Open) new →
+  stands-more : new.ready ≡ [] → Takes Asked Answers Breaks old piece (Ok Open) new →
       Stands Asked Answers before later first start new
   stands-more none takes =
       let (asked, un, come) = takes in
@@ -125,30 +137,30 @@ module _ {S F : Type 0} (Asked : S → Type 0) (Answers : S → List ℕ → Lis
       }
 
   -- a line is too long
-  pub stands-long : new.ready ≡ [] → Takes Asked Answers Breaks old piece (Ok TooLong) new →
+  stands-long : new.ready ≡ [] → Takes Asked Answers Breaks old piece (Ok TooLong) new →
       AnswersLong Answers before later first new.written start new.answerer
   stands-long none takes =
       let k = takes start first h.taken h.come in
       let taken = h.taken ++ piece in
-      let cut : (more : List ℕ) → taken ++ more ≡ k.heard.whole ++ (k.after ++ more) = λ more.
-      ap (λ (x : List ℕ). x ++ more) k.heard.cut ∙ append_assoc k.heard.whole k.after more in
-      let lines : (more : List ℕ) → lines_of (taken ++ more) ≡ k.done = λ more.
-      ap lines_of (cut more) ∙ k.heard.is.lines (k.after ++ more)
-      ∙ ap (λ (x : List (List ℕ)). lines_of k.heard.whole ++ x) (k.long.none more)
-      ∙ append-nil (lines_of k.heard.whole) ∙ k.heard.lines in
+      let cut : (more : List ℕ) → taken ++ more ≡ k.lines.heard.whole ++ (k.lines.after ++ more) = λ more.
+      ap (λ (x : List ℕ). x ++ more) k.lines.heard.cut ∙ append_assoc k.lines.heard.whole k.lines.after more in
+      let lines : (more : List ℕ) → lines_of (taken ++ more) ≡ k.lines.done = λ more.
+      ap lines_of (cut more) ∙ k.lines.heard.is.lines (k.lines.after ++ more)
+      ∙ ap (λ (x : List (List ℕ)). lines_of k.lines.heard.whole ++ x) (k.long.none more)
+      ∙ append-nil (lines_of k.lines.heard.whole) ∙ k.lines.heard.lines in
       let long : (more : List ℕ) → has_long_line (taken ++ more) ≡ true = λ more.
-      ap has_long_line (cut more) ∙ k.heard.is.long (k.after ++ more) ∙ k.long.long more in
+      ap has_long_line (cut more) ∙ k.lines.heard.is.long (k.lines.after ++ more) ∙ k.long.long more in
       record {
         taken = taken;
         consumed = consumes;
-        text = k.answers ++ farewell true;
+        text = k.lines.answers ++ farewell true;
         is = λ more. record {
-          answers = k.answers;
-          run = subst (λ (x : List (List ℕ)). IsRun Answers start x k.answers new.answerer) (sym (lines more)) k.run;
-          whole = ap (λ (b : Bool). k.answers ++ farewell b) (sym (long more));
+          answers = k.lines.answers;
+          run = subst (λ (x : List (List ℕ)). IsRun Answers start x k.lines.answers new.answerer) (sym (lines more)) k.lines.run;
+          whole = ap (λ (b : Bool). k.lines.answers ++ farewell b) (sym (long more));
         };
-        appended = said-written first new.written (k.answers ++ farewell true)
-            (subst (λ (x : List ℕ). IsSaid first new.written x (k.answers ++ farewell true)) none k.said);
+        appended = said-written first new.written (k.lines.answers ++ farewell true)
+            (subst (λ (x : List ℕ). IsSaid first new.written x (k.lines.answers ++ farewell true)) none k.said);
         long = ap has_long_line (sym (append-nil taken)) ∙ long [];
       }
 
@@ -168,26 +180,26 @@ module _ {S F : Type 0} (Asked : S → Type 0) (Answers : S → List ℕ → Lis
   }
 
   -- a line finds no answer
-  pub stands-broken : (fault : F) → new.ready ≡ [] →
+  stands-broken : (fault : F) → new.ready ≡ [] →
       Takes Asked Answers Breaks old piece (Ok (Broken fault)) new →
       AnswersUntil Answers Breaks fault before later first new.written start new.answerer
   unfolding lines_broken
   stands-broken fault none takes =
       let k = takes start first h.taken h.come in
-      let finds = lines_broken fault k.after k.mid new.answerer k.breaks in
+      let finds = lines_broken fault k.lines.after k.mid new.answerer k.breaks in
       record {
         taken = h.taken ++ piece;
         consumed = consumes;
-        done = k.done;
+        done = k.lines.done;
         line = finds.line;
         left = finds.left;
-        lines = lines_at k.done k.after k.heard ∙ ap (λ (x : List (List ℕ)). k.done ++ x) finds.split;
-        answers = k.answers;
+        lines = lines_at k.lines.done k.lines.after k.lines.heard ∙ ap (λ (x : List (List ℕ)). k.lines.done ++ x) finds.split;
+        answers = k.lines.answers;
         mid = k.mid;
-        run = k.run;
+        run = k.lines.run;
         breaks = k.breaks.breaks;
-        appended = said-written first new.written k.answers
-            (subst (λ (x : List ℕ). IsSaid first new.written x k.answers) none k.said);
+        appended = said-written first new.written k.lines.answers
+            (subst (λ (x : List ℕ). IsSaid first new.written x k.lines.answers) none k.said);
       }
 
   last_of : (after : List ℕ) (mid : S) →
@@ -206,18 +218,18 @@ module _ {S F : Type 0} (Asked : S → Type 0) (Answers : S → List ℕ → Lis
       record {
         taken = taken;
         consumed = consumes;
-        done = k.done;
-        left = lines_of k.after;
-        lines = lines_at k.done k.after k.heard;
-        answers = k.answers;
+        done = k.lines.done;
+        left = lines_of k.lines.after;
+        lines = lines_at k.lines.done k.lines.after k.lines.heard;
+        answers = k.lines.answers;
         mid = k.mid;
-        run = k.run;
-        last = last_of k.after k.mid k.last;
+        run = k.lines.run;
+        last = last_of k.lines.after k.mid k.last;
         is_long = k.is_long;
         long = λ e. (
-          ap lines_of (sym (append-nil k.after)) ∙ (k.long e).none [],
-          ap has_long_line k.heard.cut ∙ k.heard.is.long k.after
-              ∙ ap has_long_line (sym (append-nil k.after)) ∙ (k.long e).long [],
+          ap lines_of (sym (append-nil k.lines.after)) ∙ (k.long e).none [],
+          ap has_long_line k.lines.heard.cut ∙ k.lines.heard.is.long k.lines.after
+              ∙ ap has_long_line (sym (append-nil k.lines.after)) ∙ (k.long e).long [],
         );
         front = k.lost.front;
         lost = k.lost.lost;
@@ -225,6 +237,19 @@ module _ {S F : Type 0} (Asked : S → Type 0) (Answers : S → List ℕ → Lis
         some = k.lost.some;
         appended = k.lost.appended;
       }
+
+  by_flow : (flow : Flow F) → new.ready ≡ [] → Takes Asked Answers Breaks old piece (Ok flow) new →
+      Outcome Asked Answers Breaks before later first start new (Ok flow)
+  by_flow Open none takes = stands-more none takes
+  by_flow TooLong none takes = stands-long none takes
+  by_flow (Broken fault) none takes = stands-broken fault none takes
+
+  pub stands-after : (flow is : Flow F) → flow ≡ is → new.ready ≡ [] →
+      Takes Asked Answers Breaks old piece (Ok flow) new →
+      Outcome Asked Answers Breaks before later first start new (Ok is)
+  stands-after flow is same none takes =
+      subst (λ (f : Flow F). Outcome Asked Answers Breaks before later first start new (Ok f)) same
+      (by_flow flow none takes)
 
 -- ---- of a reader that tells its bytes, and that has come to its end
 

@@ -7,12 +7,19 @@ use Rattle.std.specs.Io.BufRead.{strip_last}
 use Rattle.session_lines.specs.Lines.{is_feed, HasNoFeed, IsUnfinished}
 use Rattle.line_loop.specs.Texts.{IsRun, farewell}
 use Rattle.line_loop.specs.Outlets.{IsSaid, IsLost, Says, Loses}
-use Rattle.line_loop.specs.Turns.{Moment, IsHeard, HasCome, HasGrownLong, BreaksAt, HasBroken, HasLost, Takes}
+use Rattle.line_loop.specs.Turns.{Moment, IsHeard, IsTooLong, HasCome, AreAnswered, HasGrownLong, BreaksAt, HasBroken, HasLost, Takes}
 use Rattle.line_loop.specs.declared.loops.Flow.{Flow}
 use Rattle.line_loop.specs.declared.loops.Flow.TheVariants.{Open, TooLong, Broken}
 use Rattle.line_loop.specs.declared.outlet.WriteFault.{WriteFault}
 use Rattle.std.specs.Prelude.{◌⊎◌}
 use Rattle.line_loop.proofs.Runs.{run-more, unfinished-nil, unfinished-more, heard-more, heard-feed, too-long, too-long-more, breaks-more}
+
+-- no more is taken after this
+abbrev pub IsOver : {F : Type 0} → Result (Flow F) WriteFault → Type 0
+IsOver (Ok Open) = ⊥
+IsOver (Ok TooLong) = Unit {0}
+IsOver (Ok (Broken fault)) = Unit {0}
+IsOver (Err fault) = Unit {0}
 
 module _ {S F : Type 0} (Asked : S → Type 0) (Answers : S → List ℕ → List ℕ → S → Type 0)
     (Breaks : S → List ℕ → F → S → Type 0) where
@@ -34,21 +41,32 @@ module _ {S F : Type 0} (Asked : S → Type 0) (Answers : S → List ℕ → Lis
     },
   )
 
-  no_feed-both : (held part : List ℕ) → IsUnfinished held → HasNoFeed part → HasNoFeed (held ++ part)
-  no_feed-both held part u n = All-append (λ b. is_feed b ≡ false) held part u.no_feed n
+  -- what was answered before further bytes
+  answered-before : (start : S) (first : Option (List ℕ)) (taken more : List ℕ) (now : Moment S) (end : S) →
+      end ≡ now.answerer → HasCome Answers start first taken now → AreAnswered Answers start (taken ++ more) end
+  answered-before start first taken more now end same h = record {
+    done = h.done;
+    after = now.held ++ more;
+    heard = heard-more taken h.done now.held more h.heard;
+    answers = h.answers;
+    run = subst (IsRun Answers start h.done h.answers) (sym same) h.run;
+  }
+
+  too_long-both : (held part : List ℕ) → IsUnfinished held → HasNoFeed part → 255 < length held + length part →
+      IsTooLong (held ++ part)
+  too_long-both held part u n l =
+      too-long (held ++ part) (All-append (λ b. is_feed b ≡ false) held part u.no_feed n)
+      (omega (arith, length-append held part))
 
   -- a line that is too long
   pub took-long : (old new : Moment S) (part : List ℕ) → new.answerer ≡ old.answerer → IsUnfinished old.held →
       HasNoFeed part → 255 < length old.held + length part →
       Says old.written old.ready (farewell true) new.written new.ready →
       Takes Asked Answers Breaks old part (Ok TooLong) new
+  unfolding answered-before
   took-long old new part same u n l says = λ start first taken h. record {
-    done = h.done;
-    after = old.held ++ part;
-    heard = heard-more taken h.done old.held part h.heard;
-    long = too-long (old.held ++ part) (no_feed-both old.held part u n) (omega (arith, length-append old.held part));
-    answers = h.answers;
-    run = subst (IsRun Answers start h.done h.answers) (sym same) h.run;
+    lines = answered-before start first taken part old new.answerer same h;
+    long = too_long-both old.held part u n l;
     said = says first h.answers h.said;
   }
 
@@ -56,17 +74,13 @@ module _ {S F : Type 0} (Asked : S → Type 0) (Answers : S → List ℕ → Lis
       IsUnfinished old.held → HasNoFeed part → 255 < length old.held + length part →
       Loses old.written old.ready (farewell true) new.written →
       Takes Asked Answers Breaks old part (Err fault) new
+  unfolding answered-before
   lost-long old new part fault same u n l loses = λ start first taken h. record {
-    done = h.done;
-    after = old.held ++ part;
-    heard = heard-more taken h.done old.held part h.heard;
-    answers = h.answers;
     mid = old.answerer;
-    run = h.run;
+    lines = answered-before start first taken part old old.answerer refl h;
     last = inl same;
     is_long = true;
-    long = λ _. too-long (old.held ++ part) (no_feed-both old.held part u n)
-        (omega (arith, length-append old.held part));
+    long = λ _. too_long-both old.held part u n l;
     lost = loses first h.answers h.said;
   }
 
@@ -93,12 +107,14 @@ module _ {S F : Type 0} (Asked : S → Type 0) (Answers : S → List ℕ → Lis
       Loses old.written old.ready answer new.written →
       Takes Asked Answers Breaks old (10 ∷ []) (Err fault) new
   lost-feed old new answer fault u is loses = λ start first taken h. record {
-    done = h.done ++ strip_last 13 old.held ∷ [];
-    after = [];
-    heard = heard-feed taken h.done old.held h.heard u;
-    answers = h.answers ++ answer;
     mid = new.answerer;
-    run = run-more Answers start h.done h.answers old.answerer (strip_last 13 old.held) answer new.answerer h.run is;
+    lines = record {
+      done = h.done ++ strip_last 13 old.held ∷ [];
+      after = [];
+      heard = heard-feed taken h.done old.held h.heard u;
+      answers = h.answers ++ answer;
+      run = run-more Answers start h.done h.answers old.answerer (strip_last 13 old.held) answer new.answerer h.run is;
+    };
     last = inl refl;
     is_long = false;
     long = λ e. absurd (false≢true e);
@@ -109,13 +125,10 @@ module _ {S F : Type 0} (Asked : S → Type 0) (Answers : S → List ℕ → Lis
   pub broke-feed : (old : Moment S) (t : S) (kept : List ℕ) (fault : F) → IsUnfinished old.held →
       Breaks old.answerer (strip_last 13 old.held) fault t →
       Takes Asked Answers Breaks old (10 ∷ []) (Ok (Broken fault)) (record old { answerer = t; held = kept })
+  unfolding answered-before
   broke-feed old t kept fault u is = λ start first taken h. record {
-    done = h.done;
-    after = old.held ++ 10 ∷ [];
-    heard = heard-more taken h.done old.held (10 ∷ []) h.heard;
-    answers = h.answers;
     mid = old.answerer;
-    run = h.run;
+    lines = answered-before start first taken (10 ∷ []) old old.answerer refl h;
     breaks = record { part = old.held; after = []; split = refl; unfinished = u; breaks = is };
     said = h.said;
   }
@@ -173,58 +186,49 @@ module _ {S F : Type 0} (Asked : S → Type 0) (Answers : S → List ℕ → Lis
       (took-part (record old { held = [] }) part part asked unfinished-nil u.no_feed (omega (arith, u.short)) refl) takes)
 
   -- bytes that come after its end change nothing
-  pub over-long : (a b : Moment S) (bytes more : List ℕ) → Takes Asked Answers Breaks a bytes (Ok TooLong) b →
-      Takes Asked Answers Breaks a (bytes ++ more) (Ok TooLong) b
-  over-long a b bytes more takes = λ start first taken h. (
-      let k = takes start first taken h in
-      record {
-        done = k.done;
-        after = k.after ++ more;
-        heard = subst (λ (x : List ℕ). IsHeard x k.done (k.after ++ more)) (append_assoc taken bytes more)
-            (heard-more (taken ++ bytes) k.done k.after more k.heard);
-        long = too-long-more k.after more k.long;
-        answers = k.answers;
-        run = k.run;
-        said = k.said;
-      })
-
-  pub over-broken : (a b : Moment S) (bytes more : List ℕ) (fault : F) →
-      Takes Asked Answers Breaks a bytes (Ok (Broken fault)) b →
-      Takes Asked Answers Breaks a (bytes ++ more) (Ok (Broken fault)) b
-  over-broken a b bytes more fault takes = λ start first taken h. (
-      let k = takes start first taken h in
-      record {
-        done = k.done;
-        after = k.after ++ more;
-        heard = subst (λ (x : List ℕ). IsHeard x k.done (k.after ++ more)) (append_assoc taken bytes more)
-            (heard-more (taken ++ bytes) k.done k.after more k.heard);
-        answers = k.answers;
-        mid = k.mid;
-        run = k.run;
-        breaks = breaks-more Breaks fault k.after more k.mid b.answerer k.breaks;
-        said = k.said;
-      })
+  answered-more : (start : S) (taken bytes more : List ℕ) (end : S) → AreAnswered Answers start (taken ++ bytes) end →
+      AreAnswered Answers start (taken ++ (bytes ++ more)) end
+  answered-more start taken bytes more end h = record {
+    done = h.done;
+    after = h.after ++ more;
+    heard = subst (λ (x : List ℕ). IsHeard x h.done (h.after ++ more)) (append_assoc taken bytes more)
+        (heard-more (taken ++ bytes) h.done h.after more h.heard);
+    answers = h.answers;
+    run = h.run;
+  }
 
   last-more : (after more : List ℕ) (mid t : S) → (t ≡ mid) ⊎ ((fault : F) × BreaksAt Breaks fault after mid t) →
       (t ≡ mid) ⊎ ((fault : F) × BreaksAt Breaks fault (after ++ more) mid t)
   last-more after more mid t (inl same) = inl same
   last-more after more mid t (inr (fault, breaks)) = inr (fault, breaks-more Breaks fault after more mid t breaks)
 
-  pub over-lost : (a b : Moment S) (bytes more : List ℕ) (fault : WriteFault) →
-      Takes Asked Answers Breaks a bytes (Err fault) b → Takes Asked Answers Breaks a (bytes ++ more) (Err fault) b
-  over-lost a b bytes more fault takes = λ start first taken h. (
+  pub over : (a b : Moment S) (bytes more : List ℕ) (result : Result (Flow F) WriteFault) → IsOver result →
+      Takes Asked Answers Breaks a bytes result b → Takes Asked Answers Breaks a (bytes ++ more) result b
+  unfolding answered-more
+  over a b bytes more (Ok Open) ends takes = absurd ends
+  over a b bytes more (Ok TooLong) ends takes = λ start first taken h. (
       let k = takes start first taken h in
       record {
-        done = k.done;
-        after = k.after ++ more;
-        heard = subst (λ (x : List ℕ). IsHeard x k.done (k.after ++ more)) (append_assoc taken bytes more)
-            (heard-more (taken ++ bytes) k.done k.after more k.heard);
-        answers = k.answers;
+        lines = answered-more start taken bytes more b.answerer k.lines;
+        long = too-long-more k.lines.after more k.long;
+        said = k.said;
+      })
+  over a b bytes more (Ok (Broken fault)) ends takes = λ start first taken h. (
+      let k = takes start first taken h in
+      record {
         mid = k.mid;
-        run = k.run;
-        last = last-more k.after more k.mid b.answerer k.last;
+        lines = answered-more start taken bytes more k.mid k.lines;
+        breaks = breaks-more Breaks fault k.lines.after more k.mid b.answerer k.breaks;
+        said = k.said;
+      })
+  over a b bytes more (Err fault) ends takes = λ start first taken h. (
+      let k = takes start first taken h in
+      record {
+        mid = k.mid;
+        lines = answered-more start taken bytes more k.mid k.lines;
+        last = last-more k.lines.after more k.mid b.answerer k.last;
         is_long = k.is_long;
-        long = λ e. too-long-more k.after more (k.long e);
+        long = λ e. too-long-more k.lines.after more (k.long e);
         lost = k.lost;
       })
 
@@ -249,26 +253,18 @@ module _ {S F : Type 0} (Asked : S → Type 0) (Answers : S → List ℕ → Lis
   then-handed a b written left bytes TooLong takes says = λ start first taken h. (
       let k = takes start first taken h in
       record {
-        done = k.done;
-        after = k.after;
-        heard = k.heard;
+        lines = k.lines;
         long = k.long;
-        answers = k.answers;
-        run = k.run;
-        said = subst (IsSaid first written left) (append-nil (k.answers ++ farewell true))
-            (says first (k.answers ++ farewell true) k.said);
+        said = subst (IsSaid first written left) (append-nil (k.lines.answers ++ farewell true))
+            (says first (k.lines.answers ++ farewell true) k.said);
       })
   then-handed a b written left bytes (Broken fault) takes says = λ start first taken h. (
       let k = takes start first taken h in
       record {
-        done = k.done;
-        after = k.after;
-        heard = k.heard;
-        answers = k.answers;
         mid = k.mid;
-        run = k.run;
+        lines = k.lines;
         breaks = k.breaks;
-        said = subst (IsSaid first written left) (append-nil k.answers) (says first k.answers k.said);
+        said = subst (IsSaid first written left) (append-nil k.lines.answers) (says first k.lines.answers k.said);
       })
 
   pub then-lost : (a b : Moment S) (written : Option (List ℕ)) (left bytes : List ℕ) (flow : Flow F)
@@ -277,12 +273,8 @@ module _ {S F : Type 0} (Asked : S → Type 0) (Answers : S → List ℕ → Lis
   then-lost a b written left bytes Open fault (asked, un, come) loses = λ start first taken h. (
       let k = come start first taken h in
       record {
-        done = k.done;
-        after = b.held;
-        heard = k.heard;
-        answers = k.answers;
         mid = b.answerer;
-        run = k.run;
+        lines = record { done = k.done; after = b.held; heard = k.heard; answers = k.answers; run = k.run };
         last = inl refl;
         is_long = false;
         long = λ e. absurd (false≢true e);
@@ -291,31 +283,23 @@ module _ {S F : Type 0} (Asked : S → Type 0) (Answers : S → List ℕ → Lis
   then-lost a b written left bytes TooLong fault takes loses = λ start first taken h. (
       let k = takes start first taken h in
       record {
-        done = k.done;
-        after = k.after;
-        heard = k.heard;
-        answers = k.answers;
         mid = b.answerer;
-        run = k.run;
+        lines = k.lines;
         last = inl refl;
         is_long = true;
         long = λ _. k.long;
-        lost = subst (IsLost first written) (append-nil (k.answers ++ farewell true))
-            (loses first (k.answers ++ farewell true) k.said);
+        lost = subst (IsLost first written) (append-nil (k.lines.answers ++ farewell true))
+            (loses first (k.lines.answers ++ farewell true) k.said);
       })
   then-lost a b written left bytes (Broken broken) fault takes loses = λ start first taken h. (
       let k = takes start first taken h in
       record {
-        done = k.done;
-        after = k.after;
-        heard = k.heard;
-        answers = k.answers;
         mid = k.mid;
-        run = k.run;
+        lines = k.lines;
         last = inr (broken, k.breaks);
         is_long = false;
         long = λ e. absurd (false≢true e);
-        lost = loses first k.answers k.said;
+        lost = loses first k.lines.answers k.said;
       })
 
 -- ---- a piece, line by line
@@ -370,41 +354,17 @@ module _ {S F : Type 0} (Asked : S → Type 0) (Answers : S → List ℕ → Lis
   }
 
   -- a line at which it ends
-  pub through-long : (old now new : Moment S) (all rest : List ℕ)
-      (at : ℕ) → Through Asked Answers Breaks old now all rest →
-      Takes Asked Answers Breaks now (take at rest ++ 10 ∷ []) (Ok TooLong) new →
+  pub through-end : (old now new : Moment S) (all rest : List ℕ) (at : ℕ) (result : Result (Flow F) WriteFault) →
+      IsOver result → Through Asked Answers Breaks old now all rest →
+      Takes Asked Answers Breaks now (take at rest ++ 10 ∷ []) result new →
       at < length rest → get_or rest at 0 ≡ 10 →
-      Takes Asked Answers Breaks old all (Ok TooLong) new
-  through-long old now new all rest at h takes lt e =
-      subst (λ (x : List ℕ). Takes Asked Answers Breaks old x (Ok TooLong) new)
+      Takes Asked Answers Breaks old all result new
+  through-end old now new all rest at result ends h takes lt e =
+      subst (λ (x : List ℕ). Takes Asked Answers Breaks old x result new)
       (sym (split_at all h.done rest at h.split lt e))
-      (over-long Asked Answers Breaks old new (h.done ++ (take at rest ++ 10 ∷ []))
-      (drop (at + 1) rest) (then-takes Asked Answers Breaks old now new h.done
-      (take at rest ++ 10 ∷ []) (Ok TooLong) h.takes takes))
-
-  pub through-broken : (old now new : Moment S) (all rest : List ℕ)
-      (at : ℕ) (fault : F) → Through Asked Answers Breaks old now all rest →
-      Takes Asked Answers Breaks now (take at rest ++ 10 ∷ []) (Ok (Broken fault)) new →
-      at < length rest → get_or rest at 0 ≡ 10 →
-      Takes Asked Answers Breaks old all (Ok (Broken fault)) new
-  through-broken old now new all rest at fault h takes lt e =
-      subst (λ (x : List ℕ). Takes Asked Answers Breaks old x (Ok (Broken fault)) new)
-      (sym (split_at all h.done rest at h.split lt e))
-      (over-broken Asked Answers Breaks old new (h.done ++ (take at rest ++ 10 ∷ []))
-      (drop (at + 1) rest) fault (then-takes Asked Answers Breaks old now new h.done
-      (take at rest ++ 10 ∷ []) (Ok (Broken fault)) h.takes takes))
-
-  pub through-lost : (old now new : Moment S) (all rest : List ℕ)
-      (at : ℕ) (fault : WriteFault) → Through Asked Answers Breaks old now all rest →
-      Takes Asked Answers Breaks now (take at rest ++ 10 ∷ []) (Err fault) new →
-      at < length rest → get_or rest at 0 ≡ 10 →
-      Takes Asked Answers Breaks old all (Err fault) new
-  through-lost old now new all rest at fault h takes lt e =
-      subst (λ (x : List ℕ). Takes Asked Answers Breaks old x (Err fault) new)
-      (sym (split_at all h.done rest at h.split lt e))
-      (over-lost Asked Answers Breaks old new (h.done ++ (take at rest ++ 10 ∷ []))
-      (drop (at + 1) rest) fault (then-takes Asked Answers Breaks old now new h.done
-      (take at rest ++ 10 ∷ []) (Err fault) h.takes takes))
+      (over Asked Answers Breaks old new (h.done ++ (take at rest ++ 10 ∷ []))
+      (drop (at + 1) rest) result ends (then-takes Asked Answers Breaks old now new h.done
+      (take at rest ++ 10 ∷ []) result h.takes takes))
 
   -- the rest, which ends no line
   pub through-rest : (old now new : Moment S) (all rest : List ℕ)

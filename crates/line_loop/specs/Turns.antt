@@ -43,16 +43,21 @@ pub record HasCome {S : Type 0} (Answers : S → List ℕ → List ℕ → S →
   pub run : IsRun Answers start done answers now.answerer
   pub said : IsSaid first now.written now.ready answers
 
--- They were, and the next line is too long.
-pub record HasGrownLong {S : Type 0} (Answers : S → List ℕ → List ℕ → S → Type 0) (start : S)
-    (first : Option (List ℕ)) (taken : List ℕ) (now : Moment S) : Type 0 where
+-- Whole lines of what was taken were answered, and other bytes came behind them.
+pub record AreAnswered {S : Type 0} (Answers : S → List ℕ → List ℕ → S → Type 0) (start : S) (taken : List ℕ) (end : S)
+    : Type 0 where
   pub done : List (List ℕ)
   pub after : List ℕ
   pub heard : IsHeard taken done after
-  pub long : IsTooLong after
   pub answers : List ℕ
-  pub run : IsRun Answers start done answers now.answerer
-  pub said : IsSaid first now.written now.ready (answers ++ farewell true)
+  pub run : IsRun Answers start done answers end
+
+-- All whole lines were answered, and the next line is too long.
+pub record HasGrownLong {S : Type 0} (Answers : S → List ℕ → List ℕ → S → Type 0) (start : S)
+    (first : Option (List ℕ)) (taken : List ℕ) (now : Moment S) : Type 0 where
+  pub lines : AreAnswered Answers start taken now.answerer
+  pub long : IsTooLong lines.after
+  pub said : IsSaid first now.written now.ready (lines.answers ++ farewell true)
 
 -- The first line of these bytes finds no answer.
 pub record BreaksAt {S F : Type 0} (Breaks : S → List ℕ → F → S → Type 0) (fault : F) (bytes : List ℕ) (s t : S)
@@ -67,28 +72,20 @@ pub record BreaksAt {S F : Type 0} (Breaks : S → List ℕ → F → S → Type
 pub record HasBroken {S F : Type 0} (Answers : S → List ℕ → List ℕ → S → Type 0)
     (Breaks : S → List ℕ → F → S → Type 0) (fault : F) (start : S) (first : Option (List ℕ)) (taken : List ℕ)
     (now : Moment S) : Type 0 where
-  pub done : List (List ℕ)
-  pub after : List ℕ
-  pub heard : IsHeard taken done after
-  pub answers : List ℕ
   pub mid : S
-  pub run : IsRun Answers start done answers mid
-  pub breaks : BreaksAt Breaks fault after mid now.answerer
-  pub said : IsSaid first now.written now.ready answers
+  pub lines : AreAnswered Answers start taken mid
+  pub breaks : BreaksAt Breaks fault lines.after mid now.answerer
+  pub said : IsSaid first now.written now.ready lines.answers
 
 -- A write failed.
 pub record HasLost {S F : Type 0} (Answers : S → List ℕ → List ℕ → S → Type 0) (Breaks : S → List ℕ → F → S → Type 0)
     (start : S) (first now : Option (List ℕ)) (taken : List ℕ) (s : S) : Type 0 where
-  pub done : List (List ℕ)
-  pub after : List ℕ
-  pub heard : IsHeard taken done after
-  pub answers : List ℕ
   pub mid : S
-  pub run : IsRun Answers start done answers mid
-  pub last : (s ≡ mid) ⊎ ((fault : F) × BreaksAt Breaks fault after mid s)
+  pub lines : AreAnswered Answers start taken mid
+  pub last : (s ≡ mid) ⊎ ((fault : F) × BreaksAt Breaks fault lines.after mid s)
   pub is_long : Bool
-  pub long : is_long ≡ true → IsTooLong after
-  pub lost : IsLost first now (answers ++ farewell is_long)
+  pub long : is_long ≡ true → IsTooLong lines.after
+  pub lost : IsLost first now (lines.answers ++ farewell is_long)
 
 -- What a call did that took bytes, whatever came before.
 abbrev pub Takes : {S F : Type 0} → (S → Type 0) → (S → List ℕ → List ℕ → S → Type 0) → (S → List ℕ → F → S → Type 0)

@@ -22,6 +22,9 @@ enum Flow<F> {
     Broken(F),
 }
 
+/// What came of taking bytes.
+type Taking<F> = Result<Flow<F>, WriteFault>;
+
 const PIECE_ROOM: usize = 4096;
 
 /// Who answers, what has come of the next line, and the answers that are ready.
@@ -32,33 +35,13 @@ struct LoopState<A> {
     ready: Ready,
 }
 
-// Takes bytes of a line that does not end with them.
-fn take_part<A: Answerer, W: Write>(
-    state: &mut LoopState<A>,
-    part: &[u8],
-    writer: &mut W,
-) -> Result<Flow<A::Fault>, WriteFault>
-    requires asked { A.is_ready state.old.answerer }
-    requires unfinished { IsUnfinished state.old.line.items }
-    requires no_feed { HasNoFeed part.now }
-    ensures { Takes A.is_ready A.answers A.breaks (moment_of state.old (W.contents writer.old)) part.now
-        result (moment_of state.new (W.contents writer.new)) }
-{
-    if state.line.remaining_capacity() < part.len() {
-        say(&mut state.ready, "bye LineTooLong\n", writer)?;
-        return Ok(Flow::TooLong);
-    }
-    state.line.try_extend_from_slice(part).unwrap();
-    Ok(Flow::Open)
-}
-
 // Answers a line that ends with its line feed.
 fn answer_line<A: Answerer, W: Write>(
     answerer: &mut A,
     line: &[u8],
     ready: &mut Ready,
     writer: &mut W,
-) -> Result<Flow<A::Fault>, WriteFault>
+) -> Taking<A::Fault>
     requires asked { A.is_ready answerer.old }
     requires unfinished { IsUnfinished line.now }
     ensures { Takes A.is_ready A.answers A.breaks
@@ -79,113 +62,116 @@ fn answer_line<A: Answerer, W: Write>(
     }
 }
 
-// Takes a line feed, and answers the line that it ends.
-fn end_line<A: Answerer, W: Write>(
-    state: &mut LoopState<A>,
-    writer: &mut W,
-) -> Result<Flow<A::Fault>, WriteFault>
-    requires asked { A.is_ready state.old.answerer }
-    requires unfinished { IsUnfinished state.old.line.items }
-    ensures { Takes A.is_ready A.answers A.breaks (moment_of state.old (W.contents writer.old)) (10 ∷ [])
-        result (moment_of state.new (W.contents writer.new)) }
-{
-    let flow = answer_line(
-        &mut state.answerer,
-        state.line.as_slice(),
-        &mut state.ready,
-        writer,
-    )?;
-    state.line.clear();
-    Ok(flow)
-}
-
-// Takes the rest of a line, and its line feed.
-fn take_line<A: Answerer, W: Write>(
-    state: &mut LoopState<A>,
-    part: &[u8],
-    writer: &mut W,
-) -> Result<Flow<A::Fault>, WriteFault>
-    requires asked { A.is_ready state.old.answerer }
-    requires unfinished { IsUnfinished state.old.line.items }
-    requires no_feed { HasNoFeed part.now }
-    ensures { Takes A.is_ready A.answers A.breaks (moment_of state.old (W.contents writer.old)) (part.now ++ 10 ∷ [])
-        result (moment_of state.new (W.contents writer.new)) }
-{
-    // A line that came whole, as nearly all do, is answered where it lies.
-    if state.line.is_empty() && part.len() <= LINE_ROOM {
-        return answer_line(&mut state.answerer, part, &mut state.ready, writer);
+impl<A: Answerer> LoopState<A> {
+    // Takes bytes of a line that does not end with them.
+    fn take_part<W: Write>(&mut self, part: &[u8], writer: &mut W) -> Taking<A::Fault>
+        requires asked { A.is_ready self.old.answerer }
+        requires unfinished { IsUnfinished self.old.line.items }
+        requires no_feed { HasNoFeed part.now }
+        ensures { Takes A.is_ready A.answers A.breaks (moment_of self.old (W.contents writer.old)) part.now
+            result (moment_of self.new (W.contents writer.new)) }
+    {
+        if self.line.remaining_capacity() < part.len() {
+            say(&mut self.ready, "bye LineTooLong\n", writer)?;
+            return Ok(Flow::TooLong);
+        }
+        self.line.try_extend_from_slice(part).unwrap();
+        Ok(Flow::Open)
     }
-    match take_part(state, part, writer)? {
-        Flow::Open => end_line(state, writer),
-        Flow::TooLong => Ok(Flow::TooLong),
-        Flow::Broken(fault) => Ok(Flow::Broken(fault)),
-    }
-}
 
-// Takes the next bytes, in order, until a line is too long or finds no answer.
-fn take_piece<A: Answerer, W: Write>(
-    state: &mut LoopState<A>,
-    piece: &[u8],
-    writer: &mut W,
-) -> Result<Flow<A::Fault>, WriteFault>
-    requires asked { A.is_ready state.old.answerer }
-    requires unfinished { IsUnfinished state.old.line.items }
-    ensures { Takes A.is_ready A.answers A.breaks (moment_of state.old (W.contents writer.old)) piece.now
-        result (moment_of state.new (W.contents writer.new)) }
-{
-    let mut rest = piece;
-    while let Some(end) = first_feed(rest) {
-        match take_line(state, &rest[..end], writer)? {
-            Flow::Open => rest = &rest[end + 1..],
-            Flow::TooLong => return Ok(Flow::TooLong),
-            Flow::Broken(fault) => return Ok(Flow::Broken(fault)),
+    // Takes a line feed, and answers the line that it ends.
+    fn end_line<W: Write>(&mut self, writer: &mut W) -> Taking<A::Fault>
+        requires asked { A.is_ready self.old.answerer }
+        requires unfinished { IsUnfinished self.old.line.items }
+        ensures { Takes A.is_ready A.answers A.breaks (moment_of self.old (W.contents writer.old)) (10 ∷ [])
+            result (moment_of self.new (W.contents writer.new)) }
+    {
+        let flow = answer_line(
+            &mut self.answerer,
+            self.line.as_slice(),
+            &mut self.ready,
+            writer,
+        )?;
+        self.line.clear();
+        Ok(flow)
+    }
+
+    // Takes the rest of a line, and its line feed.
+    fn take_line<W: Write>(&mut self, part: &[u8], writer: &mut W) -> Taking<A::Fault>
+        requires asked { A.is_ready self.old.answerer }
+        requires unfinished { IsUnfinished self.old.line.items }
+        requires no_feed { HasNoFeed part.now }
+        ensures { Takes A.is_ready A.answers A.breaks (moment_of self.old (W.contents writer.old)) (part.now ++ 10 ∷ [])
+            result (moment_of self.new (W.contents writer.new)) }
+    {
+        // A line that came whole, as nearly all do, is answered where it lies.
+        if self.line.is_empty() && part.len() <= LINE_ROOM {
+            return answer_line(&mut self.answerer, part, &mut self.ready, writer);
+        }
+        match self.take_part(part, writer)? {
+            Flow::Open => self.end_line(writer),
+            Flow::TooLong => Ok(Flow::TooLong),
+            Flow::Broken(fault) => Ok(Flow::Broken(fault)),
         }
     }
-    take_part(state, rest, writer)
-}
 
-// Takes the next bytes, and writes all answers to their lines.
-fn answer_piece<A: Answerer, W: Write>(
-    state: &mut LoopState<A>,
-    piece: &[u8],
-    writer: &mut W,
-) -> Result<Flow<A::Fault>, WriteFault>
-    requires asked { A.is_ready state.old.answerer }
-    requires unfinished { IsUnfinished state.old.line.items }
-    ensures taken { Takes A.is_ready A.answers A.breaks (moment_of state.old (W.contents writer.old)) piece.now
-        result (moment_of state.new (W.contents writer.new)) }
-    ensures empty { OnOk result (state.new.ready.bytes ≡ []) }
-{
-    let flow = take_piece(state, piece, writer)?;
-    hand_out(&mut state.ready, writer)?;
-    Ok(flow)
-}
+    // Takes the next bytes, in order, until a line is too long or finds no answer.
+    fn take_piece<W: Write>(&mut self, piece: &[u8], writer: &mut W) -> Taking<A::Fault>
+        requires asked { A.is_ready self.old.answerer }
+        requires unfinished { IsUnfinished self.old.line.items }
+        ensures { Takes A.is_ready A.answers A.breaks (moment_of self.old (W.contents writer.old)) piece.now
+            result (moment_of self.new (W.contents writer.new)) }
+    {
+        let mut rest = piece;
+        while let Some(end) = first_feed(rest) {
+            match self.take_line(&rest[..end], writer)? {
+                Flow::Open => rest = &rest[end + 1..],
+                Flow::TooLong => return Ok(Flow::TooLong),
+                Flow::Broken(fault) => return Ok(Flow::Broken(fault)),
+            }
+        }
+        self.take_part(rest, writer)
+    }
 
-// Takes all that comes, until a line is too long or finds no answer.
-fn answer_all<A: Answerer, S: LineSource, W: Write>(
-    state: &mut LoopState<A>,
-    source: &mut S,
-    writer: &mut W,
-) -> Result<(), LoopFault<A::Fault>>
-    requires asked { A.is_ready state.old.answerer }
-    requires empty { state.old.line.items ≡ [] }
-    requires nothing { state.old.ready.bytes ≡ [] }
-    ensures ended { Ended A.answers A.breaks result (S.remaining source.old) (S.remaining source.new)
-        (W.contents writer.old) (W.contents writer.new) state.old.answerer state.new.answerer }
-    ensures end { OnOk result (IsAtEnd (S.remaining source.new)) }
-    ensures cause { IsOfSource result (S.has_failed source.old) (S.has_failed source.new) }
-{
-    let mut piece = [0u8; PIECE_ROOM];
-    loop {
-        match source.next_piece(&mut piece) {
-            Ok(0) => return Ok(()),
-            Ok(count) => match answer_piece(state, &piece[..count], writer) {
-                Ok(Flow::Open) => {}
-                Ok(Flow::TooLong) => return Err(LoopFault::LineTooLong),
-                Ok(Flow::Broken(fault)) => return Err(LoopFault::Unanswered(fault)),
-                Err(WriteFault) => return Err(LoopFault::Write),
-            },
-            Err(SourceFault) => return Err(LoopFault::Read),
+    // Takes the next bytes, and writes all answers to their lines.
+    fn answer_piece<W: Write>(&mut self, piece: &[u8], writer: &mut W) -> Taking<A::Fault>
+        requires asked { A.is_ready self.old.answerer }
+        requires unfinished { IsUnfinished self.old.line.items }
+        ensures taken { Takes A.is_ready A.answers A.breaks (moment_of self.old (W.contents writer.old)) piece.now
+            result (moment_of self.new (W.contents writer.new)) }
+        ensures empty { OnOk result (self.new.ready.bytes ≡ []) }
+    {
+        let flow = self.take_piece(piece, writer)?;
+        hand_out(&mut self.ready, writer)?;
+        Ok(flow)
+    }
+
+    // Takes all that comes, until a line is too long or finds no answer.
+    fn answer_all<S: LineSource, W: Write>(
+        &mut self,
+        source: &mut S,
+        writer: &mut W,
+    ) -> Result<(), LoopFault<A::Fault>>
+        requires asked { A.is_ready self.old.answerer }
+        requires empty { self.old.line.items ≡ [] }
+        requires nothing { self.old.ready.bytes ≡ [] }
+        ensures ended { Ended A.answers A.breaks result (S.remaining source.old) (S.remaining source.new)
+            (W.contents writer.old) (W.contents writer.new) self.old.answerer self.new.answerer }
+        ensures end { OnOk result (IsAtEnd (S.remaining source.new)) }
+        ensures cause { IsOfSource result (S.has_failed source.old) (S.has_failed source.new) }
+    {
+        let mut piece = [0u8; PIECE_ROOM];
+        loop {
+            match source.next_piece(&mut piece) {
+                Ok(0) => return Ok(()),
+                Ok(count) => match self.answer_piece(&piece[..count], writer) {
+                    Ok(Flow::Open) => {}
+                    Ok(Flow::TooLong) => return Err(LoopFault::LineTooLong),
+                    Ok(Flow::Broken(fault)) => return Err(LoopFault::Unanswered(fault)),
+                    Err(WriteFault) => return Err(LoopFault::Write),
+                },
+                Err(SourceFault) => return Err(LoopFault::Read),
+            }
         }
     }
 }
@@ -218,6 +204,6 @@ pub fn answer_lines<A: Answerer + Drop, S: LineSource, W: Write>(
         line: ArrayVec::new(),
         ready: Ready::new(),
     };
-    let ended = answer_all(&mut state, source, writer);
+    let ended = state.answer_all(source, writer);
     (state.answerer, ended)
 }

@@ -8,10 +8,10 @@ use Rattle.lobby_archive.specs.Steps.{Step, Begun, Over, Came, Refused, Synced, 
 use Rattle.night_files.specs.File.{IsFront}
 use Rattle.night_files.proofs.Records.{front_self, front_wider, front_through}
 use Rattle.lobby_archive.specs.Files.{contains, archive_in, safe_in, fresh_in, IsHonestStep, IsHonest}
-use Rattle.lobby_archive.specs.Clerk.{View, is_asked, is_kept, asks, puts, drops, seen, come, left, IsStep, IsNothing, IsRun}
+use Rattle.lobby_archive.specs.Clerk.{View, is_asked, is_kept, asks, puts, drops, seen, come, left, Begins, IsStep, IsNothing, IsRun}
 use Rattle.lobby_archive.specs.Laws.{IsOnce, is_seen, is_waiting, is_matched, is_sent, is_dropped, was_over, was_put, IsHanded, IsDropStep, IsHandedStep, AllHanded, AllRight, AllDrops}
 use Rattle.lobby_archive.proofs.Lists.{contains-append, contains_more, front_contains, once_front, once_more}
-use Rattle.lobby_archive.proofs.Stages.{is_settled, not_settled, waits_or_settled, pick, over_some, over_waits, over_settled, over_left, over_matched, seen_over, waits_over, come_some, waits_come, come_settled, come_left, matched_come, stays, seen_refused, waits_refused, left_some, left_asked, left_settled, left_matched, kept_some, kept_matched, not_true, has_left, has_matched, kept_is, none_not, asked_some, and_both, refused_left, refused_matched, left_left, sent_left}
+use Rattle.lobby_archive.proofs.Stages.{is_settled, not_settled, waits_or_settled, pick, over_some, over_waits, over_settled, over_keeps, seen_over, said_keeps, come_keeps, waits_come, come_settled, matched_come, stays, refused_keeps, left_keeps, left_settled, kept_some, kept_matched, not_true, has_left, has_matched, kept_is, none_not, asked_some, and_both, left_left}
 
 -- what is so behind a past, by what the clerk knows then
 pub record Good (steps : List Step) (now : View) : Type 0 where
@@ -28,41 +28,45 @@ pub record Good (steps : List Step) (now : View) : Type 0 where
   pub sent_is : (g : ℕ) → is_sent steps g ≡ has_left (now.stage g)
   pub decided : AllRight steps
 
-nothing_good : (now : View) → IsNothing now → Good [] now
-nothing_good now h = record {
+-- a clerk that begins knows of no game
+begins_good : (steps : List Step) (now : View) → Begins (archive_in steps) now → fresh_in steps ≡ archive_in steps →
+    ((g : ℕ) → is_seen steps g ≡ false) → ((g : ℕ) → is_waiting steps g ≡ false) → ((g : ℕ) → is_matched steps g ≡ false) →
+    ((g : ℕ) → is_sent steps g ≡ false) → AllDrops steps → AllRight steps → Good steps now
+begins_good steps now h fresh seen waiting matched sent drops right = record {
   has = h.has;
   front = [];
   joined = sym h.fresh;
   safe = λ g k. absurd (false≢true k);
-  seen_is = λ g. sym (ap is_some (h.stage_is g));
-  waits = λ g. sym (ap is_asked (h.stage_is g));
+  seen_is = λ g. seen g ∙ sym (ap is_some (h.stage_is g));
+  waits = λ g. waiting g ∙ sym (ap is_asked (h.stage_is g));
   settled = λ g k. absurd (not_settled (now.stage g) (h.stage_is g) k);
-  drops_right = tt;
-  fresh_is = sym h.fresh;
-  matched_is = λ g. sym (ap has_matched (h.stage_is g));
-  sent_is = λ g. sym (ap has_left (h.stage_is g));
-  decided = tt;
+  drops_right = drops;
+  fresh_is = fresh ∙ sym h.fresh;
+  matched_is = λ g. matched g ∙ sym (ap has_matched (h.stage_is g));
+  sent_is = λ g. sent g ∙ sym (ap has_left (h.stage_is g));
+  decided = right;
 }
 
+nothing_good : (now : View) → IsNothing now → Good [] now
+nothing_good now h =
+    begins_good [] now (record { has = h.has; fresh = h.fresh; stage_is = h.stage_is }) refl (λ g. refl) (λ g. refl)
+    (λ g. refl) (λ g. refl) tt tt
+
 begun_good : (archive : List ℕ) (past : List Step) (old new : View) → Good past old → IsStep old (Begun archive) new → Good (Begun archive ∷ past) new
-begun_good archive past old new G h = record {
-  has = h.has;
-  front = [];
-  joined = sym h.fresh;
-  safe = λ g k. absurd (false≢true k);
-  seen_is = λ g. sym (ap is_some (h.stage_is g));
-  waits = λ g. sym (ap is_asked (h.stage_is g));
-  settled = λ g k. absurd (not_settled (new.stage g) (h.stage_is g) k);
-  drops_right = (tt, G.drops_right);
-  fresh_is = sym h.fresh;
-  matched_is = λ g. sym (ap has_matched (h.stage_is g));
-  sent_is = λ g. sym (ap has_left (h.stage_is g));
-  decided = (tt, G.decided);
-}
+begun_good archive past old new G h =
+    begins_good (Begun archive ∷ past) new h refl (λ g. refl) (λ g. refl) (λ g. refl) (λ g. refl) (tt, G.drops_right)
+    (tt, G.decided)
 
 -- a game that is the same
 pub same_game : (game g : ℕ) → (game == g) ≡ true → game ≡ g
 same_game game g h = (Decides-eqb game g).0 h
+
+-- what is so of a game stays so, where its new stage says the same
+still : (f : Option Stage → Bool) (before : Bool) (game g : ℕ) (old : View) (stage : Option Stage) → before ≡ f (old.stage g) →
+    f (old.stage game) ≡ f stage → before ≡ f (if game == g then stage else old.stage g)
+still f before game g old stage is same =
+    pick (λ (s : Option Stage). before ≡ f s) (game == g) stage (old.stage g)
+    (λ here. is ∙ (ap (λ (n : ℕ). f (old.stage n)) (sym (same_game game g here)) ∙ same)) is
 
 over_good : (game : ℕ) (d says : Bool) (past : List Step) (old new : View) → Good past old → IsStep old (Over game d says) new → Good (Over game d says ∷ past) new
 over_good game d says past old new G h = record {
@@ -74,7 +78,7 @@ over_good game d says past old new G h = record {
       seen_over (game == g) (is_seen past g) (seen old game d) (old.stage g) (over_some (old.stage game) (d || not (old.has game))) (G.seen_is g)
       ∙ sym (ap is_some (h.1.stage_is g));
   waits = λ g.
-      waits_over (game == g) says (is_waiting past g) (seen old game d) (old.stage g)
+      said_keeps is_asked (game == g) says (is_waiting past g) (seen old game d) (old.stage g)
       (λ k. ap (λ (b : Bool). b || is_waiting past g) h.0
       ∙ (ap (λ (b : Bool). asks old game d || b) (G.waits g ∙ ap (λ (n : ℕ). is_asked (old.stage n)) (sym (same_game game g k)))
       ∙ over_waits (old.stage game) (d || not (old.has game))))
@@ -88,16 +92,12 @@ over_good game d says past old new G h = record {
   drops_right = (tt, G.drops_right);
   fresh_is = G.fresh_is ∙ sym h.1.fresh;
   matched_is = λ g.
-      pick (λ (stage : Option Stage). is_matched past g ≡ has_matched stage) (game == g) (seen old game d) (old.stage g)
-      (λ same. G.matched_is g
-      ∙ (ap (λ (n : ℕ). has_matched (old.stage n)) (sym (same_game game g same)) ∙ over_matched (old.stage game) (d || not (old.has game))))
-      (G.matched_is g)
+      still has_matched (is_matched past g) game g old (seen old game d) (G.matched_is g)
+      (over_keeps has_matched refl refl (old.stage game) (d || not (old.has game)))
       ∙ sym (ap has_matched (h.1.stage_is g));
   sent_is = λ g.
-      pick (λ (stage : Option Stage). is_sent past g ≡ has_left stage) (game == g) (seen old game d) (old.stage g)
-      (λ same. G.sent_is g
-      ∙ (ap (λ (n : ℕ). has_left (old.stage n)) (sym (same_game game g same)) ∙ over_left (old.stage game) (d || not (old.has game))))
-      (G.sent_is g)
+      still has_left (is_sent past g) game g old (seen old game d) (G.sent_is g)
+      (over_keeps has_left refl refl (old.stage game) (d || not (old.has game)))
       ∙ sym (ap has_left (h.1.stage_is g));
   decided = (
     h.0
@@ -128,10 +128,8 @@ came_good game same says past old new G h = record {
   joined = came_joined says game (archive_in past) G.front old.fresh G.joined ∙ ap (λ (xs : List ℕ). G.front ++ xs) (sym h.1.fresh);
   safe = G.safe;
   seen_is = λ g.
-      pick (λ (stage : Option Stage). is_seen past g ≡ is_some stage) (game == g) (come old game same) (old.stage g)
-      (λ here. G.seen_is g
-      ∙ (ap (λ (n : ℕ). is_some (old.stage n)) (sym (same_game game g here)) ∙ come_some (old.stage game) (old.has game && not same)))
-      (G.seen_is g)
+      still is_some (is_seen past g) game g old (come old game same) (G.seen_is g)
+      (come_keeps is_some refl refl (old.stage game) (old.has game && not same))
       ∙ sym (ap is_some (h.1.stage_is g));
   waits = λ g.
       waits_come (game == g) (is_waiting past g) (old.has game && not same) (old.stage game) (old.stage g) (G.waits g)
@@ -154,10 +152,8 @@ came_good game same says past old new G h = record {
       (G.matched_is g)
       ∙ sym (ap has_matched (h.1.stage_is g));
   sent_is = λ g.
-      pick (λ (stage : Option Stage). is_sent past g ≡ has_left stage) (game == g) (come old game same) (old.stage g)
-      (λ here. G.sent_is g
-      ∙ (ap (λ (n : ℕ). has_left (old.stage n)) (sym (same_game game g here)) ∙ come_left (old.stage game) (old.has game && not same)))
-      (G.sent_is g)
+      still has_left (is_sent past g) game g old (come old game same) (G.sent_is g)
+      (come_keeps has_left refl refl (old.stage game) (old.has game && not same))
       ∙ sym (ap has_left (h.1.stage_is g));
   decided = (
     h.0
@@ -173,16 +169,16 @@ refused_good game past old new G h = record {
   front = G.front;
   joined = G.joined ∙ ap (λ (xs : List ℕ). G.front ++ xs) (sym h.fresh);
   safe = G.safe;
-  seen_is = λ g. seen_refused (game == g) (is_seen past g) (old.stage g) (G.seen_is g) ∙ sym (ap is_some (h.stage_is g));
-  waits = λ g. waits_refused (game == g) (is_waiting past g) (old.stage g) (G.waits g) ∙ sym (ap is_asked (h.stage_is g));
+  seen_is = λ g. refused_keeps is_some refl (game == g) (is_seen past g) (old.stage g) (G.seen_is g) ∙ sym (ap is_some (h.stage_is g));
+  waits = λ g. refused_keeps is_asked refl (game == g) (is_waiting past g) (old.stage g) (G.waits g) ∙ sym (ap is_asked (h.stage_is g));
   settled = λ g k.
       h.has g
       ∙ pick (λ (stage : Option Stage). is_settled stage ≡ true → old.has g ≡ true) (game == g) None (old.stage g)
       (λ same m. absurd (false≢true m)) (G.settled g) (sym (ap is_settled (h.stage_is g)) ∙ k);
   drops_right = (tt, G.drops_right);
   fresh_is = G.fresh_is ∙ sym h.fresh;
-  matched_is = λ g. refused_matched (game == g) (is_matched past g) (old.stage g) (G.matched_is g) ∙ sym (ap has_matched (h.stage_is g));
-  sent_is = λ g. refused_left (game == g) (is_sent past g) (old.stage g) (G.sent_is g) ∙ sym (ap has_left (h.stage_is g));
+  matched_is = λ g. refused_keeps has_matched refl (game == g) (is_matched past g) (old.stage g) (G.matched_is g) ∙ sym (ap has_matched (h.stage_is g));
+  sent_is = λ g. refused_keeps has_left refl (game == g) (is_sent past g) (old.stage g) (G.sent_is g) ∙ sym (ap has_left (h.stage_is g));
   decided = (tt, G.decided);
 }
 
@@ -222,14 +218,10 @@ left_good game says past old new G h =
       joined = G.joined ∙ ap (λ (xs : List ℕ). G.front ++ xs) (sym h.1.fresh);
       safe = G.safe;
       seen_is = λ g.
-          pick (λ (stage : Option Stage). is_seen past g ≡ is_some stage) (game == g) (left old game) (old.stage g)
-          (λ same. G.seen_is g ∙ (ap (λ (n : ℕ). is_some (old.stage n)) (sym (same_game game g same)) ∙ left_some (old.stage game) t))
-          (G.seen_is g)
+          still is_some (is_seen past g) game g old (left old game) (G.seen_is g) (left_keeps is_some refl (old.stage game) t)
           ∙ sym (ap is_some (h.1.stage_is g));
       waits = λ g.
-          pick (λ (stage : Option Stage). is_waiting past g ≡ is_asked stage) (game == g) (left old game) (old.stage g)
-          (λ same. G.waits g ∙ (ap (λ (n : ℕ). is_asked (old.stage n)) (sym (same_game game g same)) ∙ left_asked (old.stage game) t))
-          (G.waits g)
+          still is_asked (is_waiting past g) game g old (left old game) (G.waits g) (left_keeps is_asked refl (old.stage game) t)
           ∙ sym (ap is_asked (h.1.stage_is g));
       settled = λ g k.
           h.1.has g
@@ -247,12 +239,10 @@ left_good game says past old new G h =
       );
       fresh_is = G.fresh_is ∙ sym h.1.fresh;
       matched_is = λ g.
-          pick (λ (stage : Option Stage). is_matched past g ≡ has_matched stage) (game == g) (left old game) (old.stage g)
-          (λ same. G.matched_is g ∙ (ap (λ (n : ℕ). has_matched (old.stage n)) (sym (same_game game g same)) ∙ left_matched (old.stage game) t))
-          (G.matched_is g)
+          still has_matched (is_matched past g) game g old (left old game) (G.matched_is g) (left_keeps has_matched refl (old.stage game) t)
           ∙ sym (ap has_matched (h.1.stage_is g));
       sent_is = λ g.
-          sent_left (game == g) says (is_sent past g) (left old game) (old.stage g)
+          said_keeps has_left (game == g) says (is_sent past g) (left old game) (old.stage g)
           (λ same. ap (λ (b : Bool). b || is_sent past g) h.0
           ∙ (ap (λ (b : Bool). drops old game || b) (G.sent_is g ∙ ap (λ (n : ℕ). has_left (old.stage n)) (sym (same_game game g same)))
           ∙ left_left (drops old game) (old.stage game)))

@@ -86,35 +86,32 @@ over_settled None false true f h = refl
 over_settled None false false f h = h
 over_settled (Some x) d has f h = f h
 
-pub over_left : (stage : Option Stage) (t : Bool) →
-    has_left stage ≡ has_left (if is_none stage then (if t then Some Asked else Some Found) else stage)
-over_left None true = refl
-over_left None false = refl
-over_left (Some x) t = refl
-
-pub over_matched : (stage : Option Stage) (t : Bool) →
-    has_matched stage ≡ has_matched (if is_none stage then (if t then Some Asked else Some Found) else stage)
-over_matched None true = refl
-over_matched None false = refl
-over_matched (Some x) t = refl
+-- which it tells nothing of
+pub over_keeps : (f : Option Stage → Bool) → f None ≡ f (Some Asked) → f None ≡ f (Some Found) → (stage : Option Stage) (t : Bool) →
+    f stage ≡ f (if is_none stage then (if t then Some Asked else Some Found) else stage)
+over_keeps f asked found None true = asked
+over_keeps f asked found None false = found
+over_keeps f asked found (Some x) t = refl
 
 pub seen_over : (b before : Bool) (x y : Option Stage) → is_some x ≡ true → before ≡ is_some y → (b || before) ≡ is_some (if b then x else y)
 seen_over true before x y h k = sym h
 seen_over false before x y h k = k
 
-pub waits_over : (b says before : Bool) (x y : Option Stage) → (b ≡ true → (says || before) ≡ is_asked x) → before ≡ is_asked y →
-    ((b && says) || before) ≡ is_asked (if b then x else y)
-waits_over true says before x y f k = f refl
-waits_over false says before x y f k = k
+-- what was said of a game is so from then on
+pub said_keeps : (f : Option Stage → Bool) (b says before : Bool) (x y : Option Stage) → (b ≡ true → (says || before) ≡ f x) → before ≡ f y →
+    ((b && says) || before) ≡ f (if b then x else y)
+said_keeps f true says before x y g k = g refl
+said_keeps f false says before x y g k = k
 
 -- its PGN comes
-pub come_some : (stage : Option Stage) (u : Bool) → is_some stage ≡ is_some (if is_asked stage then (if u then Some Found else Some Kept) else stage)
-come_some None u = refl
-come_some (Some Asked) true = refl
-come_some (Some Asked) false = refl
-come_some (Some Found) u = refl
-come_some (Some Kept) u = refl
-come_some (Some Dropped) u = refl
+pub come_keeps : (f : Option Stage → Bool) → f (Some Asked) ≡ f (Some Found) → f (Some Asked) ≡ f (Some Kept) → (stage : Option Stage) (u : Bool) →
+    f stage ≡ f (if is_asked stage then (if u then Some Found else Some Kept) else stage)
+come_keeps f found kept None u = refl
+come_keeps f found kept (Some Asked) true = found
+come_keeps f found kept (Some Asked) false = kept
+come_keeps f found kept (Some Found) u = refl
+come_keeps f found kept (Some Kept) u = refl
+come_keeps f found kept (Some Dropped) u = refl
 
 come_asked : (stage : Option Stage) (u : Bool) → false ≡ is_asked (if is_asked stage then (if u then Some Found else Some Kept) else stage)
 come_asked None u = refl
@@ -138,14 +135,6 @@ come_settled (Some Asked) false same b s f h = ap (λ (c : Bool). if c then true
 come_settled (Some Found) has same b s f h = f h
 come_settled (Some Kept) has same b s f h = f h
 come_settled (Some Dropped) has same b s f h = f h
-
-pub come_left : (stage : Option Stage) (u : Bool) → has_left stage ≡ has_left (if is_asked stage then (if u then Some Found else Some Kept) else stage)
-come_left None u = refl
-come_left (Some Asked) true = refl
-come_left (Some Asked) false = refl
-come_left (Some Found) u = refl
-come_left (Some Kept) u = refl
-come_left (Some Dropped) u = refl
 
 come_matched : (stage : Option Stage) (has same : Bool) →
     ((is_asked stage && ((is_asked stage && not has) || same)) || has_matched stage)
@@ -173,30 +162,20 @@ stays true has h = refl
 stays false has h = h
 
 -- what was asked is refused
-pub seen_refused : (b before : Bool) (y : Option Stage) → before ≡ is_some y → (if b then false else before) ≡ is_some (if b then None else y)
-seen_refused true before y h = refl
-seen_refused false before y h = h
-
-pub waits_refused : (b before : Bool) (y : Option Stage) → before ≡ is_asked y → (if b then false else before) ≡ is_asked (if b then None else y)
-waits_refused true before y h = refl
-waits_refused false before y h = h
+pub refused_keeps : (f : Option Stage → Bool) → false ≡ f None → (b before : Bool) (y : Option Stage) → before ≡ f y →
+    (if b then false else before) ≡ f (if b then None else y)
+refused_keeps f none true before y h = none
+refused_keeps f none false before y h = h
 
 -- nobody looks at it
-pub left_some : (stage : Option Stage) (t : Bool) → is_some stage ≡ is_some (if is_kept stage && t then Some Dropped else stage)
-left_some None t = refl
-left_some (Some Asked) t = refl
-left_some (Some Found) t = refl
-left_some (Some Kept) true = refl
-left_some (Some Kept) false = refl
-left_some (Some Dropped) t = refl
-
-pub left_asked : (stage : Option Stage) (t : Bool) → is_asked stage ≡ is_asked (if is_kept stage && t then Some Dropped else stage)
-left_asked None t = refl
-left_asked (Some Asked) t = refl
-left_asked (Some Found) t = refl
-left_asked (Some Kept) true = refl
-left_asked (Some Kept) false = refl
-left_asked (Some Dropped) t = refl
+pub left_keeps : (f : Option Stage → Bool) → f (Some Kept) ≡ f (Some Dropped) → (stage : Option Stage) (t : Bool) →
+    f stage ≡ f (if is_kept stage && t then Some Dropped else stage)
+left_keeps f dropped None t = refl
+left_keeps f dropped (Some Asked) t = refl
+left_keeps f dropped (Some Found) t = refl
+left_keeps f dropped (Some Kept) true = dropped
+left_keeps f dropped (Some Kept) false = refl
+left_keeps f dropped (Some Dropped) t = refl
 
 pub left_settled : (stage : Option Stage) (t : Bool) → is_settled (if is_kept stage && t then Some Dropped else stage) ≡ true → is_settled stage ≡ true
 left_settled None t h = h
@@ -213,28 +192,6 @@ pub not_true : (a : Bool) → not a ≡ true → a ≡ false
 not_true true h = absurd (false≢true h)
 not_true false h = refl
 
-pub left_matched : (stage : Option Stage) (t : Bool) → has_matched stage ≡ has_matched (if is_kept stage && t then Some Dropped else stage)
-left_matched None t = refl
-left_matched (Some Asked) t = refl
-left_matched (Some Found) t = refl
-left_matched (Some Kept) true = refl
-left_matched (Some Kept) false = refl
-left_matched (Some Dropped) t = refl
-
-pub refused_matched : (b before : Bool) (y : Option Stage) → before ≡ has_matched y → (if b then false else before) ≡ has_matched (if b then None else y)
-refused_matched true before y h = refl
-refused_matched false before y h = h
-
--- whether a drop was sent, after each step
-pub refused_left : (b before : Bool) (y : Option Stage) → before ≡ has_left y → (if b then false else before) ≡ has_left (if b then None else y)
-refused_left true before y h = refl
-refused_left false before y h = h
-
 pub left_left : (d : Bool) (stage : Option Stage) → (d || has_left stage) ≡ has_left (if d then Some Dropped else stage)
 left_left true stage = refl
 left_left false stage = refl
-
-pub sent_left : (b says before : Bool) (x y : Option Stage) → (b ≡ true → (says || before) ≡ has_left x) → before ≡ has_left y →
-    ((b && says) || before) ≡ has_left (if b then x else y)
-sent_left true says before x y f k = f refl
-sent_left false says before x y f k = k

@@ -3,8 +3,11 @@ use Rattle.std.specs.Prelude.{slice_set}
 use Rattle.sector_dev.specs.declared.device.Sector.TheVariants.{Bytes}
 use Rattle.sector_dev.specs.Image.{Sectors}
 use Rattle.sector_dev.specs.Device.{IsStable}
+use Rattle.sector_dev.specs.Runs.{IsAtRest, LeavesOnly}
 use Rattle.sector_dev_callers.specs.Changes.{OldOrEither}
 use Rattle.sector_dev_callers.proofs.ChangeLemmas.{first_alone, during_first, during_second, during_second_sync, after_failed_second}
+use Rattle.sector_dev_callers.proofs.write_two.Given.{Over}
+use Rattle.sector_dev_callers.proofs.write_two.Goals.{After-sync}
 use Rattle.sector_dev_callers.proofs.write_two.Goals as goal
 
 pub returns-in_err-write-clause-any_moment : goal.returns-in_err-write-clause-any_moment
@@ -37,9 +40,11 @@ returns-in_err-write-2-clause-now g c =
     (g.D.Device.state c.write.new.self) (g.D.Device.state c.write-2.new.self)
     (c.in_ok-write.ensures.ok at_rest.0) (c.in_err-write-2.ensures.err model)
 
-pub returns-in_err-sync-clause-any_moment : goal.returns-in_err-sync-clause-any_moment
-returns-in_err-sync-clause-any_moment g c =
-    λ at_rest.
+-- whatever the sync answers
+over_sync : (g : Over) (c : After-sync g) → IsAtRest (g.D.Device.state c.args.device.now)
+    → LeavesOnly (g.D.Device.state c.args.device.now) (g.D.Device.state c.sync.new.self)
+    (OldOrEither (g.D.Device.state c.args.device.now).reads c.args.at c.args.from.now c.args.also_at c.args.also.now)
+over_sync g c at_rest =
     let d = c.args.device.now in
     let model = c.write.ensures.model.1 at_rest.0 in
     during_second_sync (g.D.Device.state d) (g.D.Device.sector_count d) (g.met.D.Device.coherent d) at_rest
@@ -49,17 +54,11 @@ returns-in_err-sync-clause-any_moment g c =
     (c.write-2.ensures.time model) (c.in_ok-write-2.ensures.ok model)
     (c.sync.ensures.time (c.write-2.ensures.model.1 model))
 
+pub returns-in_err-sync-clause-any_moment : goal.returns-in_err-sync-clause-any_moment
+returns-in_err-sync-clause-any_moment g c = over_sync g (goal.at.returns-in_err-sync-clause-any_moment g c).After-sync
+
 pub returns-clause-any_moment : goal.returns-clause-any_moment
-returns-clause-any_moment g c =
-    λ at_rest.
-    let d = c.args.device.now in
-    let model = c.write.ensures.model.1 at_rest.0 in
-    during_second_sync (g.D.Device.state d) (g.D.Device.sector_count d) (g.met.D.Device.coherent d) at_rest
-    c.args.at c.args.from.now c.args.also_at c.args.also.now
-    (g.D.Device.state c.write.new.self) (g.D.Device.state c.write-2.new.self) (g.D.Device.state c.sync.new.self)
-    (c.write.ensures.time at_rest.0) (c.in_ok-write.ensures.ok at_rest.0)
-    (c.write-2.ensures.time model) (c.in_ok-write-2.ensures.ok model)
-    (c.sync.ensures.time (c.write-2.ensures.model.1 model))
+returns-clause-any_moment g c = over_sync g (goal.at.returns-clause-any_moment g c).After-sync
 
 pub returns-clause-changed : goal.returns-clause-changed
 returns-clause-changed g c =

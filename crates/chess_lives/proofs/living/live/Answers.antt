@@ -1,15 +1,21 @@
-use Rattle.std.proofs.Common.{ℕ, ◌∙◌, sym, subst, arith, List, Option, IfSome, map, Vec, Global}
+use Rattle.std.proofs.Common.{ℕ, ◌≤◌, ◌∙◌, sym, subst, arith, List, Option, IfSome, map, Vec, Global}
+use Rattle.rec_codec.specs.declared.limits.Limits.{Limits}
+use Rattle.rec_codec.specs.declared.limits.Version.TheVariants.{Two}
+use Rattle.rec_codec.specs.declared.record.Entry.{Entry}
+use Rattle.rec_codec.specs.Limits.{IsInRange}
 use Rattle.sector_dev.specs.Image.{Sectors}
 use Rattle.chess_entry.specs.Games.{table_of}
 use Rattle.chess_entry.specs.declared.commands.Command.{Command}
 use Rattle.chess_store.specs.declared.fault.StoreFault.{StoreFault}
 use Rattle.chess_store.specs.Faults.{CountsFault}
 use Rattle.table_commits.specs.Means.{Means}
-use Rattle.chess_lives.specs.Lives.{batches_of}
+use Rattle.chess_lives.specs.Lives.{IsBegun, batches_of}
 use Rattle.chess_lives.specs.Serving.{IsServed, CountsEnd}
 use Rattle.chess_lives.specs.Stops.{IsLivesFault}
 use Rattle.chess_lives.proofs.ServingLemmas.{counted-end}
 use Rattle.chess_lives.proofs.LivesLemmas.{Means-in_range, lived_to, life_stopped, passed_on}
+use Rattle.chess_lives.proofs.living.live.Given.{Over}
+use Rattle.chess_lives.proofs.living.live.Goals.{After-returned}
 use Rattle.chess_lives.proofs.living.live.Goals as goal
 
 pub returns-in-Some-clause-fault : goal.returns-in-Some-clause-fault
@@ -27,8 +33,9 @@ returns-in-Some-clause-cause g c =
     (subst (λ (x : Option StoreFault). CountsEnd x (failures c.limit.new.device) (failures left.device)) passed.is
     c.serve-left.ensures.counts)
 
-pub returns-in-Some-clause-counted : goal.returns-in-Some-clause-counted
-returns-in-Some-clause-counted g c =
+counted : (g : Over) (c : After-returned g)
+    → g.D.Device.failures c.args.device ≤ g.D.Device.failures c.serve-left.result.device
+counted g c =
     let failures = g.D.Device.failures in
     let left = c.serve-left.result in
     omega (
@@ -36,64 +43,58 @@ returns-in-Some-clause-counted g c =
       counted-end left.fault (failures c.limit.new.device) (failures left.device) c.serve-left.ensures.counts,
       c.limit.ensures.failures,
     )
+
+pub returns-in-Some-clause-counted : goal.returns-in-Some-clause-counted
+returns-in-Some-clause-counted g c = counted g (goal.at.returns-in-Some-clause-counted g c).After-returned
 
 pub returns-in-None-clause-counted : goal.returns-in-None-clause-counted
 returns-in-None-clause-counted g c =
-    let failures = g.D.Device.failures in
-    let left = c.serve-left.result in
-    omega (
-      arith,
-      counted-end left.fault (failures c.limit.new.device) (failures left.device) c.serve-left.ensures.counts,
-      c.limit.ensures.failures,
-      c.crash_as.ensures.failures,
-    )
+    omega (arith, counted g (goal.at.returns-in-None-clause-counted g c).After-returned, c.crash_as.ensures.failures)
 
-pub returns-in-Some-clause-stopped : goal.returns-in-Some-clause-stopped
-returns-in-Some-clause-stopped g c = λ limits k begun.
+in_range : (g : Over) (c : After-returned g) (limits : Limits) (k : List Entry) → IsBegun limits k (g.D.Device.state c.args.device)
+    → IsInRange Two limits
+in_range g c limits k begun =
+    let reads = (g.D.Device.state c.args.device).reads in
+    Means-in_range reads (table_of limits k)
+    (begun.means reads ((g.met.D.Device.coherent c.args.device).reads_are_image begun.model))
+
+-- its batches were served, from the failures on that the device had before its calls were limited
+was_served : (g : Over) (c : After-returned g) (limits : Limits) (k : List Entry) → IsBegun limits k (g.D.Device.state c.args.device)
+    → IsServed (table_of limits k) (batches_of c.args.life.now) (g.D.Device.failures c.args.device)
+    c.serve-left.result.report c.serve-left.result.fault (g.D.Device.state c.serve-left.result.device)
+    (g.D.Device.failures c.serve-left.result.device)
+was_served g c limits k begun =
     let state = g.D.Device.state in
     let failures = g.D.Device.failures in
-    let device = c.args.device in
     let left = c.serve-left.result in
-    let life = c.args.life.now in
     let table = table_of limits k in
     let served = c.serve-left.ensures.served (c.limit.ensures.model.1 begun.model) table
     (λ image is. begun.means image (c.limit.ensures.images begun.model image is)) in
-    let reads = (state device).reads in
-    let in_range = Means-in_range reads table
-    (begun.means reads ((g.met.D.Device.coherent device).reads_are_image begun.model)) in
-    life_stopped limits k (failures device) life left.report left.fault c.in-Some.fault (state left.device)
-    (failures left.device) in_range begun.lawful
-    (subst (λ (n : ℕ). IsServed table (batches_of life) n left.report left.fault (state left.device)
+    subst (λ (n : ℕ). IsServed table (batches_of c.args.life.now) n left.report left.fault (state left.device)
     (failures left.device)) c.limit.ensures.failures
     (subst (λ (bs : List (Vec Command Global)). IsServed table (map (λ b. b.items) bs)
     (failures c.limit.new.device) left.report left.fault (state left.device) (failures left.device))
-    c.deref.ensures.value served))
-    (sym c.returned.ensures ∙ c.in-Some.is)
+    c.deref.ensures.value served)
+
+pub returns-in-Some-clause-stopped : goal.returns-in-Some-clause-stopped
+returns-in-Some-clause-stopped g c = λ limits k begun.
+    let failures = g.D.Device.failures in
+    let left = c.serve-left.result in
+    let here = (goal.at.returns-in-Some-clause-stopped g c).After-returned in
+    life_stopped limits k (failures c.args.device) c.args.life.now left.report left.fault c.in-Some.fault
+    (g.D.Device.state left.device) (failures left.device) (in_range g here limits k begun) begun.lawful
+    (was_served g here limits k begun) (sym c.returned.ensures ∙ c.in-Some.is)
 
 pub returns-in-None-clause-lived : goal.returns-in-None-clause-lived
 returns-in-None-clause-lived g c = λ limits k begun.
     let state = g.D.Device.state in
     let failures = g.D.Device.failures in
-    let device = c.args.device in
     let left = c.serve-left.result in
-    let life = c.args.life.now in
-    let new = c.crash_as.new.self in
-    let table = table_of limits k in
-    let model = c.limit.ensures.model.1 begun.model in
-    let kept = c.serve-left.ensures.model.1 model in
-    let served = c.serve-left.ensures.served model table
-    (λ image is. begun.means image (c.limit.ensures.images begun.model image is)) in
-    let reads = (state device).reads in
-    let in_range = Means-in_range reads table
-    (begun.means reads ((g.met.D.Device.coherent device).reads_are_image begun.model)) in
-    let lived = lived_to limits k (failures device) life left.report left.fault (state left.device)
-    (failures left.device) (state new).reads in_range begun.lawful
-    (subst (λ (n : ℕ). IsServed table (batches_of life) n left.report left.fault (state left.device)
-    (failures left.device)) c.limit.ensures.failures
-    (subst (λ (bs : List (Vec Command Global)). IsServed table (map (λ b. b.items) bs)
-    (failures c.limit.new.device) left.report left.fault (state left.device) (failures left.device))
-    c.deref.ensures.value served))
-    (sym c.returned.ensures ∙ c.in-None.is) (c.crash_as.ensures.image kept) in
+    let here = (goal.at.returns-in-None-clause-lived g c).After-returned in
+    let kept = c.serve-left.ensures.model.1 (c.limit.ensures.model.1 begun.model) in
+    let lived = lived_to limits k (failures c.args.device) c.args.life.now left.report left.fault (state left.device)
+    (failures left.device) (state c.crash_as.new.self).reads (in_range g here limits k begun) begun.lawful
+    (was_served g here limits k begun) (sym c.returned.ensures ∙ c.in-None.is) (c.crash_as.ensures.image kept) in
     let stable = c.crash_as.ensures.left kept in
     record {
       next = lived.next;

@@ -1,18 +1,18 @@
-use Rattle.std.proofs.Common.{◌≡◌, ◌∙◌, ◌+◌, ◌++◌, [], ◌∷◌, Some, Result, ap, sym, subst, arith, List, length, length-append, take, IfOk, IfErr}
+use Rattle.std.proofs.Common.{◌≡◌, ◌∙◌, ◌+◌, ◌++◌, [], ◌∷◌, Result, ap, sym, subst, arith, List, length, length-append, take, IfOk, IfErr}
 use Rattle.std.proofs.lemmas.List.{take_all}
 use Rattle.rec_codec.specs.declared.limits.Limits.{Limits}
 use Rattle.rec_codec.specs.declared.record.Entry.{Entry}
 use Rattle.chess_entry.specs.State.{TableState}
 use Rattle.chess_entry.specs.Games.{table_of}
 use Rattle.chess_store.specs.declared.fault.StoreFault.{StoreFault}
-use Rattle.table_commits.specs.Means.{Means, AllMean}
+use Rattle.table_commits.specs.Means.{Means}
 use Rattle.chess_store.specs.Faults.{IsDevice, CountsFault}
 use Rattle.sector_dev.specs.Device.{HasRisen}
 use Rattle.chess_lives.specs.declared.plan.Life.{Life}
 use Rattle.chess_lives.specs.declared.plan.LifeReport.{LifeReport}
-use Rattle.chess_lives.specs.Lives.{IsBegun, IsLifeThen, IsReport}
-use Rattle.chess_lives.specs.Stops.{IsStopped, IsCutShort, IsLivesFault}
-use Rattle.chess_lives.specs.Serving.{IsShown, EndsUnopened}
+use Rattle.chess_lives.specs.Lives.{IsBegun, IsLifeThen}
+use Rattle.chess_lives.specs.Stops.{IsStopped, IsLivesFault}
+use Rattle.chess_lives.specs.Serving.{IsShown}
 use Rattle.chess_lives.proofs.LivesLemmas.{AreOver, are_over-none, are_over-more, cut_short, cut_at_start, cut_at_end, is_report, IfOk-both, IfOk-map, IfErr-map, take-more_at, around-one}
 use Rattle.chess_lives.proofs.ServingLemmas.{risen-fault}
 use Rattle.chess_lives.proofs.living.lives.Given.{Over}
@@ -144,62 +144,48 @@ all_over g c limits k begun =
     (failures left))
     whole (c.loop-life.invariant.over limits k begun)
 
+-- and what they left was shown
+is_shown : (g : Over) (c : After-show g) (limits : Limits) (k : List Entry)
+    → (begun : IsBegun limits k (g.D.Device.state c.args.device))
+    → IfOk c.show.result.report (λ report. IsShown (table_of limits (all_over g c limits k begun).last)
+    (g.D.Device.failures c.loop-life.left) report.table report.kept (g.D.Device.failures c.show.result.device))
+is_shown g c limits k begun =
+    let so_far = all_over g c limits k begun in
+    c.show.ensures.shown so_far.begun.model (table_of limits so_far.last) so_far.begun.means
+
 pub returns-clause-reported : goal.returns-clause-reported
 returns-clause-reported g c = λ limits k begun.
-    let state = g.D.Device.state in
     let failures = g.D.Device.failures in
-    let device = c.args.device in
-    let lives = c.args.plan.now.lives.items in
     let left = c.loop-life.left in
-    let new = c.show.result.device in
-    let reports = c.loop-life.reports.items in
-    let so_far = all_over g (goal.at.returns-clause-reported g c).After-show limits k begun in
-    let table = table_of limits so_far.last in
-    IfOk-both c.show.result.report
-    (λ report. IsShown table (failures left) report.table report.kept (failures new))
-    (λ report. report.lives.items ≡ reports)
-    (λ report. IsReport limits k (failures device) lives report (failures new))
-    (c.show.ensures.shown so_far.begun.model table so_far.begun.means) c.show.ensures.reports
+    let here = (goal.at.returns-clause-reported g c).After-show in
+    IfOk-both c.show.result.report _ _ _ (is_shown g here limits k begun) c.show.ensures.reports
     (λ report shown same.
-    is_report limits k (failures device) lives reports (state left) (failures left) (failures new) report so_far shown
+    is_report limits k (failures c.args.device) c.args.plan.now.lives.items c.loop-life.reports.items
+    (g.D.Device.state left) (failures left) (failures c.show.result.device) report (all_over g here limits k begun) shown
     same)
 
 pub returns-clause-images : goal.returns-clause-images
 returns-clause-images g c = λ limits k begun.
-    let state = g.D.Device.state in
-    let failures = g.D.Device.failures in
-    let left = c.loop-life.left in
-    let new = c.show.result.device in
-    let reports = c.loop-life.reports.items in
-    let so_far = all_over g (goal.at.returns-clause-images g c).After-show limits k begun in
-    let table = table_of limits so_far.last in
-    IfOk-both c.show.result.report
-    (λ report. IsShown table (failures left) report.table report.kept (failures new))
-    (λ report. report.lives.items ≡ reports)
-    (λ report. AllMean (state new) report.table)
-    (c.show.ensures.shown so_far.begun.model table so_far.begun.means) c.show.ensures.reports
+    let here = (goal.at.returns-clause-images g c).After-show in
+    let so_far = all_over g here limits k begun in
+    IfOk-both c.show.result.report _ _ _ (is_shown g here limits k begun) c.show.ensures.reports
     (λ report shown same image is.
     subst (λ (t : TableState). Means image t) (sym shown.same)
-    (c.show.ensures.images so_far.begun.model table so_far.begun.means image is))
+    (c.show.ensures.images so_far.begun.model (table_of limits so_far.last) so_far.begun.means image is))
 
 pub returns-clause-returned : goal.returns-clause-returned
 returns-clause-returned g c = λ limits k begun.
     let state = g.D.Device.state in
     let failures = g.D.Device.failures in
-    let device = c.args.device in
-    let lives = c.args.plan.now.lives.items in
     let left = c.loop-life.left in
     let new = c.show.result.device in
-    let reports = c.loop-life.reports.items in
     let so_far = all_over g (goal.at.returns-clause-returned g c).After-show limits k begun in
     let table = table_of limits so_far.last in
-    IfErr-map c.show.result.report
-    (λ fault. EndsUnopened (Some fault) (failures left) (failures new))
-    (λ fault. IsCutShort limits k (failures device) lives fault (state new) (failures new))
-    (c.show.ensures.refused so_far.begun.model table so_far.begun.means)
+    IfErr-map c.show.result.report _ _ (c.show.ensures.refused so_far.begun.model table so_far.begun.means)
     (λ fault ends.
-    cut_at_end limits k (failures device) lives reports (state left) (state new) (failures left) (failures new) fault
-    so_far (c.show.ensures.images so_far.begun.model table so_far.begun.means) ends)
+    cut_at_end limits k (failures c.args.device) c.args.plan.now.lives.items c.loop-life.reports.items (state left)
+    (state new) (failures left) (failures new) fault so_far
+    (c.show.ensures.images so_far.begun.model table so_far.begun.means) ends)
 
 pub returns-clause-each : goal.returns-clause-each
 returns-clause-each g c =

@@ -5,12 +5,12 @@ pub returns-clause-whole : goal.returns-clause-whole
 returns-clause-whole g c =
     whole-ended g.A.Answerer.answers g.A.Answerer.breaks c.answer_all-ended.result (g.S.LineSource.remaining c.args.source.now)
     (g.S.LineSource.remaining c.answer_all-ended.new.source) (g.W.Write.contents c.args.writer.now)
-    (g.W.Write.contents c.answer_all-ended.new.writer) c.args.answerer c.answer_all-ended.new.state.answerer
+    (g.W.Write.contents c.answer_all-ended.new.writer) c.args.answerer c.answer_all-ended.new.self.answerer
     c.answer_all-ended.ensures.ended c.answer_all-ended.ensures.end
 
 pub returns-clause-long : goal.returns-clause-long
 returns-clause-long g c =
     long-ended g.A.Answerer.answers g.A.Answerer.breaks c.answer_all-ended.result (g.S.LineSource.remaining c.args.source.now)
     (g.S.LineSource.remaining c.answer_all-ended.new.source) (g.W.Write.contents c.args.writer.now)
-    (g.W.Write.contents c.answer_all-ended.new.writer) c.args.answerer c.answer_all-ended.new.state.answerer
+    (g.W.Write.contents c.answer_all-ended.new.writer) c.args.answerer c.answer_all-ended.new.self.answerer
     c.answer_all-ended.ensures.ended

@@ -59,9 +59,7 @@ returns-then-not-admit-clause-reason g c =
 
 pub returns-then-feed-clause-reason : goal.returns-then-feed-clause-reason
 returns-then-feed-clause-reason g c =
-    heard_open (session_at c.args.sessions.now c.args.self.now.sid)
-    (session_at c.feed.new.sessions c.args.self.now.sid) c.portion-portion.result.now c.requires
-    c.if-feed.ensures.heard
+    heard_open _ _ c.portion-portion.result.now c.requires c.if-feed.ensures.heard
 
 pub returns-else-feed-clause-reason : goal.returns-else-feed-clause-reason
 returns-else-feed-clause-reason g c = λ none. inl c.if-feed.ensures.refused
@@ -76,9 +74,7 @@ returns-then-not-admit-clause-refused g c =
 
 pub returns-then-feed-clause-refused : goal.returns-then-feed-clause-refused
 returns-then-feed-clause-refused g c =
-    heard_open (session_at c.args.sessions.now c.args.self.now.sid)
-    (session_at c.feed.new.sessions c.args.self.now.sid) c.portion-portion.result.now c.requires
-    c.if-feed.ensures.heard
+    heard_open _ _ c.portion-portion.result.now c.requires c.if-feed.ensures.heard
 
 pub returns-else-feed-clause-refused : goal.returns-else-feed-clause-refused
 returns-else-feed-clause-refused g c = λ none. inl c.if-feed.ensures.refused

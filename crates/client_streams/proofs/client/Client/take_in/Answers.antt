@@ -44,23 +44,13 @@ returns-then-not-is_unfinished-clause-taken g c =
 
 pub returns-in-Nothing-clause-taken : goal.returns-in-Nothing-clause-taken
 returns-in-Nothing-clause-taken g c =
-    let client = c.args.self.now in
-    let after = c.read_more.new.self in
-    let room = c.args.room.now in
-    takes-in-unfinished room.lines room.longest (session_at c.args.sessions.now client.sid)
-    (g.S.Read.remaining client.wire.stream) (g.S.Read.remaining after.wire.stream) (waiting client.outgoing)
-    (held client.incoming) (held after.incoming) c.read_more.ensures.takes
-    (c.read_more.ensures.nothing c.in-Nothing.is) c.read_more.ensures.peer.2
+    takes-in-unfinished _ _ _ _ _ _ _ _ c.read_more.ensures.takes (c.read_more.ensures.nothing c.in-Nothing.is)
+    c.read_more.ensures.peer.2
 
 pub returns-in-End-clause-taken : goal.returns-in-End-clause-taken
 returns-in-End-clause-taken g c =
-    let client = c.args.self.now in
-    let after = c.read_more.new.self in
-    let room = c.args.room.now in
-    takes-in-unfinished room.lines room.longest (session_at c.args.sessions.now client.sid)
-    (g.S.Read.remaining client.wire.stream) (g.S.Read.remaining after.wire.stream) (waiting client.outgoing)
-    (held client.incoming) (held after.incoming) c.read_more.ensures.takes
-    (c.read_more.ensures.end c.in-End.is) c.read_more.ensures.peer.2
+    takes-in-unfinished _ _ _ _ _ _ _ _ c.read_more.ensures.takes (c.read_more.ensures.end c.in-End.is)
+    c.read_more.ensures.peer.2
 
 pub returns-in-Fault-clause-taken : goal.returns-in-Fault-clause-taken
 returns-in-Fault-clause-taken g c =

@@ -1,13 +1,14 @@
-use Rattle.std.proofs.Common.{◌≡◌, [], ◌∷◌, ◌++◌, arith, rules}
+use Rattle.std.proofs.Common.{◌≡◌, [], ◌∷◌, ◌++◌, Ok, Err, arith, rules}
 use Rattle.std.proofs.lemmas.Result.{err_from_is_err_and}
 use Rattle.std.proofs.lemmas.List.{nil_from_length}
 use Rattle.line_loop.specs.Turns.{moment_of}
-use Rattle.line_loop.proofs.TurnLemmas.{took-whole, flow_is, then-takes, over-long, over-broken, over-lost, passed_on}
-use Rattle.line_loop.proofs.loops.take_line.Goals as goal
+use Rattle.line_loop.specs.declared.loops.Flow.TheVariants.{TooLong, Broken}
+use Rattle.line_loop.proofs.TurnLemmas.{took-whole, flow_is, then-takes, over, passed_on}
+use Rattle.line_loop.proofs.loops.LoopState.take_line.Goals as goal
 
 pub returns-then-part-le-LINE_ROOM : goal.returns-then-part-le-LINE_ROOM
 returns-then-part-le-LINE_ROOM g c =
-    let old = moment_of c.args.state.now (g.W.Write.contents c.args.writer.now) in
+    let old = moment_of c.args.self.now (g.W.Write.contents c.args.writer.now) in
     let new = record old {
       written = g.W.Write.contents c.answer_line.new.writer;
       ready = c.answer_line.new.ready.bytes;
@@ -21,19 +22,19 @@ returns-then-part-le-LINE_ROOM g c =
 pub returns-in_err-take_part : goal.returns-in_err-take_part
 returns-in_err-take_part g c =
     let e = err_from_is_err_and c.from_residual.result c.from_residual.ensures.1 in
-    let old = moment_of c.args.state.now (g.W.Write.contents c.args.writer.now) in
-    let took = moment_of c.take_part.new.state (g.W.Write.contents c.take_part.new.writer) in
+    let old = moment_of c.args.self.now (g.W.Write.contents c.args.writer.now) in
+    let took = moment_of c.take_part.new.self (g.W.Write.contents c.take_part.new.writer) in
     let part = c.args.part.now in
     passed_on g.A.Answerer.is_ready g.A.Answerer.answers g.A.Answerer.breaks old took (part ++ 10 ∷ [])
     c.from_residual.result e.0 e.1
-    (over-lost g.A.Answerer.is_ready g.A.Answerer.answers g.A.Answerer.breaks old took part (10 ∷ []) e.0
+    (over g.A.Answerer.is_ready g.A.Answerer.answers g.A.Answerer.breaks old took part (10 ∷ []) (Err e.0) tt
     c.in_err-take_part.ensures)
 
 pub returns-in-Open : goal.returns-in-Open
 returns-in-Open g c =
-    let old = moment_of c.args.state.now (g.W.Write.contents c.args.writer.now) in
-    let took = moment_of c.take_part.new.state (g.W.Write.contents c.take_part.new.writer) in
-    let new = moment_of c.end_line.new.state (g.W.Write.contents c.end_line.new.writer) in
+    let old = moment_of c.args.self.now (g.W.Write.contents c.args.writer.now) in
+    let took = moment_of c.take_part.new.self (g.W.Write.contents c.take_part.new.writer) in
+    let new = moment_of c.end_line.new.self (g.W.Write.contents c.end_line.new.writer) in
     let part = c.args.part.now in
     then-takes g.A.Answerer.is_ready g.A.Answerer.answers g.A.Answerer.breaks old took new part (10 ∷ [])
     c.end_line.result
@@ -43,19 +44,19 @@ returns-in-Open g c =
 
 pub returns-in-TooLong : goal.returns-in-TooLong
 returns-in-TooLong g c =
-    let old = moment_of c.args.state.now (g.W.Write.contents c.args.writer.now) in
-    let took = moment_of c.take_part.new.state (g.W.Write.contents c.take_part.new.writer) in
+    let old = moment_of c.args.self.now (g.W.Write.contents c.args.writer.now) in
+    let took = moment_of c.take_part.new.self (g.W.Write.contents c.take_part.new.writer) in
     let part = c.args.part.now in
-    over-long g.A.Answerer.is_ready g.A.Answerer.answers g.A.Answerer.breaks old took part (10 ∷ [])
+    over g.A.Answerer.is_ready g.A.Answerer.answers g.A.Answerer.breaks old took part (10 ∷ []) (Ok TooLong) tt
     (flow_is g.A.Answerer.is_ready g.A.Answerer.answers g.A.Answerer.breaks old took part _ _ c.in-TooLong.is
     c.in_ok-take_part.ensures)
 
 pub returns-in-Broken : goal.returns-in-Broken
 returns-in-Broken g c =
-    let old = moment_of c.args.state.now (g.W.Write.contents c.args.writer.now) in
-    let took = moment_of c.take_part.new.state (g.W.Write.contents c.take_part.new.writer) in
+    let old = moment_of c.args.self.now (g.W.Write.contents c.args.writer.now) in
+    let took = moment_of c.take_part.new.self (g.W.Write.contents c.take_part.new.writer) in
     let part = c.args.part.now in
-    over-broken g.A.Answerer.is_ready g.A.Answerer.answers g.A.Answerer.breaks old took part (10 ∷ [])
-    c.in-Broken.fault
+    over g.A.Answerer.is_ready g.A.Answerer.answers g.A.Answerer.breaks old took part (10 ∷ [])
+    (Ok (Broken c.in-Broken.fault)) tt
     (flow_is g.A.Answerer.is_ready g.A.Answerer.answers g.A.Answerer.breaks old took part _ _ c.in-Broken.is
     c.in_ok-take_part.ensures)

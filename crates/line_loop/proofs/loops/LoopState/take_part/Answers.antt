@@ -2,12 +2,12 @@ use Rattle.std.proofs.Common.{◌<◌, ◌+◌, length, arith, refl}
 use Rattle.std.proofs.lemmas.Result.{err_from_is_err_and}
 use Rattle.line_loop.specs.Turns.{moment_of}
 use Rattle.line_loop.proofs.TurnLemmas.{took-long, lost-long, passed_on}
-use Rattle.line_loop.proofs.loops.take_part.Goals as goal
+use Rattle.line_loop.proofs.loops.LoopState.take_part.Goals as goal
 
 pub returns-in_err-say : goal.returns-in_err-say
 returns-in_err-say g c =
     let e = err_from_is_err_and c.from_residual.result c.from_residual.ensures.1 in
-    let old = moment_of c.args.state.now (g.W.Write.contents c.args.writer.now) in
+    let old = moment_of c.args.self.now (g.W.Write.contents c.args.writer.now) in
     let new = record old { written = g.W.Write.contents c.say.new.writer; ready = c.say.new.ready.bytes } in
     let part = c.args.part.now in
     let long : 255 < length old.held + length part = omega arith in
@@ -17,7 +17,7 @@ returns-in_err-say g c =
 
 pub returns-then-remaining_capacity-part : goal.returns-then-remaining_capacity-part
 returns-then-remaining_capacity-part g c =
-    let old = moment_of c.args.state.now (g.W.Write.contents c.args.writer.now) in
+    let old = moment_of c.args.self.now (g.W.Write.contents c.args.writer.now) in
     let new = record old { written = g.W.Write.contents c.say.new.writer; ready = c.say.new.ready.bytes } in
     let part = c.args.part.now in
     let long : 255 < length old.held + length part = omega arith in

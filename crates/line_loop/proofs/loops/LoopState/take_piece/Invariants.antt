@@ -2,11 +2,11 @@
 use Rattle.std.proofs.Common.{length}
 use Rattle.line_loop.specs.Turns.{moment_of}
 use Rattle.line_loop.proofs.TurnLemmas.{Through}
-use Rattle.line_loop.proofs.loops.take_piece.Given as goal
+use Rattle.line_loop.proofs.loops.LoopState.take_piece.Given as goal
 
 abbrev pub invariant-loop-end : goal.invariant-loop-end
 invariant-loop-end g l = Through g.A.Answerer.is_ready g.A.Answerer.answers g.A.Answerer.breaks
-    (moment_of l.fn.state (g.W.Write.contents l.fn.writer)) (moment_of l.state (g.W.Write.contents l.writer)) l.piece
+    (moment_of l.fn.self (g.W.Write.contents l.fn.writer)) (moment_of l.self (g.W.Write.contents l.writer)) l.piece
     l.rest
 
 abbrev pub decreases-loop-end : goal.decreases-loop-end

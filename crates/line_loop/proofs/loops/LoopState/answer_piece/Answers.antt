@@ -3,13 +3,13 @@ use Rattle.std.proofs.lemmas.Result.{err_from_is_err_and}
 use Rattle.line_loop.specs.Outlets.{Says}
 use Rattle.line_loop.specs.Turns.{moment_of}
 use Rattle.line_loop.proofs.TurnLemmas.{then-handed, then-lost, passed_on}
-use Rattle.line_loop.proofs.loops.answer_piece.Goals as goal
+use Rattle.line_loop.proofs.loops.LoopState.answer_piece.Goals as goal
 
 pub returns-in_err-hand_out-clause-taken : goal.returns-in_err-hand_out-clause-taken
 returns-in_err-hand_out-clause-taken g c =
     let e = err_from_is_err_and c.from_residual-in_err-hand_out.result c.from_residual-in_err-hand_out.ensures.1 in
-    let old = moment_of c.args.state.now (g.W.Write.contents c.args.writer.now) in
-    let took = moment_of c.take_piece.new.state (g.W.Write.contents c.take_piece.new.writer) in
+    let old = moment_of c.args.self.now (g.W.Write.contents c.args.writer.now) in
+    let took = moment_of c.take_piece.new.self (g.W.Write.contents c.take_piece.new.writer) in
     let written = g.W.Write.contents c.hand_out.new.writer in
     let left = c.hand_out.new.ready.bytes in
     let new = record took { written = written; ready = left } in
@@ -21,8 +21,8 @@ returns-in_err-hand_out-clause-taken g c =
 
 pub returns-clause-taken : goal.returns-clause-taken
 returns-clause-taken g c =
-    let old = moment_of c.args.state.now (g.W.Write.contents c.args.writer.now) in
-    let took = moment_of c.take_piece.new.state (g.W.Write.contents c.take_piece.new.writer) in
+    let old = moment_of c.args.self.now (g.W.Write.contents c.args.writer.now) in
+    let took = moment_of c.take_piece.new.self (g.W.Write.contents c.take_piece.new.writer) in
     let written = g.W.Write.contents c.hand_out.new.writer in
     then-handed g.A.Answerer.is_ready g.A.Answerer.answers g.A.Answerer.breaks old took written
     c.hand_out.new.ready.bytes c.args.piece.now c.in_ok-flow.flow c.in_ok-flow.ensures

@@ -3,11 +3,11 @@ use Rattle.std.proofs.Common.{◌∙◌, [], ◌∷◌, ◌++◌, ap, subst, sym
 use Rattle.chess_hub.specs.Calls.{Connected}
 use Rattle.chess_sockets.specs.Serving.{state_of}
 use Rattle.chess_sockets.proofs.ServingLemmas.{one_step, stays-refl}
-use Rattle.chess_sockets.proofs.server.Server.admit.Goals as goal
+use Rattle.chess_sockets.proofs.server.admit.Goals as goal
 
 pub returns-clause-welcomes : goal.returns-clause-welcomes
 returns-clause-welcomes g c =
-    let old = c.args.self.now.hub in
+    let old = c.args.hub.now in
     let new = c.connect.new.self in
     let client = c.new.result in
     record {
@@ -32,14 +32,14 @@ returns-clause-welcomes g c =
 pub returns-in-Err-clause-welcomes : goal.returns-in-Err-clause-welcomes
 returns-in-Err-clause-welcomes g c = record {
   came = [];
-  whole = c.reserve.ensures.items ∙ sym (append-nil c.args.self.now.clients.items);
-  welcomed = stays-refl (state_of c.args.self.now.hub.sessions c.args.self.now.hub.store.table);
+  whole = c.reserve.ensures.items ∙ sym (append-nil c.args.clients.now.items);
+  welcomed = stays-refl (state_of c.args.hub.now.sessions c.args.hub.now.store.table);
 }
 
 pub returns-in-Err-connect-clause-welcomes : goal.returns-in-Err-connect-clause-welcomes
 returns-in-Err-connect-clause-welcomes g c = record {
   came = [];
-  whole = c.reserve.ensures.items ∙ sym (append-nil c.args.self.now.clients.items);
+  whole = c.reserve.ensures.items ∙ sym (append-nil c.args.clients.now.items);
   welcomed = record {
     sessions = c.in-Err-connect.ensures.refused;
     table = ap (λ s. s.table) c.connect.ensures.store;

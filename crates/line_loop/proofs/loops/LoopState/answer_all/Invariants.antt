@@ -2,13 +2,13 @@
 use Rattle.std.proofs.Common.{◌≡◌}
 use Rattle.line_loop.specs.Turns.{moment_of}
 use Rattle.line_loop.proofs.EndLemmas.{Stands}
-use Rattle.line_loop.proofs.loops.answer_all.Given as goal
+use Rattle.line_loop.proofs.loops.LoopState.answer_all.Given as goal
 
 abbrev pub invariant-loop-count : goal.invariant-loop-count
 invariant-loop-count g l = record {
   stands : Stands g.A.Answerer.is_ready g.A.Answerer.answers (g.S.LineSource.remaining l.fn.source)
-      (g.S.LineSource.remaining l.source) (g.W.Write.contents l.fn.writer) l.fn.state.answerer
-      (moment_of l.state (g.W.Write.contents l.writer));
+      (g.S.LineSource.remaining l.source) (g.W.Write.contents l.fn.writer) l.fn.self.answerer
+      (moment_of l.self (g.W.Write.contents l.writer));
   works : g.S.LineSource.has_failed l.source ≡ g.S.LineSource.has_failed l.fn.source;
 }
 

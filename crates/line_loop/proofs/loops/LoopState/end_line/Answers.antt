@@ -2,12 +2,12 @@ use Rattle.std.proofs.Common.{[], ◌∷◌, refl, Ok, Err}
 use Rattle.std.proofs.lemmas.Result.{err_from_is_err_and}
 use Rattle.line_loop.specs.Turns.{moment_of}
 use Rattle.line_loop.proofs.TurnLemmas.{emptied, passed_on}
-use Rattle.line_loop.proofs.loops.end_line.Goals as goal
+use Rattle.line_loop.proofs.loops.LoopState.end_line.Goals as goal
 
 pub returns-in_err-flow : goal.returns-in_err-flow
 returns-in_err-flow g c =
     let e = err_from_is_err_and c.from_residual.result c.from_residual.ensures.1 in
-    let old = moment_of c.args.state.now (g.W.Write.contents c.args.writer.now) in
+    let old = moment_of c.args.self.now (g.W.Write.contents c.args.writer.now) in
     let new = record old {
       written = g.W.Write.contents c.answer_line.new.writer;
       ready = c.answer_line.new.ready.bytes;
@@ -20,7 +20,7 @@ returns-in_err-flow g c =
 
 pub returns : goal.returns
 returns g c =
-    let old = moment_of c.args.state.now (g.W.Write.contents c.args.writer.now) in
+    let old = moment_of c.args.self.now (g.W.Write.contents c.args.writer.now) in
     let new = record old {
       written = g.W.Write.contents c.answer_line.new.writer;
       ready = c.answer_line.new.ready.bytes;
