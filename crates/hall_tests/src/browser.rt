@@ -21,6 +21,8 @@ pub struct Lab {
     /// `open`, and each text, each with a line feed behind it.
     pub said: Vec<u8>,
     pub written: Vec<u8>,
+    // What was written to the browser before this one.
+    written_before: Vec<u8>,
 }
 
 pub fn file_of(
@@ -34,29 +36,20 @@ pub fn file_of(
     File::new(alloc, path, kind, Bytes::from_static(bytes)).expect(rt, "memory")
 }
 
-// These files under the host `a:1`.
-pub fn site_of(rt: &impl Abort, alloc: Global, files: Vec<File>) -> Site {
+/// No file under the host `a:1`.
+pub fn site_of(rt: &impl Abort, alloc: Global) -> Site {
     let mut hosts = Vec::new(alloc);
     let host = b"a:1".to_vec(alloc).expect(rt, "memory");
     hosts.push(host).expect(rt, "memory");
-    Site::new(hosts, files)
+    Site::new(hosts, Vec::new(alloc))
+}
+
+/// One behind the other.
+fn add(rt: &impl Abort, all: &mut Vec<u8>, more: &[u8]) {
+    all.extend_from_slice(more).expect(rt, "memory");
 }
 
 impl Lab {
-    fn new(rt: &impl Abort, alloc: Global, keys: RandomState) -> Lab {
-        let mut files = Vec::new(alloc);
-        let page = file_of(rt, alloc, b"/", Kind::Html, b"the page");
-        files.push(page).expect(rt, "memory");
-        Lab {
-            alloc,
-            keys,
-            site: site_of(rt, alloc, files),
-            browser: Browser::new(alloc, keys),
-            said: Vec::new(alloc),
-            written: Vec::new(alloc),
-        }
-    }
-
     /// From now on a path has these bytes.
     pub fn put(&mut self, rt: &impl Abort, path: &[u8], kind: Kind, bytes: &'static [u8]) {
         let file = file_of(rt, self.alloc, path, kind, bytes);
@@ -68,6 +61,7 @@ impl Lab {
         let browser = Browser::new(self.alloc, self.keys);
         drop(mem::replace(&mut self.browser, browser));
         self.said.clear();
+        mem::swap(&mut self.written, &mut self.written_before);
         self.written.clear();
     }
 
@@ -112,19 +106,24 @@ impl Lab {
         self.give(rt, bytes);
     }
 
-    /// Another browser comes, and they come one by one.
-    pub fn single(&mut self, rt: &impl Abort, bytes: &[u8]) {
+    // Another browser comes, and they come one by one.
+    fn single(&mut self, rt: &impl Abort, bytes: &[u8]) {
         self.begin();
         for byte in bytes {
             self.give(rt, &[*byte]);
         }
     }
 
-    /// Whether the browser said this, and what was written to it begins so, or is nothing where this is nothing.
-    pub fn has(&self, said: &[u8], answer: &[u8], is_over: bool) -> bool {
-        self.said.as_slice() == said
-            && self.written.as_slice().starts_with(answer)
-            && self.written.is_empty() == answer.is_empty()
+    /// Whether the browser said this, and what was written to it begins and ends so. Where it said something, or this is how
+    /// nothing begins, nothing stands between.
+    pub fn has(&self, said: &[u8], front: &[u8], end: &[u8], is_over: bool) -> bool {
+        let Some(rest) = self.written.as_slice().strip_prefix(front) else {
+            return false;
+        };
+        let may_have_more = said.is_empty() && !front.is_empty();
+        rest.ends_with(end)
+            && (may_have_more || rest.len() == end.len())
+            && self.said.as_slice() == said
             && self.browser.is_over() == is_over
     }
 
@@ -134,38 +133,45 @@ impl Lab {
         rt: &impl Abort,
         bytes: &[u8],
         said: &[u8],
-        answer: &[u8],
+        front: &[u8],
+        end: &[u8],
         is_over: bool,
     ) {
         self.whole(rt, bytes);
-        assert!(rt; self.has(said, answer, is_over));
-        let at_once = self
-            .written
-            .as_slice()
-            .to_vec(self.alloc)
-            .expect(rt, "memory");
+        assert!(rt; self.has(said, front, end, is_over));
         self.single(rt, bytes);
-        assert!(rt; self.has(said, answer, is_over));
-        assert!(rt; self.written.as_slice() == at_once.as_slice());
+        assert!(rt; self.has(said, front, end, is_over));
+        assert!(rt; self.written.as_slice() == self.written_before.as_slice());
     }
 
-    /// Bytes that begin so, of which there are so many.
+    /// These bytes, and behind them so many letters that there are so many.
     pub fn long(&self, rt: &impl Abort, front: &[u8], count: usize) -> Vec<u8> {
         let mut bytes = front.to_vec(self.alloc).expect(rt, "memory");
         bytes.resize(count, b'a').expect(rt, "memory");
         bytes
     }
-}
 
-/// One behind the other.
-pub fn add(rt: &impl Abort, all: &mut Vec<u8>, more: &[u8]) {
-    all.extend_from_slice(more).expect(rt, "memory");
+    /// These bytes, one behind the other.
+    pub fn joined(&self, rt: &impl Abort, front: &[u8], end: &[u8]) -> Vec<u8> {
+        let mut bytes = front.to_vec(self.alloc).expect(rt, "memory");
+        add(rt, &mut bytes, end);
+        bytes
+    }
 }
 
 #[test]
 fn browsers_are_answered(rt: HostRuntime) {
+    let alloc = rt.alloc();
     let keys = RandomState::new(&rt).expect(&rt, "keys");
-    let mut lab = Lab::new(&rt, rt.alloc(), keys);
+    let mut lab = Lab {
+        alloc,
+        keys,
+        site: site_of(&rt, alloc),
+        browser: Browser::new(alloc, keys),
+        said: Vec::new(alloc),
+        written: Vec::new(alloc),
+        written_before: Vec::new(alloc),
+    };
     check_requests(&rt, &mut lab);
     check_frames(&rt, &mut lab);
     drop(lab);

@@ -12,10 +12,7 @@ const GAMES: [(u32, &str); 3] = [
     (4_294_967_295, "{\\n}\n"),
 ];
 
-// An archive without a game.
-fn empty(rt: &impl Abort, alloc: Global) -> Archive<MemoryFile> {
-    Archive::open(alloc, MemoryFile::new(alloc, None)).expect(rt, "an archive")
-}
+const NUMBERS: [u32; 3] = [7, 1, 4_294_967_295];
 
 // Keeps all games until a call fails. It tells how many calls were answered.
 fn keep_all(alloc: Global, archive: &mut Archive<MemoryFile>) -> usize {
@@ -29,13 +26,10 @@ fn keep_all(alloc: Global, archive: &mut Archive<MemoryFile>) -> usize {
     answered
 }
 
-// Whether games are the first ones of the night, and at least so many.
-fn are_first(games: &[u32], least: usize) -> bool {
-    let mut all = GAMES.iter();
-    games.len() >= least
-        && games
-            .iter()
-            .all(|game| all.next().map(|one| one.0) == Some(*game))
+// It has the night's first games, at least so many, and then keeps all once.
+fn check_games(rt: &impl Abort, alloc: Global, archive: &mut Archive<MemoryFile>, least: usize) {
+    assert!(rt; archive.games().len() >= least && NUMBERS.starts_with(archive.games()));
+    assert!(rt; keep_all(alloc, archive) == 3 && archive.games() == NUMBERS.as_slice());
 }
 
 // An archive that is killed after so many calls, and of which a crash leaves this, has what was answered in its next life, and
@@ -45,19 +39,8 @@ fn check_killed(rt: &impl Abort, alloc: Global, calls: u32, fates: &[Fate]) {
         let answered = keep_all(alloc, &mut archive);
         let file = archive.into_file().crash(fates, None).expect(rt, "memory");
         let mut again = Archive::open(alloc, file).expect(rt, "an archive");
-        check_next_life(rt, alloc, &mut again, answered);
+        check_games(rt, alloc, &mut again, answered);
     }
-}
-
-fn check_next_life(
-    rt: &impl Abort,
-    alloc: Global,
-    archive: &mut Archive<MemoryFile>,
-    answered: usize,
-) {
-    assert!(rt; are_first(archive.games(), answered));
-    assert!(rt; keep_all(alloc, archive) == 3);
-    assert!(rt; archive.games().len() == 3 && are_first(archive.games(), 3));
 }
 
 #[test]
@@ -69,53 +52,42 @@ fn keeps_each_game_once(rt: HostRuntime) {
     }
 }
 
-// Whether game 7 was put into an archive now, or why not.
-fn kept(
-    alloc: Global,
-    archive: &mut Archive<MemoryFile>,
-    pgn: &[u8],
-) -> Result<bool, &'static str> {
+// What comes of keeping a text as that of game 7.
+fn kept(alloc: Global, archive: &mut Archive<MemoryFile>, pgn: &[u8]) -> &'static str {
     match archive.keep(alloc, 7, pgn) {
-        Ok(is_new) => Ok(is_new),
-        Err(Fault::Control) => Err("control"),
-        Err(Fault::NotText) => Err("no text"),
-        Err(_) => Err("other"),
+        Ok(true) => "new",
+        Ok(false) => "there",
+        Err(Fault::Control) => "control",
+        Err(Fault::NotText) => "no text",
+        Err(_) => "other",
     }
 }
 
-const KEPT: [(&[u8], Result<bool, &str>); 8] = [
-    (b"a\tb\n", Err("control")),
-    (b"*\r\n", Err("control")),
-    (b"\0", Err("control")),
-    (b"\x1b", Err("control")),
-    (b"\x7f", Err("control")),
-    (b"\xff", Err("no text")),
-    (b"*\n", Ok(true)),
-    (b"1. e4 *\n", Ok(false)),
+const KEPT: [(&[u8], &str); 8] = [
+    (b"a\tb\n", "control"),
+    (b"*\r\n", "control"),
+    (b"\0", "control"),
+    (b"\x1b", "control"),
+    (b"\x7f", "control"),
+    (b"\xff", "no text"),
+    (b"*\n", "new"),
+    (b"1. e4 *\n", "there"),
 ];
 
-#[test]
-fn keeps_a_text_once_and_tells_what_it_has(rt: HostRuntime) {
-    let mut archive = empty(&rt, rt.alloc());
+// A text is kept once, and an archive tells what it has.
+fn check_kept(rt: &impl Abort, alloc: Global, archive: &mut Archive<MemoryFile>) {
     assert!(rt; !archive.has(7));
     for (pgn, wanted) in &KEPT {
-        assert!(rt; kept(rt.alloc(), &mut archive, pgn) == *wanted);
+        assert!(rt; kept(alloc, archive, pgn) == *wanted);
     }
     assert!(rt; archive.has(7) && !archive.has(8));
 }
 
-// The game of a line.
-fn game(rt: &impl Abort, alloc: Global, line: &str) -> Option<u32> {
-    game_of(alloc, line).expect(rt, "memory")
-}
-
 #[test]
-fn reads_lines(rt: HostRuntime) {
-    let line = "{\"game\":12,\"pgn\":\"[A \\\"b\\\\\\\\\\\"]\\n*\\n\"}";
-    assert!(rt; game(&rt, rt.alloc(), line) == Some(12));
-    let pgn = pgn_of(rt.alloc(), line).expect(&rt, "memory");
-    assert!(rt; pgn.as_slice() == b"[A \"b\\\\\"]\n*\n".as_slice());
-    assert!(rt; game(&rt, rt.alloc(), "{\"game\":7,\"pgn\":\"\u{fc}\"}") == Some(7));
+fn keeps_a_text_once_and_tells_what_it_has(rt: HostRuntime) {
+    let file = MemoryFile::new(rt.alloc(), None);
+    let mut archive = Archive::open(rt.alloc(), file).expect(&rt, "an archive");
+    check_kept(&rt, rt.alloc(), &mut archive);
 }
 
 // What is no line of an archive, though a game's number stands in some.
@@ -139,19 +111,26 @@ const OTHERS: [&str; 17] = [
     "{\"pgn\":\"*\",\"game\":7}",
 ];
 
-// Whether a file of a game's line and this line is refused for this one.
-fn is_refused(rt: &impl Abort, alloc: Global, line: &str) -> bool {
+// A file of a game's line and this one is refused for the second.
+fn check_refused(rt: &impl Abort, alloc: Global, line: &str) {
     let mut file = MemoryFile::new(alloc, None);
     for text in ["{\"game\":1,\"pgn\":\"\"}\n", line, "\n"] {
-        assert!(rt; file.append(text.as_bytes()).is_ok());
+        file.append(text.as_bytes()).expect(rt, "memory");
     }
-    matches!(Archive::open(alloc, file), Err(Fault::NotAGame(2)))
+    assert!(rt; matches!(Archive::open(alloc, file), Err(Fault::NotAGame(2))));
 }
 
 #[test]
 fn refuses_other_lines(rt: HostRuntime) {
     for line in &OTHERS {
-        assert!(rt; game(&rt, rt.alloc(), line).is_none());
-        assert!(rt; is_refused(&rt, rt.alloc(), line));
+        check_refused(&rt, rt.alloc(), line);
     }
+}
+
+#[test]
+fn reads_lines(rt: HostRuntime) {
+    let line = "{\"game\":12,\"pgn\":\"[A \\\"b\\\\\\\\\\\"]\\n*\\n\"}";
+    assert!(rt; game_of(rt.alloc(), line).expect(&rt, "memory") == Some(12));
+    let pgn = pgn_of(rt.alloc(), line).expect(&rt, "memory");
+    assert!(rt; pgn.as_slice() == b"[A \"b\\\\\"]\n*\n".as_slice());
 }

@@ -1,5 +1,6 @@
 //! A database has the bytes that SQLite 3.40.1 has written for the same table with the same row.
 use sqlite_file::{Database, Fault, Value};
+use std::process::Abort;
 
 const TABLE: &str = "CREATE TABLE t (a INTEGER PRIMARY KEY, b TEXT, c INTEGER, d TEXT)";
 
@@ -14,22 +15,27 @@ const ROW: &[u8] = b"\x0d\x82\x2c\x05\x00\x17\x03\x00hello\x01\x11\x70";
 const SCHEMA: &[u8] =
     b"\x50\x01\x07\x17\x0f\x0f\x01\x81\x0ftablett\x02CREATE TABLE t (a INTEGER PRIMARY KEY, b TEXT, c INTEGER, d TEXT)";
 
-#[test]
-fn a_row_stands_as_sqlite_has_it(rt: HostRuntime) {
-    let row = [
-        Value::Null,
-        Value::Text("hello"),
-        Value::Number(70_000),
-        Value::Null,
-    ];
-    let mut database = Database::new(rt.alloc());
-    database.put(300, &row).expect(&rt, "a row");
-    database.end_table("t", TABLE).expect(&rt, "a table");
-    let first = database.first_page().expect(&rt, "a page");
+const VALUES: [Value<'static>; 4] = [
+    Value::Null,
+    Value::Text("hello"),
+    Value::Number(70_000),
+    Value::Null,
+];
+
+fn check_pages(rt: &impl Abort, database: &Database) {
+    let first = database.first_page().expect(rt, "a page");
     let leaf = first.as_slice().split_at(100).1;
     assert!(rt; leaf.starts_with(FIRST) && leaf.ends_with(SCHEMA));
     let later = database.later_pages();
     assert!(rt; later.starts_with(LEAF) && later.ends_with(ROW));
+}
+
+#[test]
+fn a_row_stands_as_sqlite_has_it(rt: HostRuntime) {
+    let mut database = Database::new(rt.alloc());
+    database.put(300, &VALUES).expect(&rt, "a row");
+    database.end_table("t", TABLE).expect(&rt, "a table");
+    check_pages(&rt, &database);
 }
 
 #[test]

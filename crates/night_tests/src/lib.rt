@@ -1,4 +1,5 @@
-//! Tests of the files and texts of a night, by what their crates export alone: so none of them is proved twice.
+//! Tests of the files and texts of a night, and of the switch before its servers, by what their crates export alone: so none of
+//! these is proved twice.
 #![tactic(auto)]
 
 #[cfg(test)]
@@ -15,3 +16,5 @@ mod dates;
 mod report;
 #[cfg(test)]
 mod rounds;
+#[cfg(test)]
+mod switch;

@@ -1,4 +1,4 @@
-//! What a client and servers say, row by row, and what each is sent.
+//! What a client of a switch and servers say, row by row, and what each is sent.
 use server_switch::Exchange;
 use std::alloc::Global;
 use std::process::Abort;
@@ -181,10 +181,23 @@ fn check_run(rt: &impl Abort, alloc: Global, rows: &[Row]) {
     play(rt, &mut exchange, &mut sent, rows);
 }
 
+// (each by itself: what a table costs in a proof grows with the square of the tables in a function)
 #[test]
-fn rows_are_answered(rt: HostRuntime) {
+fn lines_go_to_their_servers(rt: HostRuntime) {
     check_run(&rt, rt.alloc(), &LINES_GO_TO_THEIR_SERVERS);
+}
+
+#[test]
+fn answers_come_in_order(rt: HostRuntime) {
     check_run(&rt, rt.alloc(), &ANSWERS_COME_IN_ORDER);
+}
+
+#[test]
+fn open_goes_where_room_is(rt: HostRuntime) {
     check_run(&rt, rt.alloc(), &OPEN_GOES_WHERE_ROOM_IS);
+}
+
+#[test]
+fn one_server_is_lost(rt: HostRuntime) {
     check_run(&rt, rt.alloc(), &ONE_SERVER_IS_LOST);
 }
