@@ -493,6 +493,7 @@ fn names_may_be_absolute_and_a_pipe_is_refused(rt: HostRuntime) {
     for left in [AWAY, LINK] {
         play(&rt, left, &LEFT);
     }
+    drop(path);
     let (pipe, _writer) = io::pipe(&rt).expect(&rt, "a pipe");
     let path = format!(in rt.alloc(); "/proc/self/fd/{}", pipe.as_raw_fd());
     play(&rt, path.expect(&rt, "memory").as_str(), &IS_NO_FILE);
