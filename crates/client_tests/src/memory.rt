@@ -142,7 +142,8 @@ fn all_is_answered_where_no_memory_is_refused(rt: HostRuntime) {
 fn refused_memory(rt: HostRuntime) {
     match served(rt.alloc()) {
         None => {}
-        Some(Ok(seen)) => assert!(rt; seen.is_some_and(|seen| is_of_one_refusal(seen))),
+        Some(Ok(Some(seen))) => assert!(rt; is_of_one_refusal(seen)),
+        Some(Ok(None)) => panic!(rt; "answers are missing"),
         // The device in memory was refused it.
         Some(Err(fault)) => {
             assert!(rt; matches!(fault, HubFault::Store(StoreFault::Device { .. })));

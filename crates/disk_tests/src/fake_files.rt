@@ -127,7 +127,7 @@ fn one_call_of_the_file_fails(rt: HostRuntime) {
 
 // How a call failed.
 fn failure(answer: io::Result<()>) -> Option<ErrorKind> {
-    answer.err().map(|error| error.kind())
+    Some(answer.err()?.kind())
 }
 
 // A call past the sectors, or between two of them, is refused.

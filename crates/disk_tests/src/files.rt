@@ -39,7 +39,7 @@ fn marked() -> [u8; 512] {
 
 /// The kind of a device's last error.
 pub fn last_kind<F: PositionedFile>(device: &FileDevice<F>) -> Option<ErrorKind> {
-    device.last_error().map(|error| error.kind())
+    Some(device.last_error()?.kind())
 }
 
 /// Makes a call. Whether it comes to what is told.
@@ -133,7 +133,7 @@ fn writable<R: Files<File = File> + Abort>(rt: &R, path: &str) -> File {
 
 // How opening failed.
 fn refusal(opened: io::Result<FileDevice>) -> Option<ErrorKind> {
-    opened.err().map(|error| error.kind())
+    Some(opened.err()?.kind())
 }
 
 fn is_refused<R: Files<File = File> + Abort>(rt: &R, path: &str, kind: ErrorKind) -> bool {
@@ -501,7 +501,7 @@ fn names_may_be_absolute_and_a_pipe_is_refused(rt: HostRuntime) {
 
 // The system's number of an error.
 fn number_of(error: Option<&io::Error>) -> Option<i32> {
-    error.and_then(|error| error.raw_os_error())
+    error?.raw_os_error()
 }
 
 fn make_holes<R: Files<File = File> + Abort>(rt: &R, path: &str) -> io::Result<()> {
