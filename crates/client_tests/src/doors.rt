@@ -43,42 +43,33 @@ impl Listens for Queue {
     }
 }
 
-// Which connection comes of a listener with these tries, after how many, and what the last of them found.
-fn found_at(codes: &'static [i32]) -> (Option<usize>, usize, Found) {
-    let mut queue = Queue {
-        codes,
-        tries: 0,
-        found: Found::Lost,
-        given: 0,
-    };
-    let connection = next_connection(&mut queue);
-    (connection, queue.tries, queue.found)
-}
+// The tries of a listener; which connection comes of it, after how many, and what the last of them found.
+static ROWS: [(&[i32], Option<usize>, usize, Found); 10] = [
+    // Only a listener without connections has nobody.
+    (&[], None, 1, Found::Nobody),
+    (&[103], None, 2, Found::Nobody),
+    (&[103; 100], None, 64, Found::Lost),
+    // A connection comes behind lost ones: ECONNABORTED, ECONNRESET and EINTR are passed over.
+    (&[0], Some(1), 1, Found::Connection),
+    (&[103, 104, 4, 0], Some(4), 4, Found::Connection),
+    // At EMFILE, ENFILE, ENOMEM, ENOBUFS and EINVAL one may wait that is tried again in a later turn.
+    (&[24, 0], None, 1, Found::Refused),
+    (&[23, 0], None, 1, Found::Refused),
+    (&[12, 0], None, 1, Found::Refused),
+    (&[105, 0], None, 1, Found::Refused),
+    (&[103, 22, 0], None, 2, Found::Refused),
+];
 
 #[test]
-fn only_a_listener_without_connections_has_nobody(rt: HostRuntime) {
-    assert!(rt; found_at(&[]) == (None, 1, Found::Nobody));
-    assert!(rt; found_at(&[103]) == (None, 2, Found::Nobody));
-    assert!(rt; found_at(&[103; 100]) == (None, 64, Found::Lost));
-}
-
-#[test]
-fn a_connection_comes_behind_lost_ones(rt: HostRuntime) {
-    assert!(rt; found_at(&[0]) == (Some(1), 1, Found::Connection));
-    // ECONNABORTED, ECONNRESET and EINTR are passed over.
-    assert!(rt; found_at(&[103, 104, 4, 0]) == (Some(4), 4, Found::Connection));
-}
-
-// At EMFILE, ENFILE, ENOMEM, ENOBUFS and EINVAL one may wait that is tried again in a later turn.
-#[test]
-fn a_refusal_is_tried_again(rt: HostRuntime) {
-    let refused = (None, 1, Found::Refused);
-    let found = [
-        found_at(&[24, 0]),
-        found_at(&[23, 0]),
-        found_at(&[12, 0]),
-        found_at(&[105, 0]),
-    ];
-    assert!(rt; found == [refused; 4]);
-    assert!(rt; found_at(&[103, 22, 0]) == (None, 2, Found::Refused));
+fn tries_come_to_a_connection_or_not(rt: HostRuntime) {
+    for (codes, connection, tries, found) in &ROWS {
+        let mut queue = Queue {
+            codes,
+            tries: 0,
+            found: Found::Lost,
+            given: 0,
+        };
+        assert!(rt; next_connection(&mut queue) == *connection);
+        assert!(rt; queue.tries == *tries && queue.found == *found);
+    }
 }

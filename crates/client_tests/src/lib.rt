@@ -13,5 +13,3 @@ mod memory;
 mod peers;
 #[cfg(test)]
 mod serving;
-#[cfg(test)]
-mod watching;

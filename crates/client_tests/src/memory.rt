@@ -1,13 +1,10 @@
 //! Memory that is refused to clients over connections: `bench/refused-memory` refuses each allocation in turn.
-use crate::peers::{Gives, Peer, Takes, made};
-use crate::serving::{connect, hub};
-use chess_hub::{Hub, HubFault};
-use chess_sockets::serve_clients;
+use crate::peers::{Gives, Takes};
+use crate::serving::{Crowd, comes, nobody, take_turn};
+use chess_hub::HubFault;
 use chess_store::StoreFault;
-use client_streams::{Client, Reading};
-use sector_dev::MemoryDevice;
+use client_streams::Reading;
 use std::alloc::Global;
-use std::process::Abort;
 
 const ANN: &[Gives] = &[
     Gives::Text("name ann\nopen white 300 0\n"),
@@ -36,65 +33,22 @@ const BOB: &[Gives] = &[
 ];
 
 /// How many answers each is to have.
-const ANSWERS: [usize; 2] = [4, 8];
+static ANSWERS: [usize; 2] = [4, 8];
 
-/// What was seen of a refusal.
-#[derive(Clone, Copy, PartialEq)]
-struct Seen {
-    /// How many turns ended by want of memory.
-    refusals: u64,
-    /// How many commands were answered so.
-    told: usize,
-    /// How many clients were closed.
-    closed: usize,
-    /// How many answers are to lines that want what was refused.
-    behind: usize,
-}
+/// What was seen of a refusal: how many turns ended by want of memory; how many commands were answered so; how many clients
+/// were closed; and how many answers are to lines that want what was refused.
+type Seen = (u64, usize, usize, usize);
 
-impl Seen {
-    // Whether one refusal, or none, came to this. Behind an `open` there are a join and two moves.
-    fn is_of_one_refusal(self) -> bool {
-        let Seen {
-            refusals,
-            told,
-            closed,
-            behind,
-        } = self;
-        match (refusals, told, closed) {
-            (0, 0, 0) | (1, 0, 0) => behind == 0,
-            (0, 1, 0) | (0, 0, 1) => behind <= 3,
-            _ => false,
-        }
+/// What is seen where no memory was refused.
+const NOTHING: Seen = (0, 0, 0, 0);
+
+// Whether one refusal, or none, came to this. Behind an `open` there are a join and two moves.
+fn is_of_one_refusal((refusals, told, closed, behind): Seen) -> bool {
+    match (refusals, told, closed) {
+        (0, 0, 0) | (1, 0, 0) => behind == 0,
+        (0, 1, 0) | (0, 0, 1) => behind <= 3,
+        _ => false,
     }
-}
-
-// A connection with room for all that it takes.
-fn roomy(alloc: Global, gives: &'static [Gives]) -> Option<Peer> {
-    let mut peer = made(alloc, gives, Takes::All);
-    peer.written.reserve(2_000).ok()?;
-    Some(peer)
-}
-
-fn begin(alloc: Global) -> Option<(Hub<MemoryDevice>, Vec<Client<Peer>>)> {
-    let mut hub = hub(alloc)?;
-    let mut clients = Vec::new(alloc);
-    let connected = connect(&mut clients, &mut hub, alloc, roomy(alloc, ANN)?)
-        && connect(&mut clients, &mut hub, alloc, roomy(alloc, BOB)?);
-    if connected {
-        Some((hub, clients))
-    } else {
-        None
-    }
-}
-
-/// What a client was told.
-#[derive(Clone, Copy)]
-struct Told {
-    answers: usize,
-    /// How many say that memory was refused.
-    refused: usize,
-    /// How many are to lines that want what was refused.
-    behind: usize,
 }
 
 // Whether a line is the first of an answer. The others are of a body.
@@ -102,17 +56,18 @@ fn is_first(line: &str) -> bool {
     line.starts_with("ok ") || line.starts_with("no ")
 }
 
-// Whether a line is the answer to one that wants what was refused: the game is one's own, or not one's own; nobody has
-// joined it; or the other has not moved.
-fn is_behind(line: &str) -> bool {
-    line == "no 16 SamePlayer"
-        || line == "no 4 NotSeated"
-        || line == "no 5 NotStarted"
-        || line == "no 7 WrongPly 0"
-}
+// The answers to lines that want what was refused: the game is one's own, or not one's own; nobody has joined it; or the other
+// has not moved.
+static BEHIND: [&str; 4] = [
+    "no 16 SamePlayer",
+    "no 4 NotSeated",
+    "no 5 NotStarted",
+    "no 7 WrongPly 0",
+];
 
-// Counts the answers. `None` where one is another than `ok` and these.
-fn told_of(written: &[u8]) -> Option<Told> {
+// How many answers there are, how many say that memory was refused, and how many are to lines that want what was. `None` where
+// one is another than `ok` and these.
+fn told_of(written: &[u8]) -> Option<[usize; 3]> {
     let (mut answers, mut refused, mut behind) = (0usize, 0usize, 0usize);
     for line in str::from_utf8(written).ok()?.lines() {
         if !is_first(line) {
@@ -121,96 +76,77 @@ fn told_of(written: &[u8]) -> Option<Told> {
         answers = answers.saturating_add(1);
         if line == "no 22 NoMemory" {
             refused = refused.saturating_add(1);
-        } else if is_behind(line) {
+        } else if BEHIND.contains(&line) {
             behind = behind.saturating_add(1);
         } else if !line.starts_with("ok ") {
             return None;
         }
     }
-    Some(Told {
-        answers,
-        refused,
-        behind,
-    })
+    Some([answers, refused, behind])
 }
 
 // What is seen once all is served. `None` where a client that is open has not all its answers.
-fn look(clients: &[Client<Peer>], hub: &Hub<MemoryDevice>) -> Option<Seen> {
-    let mut seen = Seen {
-        refusals: hub.refusals(),
-        ..NOTHING
-    };
-    for (client, wanted) in clients.iter().zip(ANSWERS) {
-        if !hub.is_open(client.sid()) {
-            seen.closed = seen.closed.saturating_add(1);
+fn look(crowd: &Crowd) -> Option<Seen> {
+    let (mut told, mut closed, mut behind) = (0usize, 0usize, 0usize);
+    for (client, wanted) in crowd.clients.iter().zip(ANSWERS) {
+        if !crowd.hub.is_open(client.sid()) {
+            closed = closed.saturating_add(1);
             continue;
         }
-        let told = told_of(client.stream().written.as_slice())?;
-        if told.answers != wanted {
+        let [answers, refused, wants] = told_of(client.stream().written.as_slice())?;
+        if answers != wanted {
             return None;
         }
-        seen.told = seen.told.saturating_add(told.refused);
-        seen.behind = seen.behind.saturating_add(told.behind);
+        told = told.saturating_add(refused);
+        behind = behind.saturating_add(wants);
     }
-    Some(seen)
+    Some((crowd.hub.refusals(), told, closed, behind))
 }
 
-// Serves for so many turns, and goes on where a turn was refused memory. A fault, where it is another.
-fn serve(
-    clients: &mut Vec<Client<Peer>>,
-    hub: &mut Hub<MemoryDevice>,
-    turns: u64,
-) -> Result<(), HubFault> {
-    for turn in 0..turns {
+// Serves both for so many turns that they have all their answers, and goes on where a turn was refused memory. A fault, where
+// it is another.
+fn serve(crowd: &mut Crowd) -> Result<(), HubFault> {
+    for at in 1_000..1_020 {
         let reading = Reading {
-            at: 1_000u64.saturating_add(turn),
+            at,
             is_calm: false,
             silence: None,
         };
-        match serve_clients(clients, hub, reading) {
-            Ok(_) => {}
-            Err(fault) if fault.is_for_memory() => {}
-            Err(fault) => return Err(fault),
+        match take_turn(crowd, reading) {
+            Err(fault) if !fault.is_for_memory() => return Err(fault),
+            _ => {}
         }
     }
     Ok(())
 }
 
-/// What is seen where no memory was refused.
-const NOTHING: Seen = Seen {
-    refusals: 0,
-    told: 0,
-    closed: 0,
-    behind: 0,
-};
-
-/// In so many turns both have all their answers.
-const TURNS: u64 = 20;
-
-// Serves both where no memory is refused.
-fn served(alloc: Global) -> Option<Seen> {
-    let (mut hub, mut clients) = begin(alloc)?;
-    serve(&mut clients, &mut hub, TURNS).ok()?;
-    look(clients.as_slice(), &hub)
+// What is seen of both once they are served. `None` where memory was refused before: that is no matter of serving.
+fn served(alloc: Global) -> Option<Result<Option<Seen>, HubFault>> {
+    let mut crowd = nobody(alloc)?;
+    let has_begun = comes(&mut crowd, alloc, ANN, &Takes::All)
+        && comes(&mut crowd, alloc, BOB, &Takes::All);
+    let seen = match serve(&mut crowd) {
+        Ok(()) => Ok(look(&crowd)),
+        Err(fault) => Err(fault),
+    };
+    drop(crowd);
+    if has_begun { Some(seen) } else { None }
 }
 
 #[test]
 fn all_is_answered_where_no_memory_is_refused(rt: HostRuntime) {
-    assert!(rt; served(rt.alloc()) == Some(NOTHING));
+    assert!(rt; served(rt.alloc()) == Some(Ok(Some(NOTHING))));
 }
 
 #[test]
 fn refused_memory(rt: HostRuntime) {
-    // What is refused before is no matter of serving.
-    let Some((mut hub, mut clients)) = begin(rt.alloc()) else {
-        return;
-    };
-    match serve(&mut clients, &mut hub, TURNS) {
-        Ok(()) => {
-            let found = look(clients.as_slice(), &hub);
-            assert!(rt; found.is_some_and(|seen| seen.is_of_one_refusal()));
-        }
+    match served(rt.alloc()) {
+        None => {}
+        Some(Ok(Some(seen))) => assert!(rt; is_of_one_refusal(seen)),
+        Some(Ok(None)) => panic!(rt; "answers are missing"),
         // The device in memory was refused it.
-        Err(fault) => assert!(rt; matches!(fault, HubFault::Store(StoreFault::Device { .. }))),
+        Some(Err(fault)) => {
+            assert!(rt; matches!(fault, HubFault::Store(StoreFault::Device { .. })));
+        }
     }
 }

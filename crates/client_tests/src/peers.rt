@@ -6,7 +6,6 @@ use std::io;
 use std::io::{Error, ErrorKind, Read, Write};
 
 /// What a connection gives at a read.
-#[derive(Clone, Copy)]
 pub enum Gives {
     Text(&'static str),
     /// As many bytes as a read takes: sixteen lines of 255 `x`.
@@ -17,7 +16,6 @@ pub enum Gives {
 }
 
 /// What a connection does at a write.
-#[derive(Clone, Copy)]
 pub enum Takes {
     All,
     /// It takes so many bytes, and nothing at the next write.
@@ -40,19 +38,21 @@ const SLOW: usize = 7;
 pub struct Peer {
     gives: &'static [Gives],
     pub reads: usize,
-    takes: Takes,
+    takes: &'static Takes,
     is_full: bool,
     pub written: Vec<u8>,
 }
 
-/// A connection to which nothing was written.
-pub fn made(alloc: Global, gives: &'static [Gives], takes: Takes) -> Peer {
+/// A connection to which nothing was written. It has room for much of that, unless memory is refused.
+pub fn made(alloc: Global, gives: &'static [Gives], takes: &'static Takes) -> Peer {
+    let mut written = Vec::new(alloc);
+    let _ = written.reserve(2_000);
     Peer {
         gives,
         reads: 0,
         takes,
         is_full: false,
-        written: Vec::new(alloc),
+        written,
     }
 }
 
@@ -93,16 +93,17 @@ impl Read for Peer {
 
 impl Write for Peer {
     fn write(&mut self, buf: &[u8]) -> io::Result<usize> {
+        let held = self.written.len();
         let most = match self.takes {
             Takes::All => buf.len(),
-            Takes::SlowsAt(most) if self.written.len() < most => most - self.written.len(),
-            Takes::Some(most) if !self.is_full => most,
+            Takes::SlowsAt(most) if held < *most => *most - held,
+            Takes::Some(most) if !self.is_full => *most,
             Takes::SlowsAt(_) if !self.is_full => SLOW,
             Takes::Some(_) | Takes::SlowsAt(_) | Takes::Nothing => {
                 self.is_full = false;
                 return Err(Error::from(ErrorKind::WouldBlock));
             }
-            Takes::Fails(most) if self.written.len() < most => most - self.written.len(),
+            Takes::Fails(most) if held < *most => *most - held,
             Takes::Fails(_) => return Err(Error::from(ErrorKind::BrokenPipe)),
         };
         let count = if buf.len() < most { buf.len() } else { most };

@@ -95,7 +95,7 @@ fn source_of(later: &Header) -> Scripted {
 // The header that is read later, in how many tries it is copied, and the header that stands in the copy, if one is made.
 type Row = (Header, u32, Option<Header>);
 
-const ROWS: [Row; 7] = [
+static ROWS: [Row; 7] = [
     // The same header, and the next commit in the same half.
     (FIRST, 1, Some(FIRST)),
     (

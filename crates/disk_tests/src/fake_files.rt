@@ -49,7 +49,7 @@ impl PositionedFile for FakeFile {
 type Row<'a> = (Option<Standing>, u32, &'a [Call], u64);
 
 // What a sync says of files that were cut or lost, files.rt shows of the system's.
-const ROWS: [Row<'static>; 4] = [
+static ROWS: [Row<'static>; 4] = [
     // The last sector stands before two tebibytes.
     (
         None,
@@ -72,7 +72,7 @@ fn a_device_asks_its_file(rt: HostRuntime) {
         };
         let mut device = FileDevice::over(file, *sectors);
         for call in *calls {
-            make(&rt, &mut device, *call);
+            assert!(rt; make(&rt, &mut device, call));
         }
         assert!(rt; device.into_file().offset == *offset);
     }
@@ -87,7 +87,7 @@ fn failing(memory: MemoryDevice, call: u64) -> FileDevice<SectorFile<OnceDevice<
 }
 
 // The call that fails, what is seen then, and what a crash leaves of it.
-const FAILURES: [(u64, [u8; 2], [u8; 2]); 4] = [
+static FAILURES: [(u64, [u8; 2], [u8; 2]); 4] = [
     (1, [0, 2], [0, 2]),
     (2, [1, 2], [1, 2]),
     (3, [1, 0], [1, 0]),
@@ -127,7 +127,7 @@ fn one_call_of_the_file_fails(rt: HostRuntime) {
 
 // How a call failed.
 fn failure(answer: io::Result<()>) -> Option<ErrorKind> {
-    answer.err().map(|error| error.kind())
+    Some(answer.err()?.kind())
 }
 
 // A call past the sectors, or between two of them, is refused.

@@ -44,7 +44,7 @@ fn crash(rt: &impl Abort, device: &mut MemoryDevice, expected: &mut Expected) {
 }
 
 // Which sector the calls fill, in a cycle of five; the third is a sync.
-const CYCLE: [Option<usize>; 5] = [Some(0), Some(1), None, Some(2), Some(0)];
+static CYCLE: [Option<usize>; 5] = [Some(0), Some(1), None, Some(2), Some(0)];
 
 // Makes twelve calls, begun at `start` in a cycle of five, and plays a crash at the end, and if `at_once` also after
 // each refused call. All is as if the refused calls had not been made.
@@ -79,7 +79,7 @@ fn make_or_refuse(
 }
 
 // Which places crashes keep, and whether they come at once.
-const KEPT: [([bool; 8], bool); 3] = [
+static KEPT: [([bool; 8], bool); 3] = [
     ([false; 8], true),
     ([true; 8], true),
     ([false, true, false, true, false, true, false, true], false),

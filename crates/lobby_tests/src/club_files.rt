@@ -1,73 +1,117 @@
 //! What no clause says: who may read the players' file, who may change it, and what is kept beside it.
 use players_file::{Entries, Hold, put};
 use std::fs;
+use std::fs::File;
 use std::os::unix::fs::PermissionsExt;
-use std::test::Fail;
+use std::process::Abort;
+use std::rt::Files;
 
 const FOLDER: &str = "players_file_test";
 
 const FILE: &str = "players_file_test/club.players";
 
+const NEW: &str = "players_file_test/club.players.new";
+
+const PAUSED: &str = "players_file_test/club.players.paused";
+
+/// What is done with the players' file and beside it, and what is seen then.
+enum Step {
+    /// A file was left behind by a stop.
+    Leave(&'static str),
+    Put(&'static str),
+    SetMode(u32),
+    /// The permission bits of the file.
+    Mode(u32),
+    Text(&'static str),
+    /// Whether a file is there.
+    There(&'static str, bool),
+    /// A lobby pauses entries or not, and the next one finds them so.
+    Pause(bool),
+}
+
+static STEPS: [Step; 23] = [
+    // A new file is its owner's, and another keeps its mode.
+    Step::Leave(NEW),
+    Step::Put("one\n"),
+    Step::Mode(0o600),
+    Step::SetMode(0o640),
+    Step::Put("two\n"),
+    Step::Mode(0o640),
+    Step::SetMode(0o664),
+    Step::Put("two\n"),
+    Step::Mode(0o664),
+    Step::Text("two\n"),
+    Step::There(NEW, false),
+    Step::Pause(true),
+    Step::There(PAUSED, true),
+    Step::Pause(true),
+    Step::There(PAUSED, true),
+    Step::Pause(false),
+    Step::There(PAUSED, false),
+    Step::Pause(false),
+    Step::There(PAUSED, false),
+    Step::Pause(true),
+    Step::There(PAUSED, true),
+    Step::Pause(false),
+    Step::There(PAUSED, false),
+];
+
 // The permission bits of the file.
-fn bits(rt: &HostRuntime) -> Result<u32, Fail> {
-    Ok(fs::metadata(rt, FILE)?.permissions().mode() & 0o777)
+fn mode<R: Files + Abort>(rt: &R) -> u32 {
+    let found = fs::metadata(rt, FILE).expect(rt, "a file");
+    found.permissions().mode() & 0o777
+}
+
+fn entries<'a, R: Files<File = File> + AllocGlobal + Eprint + Abort>(
+    rt: &'a R,
+    file: &str,
+) -> Entries<'a, R> {
+    Entries::new(rt, file).ok().expect(rt, "entries")
+}
+
+// Whether entries are paused for the lobby that keeps this, and for the next one.
+fn paused<R: Files<File = File> + AllocGlobal + Eprint + Abort>(
+    rt: &R,
+    file: &str,
+    is_paused: bool,
+) -> [bool; 2] {
+    let mut now = entries(rt, file);
+    now.keep(is_paused);
+    [now.is_paused(), entries(rt, file).is_paused()]
+}
+
+// Whether what is done succeeds, and what is seen is so.
+fn is_so<R: Files<File = File> + AllocGlobal + Eprint + Abort>(rt: &R, step: &Step) -> bool {
+    match step {
+        Step::Leave(file) => fs::write(rt, file, "x").is_ok(),
+        Step::Put(text) => put(rt, rt.alloc(), FILE, text).is_ok(),
+        Step::SetMode(mode) => {
+            fs::set_permissions(rt, FILE, fs::Permissions::from_mode(*mode)).is_ok()
+        }
+        Step::Mode(wanted) => mode(rt) == *wanted,
+        Step::Text(text) => fs::read_to_string(rt, FILE).expect(rt, "a file").as_str() == *text,
+        Step::There(file, is_there) => fs::exists(rt, file).expect(rt, "an answer") == *is_there,
+        Step::Pause(is_paused) => paused(rt, FILE, *is_paused) == [*is_paused; 2],
+    }
+}
+
+// One at a time may change it.
+fn check_hold<R: Files<File = File> + Abort>(rt: &R) {
+    let held = Hold::wait(rt, FILE).expect(rt, "a hold");
+    assert!(rt; Hold::at_once(rt, FILE).is_err());
+    drop(held);
+    assert!(rt; Hold::at_once(rt, FILE).is_ok());
 }
 
 #[test]
-fn a_file_keeps_its_mode_and_a_new_one_is_its_owners(rt: HostRuntime) -> Result<(), Fail> {
+fn a_players_file_is_kept_so(rt: HostRuntime) {
     let _ = fs::remove_dir_all(&rt, FOLDER);
-    fs::create_dir(&rt, FOLDER)?;
-    // Left behind by a stop.
-    fs::write(&rt, "players_file_test/club.players.new", "x")?;
-    assert!(rt; put(&rt, rt.alloc(), FILE, "one\n").is_ok());
-    assert_eq!(rt; bits(&rt)?, 0o600);
-    for mode in [0o640, 0o664] {
-        fs::set_permissions(&rt, FILE, fs::Permissions::from_mode(mode))?;
-        assert!(rt; put(&rt, rt.alloc(), FILE, "two\n").is_ok());
-        assert_eq!(rt; bits(&rt)?, mode);
+    assert!(rt; fs::create_dir(&rt, FOLDER).is_ok());
+    for step in &STEPS {
+        assert!(rt; is_so(&rt, step));
     }
-    assert_eq!(rt; fs::read_to_string(&rt, FILE)?.as_str(), "two\n");
-    assert!(rt; !fs::exists(&rt, "players_file_test/club.players.new")?);
-    fs::remove_dir_all(&rt, FOLDER)?;
-    Ok(())
-}
-
-#[test]
-fn one_at_a_time_may_change_it(rt: HostRuntime) -> Result<(), Fail> {
-    let _ = fs::remove_dir_all(&rt, "players_file_held");
-    fs::create_dir(&rt, "players_file_held")?;
-    let file = "players_file_held/club.players";
-    {
-        let _held = Hold::wait(&rt, file)?;
-        assert!(rt; Hold::at_once(&rt, file).is_err());
-    }
-    assert!(rt; Hold::at_once(&rt, file).is_ok());
-    fs::remove_dir_all(&rt, "players_file_held")?;
-    Ok(())
-}
-
-#[test]
-fn entries_are_paused_as_the_last_lobby_had_them(rt: HostRuntime) -> Result<(), Fail> {
-    let _ = fs::remove_dir_all(&rt, "players_file_entries");
-    fs::create_dir(&rt, "players_file_entries")?;
-    let file = "players_file_entries/club.players";
-    for is_paused in [true, true, false, false, true, false] {
-        Entries::new(&rt, file)?.keep(is_paused);
-        assert_eq!(rt; Entries::new(&rt, file)?.is_paused(), is_paused);
-        assert_eq!(rt;
-            fs::exists(&rt, "players_file_entries/club.players.paused")?,
-            is_paused
-        );
-    }
-    fs::remove_dir_all(&rt, "players_file_entries")?;
-    Ok(())
-}
-
-#[test]
-fn what_cannot_be_kept_holds_for_the_lobby_that_runs(rt: HostRuntime) -> Result<(), Fail> {
-    let mut entries = Entries::new(&rt, "players_file_nowhere/club.players")?;
-    entries.keep(true);
-    assert!(rt; entries.is_paused());
-    assert!(rt; !Entries::new(&rt, "players_file_nowhere/club.players")?.is_paused());
-    Ok(())
+    check_hold(&rt);
+    assert!(rt; fs::remove_dir_all(&rt, FOLDER).is_ok());
+    // What cannot be kept holds for the lobby that runs.
+    assert!(rt; paused(&rt, "players_file_nowhere/club.players", true) == [true, false]);
 }

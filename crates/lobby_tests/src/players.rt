@@ -1,38 +1,39 @@
 //! Files, lines and links as texts.
-use lobby_players::{
-    AddFault, Addition, LineFault, PlayersFault, added, link_text, read, token_text,
-};
-use std::alloc::Global;
+use lobby_players::{AddFault, Addition, LineFault, PlayersFault, added, link_text, read};
 
 const ANN: &str =
     "ann player ba7816bf8f01cfea414140de5dae2223b00361a396177a9cb410ff61f20015ad Ann Lee\n";
 
-// The fault of a text, or how many players it has.
-fn fault_of(alloc: Global, text: &[u8]) -> Result<usize, PlayersFault> {
-    Ok(read(alloc, text)?.len())
-}
+// A text, and how many players it has, or its first fault.
+static TEXTS: [(&[u8], Result<usize, PlayersFault>); 6] = [
+    (
+        b"ann player ba7816bf8f01cfea414140de5dae2223b00361a396177a9cb410ff61f20015ad Ann Lee\n",
+        Ok(1),
+    ),
+    (b"# nobody\n\n", Ok(0)),
+    (
+        b"#\nann player ba78 Ann Lee",
+        Err(PlayersFault::Line(2, LineFault::NotPlayer)),
+    ),
+    (
+        b"ann  player",
+        Err(PlayersFault::Line(1, LineFault::NotPlayer)),
+    ),
+    (
+        b"ann player ba7816bf8f01cfea414140de5dae2223b00361a396177a9cb410ff61f20015ad A\nbob player ba7816bf8f01cfea414140de5dae2223b00361a396177a9cb410ff61f20015ad B",
+        Err(PlayersFault::Line(2, LineFault::TokenTwice)),
+    ),
+    (b"#\n\n#\xff", Err(PlayersFault::NotText(3))),
+];
 
 #[test]
 fn reads_players_and_names_the_first_fault(rt: HostRuntime) {
-    let alloc = rt.alloc();
-    let twice =
-        b"ann player ba7816bf8f01cfea414140de5dae2223b00361a396177a9cb410ff61f20015ad A\nbob player ba7816bf8f01cfea414140de5dae2223b00361a396177a9cb410ff61f20015ad B".as_slice();
-    let cases: [(&[u8], Result<usize, PlayersFault>); 6] = [
-        (ANN.as_bytes(), Ok(1)),
-        (b"# nobody\n\n".as_slice(), Ok(0)),
-        (
-            b"#\nann player ba78 Ann Lee".as_slice(),
-            Err(PlayersFault::Line(2, LineFault::NotPlayer)),
-        ),
-        (
-            b"ann  player".as_slice(),
-            Err(PlayersFault::Line(1, LineFault::NotPlayer)),
-        ),
-        (twice, Err(PlayersFault::Line(2, LineFault::TokenTwice))),
-        (b"#\n\n#\xff".as_slice(), Err(PlayersFault::NotText(3))),
-    ];
-    for (text, wanted) in cases {
-        assert!(rt; fault_of(alloc, text) == wanted);
+    for (text, wanted) in &TEXTS {
+        let found = match read(rt.alloc(), text) {
+            Ok(players) => Ok(players.len()),
+            Err(fault) => Err(fault),
+        };
+        assert!(rt; found == *wanted);
     }
 }
 
@@ -53,7 +54,7 @@ const NEW_CLUB: &str =
 const GUESTS: &str =
     "ann player ba7816bf8f01cfea414140de5dae2223b00361a396177a9cb410ff61f20015ad Ann Lee\n# guests\n\nbob player 0000000000000000000000000000000000000000000000000000000000000001 Bo";
 
-const ADDED: [Added; 7] = [
+static ADDED: [Added; 7] = [
     (CLUB, "ann", "Ann M. Lee", Ok(NEW_CLUB)),
     (ANN, "a b", "A", Err(AddFault::BadName)),
     (ANN, "bob", " B", Err(AddFault::BadFullName)),
@@ -85,29 +86,27 @@ const ADDED: [Added; 7] = [
     ),
 ];
 
+static TOKEN: [u8; 16] = [0, 1, 2, 3, 4, 5, 6, 7, 8, 9, 10, 11, 12, 13, 14, 15];
+
 #[test]
 fn adds_a_player_and_gives_a_new_token(rt: HostRuntime) {
-    let token = [0, 1, 2, 3, 4, 5, 6, 7, 8, 9, 10, 11, 12, 13, 14, 15];
-    for (text, name, full_name, wanted) in ADDED {
+    for (text, name, full_name, wanted) in &ADDED {
         let who = Addition {
             name,
             full_name,
             is_arbiter: true,
         };
-        let made = added(rt.alloc(), text.as_bytes(), &who, &token);
+        let made = added(rt.alloc(), text.as_bytes(), &who, &TOKEN);
         let told = match &made {
             Ok(new) => Ok(new.as_str()),
             Err(fault) => Err(*fault),
         };
-        assert!(rt; told == wanted);
+        assert!(rt; told == *wanted);
     }
 }
 
 #[test]
 fn a_link_has_its_token_behind_the_fragment(rt: HostRuntime) {
-    let token = [255; 16];
-    let text = token_text(rt.alloc(), &token).expect(&rt, "memory");
-    assert!(rt; text.as_str() == "ffffffffffffffffffffffffffffffff");
-    let link = link_text(rt.alloc(), "http://club/", &token).expect(&rt, "memory");
-    assert!(rt; link.as_str() == "http://club/#ffffffffffffffffffffffffffffffff");
+    let link = link_text(rt.alloc(), "http://club/", &TOKEN).expect(&rt, "memory");
+    assert!(rt; link.as_str() == "http://club/#000102030405060708090a0b0c0d0e0f");
 }

@@ -1,23 +1,9 @@
-//! Boards and their parts. What else breaks the conditions of a board is in the stored run of `perft`.
+//! Boards of parts. What else breaks the conditions of a board is in the stored run of `perft`; how a game starts is settled by
+//! the clauses of `Board::initial`, and is in the stored run of `one_board`.
 use bitflags::Flags;
 use chess_bits::Colour::{Black, White};
-use chess_bits::{Kind, Square};
-use chess_board::{BadBoard, Board, CastlingRights, Parts, Wing};
-
-#[test]
-fn a_game_starts(rt: HostRuntime) {
-    let board = Board::initial();
-    let men = [
-        board.piece_at(Square::at(5, 1)),
-        board.piece_at(Square::at(4, 8)),
-        board.piece_at(Square::at(4, 4)),
-    ];
-    assert!(rt; men == [Some((White, Kind::King)), Some((Black, Kind::Queen)), None]);
-    assert!(rt; board.men().occupied().count() == 32);
-    assert!(rt; (board.side(), board.target()) == (White, None));
-    assert!(rt; [board.halfmove(), board.fullmove()] == [0, 1]);
-    assert!(rt; board.rights().allows(Black, Wing::Queen) && !board.in_check());
-}
+use chess_bits::Kind;
+use chess_board::{BadBoard, Board, CastlingRights, Parts};
 
 // Kings and rooks at home, and each flag of castling set, also those that mean nothing.
 fn at_home(fullmove: u16) -> Parts {
@@ -38,13 +24,10 @@ fn at_home(fullmove: u16) -> Parts {
     }
 }
 
+// No game has a move 0, and unknown flags are left out.
 #[test]
-fn unknown_flags_are_left_out(rt: HostRuntime) {
+fn parts_make_a_board_or_not(rt: HostRuntime) {
+    assert!(rt; Board::try_new(at_home(0)).err() == Some(BadBoard::Counter));
     let board = Board::try_new(at_home(1)).expect(&rt, "a board");
     assert!(rt; board.rights().bits() == 15);
-}
-
-#[test]
-fn no_game_has_a_move_0(rt: HostRuntime) {
-    assert!(rt; Board::try_new(at_home(0)).err() == Some(BadBoard::Counter));
 }

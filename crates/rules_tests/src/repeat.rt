@@ -1,9 +1,9 @@
-//! Games in which positions come again.
+//! Games in which positions come again. Which positions are the same, and their keys, clauses of `key` and `is_same` settle, and
+//! claims show it in the stored run of `line_player`.
 use chess_board::Board;
-use chess_fen::fen_read;
 use chess_moves::after_legal;
 use chess_notation::coordinate;
-use chess_repeat::{History, is_same, key};
+use chess_repeat::History;
 use std::alloc::{AllocError, Global};
 use std::process::Abort;
 
@@ -57,44 +57,6 @@ fn begun(rt: &impl Abort, alloc: Global, start: &Board) -> History {
         Ok(history) => history,
         Err(AllocError) => History::new(alloc, start).expect(rt, "memory"),
     }
-}
-
-// What `key` and `is_same` say of two positions: the bytes of the target in their keys, and whether they are the same.
-fn compared(first: &Board, second: &Board) -> ([u8; 2], bool, bool) {
-    let (a, b) = (key(first), key(second));
-    ([a[33], b[33]], a == b, is_same(first, second))
-}
-
-// After 1. e4 no pawn can take on e3, so that the position is the same as where the knights have come back twice. How often
-// it counts, and that of the next test, claims show in the stored run of `line_player`.
-#[test]
-fn a_target_without_a_capture_does_not_count(rt: HostRuntime) {
-    let start = Board::initial();
-    let first = after(&rt, &start, "e2e4");
-    let ninth = "rnbqkbnr/pppppppp/8/8/4P3/8/PPPP1PPP/RNBQKBNR b KQkq - 8 5";
-    let ninth = fen_read(ninth).expect(&rt, "a FEN");
-    assert!(rt; first.target().is_some() && ninth.target().is_none());
-    assert!(rt; compared(&first, &ninth) == ([64, 64], true, true));
-    assert!(rt; compared(&first, &start) == ([64, 64], false, false));
-}
-
-// After e4 Black could take on e3, and after the kings have come back no more.
-#[test]
-fn a_target_with_a_capture_counts(rt: HostRuntime) {
-    let start = fen_read("4k3/8/8/8/3p4/8/4P3/4K3 w - - 0 1").expect(&rt, "a FEN");
-    let first = after(&rt, &start, "e2e4");
-    let fifth = fen_read("4k3/8/8/8/3pP3/8/8/4K3 b - - 4 3").expect(&rt, "a FEN");
-    let ninth = fen_read("4k3/8/8/8/3pP3/8/8/4K3 b - - 8 5").expect(&rt, "a FEN");
-    assert!(rt; compared(&first, &fifth) == ([20, 64], false, false));
-    assert!(rt; compared(&fifth, &ninth) == ([64, 64], true, true));
-}
-
-// A rook, a knight and so on from a1, low four bits first; all four rights with White to move; and no target.
-#[test]
-fn the_key_of_the_initial_position(rt: HostRuntime) {
-    let bytes =
-        *b"\x24\x53\x36\x42\x11\x11\x11\x11\0\0\0\0\0\0\0\0\0\0\0\0\0\0\0\0\x99\x99\x99\x99\xac\xdb\xbe\xca\x1e\x40";
-    assert!(rt; key(&Board::initial()) == bytes);
 }
 
 // The knights go out and back four times, so that the start stands five times; then each pawn goes one square, and no

@@ -1,61 +1,61 @@
 //! The loop over readers and writers that give and take little, or fail.
 use board_session::{BoardFault, ReaderSource, board};
 use std::alloc::Global;
-use std::io;
-use std::io::{ErrorKind, Read, Write};
+use std::io::{self, Error, ErrorKind, Read, Write};
 use std::process::Abort;
 
-const AFTER_E4: &str = "rnbqkbnr/pppppppp/8/8/4P3/8/PPPP1PPP/RNBQKBNR b KQkq e3 0 1\n";
+/// Once so many bytes are written, a write fails so, or takes nothing.
+type Failure = (usize, Option<ErrorKind>);
 
-/// Gives one byte a read. Where `fails_at` bytes are left, one read fails.
+/// Gives so many bytes a read at most. With so many left one read may fail.
 #[derive(Drop)]
 struct Trickle<'a> {
     rest: &'a [u8],
-    fails_at: Option<usize>,
-    kind: ErrorKind,
+    most: usize,
+    failure: Option<(usize, ErrorKind)>,
 }
 
-impl Read for Trickle<'_> {
-    fn read(&mut self, buf: &mut [u8]) -> io::Result<usize> {
-        if self.fails_at == Some(self.rest.len()) {
-            self.fails_at = None;
-            return Err(io::Error::from(self.kind));
-        }
-        match self.rest.split_first() {
-            Some((byte, rest)) if !buf.is_empty() => {
-                buf[0] = *byte;
-                self.rest = rest;
-                Ok(1)
-            }
-            _ => Ok(0),
-        }
-    }
-}
-
-/// Takes so many bytes a write at most. Once it has `fails_at` bytes, one write fails, or takes nothing.
+/// Takes so many bytes a write at most. One write may fail.
 #[derive(Drop)]
 struct Sink {
     taken: Vec<u8>,
     most: usize,
     writes: usize,
-    fails_at: Option<usize>,
-    kind: Option<ErrorKind>,
+    failure: Option<Failure>,
+}
+
+impl Read for Trickle<'_> {
+    fn read(&mut self, buf: &mut [u8]) -> io::Result<usize> {
+        let left = self.rest.len();
+        match self.failure {
+            Some((at, kind)) if at == left => {
+                self.failure = None;
+                return Err(Error::from(kind));
+            }
+            _ => {}
+        }
+        let count = left.min(self.most).min(buf.len());
+        let (front, rest) = self.rest.split_at(count);
+        buf[..count].copy_from_slice(front);
+        self.rest = rest;
+        Ok(count)
+    }
 }
 
 impl Write for Sink {
     fn write(&mut self, buf: &[u8]) -> io::Result<usize> {
-        if self.fails_at == Some(self.taken.len()) {
-            self.fails_at = None;
-            return match self.kind {
-                Some(kind) => Err(io::Error::from(kind)),
-                None => Ok(0),
-            };
+        let held = self.taken.len();
+        match self.failure {
+            Some((at, kind)) if at == held => {
+                self.failure = None;
+                return match kind {
+                    Some(kind) => Err(Error::from(kind)),
+                    None => Ok(0),
+                };
+            }
+            _ => {}
         }
-        let count = if buf.len() < self.most {
-            buf.len()
-        } else {
-            self.most
-        };
+        let count = buf.len().min(self.most);
         self.taken.extend_from_slice(&buf[..count])?;
         self.writes = self.writes.saturating_add(1);
         Ok(count)
@@ -66,178 +66,196 @@ impl Write for Sink {
     }
 }
 
-fn read_bytewise(input: &[u8]) -> Trickle<'_> {
-    Trickle {
-        rest: input,
-        fails_at: None,
-        kind: ErrorKind::Other,
-    }
-}
+/// A text so many times, and another behind it.
+type Text = (usize, &'static [u8], &'static [u8]);
 
-fn sink_of(alloc: Global, most: usize) -> Sink {
-    Sink {
-        taken: Vec::new(alloc),
-        most,
-        writes: 0,
-        fails_at: None,
-        kind: None,
-    }
-}
+/// An input and what comes of it; how many bytes are read at a call and how many are written; which read fails, and which write;
+/// how it ends; and in how many writes, where that is wanted.
+type Case = (
+    Text,
+    Text,
+    [usize; 2],
+    Option<(usize, ErrorKind)>,
+    Option<Failure>,
+    Result<(), BoardFault>,
+    Option<usize>,
+);
 
-// The input is answered so, whether it comes and goes whole or byte by byte.
-fn expect_text(rt: &impl Abort, alloc: Global, input: &[u8], text: &str) {
-    let mut writer = sink_of(alloc, usize::MAX);
-    let ended = board(&mut ReaderSource::new(input), &mut writer);
-    assert!(rt; ended == Ok(()) && writer.taken.as_slice() == text.as_bytes());
-    let mut writer = sink_of(alloc, 1);
-    let ended = board(&mut ReaderSource::new(read_bytewise(input)), &mut writer);
-    assert!(rt; ended == Ok(()) && writer.taken.as_slice() == text.as_bytes());
-}
-
-const BAD_LINE: &str = "no 1 BadLine\n";
-
-const BAD_LINES: &str = "no 1 BadLine\nno 1 BadLine\n";
-
-#[test]
-fn answers_lines(rt: HostRuntime) {
-    let alloc = rt.alloc();
-    expect_text(&rt, alloc, b"", "");
-    expect_text(&rt, alloc, b"hello", "");
-    expect_text(&rt, alloc, b"\n", BAD_LINE);
-    expect_text(&rt, alloc, b"\r\n", BAD_LINE);
-    expect_text(&rt, alloc, b"move e2e4\n", AFTER_E4);
-    expect_text(&rt, alloc, b"move e2e4\r\n", AFTER_E4);
-    expect_text(&rt, alloc, b"move e2e4\r\r\n", BAD_LINE);
-    expect_text(&rt, alloc, b"move e2e4\nmove e2e4", AFTER_E4);
-}
-
-#[test]
-fn answers_lines_without_a_form(rt: HostRuntime) {
-    let alloc = rt.alloc();
-    expect_text(&rt, alloc, b"move\nmove \n", BAD_LINES);
-    expect_text(&rt, alloc, b"Move e2e4\n", BAD_LINE);
-    expect_text(&rt, alloc, b" move e2e4\nmove  e2e4\n", BAD_LINES);
-    expect_text(&rt, alloc, b"move e2e4 x\nmove e2e4 \n", BAD_LINES);
-    expect_text(&rt, alloc, b"move \0\nmove \xc8\n", BAD_LINES);
-    expect_text(&rt, alloc, b"move \x7f\n", BAD_LINE);
-    let bad_moves = "no 9 BadMove\nno 9 BadMove\n";
-    expect_text(&rt, alloc, b"move !\nmove ~\n", bad_moves);
-}
-
-// So many bytes `x` and this end are answered so.
-fn expect_long(rt: &impl Abort, alloc: Global, length: usize, end: &str, text: &str) {
-    let mut input = repeated(rt, alloc, b"x", length);
-    assert!(rt; input.extend_from_slice(end.as_bytes()).is_ok());
-    expect_text(rt, alloc, input.as_slice(), text);
-}
-
-#[test]
-fn ends_at_a_long_line(rt: HostRuntime) {
-    let alloc = rt.alloc();
-    let bye = "bye LineTooLong\n";
-    expect_long(&rt, alloc, 255, "", "");
-    expect_long(&rt, alloc, 255, "\n", BAD_LINE);
-    expect_long(&rt, alloc, 254, "\r\n", BAD_LINE);
-    expect_long(&rt, alloc, 255, "\r\n", bye);
-    expect_long(&rt, alloc, 256, "", bye);
-    expect_long(&rt, alloc, 256, "\nmove e2e4\n", bye);
-    expect_long(&rt, alloc, 5000, "\n", bye);
-}
-
-// How many bytes answer so many lines that come at once, and in how many writes.
-fn written(rt: &impl Abort, alloc: Global, lines: usize) -> (usize, usize) {
-    let input = repeated(rt, alloc, b"\n", lines);
-    let mut writer = sink_of(alloc, usize::MAX);
-    let ended = board(&mut ReaderSource::new(input.as_slice()), &mut writer);
-    assert!(rt; ended == Ok(()));
-    (writer.taken.len(), writer.writes)
-}
-
-// 4,096 lines are one read, and their answers 53,248 bytes.
-#[test]
-fn writes_once_what_is_at_hand(rt: HostRuntime) {
-    let found = [
-        written(&rt, rt.alloc(), 0),
-        written(&rt, rt.alloc(), 1),
-        written(&rt, rt.alloc(), 4_096),
-        written(&rt, rt.alloc(), 4_097),
-        written(&rt, rt.alloc(), 8_192),
-    ];
-    let wanted = [(0, 0), (13, 1), (53_248, 1), (53_261, 2), (106_496, 2)];
-    assert!(rt; found == wanted);
-}
-
-/// So many copies of a text.
-fn repeated(rt: &impl Abort, alloc: Global, text: &[u8], count: usize) -> Vec<u8> {
+// The bytes of a text.
+fn bytes_of(rt: &impl Abort, alloc: Global, (count, text, end): Text) -> Vec<u8> {
     let mut whole = Vec::new(alloc);
     for _ in 0..count {
         assert!(rt; whole.extend_from_slice(text).is_ok());
     }
+    assert!(rt; whole.extend_from_slice(end).is_ok());
     whole
 }
 
-#[test]
-fn answers_after_many_reads(rt: HostRuntime) {
-    let alloc = rt.alloc();
-    // 70,000 reads of a byte each.
-    let input = repeated(&rt, alloc, b"hello!\n", 10_000);
-    let text = repeated(&rt, alloc, b"no 1 BadLine\n", 10_000);
-    let mut written = Vec::new(alloc);
-    let mut source = ReaderSource::new(read_bytewise(input.as_slice()));
-    let ended = board(&mut source, &mut written);
-    assert!(rt; ended == Ok(()));
-    assert!(rt; written.as_slice() == text.as_slice());
-}
-
-// A read fails so within the second line.
-fn expect_read(
-    rt: &impl Abort,
-    alloc: Global,
-    kind: ErrorKind,
-    wanted: Result<(), BoardFault>,
-    text: &str,
-) {
-    let mut reader = read_bytewise(b"hello\nmove x\n");
-    reader.fails_at = Some(4);
-    reader.kind = kind;
-    let mut writer = sink_of(alloc, usize::MAX);
-    let mut source = ReaderSource::new(reader);
+fn check_case(rt: &impl Abort, alloc: Global, case: &Case) {
+    let (input, output, [read, write], fails, breaks, wanted, writes) = *case;
+    let input = bytes_of(rt, alloc, input);
+    let mut source = ReaderSource::new(Trickle {
+        rest: input.as_slice(),
+        most: read,
+        failure: fails,
+    });
+    let mut writer = Sink {
+        taken: Vec::new(alloc),
+        most: write,
+        writes: 0,
+        failure: breaks,
+    };
     let ended = board(&mut source, &mut writer);
-    assert!(rt; ended == wanted && source.has_failed() == wanted.is_err());
-    assert!(rt; writer.taken.as_slice() == text.as_bytes());
+    assert!(rt; ended == wanted && source.has_failed() == (ended == Err(BoardFault::Read)));
+    assert!(rt; writer.taken.as_slice() == bytes_of(rt, alloc, output).as_slice());
+    assert!(rt; writes.unwrap_or(writer.writes) == writer.writes);
 }
+
+const AFTER_E4: Text = (
+    1,
+    b"rnbqkbnr/pppppppp/8/8/4P3/8/PPPP1PPP/RNBQKBNR b KQkq e3 0 1\n",
+    b"",
+);
+
+const BAD_LINE: &[u8] = b"no 1 BadLine\n";
+
+const BAD: Text = (1, BAD_LINE, b"");
+
+const BYE: Text = (0, b"", b"bye LineTooLong\n");
+
+const NOTHING: Text = (0, b"", b"");
+
+// An input, and what comes of it, whether it comes and goes whole or byte by byte.
+static TEXTS: [(Text, Text); 23] = [
+    (NOTHING, NOTHING),
+    ((1, b"hello", b""), NOTHING),
+    ((1, b"\n", b""), BAD),
+    ((1, b"\r\n", b""), BAD),
+    ((1, b"move e2e4\n", b""), AFTER_E4),
+    ((1, b"move e2e4\r\n", b""), AFTER_E4),
+    ((1, b"move e2e4\r\r\n", b""), BAD),
+    ((1, b"move e2e4\nmove e2e4", b""), AFTER_E4),
+    // Lines without a form.
+    ((1, b"move\nmove \n", b""), (2, BAD_LINE, b"")),
+    ((1, b"Move e2e4\n", b""), BAD),
+    ((1, b" move e2e4\nmove  e2e4\n", b""), (2, BAD_LINE, b"")),
+    ((1, b"move e2e4 x\nmove e2e4 \n", b""), (2, BAD_LINE, b"")),
+    ((1, b"move \0\nmove \xc8\n", b""), (2, BAD_LINE, b"")),
+    ((1, b"move \x7f\n", b""), BAD),
+    ((1, b"move !\nmove ~\n", b""), (2, b"no 9 BadMove\n", b"")),
+    // Long lines.
+    ((255, b"x", b""), NOTHING),
+    ((255, b"x", b"\n"), BAD),
+    ((254, b"x", b"\r\n"), BAD),
+    ((255, b"x", b"\r\n"), BYE),
+    ((256, b"x", b""), BYE),
+    ((256, b"x", b"\nmove e2e4\n"), BYE),
+    ((5000, b"x", b"\n"), BYE),
+    // 70,000 reads of a byte each.
+    ((10_000, b"hello!\n", b""), (10_000, BAD_LINE, b"")),
+];
+
+const ALL: usize = usize::MAX;
+
+const OTHER: Option<ErrorKind> = Some(ErrorKind::Other);
+
+const INTERRUPTED: Option<ErrorKind> = Some(ErrorKind::Interrupted);
+
+const TWO_LINES: Text = (1, b"hello\nmove x\n", b"");
+
+const THREE_LINES: Text = (1, b"hello\nmove x\n\n", b"");
+
+const FAILED: Result<(), BoardFault> = Err(BoardFault::Write);
+
+static CASES: [Case; 10] = [
+    // So many lines that come at once, and in how many writes their answers go: 4,096 lines are one read.
+    (NOTHING, NOTHING, [ALL; 2], None, None, Ok(()), Some(0)),
+    ((1, b"\n", b""), BAD, [ALL; 2], None, None, Ok(()), Some(1)),
+    (
+        (4_096, b"\n", b""),
+        (4_096, BAD_LINE, b""),
+        [ALL; 2],
+        None,
+        None,
+        Ok(()),
+        Some(1),
+    ),
+    (
+        (4_097, b"\n", b""),
+        (4_097, BAD_LINE, b""),
+        [ALL; 2],
+        None,
+        None,
+        Ok(()),
+        Some(2),
+    ),
+    (
+        (8_192, b"\n", b""),
+        (8_192, BAD_LINE, b""),
+        [ALL; 2],
+        None,
+        None,
+        Ok(()),
+        Some(2),
+    ),
+    // A read that fails within the second line, or is interrupted there.
+    (
+        TWO_LINES,
+        BAD,
+        [1, ALL],
+        Some((4, ErrorKind::Other)),
+        None,
+        Err(BoardFault::Read),
+        None,
+    ),
+    (
+        TWO_LINES,
+        (1, BAD_LINE, b"no 9 BadMove\n"),
+        [1, ALL],
+        Some((4, ErrorKind::Interrupted)),
+        None,
+        Ok(()),
+        None,
+    ),
+    // A write within the second answer that fails, takes nothing, or is interrupted.
+    (
+        THREE_LINES,
+        (1, BAD_LINE, b"no 9"),
+        [ALL, 1],
+        None,
+        Some((17, OTHER)),
+        FAILED,
+        None,
+    ),
+    (
+        THREE_LINES,
+        (1, BAD_LINE, b"no 9"),
+        [ALL, 1],
+        None,
+        Some((17, None)),
+        FAILED,
+        None,
+    ),
+    (
+        THREE_LINES,
+        (1, BAD_LINE, b"no 9 BadMove\nno 1 BadLine\n"),
+        [ALL, 1],
+        None,
+        Some((17, INTERRUPTED)),
+        Ok(()),
+        None,
+    ),
+];
 
 #[test]
-fn breaks_off_where_a_read_fails(rt: HostRuntime) {
-    let both = "no 1 BadLine\nno 9 BadMove\n";
-    let failed = Err(BoardFault::Read);
-    expect_read(&rt, rt.alloc(), ErrorKind::Other, failed, BAD_LINE);
-    expect_read(&rt, rt.alloc(), ErrorKind::Interrupted, Ok(()), both);
-}
-
-// A write fails so, or takes nothing, within the second answer.
-fn expect_write(
-    rt: &impl Abort,
-    alloc: Global,
-    kind: Option<ErrorKind>,
-    wanted: Result<(), BoardFault>,
-    text: &str,
-) {
-    let mut writer = sink_of(alloc, 1);
-    writer.fails_at = Some(17);
-    writer.kind = kind;
-    let mut input = ReaderSource::new(b"hello\nmove x\n\n".as_slice());
-    let ended = board(&mut input, &mut writer);
-    assert!(rt; ended == wanted && writer.taken.as_slice() == text.as_bytes());
-}
-
-#[test]
-fn breaks_off_where_a_write_fails(rt: HostRuntime) {
-    let alloc = rt.alloc();
-    let front = "no 1 BadLine\nno 9";
-    let whole = "no 1 BadLine\nno 9 BadMove\nno 1 BadLine\n";
-    let failed = Err(BoardFault::Write);
-    expect_write(&rt, alloc, Some(ErrorKind::Other), failed, front);
-    expect_write(&rt, alloc, None, failed, front);
-    expect_write(&rt, alloc, Some(ErrorKind::Interrupted), Ok(()), whole);
+fn answers_lines(rt: HostRuntime) {
+    for (input, output) in &TEXTS {
+        for most in [ALL, 1] {
+            let case: Case = (*input, *output, [most; 2], None, None, Ok(()), None);
+            check_case(&rt, rt.alloc(), &case);
+        }
+    }
+    for case in &CASES {
+        check_case(&rt, rt.alloc(), case);
+    }
 }

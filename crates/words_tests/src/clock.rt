@@ -30,44 +30,34 @@ impl Clock for Hands {
     }
 }
 
-// The next moment, once the hands are set so.
-fn next_at(clock: &mut SteadyClock<'_, Hands>, hands: &Hands, system: u64, monotonic: u64) -> u64 {
-    hands.system.set(system);
-    hands.monotonic.set(monotonic);
-    clock.next()
-}
+// What the hands show, and the moment that comes then.
+static EVENLY: [(u64, u64, u64); 7] = [
+    (1_000_000, 5_000, 1_000_000),
+    // The system's clock jumps ahead, and back, and cannot be read.
+    (9_000_000, 5_001, 1_000_001),
+    (0, 6_500, 1_001_500),
+    (u64::MAX, 6_501, 1_001_501),
+    // The other does not go back, and a reading that fails brings no time.
+    (0, 6_000, 1_001_501),
+    (0, u64::MAX, 1_001_501),
+    (0, 7_000, 1_002_000),
+];
+
+// A clock that cannot be read as it begins.
+static FAILING: [(u64, u64, u64); 2] = [(u64::MAX, u64::MAX, 0), (u64::MAX, 10_000, 0)];
 
 #[test]
 fn goes_on_evenly(rt: HostRuntime) {
-    let hands = Hands {
-        system: Cell::new(1_000_000),
-        monotonic: Cell::new(5_000),
-    };
-    let mut clock = SteadyClock::new(&hands);
-    let moments = [
-        clock.next(),
-        // The system's clock jumps ahead, and back, and cannot be read.
-        next_at(&mut clock, &hands, 9_000_000, 5_001),
-        next_at(&mut clock, &hands, 0, 6_500),
-        next_at(&mut clock, &hands, u64::MAX, 6_501),
-        // The other does not go back, and a reading that fails brings no time.
-        next_at(&mut clock, &hands, 0, 6_000),
-        next_at(&mut clock, &hands, 0, u64::MAX),
-        next_at(&mut clock, &hands, 0, 7_000),
-    ];
-    let wanted = [
-        1_000_000, 1_000_001, 1_001_500, 1_001_501, 1_001_501, 1_001_501, 1_002_000,
-    ];
-    assert!(rt; moments == wanted);
-}
-
-#[test]
-fn begins_where_a_clock_fails(rt: HostRuntime) {
-    let hands = Hands {
-        system: Cell::new(u64::MAX),
-        monotonic: Cell::new(u64::MAX),
-    };
-    let mut clock = SteadyClock::new(&hands);
-    let moments = [clock.next(), next_at(&mut clock, &hands, u64::MAX, 10_000)];
-    assert!(rt; moments == [0, 0]);
+    for rows in [&EVENLY[..], &FAILING[..]] {
+        let hands = Hands {
+            system: Cell::new(rows[0].0),
+            monotonic: Cell::new(rows[0].1),
+        };
+        let mut clock = SteadyClock::new(&hands);
+        for (system, monotonic, moment) in rows {
+            hands.system.set(*system);
+            hands.monotonic.set(*monotonic);
+            assert!(rt; clock.next() == *moment);
+        }
+    }
 }

@@ -1,52 +1,57 @@
 //! The words of the command line.
 use clap::error::ErrorKind;
 use command_words::VERSION;
-use server_words::{Copying, Formatting, Serving, Word, read_words};
+use server_words::{Formatting, Word, read_words};
 use std::alloc::Global;
 use std::process::Abort;
 
 // The words of a command line as the program gets them, its own name first.
 fn words_of(rt: &impl Abort, alloc: Global, line: &str) -> Vec<String> {
     let mut words = Vec::new(alloc);
-    push_word(rt, alloc, &mut words, "chess_server");
     for word in line.split(' ') {
-        push_word(rt, alloc, &mut words, word);
+        let word = String::from_str(alloc, word).expect(rt, "memory");
+        assert!(rt; words.push(word).is_ok());
     }
     words
 }
 
-fn push_word(rt: &impl Abort, alloc: Global, words: &mut Vec<String>, word: &str) {
-    let word = String::from_str(alloc, word).expect(rt, "memory");
-    assert!(rt; words.push(word).is_ok());
-}
+/// What a word asks for: its place among the words; whether it is forced or quiet; its port; its turns, or games; and its
+/// silence, or plies.
+type Said = (u8, bool, u16, Option<u32>, Option<u64>);
 
-/// What a word asks for: its place among the words, whether it is forced or quiet, the turns, and the silence.
-type Said = (u8, bool, Option<u32>, Option<u64>);
-
-// What a word asks for. `None` where it names another journal than j, another copy than k, other limits than four games of
-// 60 moves, or another port than 7.
+// What a word asks for. `None` where it names another journal than j, or another copy than k.
 fn said_by(word: &Word<'_>) -> Option<Said> {
-    let (is_as_wanted, said) = match word {
-        Word::Board => (true, (0, false, None, None)),
-        Word::Drill => (true, (1, false, None, None)),
-        Word::Run(journal) => (*journal == "j", (2, false, None, None)),
-        Word::Show(journal) => (*journal == "j", (3, false, None, None)),
-        Word::Copy(Copying { journal, copy }) => {
-            (*journal == "j" && *copy == "k", (4, false, None, None))
-        }
+    let (journal, copy, said) = match word {
+        Word::Board => ("j", "k", (0, false, 0, None, None)),
+        Word::Drill => ("j", "k", (1, false, 0, None, None)),
+        Word::Run(journal) => (*journal, "k", (2, false, 0, None, None)),
+        Word::Show(journal) => (*journal, "k", (3, false, 0, None, None)),
+        Word::Copy(copying) => (copying.journal, copying.copy, (4, false, 0, None, None)),
         Word::Format(Formatting { tables, is_forced }) => {
-            let limits = tables.limits;
-            let is_as_wanted = tables.journal == "j" && limits.games == 4 && limits.plies == 60;
-            (is_as_wanted, (5, *is_forced, None, None))
+            let (games, plies) = (tables.limits.games, u64::from(tables.limits.plies));
+            (
+                tables.journal,
+                "k",
+                (5, *is_forced, 0, Some(games), Some(plies)),
+            )
         }
         Word::Serve(serving) => {
-            let is_as_wanted = serving.journal == "j" && serving.port == 7;
-            let Serving { turns, silence, .. } = *serving;
-            (is_as_wanted, (6, serving.is_quiet, turns, silence))
+            let said = (
+                6,
+                serving.is_quiet,
+                serving.port,
+                serving.turns,
+                serving.silence,
+            );
+            (serving.journal, "k", said)
         }
-        Word::Widen(_) => (false, (7, false, None, None)),
+        Word::Widen(_) => return None,
     };
-    is_as_wanted.then_some(said)
+    if journal == "j" && copy == "k" {
+        Some(said)
+    } else {
+        None
+    }
 }
 
 // What a command line asks for, or why it is refused.
@@ -58,85 +63,79 @@ fn read(rt: &impl Abort, alloc: Global, line: &str) -> Result<Option<Said>, Erro
     }
 }
 
-// Each of these command lines, with `|` between, is refused so.
-fn refuses(rt: &impl Abort, alloc: Global, lines: &str, kind: ErrorKind) {
-    for line in lines.split('|') {
-        assert!(rt; read(rt, alloc, line) == Err(kind));
+// Command lines, and what each asks for, or why it is refused.
+static LINES: [(&str, Result<Option<Said>, ErrorKind>); 23] = [
+    ("chess_server board", Ok(Some((0, false, 0, None, None)))),
+    ("chess_server drill", Ok(Some((1, false, 0, None, None)))),
+    (
+        "chess_server run --journal j",
+        Ok(Some((2, false, 0, None, None))),
+    ),
+    (
+        "chess_server show --journal j",
+        Ok(Some((3, false, 0, None, None))),
+    ),
+    (
+        "chess_server copy --journal j --to k",
+        Ok(Some((4, false, 0, None, None))),
+    ),
+    (
+        "chess_server format --journal j --games 4 --plies 60",
+        Ok(Some((5, false, 0, Some(4), Some(60)))),
+    ),
+    (
+        "chess_server format --force --journal j --games 4 --plies 60",
+        Ok(Some((5, true, 0, Some(4), Some(60)))),
+    ),
+    (
+        "chess_server serve --journal j --port 7",
+        Ok(Some((6, false, 7, None, None))),
+    ),
+    (
+        "chess_server serve --journal j --port 7 --turns 4294967295",
+        Ok(Some((6, false, 7, Some(4_294_967_295), None))),
+    ),
+    (
+        "chess_server serve --journal j --port 7 --idle 2 --quiet",
+        Ok(Some((6, true, 7, None, Some(2_000)))),
+    ),
+    ("chess_server lead", Err(ErrorKind::InvalidSubcommand)),
+    ("chess_server ", Err(ErrorKind::InvalidSubcommand)),
+    ("chess_server --journal", Err(ErrorKind::UnknownArgument)),
+    (
+        "chess_server serve --journal j --port 0 --force",
+        Err(ErrorKind::UnknownArgument),
+    ),
+    ("chess_server show --to j", Err(ErrorKind::UnknownArgument)),
+    ("chess_server --help", Err(ErrorKind::DisplayHelp)),
+    ("chess_server --version", Err(ErrorKind::DisplayVersion)),
+    (
+        "chess_server format --journal j --games 4",
+        Err(ErrorKind::MissingRequiredArgument),
+    ),
+    ("chess_server run", Err(ErrorKind::MissingRequiredArgument)),
+    (
+        "chess_server serve --journal j",
+        Err(ErrorKind::MissingRequiredArgument),
+    ),
+    (
+        "chess_server copy --journal j",
+        Err(ErrorKind::MissingRequiredArgument),
+    ),
+    (
+        "chess_server format --journal j --games 4097 --plies 1",
+        Err(ErrorKind::ValueValidation),
+    ),
+    (
+        "chess_server serve --journal j --port 0 --turns 0",
+        Err(ErrorKind::ValueValidation),
+    ),
+];
+
+#[test]
+fn reads_words_and_flags_and_no_others(rt: HostRuntime) {
+    for (line, wanted) in &LINES {
+        assert!(rt; read(&rt, rt.alloc(), line) == *wanted);
     }
-}
-
-#[test]
-fn reads_no_other_words(rt: HostRuntime) {
-    let alloc = rt.alloc();
-    refuses(&rt, alloc, "lead|", ErrorKind::InvalidSubcommand);
-    refuses(
-        &rt,
-        alloc,
-        "--journal|serve --journal j --port 0 --force|show --to j",
-        ErrorKind::UnknownArgument,
-    );
-    refuses(&rt, alloc, "--help", ErrorKind::DisplayHelp);
-    refuses(&rt, alloc, "--version", ErrorKind::DisplayVersion);
-    refuses(
-        &rt,
-        alloc,
-        "format --journal j --games 4|run|serve --journal j|copy --journal j",
-        ErrorKind::MissingRequiredArgument,
-    );
-    refuses(
-        &rt,
-        alloc,
-        "format --journal j --games 4097 --plies 1|serve --journal j --port 0 --turns 0",
-        ErrorKind::ValueValidation,
-    );
     assert!(rt; VERSION.contains("rattle-kit-"));
-}
-
-fn reads(rt: &impl Abort, alloc: Global, line: &str, said: Said) {
-    assert!(rt; read(rt, alloc, line) == Ok(Some(said)));
-}
-
-#[test]
-fn reads_words_and_flags(rt: HostRuntime) {
-    let alloc = rt.alloc();
-    reads(&rt, alloc, "board", (0, false, None, None));
-    reads(&rt, alloc, "drill", (1, false, None, None));
-    reads(&rt, alloc, "run --journal j", (2, false, None, None));
-    reads(&rt, alloc, "show --journal j", (3, false, None, None));
-    reads(
-        &rt,
-        alloc,
-        "copy --journal j --to k",
-        (4, false, None, None),
-    );
-    reads(
-        &rt,
-        alloc,
-        "format --journal j --games 4 --plies 60",
-        (5, false, None, None),
-    );
-    reads(
-        &rt,
-        alloc,
-        "format --force --journal j --games 4 --plies 60",
-        (5, true, None, None),
-    );
-    reads(
-        &rt,
-        alloc,
-        "serve --journal j --port 7",
-        (6, false, None, None),
-    );
-    reads(
-        &rt,
-        alloc,
-        "serve --journal j --port 7 --turns 4294967295",
-        (6, false, Some(4_294_967_295), None),
-    );
-    reads(
-        &rt,
-        alloc,
-        "serve --journal j --port 7 --idle 2 --quiet",
-        (6, true, None, Some(2_000)),
-    );
 }

@@ -6,56 +6,51 @@ use server_work::Fault;
 use std::alloc::Global;
 use std::process::Abort;
 
-fn check_front(rt: &impl Abort, alloc: Global, bytes: &[u8], wanted: bool) {
-    assert!(rt; is_blank(alloc, bytes).expect(rt, "a read") == wanted);
-}
+const EXISTS: Result<(), Fault> = Err(Fault::Store(StoreFault::Exists));
 
-#[test]
-fn looks_at_the_front(rt: HostRuntime) {
-    let mut bytes = [0u8; 2000];
-    check_front(&rt, rt.alloc(), &bytes[..0], true);
-    check_front(&rt, rt.alloc(), &bytes[..100], true);
-    bytes[1024] = 1;
-    check_front(&rt, rt.alloc(), &bytes, true);
-    bytes[1023] = 1;
-    check_front(&rt, rt.alloc(), &bytes, false);
-    bytes[0] = 1;
-    check_front(&rt, rt.alloc(), &bytes[..1], false);
-}
+const FAILED: Result<(), Fault> = Err(Fault::Store(StoreFault::Device { pending: 0 }));
 
-// What is said of a device of so many sectors before and after a byte that is not zero stands in this one.
-fn said_of(rt: &impl Abort, alloc: Global, sectors: u32, at: u32) -> [Result<(), Fault>; 2] {
+// So many sectors, one of them, and whether the device stays blank where a byte of that is not zero.
+static DEVICES: [(u32, u32, bool); 4] = [(1, 0, false), (3, 0, false), (3, 1, false), (3, 2, true)];
+
+fn check_device(rt: &impl Abort, alloc: Global, sectors: u32, at: u32, is_blank: bool) {
     let mut device = MemoryDevice::new(alloc, sectors).expect(rt, "memory");
-    let before = stays_blank(&mut device);
+    assert!(rt; stays_blank(&mut device) == Ok(()));
     let mut bytes = [0; 512];
     bytes[511] = 1;
     assert!(rt; at < device.sectors());
     assert!(rt; device.write(at, &bytes).is_ok());
-    [before, stays_blank(&mut device)]
+    let wanted = if is_blank { Ok(()) } else { EXISTS };
+    assert!(rt; stays_blank(&mut device) == wanted);
+    drop(device);
 }
 
-#[test]
-fn looks_at_a_device(rt: HostRuntime) {
-    let exists = Err(Fault::Store(StoreFault::Exists));
-    let found = [
-        said_of(&rt, rt.alloc(), 1, 0),
-        said_of(&rt, rt.alloc(), 3, 0),
-        said_of(&rt, rt.alloc(), 3, 1),
-        said_of(&rt, rt.alloc(), 3, 2),
-    ];
-    let wanted = [
-        [Ok(()), exists],
-        [Ok(()), exists],
-        [Ok(()), exists],
-        [Ok(()), Ok(())],
-    ];
-    assert!(rt; found == wanted);
+// Whether so many bytes, of which this one is not zero, are blank.
+fn is_front_blank(rt: &impl Abort, alloc: Global, length: usize, at: usize) -> bool {
+    let mut bytes = [0u8; 2000];
+    assert!(rt; length <= 2000 && at < 2000);
+    bytes[at] = 1;
+    is_blank(alloc, &bytes[..length]).expect(rt, "a read")
 }
 
+static FRONTS: [(usize, usize, bool); 5] = [
+    (0, 1024, true),
+    (100, 1024, true),
+    (2000, 1024, true),
+    (2000, 1023, false),
+    (1, 0, false),
+];
+
 #[test]
-fn a_device_that_fails_is_no_journals(rt: HostRuntime) {
+fn a_file_may_be_made_a_journal_or_not(rt: HostRuntime) {
+    for (length, at, wanted) in &FRONTS {
+        assert!(rt; is_front_blank(&rt, rt.alloc(), *length, *at) == *wanted);
+    }
+    for (sectors, at, is_blank) in &DEVICES {
+        check_device(&rt, rt.alloc(), *sectors, *at, *is_blank);
+    }
+    // A device that fails is none.
     let mut device = MemoryDevice::new(rt.alloc(), 2).expect(&rt, "memory");
     device.arm(1);
-    let failed = Err(Fault::Store(StoreFault::Device { pending: 0 }));
-    assert!(rt; stays_blank(&mut device) == failed);
+    assert!(rt; stays_blank(&mut device) == FAILED);
 }

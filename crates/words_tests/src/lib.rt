@@ -1,4 +1,5 @@
-//! Tests of the program's words, by what their crates export alone: so none of these is proved twice.
+//! Tests of the program's words, and of what sockets are watched, by what their crates export alone: so none of these is proved
+//! twice.
 #![tactic(auto)]
 
 #[cfg(test)]
@@ -13,3 +14,5 @@ mod journals;
 mod reading;
 #[cfg(test)]
 mod serving;
+#[cfg(test)]
+mod watching;

@@ -1,7 +1,6 @@
 //! What is shown of a copy of a journal.
 use chess_bits::Colour;
 use chess_entry::{Act, Command, Limits, Name};
-use chess_store::Store;
 use journal_copy::{Copied, Still, copy};
 use journal_words::write_games;
 use sector_dev::MemoryDevice;
@@ -36,25 +35,20 @@ fn command(who: &str, act: Act) -> Command {
     }
 }
 
-// Submits a command, which is answered.
-fn submit(rt: &impl Abort, store: &mut Store<MemoryDevice>, who: &str, act: Act) {
-    let replies = store
-        .submit(&[command(who, act)])
-        .ok()
-        .expect(rt, "a reply");
-    assert!(rt; replies.len() == 1);
-}
-
 // A device with a journal of two games, of which one is over and one that nobody has joined.
 fn played(rt: &impl Abort, alloc: Global) -> MemoryDevice {
     let device = MemoryDevice::new(alloc, 212).expect(rt, "memory");
     let Ok(mut store) = store_opening::create(alloc, device, LIMITS) else {
         panic!(rt; "no journal");
     };
-    submit(rt, &mut store, "ann", opening(Colour::White));
-    submit(rt, &mut store, "bob", JOIN);
-    submit(rt, &mut store, "bob", opening(Colour::Black));
-    submit(rt, &mut store, "bob", RESIGN);
+    let commands = [
+        command("ann", opening(Colour::White)),
+        command("bob", JOIN),
+        command("bob", opening(Colour::Black)),
+        command("bob", RESIGN),
+    ];
+    let answered = store.submit(&commands).is_ok();
+    assert!(rt; answered);
     store.into_device()
 }
 
