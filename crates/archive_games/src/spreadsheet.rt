@@ -73,6 +73,23 @@ fn field_of(alloc: Global, pgn: &str, tag: &str) -> Result<String, AllocError> {
     }
 }
 
+// Puts the value of a tag behind others.
+fn push_field(
+    fields: &mut Vec<String>,
+    alloc: Global,
+    pgn: &str,
+    tag: &str,
+) -> Result<(), AllocError> {
+    fields.push(field_of(alloc, pgn, tag)?)?;
+    Ok(())
+}
+
+// Puts a number behind others.
+fn push_number(fields: &mut Vec<String>, alloc: Global, number: u64) -> Result<(), AllocError> {
+    fields.push(format!(in alloc; "{number}")?)?;
+    Ok(())
+}
+
 // Puts the fields of a game behind others.
 fn push_fields(
     fields: &mut Vec<String>,
@@ -80,15 +97,13 @@ fn push_fields(
     game: u32,
     pgn: &str,
 ) -> Result<(), AllocError> {
-    let plies = plies_of(alloc, pgn)?;
-    fields.push(format!(in alloc; "{game}")?)?;
+    push_number(fields, alloc, u64::from(game))?;
     for tag in &TAGS {
-        fields.push(field_of(alloc, pgn, tag)?)?;
+        push_field(fields, alloc, pgn, tag)?;
     }
-    fields.push(format!(in alloc; "{plies}")?)?;
-    fields.push(field_of(alloc, pgn, "FEN")?)?;
-    fields.push(field_of(alloc, pgn, "Continues")?)?;
-    Ok(())
+    push_number(fields, alloc, plies_of(alloc, pgn)? as u64)?;
+    push_field(fields, alloc, pgn, "FEN")?;
+    push_field(fields, alloc, pgn, "Continues")
 }
 
 // Puts the row of a game behind the others.

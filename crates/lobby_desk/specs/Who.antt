@@ -411,6 +411,16 @@ pub record Carried (old : Desk) (from : ℕ) (text : List ℕ) (plan : Plan) (un
   pub players : new.players ≡ old.players
   pub next : new.next ≡ old.next
 
+-- No answer of the server changes this.
+pub record IsElseSame (old new : Desk) : Type 0 where
+  pub here_is : new.line.is_here ≡ old.line.is_here
+  pub paused_is : new.is_paused ≡ old.is_paused
+  pub visitors : new.visitors ≡ old.visitors
+  pub coming : new.line.coming ≡ old.line.coming
+  pub last : new.line.last ≡ old.line.last
+  pub players : new.players ≡ old.players
+  pub next : new.next ≡ old.next
+
 -- An answer of the server is taken, by whose it is; the first that was owed is taken off before.
 pub record AnswersTo (o : Owed) (now : List ℕ) (old : Desk) (before after : List ℕ) (told_before told_after : List MessageValue) (new : Desk) : Type 0 where
   pub lines : List (List ℕ)
@@ -425,13 +435,7 @@ pub record AnswersTo (o : Owed) (now : List ℕ) (old : Desk) (before after : Li
   pub waiting : new.line.waiting.items ≡ waiting_heard o now old.line.waiting.items
   pub refused : new.line.refused.items ≡ refused_heard o now old.line.refused.items
   pub follows : following new.line.acted ≡ follows_heard o now (following old.line.acted)
-  pub here_is : new.line.is_here ≡ old.line.is_here
-  pub paused_is : new.is_paused ≡ old.is_paused
-  pub visitors : new.visitors ≡ old.visitors
-  pub coming : new.line.coming ≡ old.line.coming
-  pub last : new.line.last ≡ old.line.last
-  pub players : new.players ≡ old.players
-  pub next : new.next ≡ old.next
+  pub rests : IsElseSame old new
 
 -- the same of the first that is owed
 pub record Answered (now : List ℕ) (old : Desk) (before after : List ℕ) (told_before told_after : List MessageValue) (new : Desk) : Type 0 where
@@ -447,10 +451,4 @@ pub record Answered (now : List ℕ) (old : Desk) (before after : List ℕ) (tol
   pub waiting : new.line.waiting.items ≡ waiting_next (known old).owed now old.line.waiting.items
   pub refused : new.line.refused.items ≡ refused_next (known old).owed now old.line.refused.items
   pub follows : following new.line.acted ≡ follows_next (known old).owed now (following old.line.acted)
-  pub here_is : new.line.is_here ≡ old.line.is_here
-  pub paused_is : new.is_paused ≡ old.is_paused
-  pub visitors : new.visitors ≡ old.visitors
-  pub coming : new.line.coming ≡ old.line.coming
-  pub last : new.line.last ≡ old.line.last
-  pub players : new.players ≡ old.players
-  pub next : new.next ≡ old.next
+  pub rests : IsElseSame old new

@@ -7,7 +7,6 @@ ghost use Rattle.lobby_desk.specs.Tellings.{token_told};
 ghost use Rattle.lobby_desk.specs.Who.{who_in, open_in_map, until_in, who_noted, plan_watches, plan_table, paused_after, is_own, IsOwnText, IsAnswered};
 
 use crate::present::present_rows;
-use crate::refusals::game_named;
 use crate::server_line::{Due, ServerLine, waiting_act};
 use crate::telling::{Kind, Message, headed, tell};
 use crate::visitors::Visitor;
@@ -92,23 +91,16 @@ pub fn send(
 {
     match plan {
         Plan::Read => line.pass(text, Due::Reply(from), wire),
-        Plan::Act(who) => {
-            let act = waiting_act(alloc, from, who.name, text)?;
-            line.act(who.name, text, game_named(text), act, wire)
-        }
+        Plan::Act(who) => line.pass_act(alloc, from, who.name, text, who.name, text, wire),
         Plan::ActAs(who, name) => {
-            let act = waiting_act(alloc, from, who.name, text)?;
-            line.act(*name, as_line(text), game_named(text), act, wire)
+            line.pass_act(alloc, from, who.name, text, *name, as_line(text), wire)
         }
         Plan::Drop(who, game) => {
             let act = waiting_act(alloc, from, who.name, text)?;
             line.ask("show ", *game, Due::Drop(act), wire)
         }
         Plan::Lobby => line.pass("list", Due::Table(from), wire),
-        Plan::Watch(game) => {
-            line.ask("show ", *game, Due::Own, wire)?;
-            line.ask("fen ", *game, Due::Watch(from, *game), wire)
-        }
+        Plan::Watch(game) => line.ask_standing(*game, Due::Watch(from, *game), wire),
         Plan::Line(game) => line.ask("pgn ", *game, Due::Positions(from), wire),
         _ => Ok(()),
     }

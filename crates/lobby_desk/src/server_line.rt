@@ -92,8 +92,7 @@ fn put(wire: &mut Vec<u8>, front: &str, rest: &str) -> Result<(), AllocError>
 {
     wire.extend_from_slice(front.as_bytes())?;
     wire.extend_from_slice(rest.as_bytes())?;
-    wire.push(b'\n')?;
-    Ok(())
+    wire.extend_from_slice(b"\n")
 }
 
 // Whether the name was said last.
@@ -219,6 +218,23 @@ impl ServerLine {
     }
 
     #[tactic(auto, using(crate::proofs::Sent::two_lines))]
+    /// Asks how a game stands, by two lines: the answer to the second is due so.
+    pub fn ask_standing(
+        &mut self,
+        game: u32,
+        due: Due,
+        wire: &mut Vec<u8>,
+    ) -> Result<(), AllocError>
+        ensures sent { OnOk result (wire.new.items ≡ wire.old.items ++ bytes_of (notice_lines (Some game))) }
+        ensures owed { OnOk result (map owed_of self.new.queue.items ≡ map owed_of self.old.queue.items ++ Nobody ∷ owed_of due ∷ []) }
+        ensures said { self.new.said ≡ self.old.said }
+        ensures here { self.new.is_here ≡ self.old.is_here }
+        ensures heard { IsHeardSame self.old self.new }
+    {
+        self.ask("show ", game, Due::Own, wire)?;
+        self.ask("fen ", game, due, wire)
+    }
+
     // Asks right behind an act how its game stands, if it names one.
     fn ask_behind(&mut self, game: Option<u32>, wire: &mut Vec<u8>) -> Result<(), AllocError>
         ensures sent { OnOk result (wire.new.items ≡ wire.old.items ++ bytes_of (notice_lines game)) }
@@ -229,16 +245,13 @@ impl ServerLine {
     {
         match game {
             None => Ok(()),
-            Some(game) => {
-                self.ask("show ", game, Due::Own, wire)?;
-                self.ask("fen ", game, Due::Behind, wire)
-            }
+            Some(game) => self.ask_standing(game, Due::Behind, wire),
         }
     }
 
-    /// Passes an act on under a name, which is said first where another was said last, and asks right behind it how its game stands,
-    /// if it names one.
-    pub fn act(
+    // Passes an act on under a name, which is said first where another was said last, and asks right behind it how its game stands,
+    // if it names one.
+    fn act(
         &mut self,
         name: Name,
         line: &str,
@@ -260,6 +273,29 @@ impl ServerLine {
         Ok(())
     }
 
+    /// Passes the message of a connection on as an act, by this line and under this name, as `act` does.
+    pub fn pass_act(
+        &mut self,
+        alloc: Global,
+        from: u64,
+        who: Name,
+        text: &str,
+        name: Name,
+        line: &str,
+        wire: &mut Vec<u8>,
+    ) -> Result<(), AllocError>
+        ensures sent { OnOk result (wire.new.items ≡ wire.old.items ++ bytes_of (act_lines self.old.said name line.now (game_named text.now))) }
+        ensures owed { OnOk result (map owed_of self.new.queue.items ≡ map owed_of self.old.queue.items
+            ++ owed_lines (Asker from (ForAct who text.now)) (act_lines self.old.said name line.now (game_named text.now))) }
+        ensures said { OnOk result (self.new.said ≡ Some name) }
+        ensures here { self.new.is_here ≡ self.old.is_here }
+        ensures heard { IsHeardSame self.old self.new }
+        ensures named { OnOk result (IsName name) }
+    {
+        let sent = waiting_act(alloc, from, who, text)?;
+        self.act(name, line, game_named(text), sent, wire)
+    }
+
     /// Sends the drop that waited under a name, and asks right behind it how its game stands.
     pub fn drop_under(
         &mut self,
@@ -278,7 +314,6 @@ impl ServerLine {
         ensures heard { OnOk result (IsHeardSame self.old self.new) }
     {
         let text = act.text.as_str();
-        let sent = waiting_act(alloc, act.from, act.who, text)?;
-        self.act(name, text, game_named(text), sent, wire)
+        self.pass_act(alloc, act.from, act.who, text, name, text, wire)
     }
 }

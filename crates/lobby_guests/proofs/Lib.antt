@@ -1,6 +1,2 @@
 pub mod Each
-pub mod Making
 pub mod Telling
-pub mod Taking
-pub mod Saying
-pub mod Logging

@@ -1,5 +1,5 @@
 -- What happens at a browser's connection.
-use Rattle.std.specs.Prelude.{ℕ, ◌≡◌, ◌≤◌, ◌⊎◌, Bool, true, false, not, List, [], ◌∷◌, Option, None, Some, IsUtf8, Result, length, take, filter}
+use Rattle.std.specs.Prelude.{ℕ, ◌≡◌, ◌≤◌, ◌⊎◌, Bool, true, false, not, List, [], ◌∷◌, Option, None, Some, Result, length, take, filter}
 use Rattle.std.specs.List.{AllZip}
 use Rattle.std.specs.Io.KnownBytes.{Consumes, Appends}
 use Rattle.std.specs.String.{string_bytes}
@@ -14,9 +14,9 @@ use Rattle.lobby_web.specs.declared.socket.Heard.TheVariants as heards
 use Rattle.lobby_web.specs.declared.socket.Unsaid.{Unsaid}
 use Rattle.lobby_web.specs.Browsing.{IsNew, pending, WantsBytes, Takes, HearsNext, SaysTo, Writes}
 use Rattle.lobby_guests.specs.declared.guest.Guest.{Guest}
-use Rattle.lobby_guests.specs.declared.talk.Talk.{Talk}
-use Rattle.lobby_guests.specs.Talking.{Moves, Opens, Says}
-use Rattle.lobby_guests.specs.Making.{IsMadeOf}
+use Rattle.lobby_talk.specs.declared.talk.Talk.{Talk}
+use Rattle.lobby_talk.specs.Talking.{Moves, Opens, IsTextSaid}
+use Rattle.lobby_talk.specs.Making.{IsMadeOf}
 
 -- A connection that begins: nothing came of it, and it has no number.
 pub record IsNewGuest {S : Type 0} (stream : S) (guest : Guest S) : Type 0 where
@@ -40,11 +40,6 @@ pub record IsRead {S : Type 0} (remaining : S → Option (List ℕ)) (site : Sit
   pub consumed : Consumes (remaining old.stream) (remaining new.stream) taken
   pub takes : (new.browser ≡ old.browser) × (taken ≡ [])
       ⊎ WantsBytes old.browser.stage × Takes site taken old.browser.stage new.browser.stage
-
--- A text of a connection is said to the desk; what is no text is said as the empty text, which is refused.
-abbrev pub IsTextSaid : List ℕ → ℕ → ℕ → Talk → Talk → Type 0
-IsTextSaid text c at old new =
-    (shown : List ℕ) × (IsUtf8 text → shown ≡ text) × (¬ IsUtf8 text → shown ≡ []) × Says shown c at old new
 
 -- What the desk is told of what a socket gave: that it is open, and then the connection has a number that none had before;
 -- and each text, under that number. A socket gives no text before that it is open, and that but once: else nothing is told.

@@ -1,5 +1,3 @@
 pub mod Pieces
-pub mod Making
-pub mod Talking
 pub mod Guests
 pub mod Lines

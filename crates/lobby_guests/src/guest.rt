@@ -1,21 +1,16 @@
 //! A browser's connection: its socket, what it says, and what it is told.
-ghost use Rattle.std.specs.Prelude.{◌≡◌, None, Some, OnOk};
-ghost use Rattle.std.specs.String.{string_bytes};
-ghost use Rattle.lobby_desk.specs.Who.{IsReady, at_table, order_asked};
-ghost use Rattle.lobby_guests.specs.Talking.{Says};
-ghost use Rattle.lobby_guests.specs.Guests.{IsNewGuest, IsAsBefore, IsRead, IsAsked, IsHeard, IsTextSaid, IsSaid, IsTold, AreTold, IsWritten, IsLookedAfter};
+ghost use Rattle.std.specs.Prelude.{ℕ, ◌≡◌, None, Some, true, OnOk};
+ghost use Rattle.lobby_desk.specs.Who.{IsReady, at_table};
+ghost use Rattle.lobby_guests.specs.Guests.{IsNewGuest, IsAsBefore, IsRead, IsHeardAs, IsHeard, IsSaid, IsTold, AreTold, IsWritten, IsLookedAfter};
 
-use crate::counts::{Asked, Counts};
-use crate::links::Links;
 use crate::pieces::{Gone, PIECE_ROOM, write_piece};
-use crate::talk::Talk;
-use lobby_desk::{Message, Order};
+use lobby_desk::Message;
+use lobby_talk::{Asked, Counts, Links, Talk, say_to_desk};
 use lobby_web::{Browser, Heard, Site, Unsaid};
 use session_lines::{Came, read_piece};
 use std::alloc::{AllocError, Global};
 use std::hash::RandomState;
 use std::io::{Read, Write};
-use std::str;
 
 /// After so many milliseconds without a byte of it a browser is asked whether it is there.
 const ASKED_AFTER: u64 = 30_000;
@@ -118,57 +113,55 @@ impl<S> Guest<S> {
         self.is_lost
     }
 
-    // Its socket is open, and the desk is told so.
-    fn welcome(&mut self, talk: &mut Talk, at: u64) -> Result<bool, AllocError>
-        requires { self.old.number ≡ None }
-        ensures { OnOk result (IsAsked at self.old self.new talk.old talk.new) }
+    // Whether the desk takes what comes next of it: that its socket is open, or a message where the one before it is answered.
+    fn may_speak(&self, talk: &Talk) -> bool
+        ensures { result ≡ true → (number : ℕ) → self.now.number ≡ Some number → IsReady talk.now.desk number }
     {
-        match self.browser.next() {
-            None => {
-                self.has_more = false;
-                Ok(false)
-            }
-            Some(Heard::Opened) => {
-                self.number = Some(talk.opened()?);
-                Ok(true)
-            }
-            // (none comes before that the socket is open)
-            Some(Heard::Text(_)) => {
-                self.is_lost = true;
-                Ok(true)
-            }
+        match self.number {
+            None => true,
+            Some(number) => talk.is_ready(number),
         }
     }
 
-    // Its next message is said to the desk.
-    fn listen<K: Links>(
+    // What its socket gave is said to the desk.
+    fn speak<K: Links>(
         &mut self,
-        number: u64,
+        heard: &Heard,
         talk: &mut Talk,
         at: u64,
         links: &mut K,
         counts: &mut Counts,
     ) -> Result<bool, AllocError>
-        requires number { self.old.number ≡ Some number }
-        requires ready { IsReady talk.old.desk number }
-        ensures { OnOk result (IsAsked at self.old self.new talk.old talk.new) }
+        requires { (number : ℕ) → self.old.number ≡ Some number → IsReady talk.old.desk number }
+        ensures told { OnOk result (IsHeardAs (Some heard.now) at self.old.number self.new.number talk.old talk.new) }
+        ensures browser { OnOk result (self.new.browser ≡ self.old.browser) }
+        ensures stream { OnOk result (self.new.stream ≡ self.old.stream) }
     {
-        match self.browser.next() {
-            None => {
-                self.has_more = false;
-                Ok(false)
-            }
-            // (it is told but once)
-            Some(Heard::Opened) => {
-                self.is_lost = true;
-                Ok(true)
-            }
-            Some(Heard::Text(text)) => {
-                say_to_desk(text.as_slice(), number, talk, at, links)?;
-                counts.said();
-                self.asked.push(at);
-                Ok(true)
-            }
+        match heard {
+            Heard::Opened => match self.number {
+                None => {
+                    self.number = Some(talk.opened()?);
+                    Ok(true)
+                }
+                // (it is told but once)
+                Some(_) => {
+                    self.is_lost = true;
+                    Ok(true)
+                }
+            },
+            Heard::Text(text) => match self.number {
+                // (none comes before that the socket is open)
+                None => {
+                    self.is_lost = true;
+                    Ok(true)
+                }
+                Some(number) => {
+                    say_to_desk(text.as_slice(), number, talk, at, links)?;
+                    counts.said();
+                    self.asked.push(at);
+                    Ok(true)
+                }
+            },
         }
     }
 
@@ -183,18 +176,15 @@ impl<S> Guest<S> {
     ) -> Result<bool, AllocError>
         ensures { OnOk result (IsHeard at self.old self.new talk.old talk.new) }
     {
-        if !self.has_more || self.is_lost {
+        if !self.has_more || self.is_lost || !self.may_speak(talk) {
             return Ok(false);
         }
-        match self.number {
-            None => self.welcome(talk, at),
-            Some(number) => {
-                if talk.is_ready(number) {
-                    self.listen(number, talk, at, links, counts)
-                } else {
-                    Ok(false)
-                }
+        match self.browser.next() {
+            None => {
+                self.has_more = false;
+                Ok(false)
             }
+            Some(heard) => self.speak(&heard, talk, at, links, counts),
         }
     }
 
@@ -261,69 +251,6 @@ impl<S> Guest<S> {
             self.ask();
         }
     }
-}
-
-// A message is said to the desk that asks for a player's link: whoever keeps the players' file is asked first.
-fn say_order<K: Links>(
-    shown: &str,
-    number: u64,
-    talk: &mut Talk,
-    at: u64,
-    order: &Order,
-    links: &mut K,
-) -> Result<(), AllocError>
-    requires ready { IsReady talk.old.desk number }
-    requires asked { order_asked talk.old.desk number shown.now at ≡ Some order.now }
-    ensures { OnOk result (Says shown.now number at talk.old talk.new) }
-{
-    match links.change(order) {
-        None => {
-            talk.said(number, shown, at)?;
-            Ok(())
-        }
-        Some(linked) => {
-            talk.linked(number, shown, at, order, linked)?;
-            Ok(())
-        }
-    }
-}
-
-// A message is said to the desk.
-fn say<K: Links>(
-    shown: &str,
-    number: u64,
-    talk: &mut Talk,
-    at: u64,
-    links: &mut K,
-) -> Result<(), AllocError>
-    requires { IsReady talk.old.desk number }
-    ensures { OnOk result (Says shown.now number at talk.old talk.new) }
-{
-    match talk.order(number, shown, at) {
-        None => {
-            talk.said(number, shown, at)?;
-            Ok(())
-        }
-        Some(order) => {
-            say_order(shown, number, talk, at, &order, links)?;
-            Ok(())
-        }
-    }
-}
-
-// A text of a connection is said to the desk; one that is no UTF-8 as the empty text, which is refused.
-fn say_to_desk<K: Links>(
-    text: &[u8],
-    number: u64,
-    talk: &mut Talk,
-    at: u64,
-    links: &mut K,
-) -> Result<(), AllocError>
-    requires { IsReady talk.old.desk number }
-    ensures { OnOk result (IsTextSaid text.now number at talk.old talk.new) }
-{
-    let shown = str::from_utf8(text).unwrap_or("");
-    say(shown, number, talk, at, links)
 }
 
 impl<S: Read + Write> Guest<S> {

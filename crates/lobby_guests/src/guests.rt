@@ -3,13 +3,10 @@ ghost use Rattle.std.specs.Prelude.{ℕ, Bool, true, false, ◌≡◌, ◌++◌,
 ghost use Rattle.std.specs.List.{AllZip};
 ghost use Rattle.lobby_guests.specs.Guests.{IsAsBefore, IsAttended, AreAttended, AreTold, AreDelivered, IsWritten, IsLookedAfter, IsClosedIf, AreClosed, AreParted};
 
-use crate::counts::Counts;
 use crate::guest::Guest;
-use crate::links::Links;
-use crate::made::finish_all;
 use crate::pieces::PIECE_ROOM;
-use crate::talk::Talk;
 use lobby_desk::Message;
+use lobby_talk::{Counts, Links, Talk, finish_all};
 use lobby_web::Site;
 use std::alloc::{AllocError, Global};
 use std::io::{Read, Write};
@@ -141,7 +138,11 @@ pub fn push_guest<S: Drop>(guests: &mut Vec<Guest<S>>, guest: Guest<S>) -> bool
     ensures pushed { result ≡ true → guests.new.items ≡ guests.old.items ++ guest ∷ [] }
     ensures refused { result ≡ false → guests.new.items ≡ guests.old.items }
 {
-    guests.push(guest).is_ok()
+    // (what is refused is let go by a call: its parts are proved once then)
+    let pushed = guests.push(guest);
+    let is_pushed = pushed.is_ok();
+    drop(pushed);
+    is_pushed
 }
 
 /// Lets those go that are over or lost.

@@ -1,17 +1,13 @@
 //! The one connection to the server: bytes to it, and lines from it.
-ghost use Rattle.std.specs.Prelude.{ℕ, List, ◌≡◌, ◌≤◌, ◌++◌, [], true, IfOk, OnOk, IsUtf8, length, take, drop};
-ghost use Rattle.std.specs.Bool.{OnTrue, OnFalse};
+ghost use Rattle.std.specs.Prelude.{ℕ, List, ◌≡◌, ◌++◌, [], OnOk};
 ghost use Rattle.std.specs.Io.KnownBytes.{Consumes};
-ghost use Rattle.lobby_desk.specs.Events.{Heard};
-ghost use Rattle.lobby_guests.specs.Talking.{Moves};
-ghost use Rattle.lobby_guests.specs.Lines.{AreTaken, IsLeft, IsKept, TakesIn, HandsOn};
+ghost use Rattle.lobby_guests.specs.Lines.{IsKept, TakesIn, HandsOn};
 
 use crate::pieces::{Gone, PIECE_ROOM, write_piece};
-use crate::talk::Talk;
-use session_lines::{Came, first_feed, give_up, read_piece};
+use lobby_talk::{Talk, hear_lines};
+use session_lines::{Came, give_up, read_piece};
 use std::alloc::{AllocError, Global};
 use std::io::{Read, Write};
-use std::str;
 
 /// The most bytes of a line of the server.
 const LINE_MOST: usize = 65_536;
@@ -25,37 +21,6 @@ pub struct Link<S> {
     can_read: bool,
     can_write: bool,
     is_lost: bool,
-}
-
-// Tells the desk a line. False where it is no text, and then nothing was told.
-fn hear_line(talk: &mut Talk, line: &[u8]) -> Result<bool, AllocError>
-    ensures told { IfOk result (λ is_text. OnTrue is_text (Moves talk.old (Heard line.now) talk.new)) }
-    ensures none { IfOk result (λ is_text. OnFalse is_text ((talk.new ≡ talk.old) × ¬ IsUtf8 line.now)) }
-{
-    match str::from_utf8(line) {
-        Ok(line) => {
-            talk.heard(line)?;
-            Ok(true)
-        }
-        Err(_) => Ok(false),
-    }
-}
-
-// Tells the desk each whole line, up to the first that is no text; so many bytes were told, and whether there was none that is
-// no text.
-fn hear_lines(talk: &mut Talk, held: &[u8]) -> Result<(usize, bool), AllocError>
-    ensures within { IfOk result (λ told. told.0 ≤ length held.now) }
-    ensures told { IfOk result (λ told. AreTaken held.now (drop told.0 held.now) talk.old talk.new) }
-    ensures left { IfOk result (λ told. IsLeft told.1 (drop told.0 held.now)) }
-{
-    let mut from = 0;
-    while let Some(at) = first_feed(&held[from..]) {
-        if !hear_line(talk, &held[from..from + at])? {
-            return Ok((from, false));
-        }
-        from += at + 1;
-    }
-    Ok((from, true))
 }
 
 impl<S> Link<S> {

@@ -23,13 +23,14 @@ use Rattle.lobby_web.specs.declared.socket.Heard.TheVariants as heards
 use Rattle.lobby_guests.specs.declared.guest.Guest.{Guest}
 use Rattle.lobby_loop.specs.declared.hall.Hall.{Hall}
 use Rattle.lobby_guests.specs.declared.link.Link.{Link}
-use Rattle.lobby_guests.specs.declared.talk.Talk.{Talk}
-use Rattle.lobby_guests.specs.Talking.{Saying, InTime, TooFast, WithLink, saying, Moves}
+use Rattle.lobby_talk.specs.declared.talk.Talk.{Talk}
+use Rattle.lobby_talk.specs.Talking.{Saying, InTime, TooFast, WithLink, saying, Moves}
 use Rattle.lobby_guests.specs.Guests.{IsNewGuest, IsHeardAs, IsAsBefore, IsAttended, AreAttended, IsLookedAfter, AreTold, AreDelivered, IsWritten, IsClosedIf, AreClosed}
-use Rattle.lobby_guests.specs.Lines.{bytes_of as bytes_before, AreHeard, HoldsNoLine, IsKept}
+use Rattle.lobby_talk.specs.Lines.{bytes_of as bytes_before, AreHeard}
+use Rattle.lobby_guests.specs.Lines.{HoldsNoLine, IsKept}
 use Rattle.lobby_loop.specs.Turning.{BeginsHall, Admits, ServerComes, IsServerAsBefore, HearsServer, bytes_heard, PartsFromServer, TellsServer, HasTurned, texts_put, AreAdmitted, IsReached, IsLobbyTurn}
 use Rattle.lobby_loop.specs.Doing.{Gave, Spot, spot, DoesAt, all_tells, IsServed, AreServed, WereServed, Before}
-use Rattle.lobby_loop.specs.Living.{Happening, Came, Woke, ServerCame, Turned, IsWoken, IsLife, written_in, taken_in, put_in, lost_if, presences_in, kept, sent_in, line_more, lines_heard, presence_more, presences_told, IsHeld, IsOther, HasNone, IsOneOf, AreKnown, IsOwn, AreOwn, numbers, streams_in, NoLineWaits, IsRightLife, Passing, TurnAt, Rested, IsLobbyLife, Filed, Files, sites_in, before_in, Changed, Relisted, Renews, Enrolled}
+use Rattle.lobby_loop.specs.Living.{Happening, Came, Woke, ServerCame, Turned, IsWoken, IsLife, written_in, taken_in, put_in, lost_if, presences_in, kept, sent_in, line_more, lines_heard, presence_more, presences_told, IsHeld, IsOther, HasNone, IsOneOf, AreKnown, IsOwn, AreOwn, numbers, NoLineWaits, IsRightLife, Passing, TurnAt, Rested, IsLobbyLife, Filed, Files, before_in, Changed, Relisted, Renews, Enrolled}
 use Rattle.lobby_loop.proofs.Serving.{IsApart, ApartFrom, AreApart, served_before, served_read, served_looked, served_written, served_told, gave_nothing, gave_again, gave_early, gave_opened, gave_text, all_served_on, all_served_zip, all_served_filter, all_served_more, all_came, served_new, ClosedIf, AllClosed, closed_if_on, all_were_on, all_were_out, all_were_came, all_let_go, came_more, site_more, all_filed, all_were_filed}
 
 -- ---- the desk's steps
@@ -1382,11 +1383,29 @@ module _ {S : Type 0} (remaining contents : S → Option (List ℕ)) (players : 
         whole = subst (λ s. NoLineWaits s) (sym files.server) so_far.whole;
       }
 
+  -- of a hall with the same browsers and the same site
+  still_at : (traffic : Traffic) (came : Before S) (former : List (Guest S)) (out : List MessageValue) (old new : Hall S) →
+      new.guests ≡ old.guests → new.site ≡ old.site →
+      IsAt players is_paused traffic out (AreKept remaining contents old.site came former out old.guests.items) new.talk.desk
+      new.talk.wire.items (message_values new.talk.told.items) →
+      IsAt players is_paused traffic out (AreKept remaining contents new.site came former out new.guests.items) new.talk.desk
+      new.talk.wire.items (message_values new.talk.told.items)
+  still_at traffic came former out old new guests site talk =
+      subst (λ (w : Site). IsAt players is_paused traffic out (AreKept remaining contents w came former out new.guests.items)
+      new.talk.desk new.talk.wire.items (message_values new.talk.told.items)) (sym site)
+      (subst (λ (gs : List (Guest S)). IsAt players is_paused traffic out (AreKept remaining contents old.site came former out gs)
+      new.talk.desk new.talk.wire.items (message_values new.talk.told.items)) (sym (ap (λ gs. gs.items) guests)) talk)
+
+  still_own : (former : List (Guest S)) (old new : Hall S) → new.guests ≡ old.guests → new.talk.next ≡ old.talk.next →
+      AreOwn old.talk.next (numbers (former ++ old.guests.items)) → AreOwn new.talk.next (numbers (former ++ new.guests.items))
+  still_own former old new guests next own =
+      subst (λ (n : ℕ). AreOwn n (numbers (former ++ new.guests.items))) (sym next)
+      (subst (λ (gs : List (Guest S)). AreOwn old.talk.next (numbers (former ++ gs))) (sym (ap (λ gs. gs.items) guests)) own)
+
   -- the players are others
   relisted : (o : Outside) (came : Before S) (later : List Player) (old new : Hall S) → Renews later old new →
       IsHallAt remaining contents players is_paused o came old → IsHallAt remaining contents players is_paused o came new
   relisted o came later old new renews so_far =
-      let same = ap (λ gs. gs.items) renews.guests in
       let traffic = traffic_of o so_far.heard in
       let former = so_far.former in
       let out = so_far.out in
@@ -1397,17 +1416,11 @@ module _ {S : Type 0} (remaining contents : S → Option (List ℕ)) (players : 
         cut = subst (λ s. AreCut o.taken so_far.heard s) (sym renews.server) so_far.cut;
         former = former;
         logged = so_far.logged;
-        talk = subst (λ (w : Site). IsAt players is_paused traffic out
-            (AreKept remaining contents w came former out new.guests.items) new.talk.desk new.talk.wire.items
-            (message_values new.talk.told.items)) (sym renews.site)
-            (subst (λ (gs : List (Guest S)). IsAt players is_paused traffic out
-            (AreKept remaining contents old.site came former out gs) new.talk.desk new.talk.wire.items
-            (message_values new.talk.told.items)) (sym same)
+        talk = still_at traffic came former out old new renews.guests renews.site
             (at_more players is_paused traffic out kept kept _ _ _ _ old.talk.desk new.talk.desk (Renewed later) (λ bytes. refl)
             (goes_by remaining contents old.site came players is_paused former out (message_values old.talk.told.items) (Renewed later)
-            old.guests.items (λ c. tt) (λ c. refl)) so_far.talk renews.talk.steps));
-        own = subst (λ (n : ℕ). AreOwn n (numbers (former ++ new.guests.items))) (sym renews.talk.next)
-            (subst (λ (gs : List (Guest S)). AreOwn old.talk.next (numbers (former ++ gs))) (sym same) so_far.own);
+            old.guests.items (λ c. tt) (λ c. refl)) so_far.talk renews.talk.steps);
+        own = still_own former old new renews.guests renews.talk.next so_far.own;
         whole = subst (λ s. NoLineWaits s) (sym renews.server) so_far.whole;
       }
 
@@ -1419,7 +1432,6 @@ module _ {S : Type 0} (remaining contents : S → Option (List ℕ)) (players : 
       IsHallAt remaining contents players is_paused o came old →
       IsHallAt remaining contents players is_paused (record { wrote = []; taken = []; presences = true ∷ o.presences; put = o.put }) came new
   server_came o came stream old new comes so_far =
-      let same = ap (λ gs. gs.items) comes.guests in
       let traffic = traffic_of o so_far.heard in
       let former = so_far.former in
       let out = so_far.out in
@@ -1430,17 +1442,11 @@ module _ {S : Type 0} (remaining contents : S → Option (List ℕ)) (players : 
         cut = record { rest = []; cut = refl; feeds = tt; held = subst (λ s. IsHeld s []) (sym comes.server) comes.held };
         former = former;
         logged = so_far.logged;
-        talk = subst (λ (w : Site). IsAt players is_paused (behind Here traffic) out
-            (AreKept remaining contents w came former out new.guests.items) new.talk.desk new.talk.wire.items
-            (message_values new.talk.told.items)) (sym comes.site)
-            (subst (λ (gs : List (Guest S)). IsAt players is_paused (behind Here traffic) out
-            (AreKept remaining contents old.site came former out gs) new.talk.desk new.talk.wire.items
-            (message_values new.talk.told.items)) (sym same)
+        talk = still_at (behind Here traffic) came former out old new comes.guests comes.site
             (at_anew players is_paused traffic out kept kept _ _ _ _ old.talk.desk new.talk.desk Here (λ bytes. refl)
             (goes_by remaining contents old.site came players is_paused former out (message_values old.talk.told.items) Here old.guests.items
-            (λ c. tt) (λ c. refl)) so_far.talk comes.talk.steps comes.talk.nothing));
-        own = subst (λ (n : ℕ). AreOwn n (numbers (former ++ new.guests.items))) (sym comes.talk.next)
-            (subst (λ (gs : List (Guest S)). AreOwn old.talk.next (numbers (former ++ gs))) (sym same) so_far.own);
+            (λ c. tt) (λ c. refl)) so_far.talk comes.talk.steps comes.talk.nothing);
+        own = still_own former old new comes.guests comes.talk.next so_far.own;
         whole = subst (λ s. NoLineWaits s) (sym comes.server) (begun_whole comes.link comes.held);
       }
 

@@ -16,11 +16,11 @@ use Rattle.lobby_web.specs.declared.site.Site.{Site}
 use Rattle.lobby_web.specs.declared.socket.Heard.TheVariants as heards
 use Rattle.lobby_web.specs.Browsing.{pending}
 use Rattle.lobby_guests.specs.declared.guest.Guest.{Guest}
-use Rattle.lobby_guests.specs.Making.{IsMadeOf}
-use Rattle.lobby_guests.specs.Talking.{Saying, InTime, TooFast, WithLink, saying}
+use Rattle.lobby_talk.specs.Making.{IsMadeOf}
+use Rattle.lobby_talk.specs.Talking.{Saying, InTime, TooFast, WithLink, saying}
 use Rattle.lobby_guests.specs.Guests.{IsNewGuest, IsAsBefore, IsRead, IsSaidIf, is_for, AreTold, IsWritten, IsLookedAfter}
 use Rattle.lobby_loop.specs.Living.{numbers}
-use Rattle.lobby_loop.specs.Doing.{Doing, Took, Tried, Gave, WasTold, Wrote, Spot, spot, DoesAt, IsAt, AllAt, AreAt, Before, has_opened, texts_more, texts_given, texts_told, AreLate, message_of, messages_of, IsSaidAs, IsSaidBy, all_tells, told_for, is_opening, before_opening, IsToldAs, IsToldOf, IsToldBy, IsServed, WasClosed, WereServed, AreServed}
+use Rattle.lobby_loop.specs.Doing.{Doing, Took, Tried, Gave, WasTold, Wrote, Spot, spot, DoesAt, IsAt, AreAt, IsAmong, Before, has_opened, texts_more, texts_given, texts_told, AreLate, message_of, messages_of, IsSaidAs, IsSaidBy, all_tells, told_for, is_opening, before_opening, IsToldAs, IsToldOf, IsToldBy, IsServed, WasClosed, WereServed, AreServed}
 
 -- ---- events of other connections
 
@@ -534,20 +534,27 @@ module _ {S : Type 0} (remaining contents : S → Option (List ℕ)) (site : Sit
   all_served_on s steps out (x ∷ xs) (one, all) (was, were) =
       (served_on remaining contents site came s steps out x.number (spot x) one was, all_served_on s steps out xs all were)
 
-  -- one more stream by which a browser came
-  served_came : (stream : S) (steps : List Step) (out : List MessageValue) (n : Option ℕ) (now : Spot S) →
-      IsServed remaining contents site came steps out n now → IsServed remaining contents site (came_more stream came) steps out n now
-  served_came stream steps out n now was = record {
+  -- of another site, or among others that came, where that is so
+  served_among : (new : Site) (later : Before S) → ((stream : S) → IsAmong stream came.streams → IsAmong stream later.streams) →
+      ((past : List Doing) → AreAt site came.sites past → AreAt new later.sites past) → (steps : List Step) (out : List MessageValue)
+      (n : Option ℕ) (now : Spot S) → IsServed remaining contents site came steps out n now →
+      IsServed remaining contents new later steps out n now
+  served_among new later among sites steps out n now was = record {
     first = was.first;
     new = was.new;
-    among = inr was.among;
+    among = among was.first.stream was.among;
     past = was.past;
     done = was.done;
-    sites = was.sites;
+    sites = sites was.past was.sites;
     late = was.late;
     said = was.said;
     told = was.told;
   }
+
+  -- one more stream by which a browser came
+  served_came : (stream : S) (steps : List Step) (out : List MessageValue) (n : Option ℕ) (now : Spot S) →
+      IsServed remaining contents site came steps out n now → IsServed remaining contents site (came_more stream came) steps out n now
+  served_came stream = served_among site (came_more stream came) (λ _ among. inr among) (λ _ sites. sites)
 
   pub all_came : (stream : S) (steps : List Step) (out : List MessageValue) (guests : List (Guest S)) →
       AreServed remaining contents site came steps out guests → AreServed remaining contents site (came_more stream came) steps out guests
@@ -556,17 +563,7 @@ module _ {S : Type 0} (remaining contents : S → Option (List ℕ)) (site : Sit
   -- another site is served
   served_filed : (new : Site) (steps : List Step) (out : List MessageValue) (n : Option ℕ) (now : Spot S) →
       IsServed remaining contents site came steps out n now → IsServed remaining contents new (site_more site came) steps out n now
-  served_filed new steps out n now was = record {
-    first = was.first;
-    new = was.new;
-    among = was.among;
-    past = was.past;
-    done = was.done;
-    sites = ([], was.past, refl, tt, was.sites);
-    late = was.late;
-    said = was.said;
-    told = was.told;
-  }
+  served_filed new = served_among new (site_more site came) (λ _ among. among) (λ past sites. ([], past, refl, tt, sites))
 
   pub all_filed : (new : Site) (steps : List Step) (out : List MessageValue) (guests : List (Guest S)) →
       AreServed remaining contents site came steps out guests → AreServed remaining contents new (site_more site came) steps out guests

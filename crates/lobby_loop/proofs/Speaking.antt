@@ -18,7 +18,7 @@ use Rattle.lobby_web.specs.declared.socket.Unsaid.{Unsaid}
 use Rattle.lobby_web.specs.declared.socket.Unsaid.TheVariants.{NotOpen, NotText, Slow, Memory}
 use Rattle.lobby_web.specs.Browsing.{web_config, pending, AreAnswered, Serves, Answers, IsNew, TakesBytes, HearsNext, SaysTo, Writes}
 use Rattle.lobby_web.specs.Frames.{frames_bytes}
-use Rattle.lobby_web.specs.Happening.{SocketStep, came, asked, said, wrote, Does, Happen, KeepsOpen, AllKeepOpen, Heeds, Utters, text_of, text_if, is_close}
+use Rattle.lobby_web.specs.Happening.{SocketStep, came, asked, said, wrote, Does, Happen, KeepsOpen, AllKeepOpen, Heeds, text_of, is_close}
 use Rattle.lobby_web.specs.Happening as life
 use Rattle.lobby_web.specs.Talking.{IsFresh, Hears, Says, may_say}
 use Rattle.lobby_web.proofs.LifeLemmas.{heeded}

@@ -1,5 +1,6 @@
-use Rattle.std.proofs.Common.{ℕ, Bool, ◌++◌, ◌==◌, ◌&&◌, not, List, [], ◌∷◌, take, filter, get_or, sym, ap, ◌∙◌, append_assoc}
+use Rattle.std.proofs.Common.{ℕ, Bool, ◌++◌, ◌==◌, ◌&&◌, not, List, [], ◌∷◌, take, filter, get_or, sym, ap, ◌∙◌, append_assoc, append-nil}
 use Rattle.std.specs.Prelude.{if◌then◌else◌}
+use Rattle.std.proofs.lemmas.List.{take_all}
 use Rattle.std.proofs.lemmas.List.Elements.{filter_more}
 use Rattle.lobby_desk.specs.declared.watching.Watch.{Watch}
 use Rattle.lobby_desk.specs.Watching.{watched}
@@ -29,3 +30,16 @@ loop-one-preserved c =
     ∙ (ap (λ (xs : List ℕ). xs ++ (if test one then one ∷ [] else [])) c.loop-one.invariant
     ∙ (append_assoc (watching g ws) (filter test (take i t)) (if test one then one ∷ [] else [])
     ∙ ap (λ (xs : List ℕ). watching g ws ++ xs) (sym (filter_more test t i 0 c.loop-one-test.true)))))
+
+pub loop-one-init : goal.loop-one-init
+loop-one-init c =
+    c.loop-watch.invariant
+    ∙ (ap (watching c.args.game) (take_all c.loop-watch.watch-index c.args.watches.now c.loop-watch-test.false)
+    ∙ sym (append-nil (watching c.args.game c.args.watches.now)))
+
+pub returns : goal.returns
+returns c =
+    let test = λ (q : ℕ). c.args.is_table && not (watched c.args.watches.now q c.args.game) in
+    c.loop-one.invariant
+    ∙ ap (λ (ts : List ℕ). watching c.args.game c.args.watches.now ++ filter test ts)
+    (take_all c.loop-one.one-index c.args.table.now c.loop-one-test.false)

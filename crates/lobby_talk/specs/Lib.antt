@@ -1,0 +1,3 @@
+pub mod Making
+pub mod Talking
+pub mod Lines
