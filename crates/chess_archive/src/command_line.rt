@@ -157,9 +157,8 @@ const EVENT: OptionText = OptionText {
 
 const SITE: OptionText = OptionText {
     name: "site",
-    value: OptionValue::Text("TEXT"),
     help: "The tag Site, ? without it",
-    is_required: false,
+    ..EVENT
 };
 
 const DATE: OptionText = OptionText {
@@ -171,9 +170,8 @@ const DATE: OptionText = OptionText {
 
 const ROUND: OptionText = OptionText {
     name: "round",
-    value: OptionValue::Text("TEXT"),
     help: "The tag Round, ? without it",
-    is_required: false,
+    ..EVENT
 };
 
 const DROP: OptionText = OptionText {
@@ -206,16 +204,14 @@ const PGN: OptionText = OptionText {
 
 const CSV: OptionText = OptionText {
     name: "csv",
-    value: OptionValue::Nothing,
     help: "Writes a row a game as CSV, and no PGN",
-    is_required: false,
+    ..PGN
 };
 
 const SQLITE: OptionText = OptionText {
     name: "sqlite",
-    value: OptionValue::Nothing,
     help: "Writes a database for SQLite, with a row a game and its PGN there",
-    is_required: false,
+    ..PGN
 };
 
 const FILE: OptionText = OptionText {
@@ -226,17 +222,14 @@ const FILE: OptionText = OptionText {
 };
 
 const LIVE_ARCHIVE: OptionText = OptionText {
-    name: "archive",
-    value: OptionValue::Text("FILE"),
     help: "An archive whose games are written too; with --date those of this date",
     is_required: false,
+    ..ARCHIVE
 };
 
 const LIVE_EVERY: OptionText = OptionText {
-    name: "every",
-    value: OptionValue::Number("SECONDS", 1, 3_600),
     help: "After how many seconds it is written again, 1 to 3600; once without it",
-    is_required: false,
+    ..KEEP_EVERY
 };
 
 // In the order in which help lists them.
