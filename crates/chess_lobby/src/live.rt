@@ -4,7 +4,7 @@ use bytes::Bytes;
 use lobby_loop::Lobby;
 use lobby_web::{File, Kind};
 use std::alloc::{AllocError, Global};
-use std::fs::{File as FoundFile, OpenFile, OpenOptions};
+use std::fs::{self, OpenFile, OpenOptions};
 use std::io;
 use std::io::{ErrorKind, Read};
 use std::rt::Files;
@@ -15,13 +15,13 @@ const PATH: &[u8] = b"/live.pgn";
 /// So many milliseconds lie at least between two looks at the file.
 const REST: u64 = 1_000;
 
-// Opens the file for writing too, though nothing is written: a pipe that was put there since it was looked at
-// would else hold its opening up until somebody writes into it. A lobby that may only read the file goes by the look.
+// Opens the file for writing too, though nothing is written: a pipe that was put there since it was looked at would else hold its
+// opening up until somebody writes into it. A lobby that may only read the file goes by the look.
 fn opened<R: Files>(rt: &R, file: &str) -> io::Result<R::File> {
     let mut options = OpenOptions::new();
     options.read(true).write(true);
     match options.open(rt, file) {
-        Err(error) if error.kind() == ErrorKind::PermissionDenied => FoundFile::open(rt, file),
+        Err(error) if error.kind() == ErrorKind::PermissionDenied => fs::open(rt, file),
         found => found,
     }
 }
