@@ -95,13 +95,17 @@ impl<'a, R: Files + AllocGlobal + Eprint> Looking<'a, R> {
     }
 }
 
-impl<R> Looking<'_, R> {
-    // Those games of a list that are over, a first half before its second one, which is linked with it.
-    fn games_in_order(&self, alloc: Global, rows: &[Row<'_>]) -> Result<Vec<u32>>
+impl<R: Files + AllocGlobal> Looking<'_, R> {
+    // Those games of a list that are over, a first half before its second one, which is linked with it. Where one of them was not kept
+    // the log is read on before: behind the list, so that it has what is told of the games that are over in it.
+    fn games_in_order(&mut self, archive: &Archive<NamedFile>, rows: &[Row<'_>]) -> Result<Vec<u32>>
         ensures { IfOk result (λ games. AreAll (λ game. contains game (games_over_in rows.now)) games.items) }
     {
-        let over = games_over(alloc, rows)?;
-        Ok(in_order(alloc, self.sources.log.records(), over.as_slice())?)
+        if is_asked(rows, archive) {
+            self.sources.log.read_on(self.rt, rows)?;
+        }
+        let over = games_over(self.rt.alloc(), rows)?;
+        Ok(in_order(self.rt.alloc(), self.sources.log.records(), over.as_slice())?)
     }
 }
 
@@ -148,7 +152,7 @@ impl<R> Looking<'_, R>
 where
     R: Files<File = File> + AllocGlobal + Eprint,
 {
-    // Opens the archive, with the players and the log as they are now; none where no game is over, and it was opened before.
+    // Opens the archive, with the players as they are now; none where no game is over, and it was opened before.
     fn open(&mut self, rows: &[Row<'_>]) -> Result<Option<Opened>> {
         if self.has_looked && !rows.iter().any(|row| row.is_over) {
             return Ok(None);
@@ -157,10 +161,6 @@ where
         self.sources.players.renew()?;
         let opened = open_archive(self.rt, self.keeping.archive)?;
         self.has_looked = true;
-        // (where there is a game that is to be kept, and behind the list, so that it has what is told of the games that are over)
-        if is_asked(rows, &opened.archive) {
-            self.sources.log.read_on(self.rt, rows)?;
-        }
         Ok(Some(opened))
     }
 }
@@ -180,7 +180,7 @@ where
         let Some(opened) = self.open(rows)? else {
             return Ok((NOTHING, Ok(())));
         };
-        let over = self.games_in_order(self.rt.alloc(), rows)?;
+        let over = self.games_in_order(&opened.archive, rows)?;
         self.keep_games(link, opened, rows, over.as_slice())
     }
 

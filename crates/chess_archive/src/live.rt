@@ -132,6 +132,12 @@ impl<R> Writer<'_, R> {
         has_game(self.archived.as_slice(), game)
     }
 
+    // What the file is to have.
+    fn text(&self, alloc: Global) -> Result<Vec<u8>, AllocError> {
+        let boards = in_order(alloc, self.seen.as_slice(), self.archived.as_slice())?;
+        text_of(alloc, boards.as_slice())
+    }
+
     // Puts games that are away behind others, as they were seen last, but those that were kept.
     fn push_away(&self, boards: &mut Vec<Board>, away: &[u32]) -> Result<()> {
         for board in self.seen.as_slice() {
@@ -244,18 +250,16 @@ where
         Ok(away)
     }
 
-    // What the file is to have.
-    fn text(&mut self) -> Result<Vec<u8>> {
-        let alloc = self.rt.alloc();
+    // Looks at the table and at the archive.
+    fn look(&mut self) -> Result<()> {
         self.read_archive()?;
-        let mut boards = Vec::new(alloc);
+        let mut boards = Vec::new(self.rt.alloc());
         let away = self.push_told(&mut boards)?;
         // (once more, as a game may have been kept and dropped meanwhile)
         self.read_archive()?;
         self.push_away(&mut boards, away.as_slice())?;
         self.seen = boards;
-        let boards = in_order(alloc, self.seen.as_slice(), self.archived.as_slice())?;
-        Ok(text_of(alloc, boards.as_slice())?)
+        Ok(())
     }
 }
 
@@ -265,7 +269,8 @@ where
 {
     // (the file is written where it has changed)
     fn work(&mut self, _is_once: bool) -> Result<()> {
-        let text = self.text()?;
+        self.look()?;
+        let text = self.text(self.rt.alloc())?;
         if self.written.as_ref() != Some(&text) {
             put(self.rt, self.living.file, text.as_slice())?;
             self.written = Some(text);
